@@ -1,0 +1,9 @@
+pub mod Roots
+pub mod Distances
+pub mod Signed
+pub mod Parts
+pub mod Rows
+pub mod Ends
+pub mod Lengths
+pub mod Boxes
+pub mod Nearest

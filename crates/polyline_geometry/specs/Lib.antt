@@ -1,0 +1,5 @@
+pub mod Lends
+pub mod Plane
+pub mod Parts
+pub mod Boxes
+pub mod Nearest

@@ -1,0 +1,248 @@
+//! The snap of a point to a segment.
+ghost use Rattle.std.specs.Prelude.{◌≡◌, ℕ, ◌*◌, ◌/◌, ◌^◌, ◌<◌, ◌≤◌, pos, ◌+ℤ◌, ◌-ℤ◌, ◌*ℤ◌};
+ghost use Rattle.std.specs.Int.{int_div_euclid};
+ghost use Rattle.std.specs.Int.RustNames.{unsigned_abs};
+ghost use Rattle.polyline_geometry.specs.Plane.{InRange, along, distance2, dot, share, snap_segment, snapped, straight};
+ghost use Rattle.polyline_geometry.specs.Parts.{IsPartOf};
+
+use crate::plane::{Point, Snap, distance2, straight};
+
+/// Below this length a difference of coordinates, times a share below [`FEW`], fits 64 bits.
+const SHORT: u64 = 1 << 21;
+
+const FEW: u64 = 1 << 42;
+
+/// How far the first coordinate is above the second.
+fn difference(a: i32, b: i32) -> i64
+    requires a_in { unsigned_abs a ≤ 1_000_000_000 }
+    requires b_in { unsigned_abs b ≤ 1_000_000_000 }
+    ensures value { result ≡ a -ℤ b }
+    ensures small { unsigned_abs result ≤ 2_000_000_000 }
+{
+    i64::from(a) - i64::from(b)
+}
+
+/// The product of two differences.
+fn product(x: i64, y: i64) -> i64
+    requires x_in { unsigned_abs x ≤ 2_000_000_000 }
+    requires y_in { unsigned_abs y ≤ 2_000_000_000 }
+    ensures value { result ≡ x *ℤ y }
+    ensures small { unsigned_abs result ≤ 4_000_000_000_000_000_000 }
+{
+    x * y
+}
+
+/// The sum of two products.
+fn sum(x: i64, y: i64) -> i64
+    requires x_in { unsigned_abs x ≤ 4_000_000_000_000_000_000 }
+    requires y_in { unsigned_abs y ≤ 4_000_000_000_000_000_000 }
+    ensures { result ≡ x +ℤ y }
+{
+    x + y
+}
+
+/// (P - A) · (B - A)
+fn dot(a: Point, b: Point, p: Point) -> i64
+    requires a_in { InRange a }
+    requires b_in { InRange b }
+    requires p_in { InRange p }
+    ensures { result ≡ dot a b p }
+{
+    let across = product(difference(p.x, a.x), difference(b.x, a.x));
+    let up = product(difference(p.y, a.y), difference(b.y, a.y));
+    sum(across, up)
+}
+
+/// How far along the segment from a to b the point is: so much of the squared length.
+fn share(a: Point, b: Point, p: Point) -> u64
+    requires a_in { InRange a }
+    requires b_in { InRange b }
+    requires p_in { InRange p }
+    ensures value { result ≡ share a b p }
+    ensures small { result ≤ distance2 b a }
+{
+    let dot = dot(a, b, p);
+    if dot <= 0 {
+        0
+    } else {
+        distance2(b, a).min(dot as u64)
+    }
+}
+
+/// The product of a short difference and a small share.
+fn narrow_product(z: i64, t: u64) -> i64
+    requires z_small { unsigned_abs z ≤ 2 ^ 21 }
+    requires t_small { t < 2 ^ 42 }
+    ensures { result ≡ z *ℤ pos t }
+{
+    z * t as i64
+}
+
+/// `t` of `n` of `z`, rounded towards minus infinity, in 64 bits.
+fn narrow_part(z: i64, t: u64, n: u64) -> i64
+    requires z_small { unsigned_abs z ≤ 2 ^ 21 }
+    requires t_small { t < 2 ^ 42 }
+    requires n_some { 0 < n }
+    requires n_in { n ≤ 8_000_000_000_000_000_000 }
+    ensures { result ≡ int_div_euclid (z *ℤ pos t) (pos n) }
+{
+    narrow_product(z, t).div_euclid(n as i64)
+}
+
+/// The product of a difference and a share.
+fn wide_product(z: i64, t: u64) -> i128
+    requires { unsigned_abs z ≤ 2_000_000_000 }
+    ensures { result ≡ z *ℤ pos t }
+{
+    i128::from(z) * i128::from(t)
+}
+
+/// `t` of `n` of `z`, rounded towards minus infinity, in 128 bits.
+fn wide_part(z: i64, t: u64, n: u64) -> i128
+    requires z_small { unsigned_abs z ≤ 2_000_000_000 }
+    requires t_in { t ≤ n }
+    requires n_some { 0 < n }
+    ensures { result ≡ int_div_euclid (z *ℤ pos t) (pos n) }
+{
+    wide_product(z, t).div_euclid(i128::from(n))
+}
+
+/// The same number in fewer bits.
+fn narrow(q: i128) -> i64
+    requires { unsigned_abs q ≤ 2_000_000_000 }
+    ensures { result ≡ q }
+{
+    q as i64
+}
+
+/// `t` of `n` of `z`, rounded towards minus infinity.
+#[tactic(auto, using(crate::proofs::Parts::part_between, crate::proofs::Parts::part_small))]
+fn part(z: i64, t: u64, n: u64) -> i64
+    requires z_small { unsigned_abs z ≤ 2_000_000_000 }
+    requires t_in { t ≤ n }
+    requires n_some { 0 < n }
+    requires n_in { n ≤ 8_000_000_000_000_000_000 }
+    ensures value { result ≡ int_div_euclid (z *ℤ pos t) (pos n) }
+    ensures within { IsPartOf z result }
+{
+    if t < FEW && z.unsigned_abs() <= SHORT {
+        narrow_part(z, t, n)
+    } else {
+        narrow(wide_part(z, t, n))
+    }
+}
+
+/// The coordinate that is a part of a difference after a.
+fn shifted(a: i32, z: i64, part: i64) -> i32
+    requires a_in { unsigned_abs a ≤ 1_000_000_000 }
+    requires z_small { unsigned_abs z ≤ 2_000_000_000 }
+    requires end_in { unsigned_abs (a +ℤ z) ≤ 1_000_000_000 }
+    requires within { IsPartOf z part }
+    ensures value { result ≡ a +ℤ part }
+    ensures small { unsigned_abs result ≤ 1_000_000_000 }
+{
+    (i64::from(a) + part) as i32
+}
+
+/// The coordinate that is `t` of `n` along from a to b.
+fn along(a: i32, b: i32, t: u64, n: u64) -> i32
+    requires a_in { unsigned_abs a ≤ 1_000_000_000 }
+    requires b_in { unsigned_abs b ≤ 1_000_000_000 }
+    requires t_in { t ≤ n }
+    requires n_some { 0 < n }
+    requires n_in { n ≤ 8_000_000_000_000_000_000 }
+    ensures value { result ≡ along a b t n }
+    ensures small { unsigned_abs result ≤ 1_000_000_000 }
+{
+    let whole = difference(b, a);
+    shifted(a, whole, part(whole, t, n))
+}
+
+/// The point of the segment from a to b that is `t` of `n` along.
+#[tactic(auto, using(crate::proofs::Ends::first_end, crate::proofs::Ends::last_end))]
+fn snapped(a: Point, b: Point, t: u64, n: u64) -> Point
+    requires a_in { InRange a }
+    requires b_in { InRange b }
+    requires t_in { t ≤ n }
+    requires n_some { 0 < n }
+    requires n_in { n ≤ 8_000_000_000_000_000_000 }
+    ensures value { result ≡ snapped a b t n }
+    ensures in_range { InRange result }
+{
+    if t == 0 {
+        a
+    } else if t == n {
+        b
+    } else {
+        Point {
+            x: along(a.x, b.x, t, n),
+            y: along(a.y, b.y, t, n),
+        }
+    }
+}
+
+/// The squared length of a segment.
+#[tactic(auto, using(crate::proofs::Distances::differ_apart))]
+fn length2(a: Point, b: Point) -> u64
+    requires a_in { InRange a }
+    requires b_in { InRange b }
+    requires differ { a ≡ b → ⊥ }
+    ensures value { result ≡ distance2 b a }
+    ensures some { 0 < result }
+    ensures small { result ≤ 8_000_000_000_000_000_000 }
+{
+    distance2(b, a)
+}
+
+/// The squared distance of a point and the point that it snaps to.
+pub(crate) fn snap_distance2(a: Point, b: Point, p: Point) -> u64
+    requires a_in { InRange a }
+    requires b_in { InRange b }
+    requires p_in { InRange p }
+    requires differ { a ≡ b → ⊥ }
+    ensures value { result ≡ (snap_segment a b p).d2 }
+    ensures small { result ≤ 8_000_000_000_000_000_000 }
+{
+    distance2(p, snapped(a, b, share(a, b, p), length2(a, b)))
+}
+
+/// `t` of `n` of a length, rounded down.
+#[tactic(auto, using(crate::proofs::Parts::div_le))]
+fn part_of_length(length: u32, t: u64, n: u64) -> u32
+    requires t_in { t ≤ n }
+    requires n_some { 0 < n }
+    ensures value { result ≡ length * t / n }
+    ensures within { result ≤ length }
+{
+    if t <= u64::from(u32::MAX) {
+        (u64::from(length) * t / n) as u32
+    } else {
+        (u128::from(length) * u128::from(t) / u128::from(n)) as u32
+    }
+}
+
+/// How far along the segment from a to b a point snaps to, in cm.
+pub(crate) fn snap_offset(a: Point, b: Point, p: Point) -> u32
+    requires a_in { InRange a }
+    requires b_in { InRange b }
+    requires p_in { InRange p }
+    requires differ { a ≡ b → ⊥ }
+    ensures value { result ≡ (snap_segment a b p).offset }
+    ensures within { result ≤ straight a b }
+{
+    part_of_length(straight(a, b), share(a, b, p), length2(a, b))
+}
+
+/// The snap of a point to the segment from a to b.
+pub fn snap_segment(a: Point, b: Point, p: Point) -> Snap
+    requires a_in { InRange a }
+    requires b_in { InRange b }
+    requires p_in { InRange p }
+    requires differ { a ≡ b → ⊥ }
+    ensures { result ≡ snap_segment a b p }
+{
+    Snap {
+        d2: snap_distance2(a, b, p),
+        offset: snap_offset(a, b, p),
+    }
+}

@@ -1,0 +1,93 @@
+use crate::{List, Point, line_length, root, snap_line, snap_line_below, snap_segment, straight};
+use std::test::Fail;
+
+const CORNER: [Point; 3] = [
+    Point { x: 0, y: 0 },
+    Point { x: 10, y: 0 },
+    Point { x: 10, y: 10 },
+];
+
+#[test]
+fn roots(rt: HostRuntime) {
+    assert_eq!(rt; root(0), 0);
+    assert_eq!(rt; root(64_360_000), 8_022);
+    assert_eq!(rt; root(8_000_000_000_000_000_000), 2_828_427_124);
+    assert_eq!(rt; root(u128::MAX - 1), u64::MAX);
+}
+
+#[test]
+fn lengths(rt: HostRuntime) {
+    assert_eq!(rt;
+        straight(Point { x: 1_000, y: 300 }, Point { x: 9_000, y: -300 }),
+        8_022
+    );
+    assert_eq!(rt;
+        line_length([Point { x: 1_000, y: 1_000 }, Point { x: 0, y: 0 }].as_slice()),
+        1_414
+    );
+    assert_eq!(rt;
+        line_length([
+            Point { x: 0, y: 0 },
+            Point { x: 5_000, y: 0 },
+            Point { x: 10_000, y: 0 }
+        ]
+        .as_slice()),
+        10_000
+    );
+    assert_eq!(rt;
+        line_length([
+            Point { x: 0, y: 0 },
+            Point {
+                x: 100_000_001,
+                y: 0
+            }
+        ]
+        .as_slice()),
+        100_000_001
+    );
+}
+
+#[test]
+fn snap_rounds_towards_minus_infinity(rt: HostRuntime) {
+    let snap = snap_segment(
+        Point { x: 0, y: 0 },
+        Point { x: -3, y: -1 },
+        Point { x: -2, y: 1 },
+    );
+    assert_eq!(rt; snap.d2, 4);
+    assert_eq!(rt; snap.offset, 1);
+}
+
+#[test]
+fn snap_to_a_corner(rt: HostRuntime) {
+    let corner = CORNER.as_slice();
+    assert_eq!(rt; line_length(corner), 20);
+    let first = snap_line(corner, Point { x: 10, y: 0 });
+    assert_eq!(rt; first.d2, 0);
+    assert_eq!(rt; first.offset, 10);
+    let second = snap_line(corner, Point { x: 13, y: 4 });
+    assert_eq!(rt; second.d2, 9);
+    assert_eq!(rt; second.offset, 14);
+    assert!(rt; snap_line_below(corner, Point { x: 13, y: 4 }, 10).is_some());
+    assert!(rt; snap_line_below(corner, Point { x: 13, y: 4 }, 9).is_none());
+}
+
+#[test]
+fn list_of_numbers(rt: HostRuntime) -> Result<(), Fail> {
+    let mut list = List::new(rt.alloc());
+    assert!(rt; list.pop().is_none());
+    list.push(5_u8)?;
+    assert_eq!(rt; list.as_slice(), [5].as_slice());
+    list.extend_from_slice(&[6, 7])?;
+    if let Some(last) = list.as_mut_slice().get_mut(2) {
+        *last = 8;
+    }
+    assert_eq!(rt; list.len(), 3);
+    assert_eq!(rt; list.get(2).copied(), Some(8));
+    assert!(rt; list.get(3).is_none());
+    list.truncate(2);
+    assert_eq!(rt; list.pop(), Some(6));
+    let back = List::from_vec(list.into_vec());
+    assert_eq!(rt; back.as_slice(), [5].as_slice());
+    Ok(())
+}
