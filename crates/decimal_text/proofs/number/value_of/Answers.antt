@@ -1,0 +1,12 @@
+use Rattle.std.proofs.Common.{arith, sym, ◌∙◌}
+use Rattle.decimal_text.proofs.Spelling.{digits_more, value_more, small_more}
+use Rattle.decimal_text.proofs.number.value_of.Goals as goal
+
+pub loop-byte-preserved : goal.loop-byte-preserved
+loop-byte-preserved c =
+    let inv = c.loop-byte.invariant in
+    record {
+      digits = digits_more _ _ c.loop-byte-test.true inv.digits (sym c.is_ascii_digit.ensures.value ∙ c.if-not-is_ascii_digit.false);
+      value = value_more _ _ _ _ c.loop-byte-test.true inv.value (grind arith);
+      small = small_more _ _ _ inv.small (grind arith);
+    }

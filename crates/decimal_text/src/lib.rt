@@ -1,0 +1,17 @@
+//! How numbers stand in texts: one spelling for the network file, the trace file, the command's
+//! words and every text that is written.
+//!
+//! An unsigned number is 1 to 20 decimal digits, leading zeros allowed; a signed number is the
+//! same with or without one leading `-`. Another spelling is misspelt, and a value outside the
+//! range that the caller gives is out of range. Numbers are written without leading zeros.
+//!
+//! [`parse_unsigned`] and [`parse_signed`] read a number from a slice, [`write_unsigned`] and
+//! [`write_signed`] append one to a buffer, and [`trim`] drops the blanks at a field's ends.
+//! Read the clause of `parse_unsigned` first.
+#![tactic(auto)]
+
+mod blank;
+mod number;
+
+pub use blank::{is_blank, trim};
+pub use number::{NumberFault, parse_signed, parse_unsigned, write_signed, write_unsigned};

@@ -1,0 +1,126 @@
+// Numbers read from a slice, and written to the end of a buffer.
+ghost use Rattle.std.specs.Prelude.{◌≡◌, ◌^◌, ◌<◌, ◌≤◌, ◌++◌, true, false, IfOk, OnOk, OnErr, MatchOption};
+ghost use Rattle.std.specs.Str.Parse.{digits_value, starts_with_minus};
+ghost use Rattle.decimal_text.specs.Number.{is_unsigned, unsigned_within, signed_within, decimal, signed_decimal};
+
+use itoa::Buffer;
+use polyline_geometry::List;
+use std::alloc::AllocError;
+use thiserror::Error;
+
+/// Why a text is no number within the range.
+#[derive(Clone, Copy, Debug, PartialEq, Eq, Error)]
+pub enum NumberFault {
+    #[error("bad number")]
+    Misspelt,
+    #[error("out of range")]
+    OutOfRange,
+}
+
+const MAX_DIGITS: usize = 20;
+
+/// The unsigned number that the whole text spells, if it is at most `most`.
+pub fn parse_unsigned(text: &[u8], most: u64) -> Result<u64, NumberFault>
+    ensures value { result ≡ unsigned_within most text.now }
+    ensures range { IfOk result (λ n. n ≤ most) }
+{
+    match value_of(text) {
+        None => Err(NumberFault::Misspelt),
+        Some(value) => {
+            if value <= most as u128 {
+                Ok(value as u64)
+            } else {
+                Err(NumberFault::OutOfRange)
+            }
+        }
+    }
+}
+
+/// The signed number that the whole text spells, if it is in `-most..=most`.
+pub fn parse_signed(text: &[u8], most: u32) -> Result<i32, NumberFault>
+    requires { most < 2 ^ 31 }
+    ensures value { result ≡ signed_within most text.now }
+{
+    let is_negative = starts_with_minus(text);
+    let digits = &text[usize::from(is_negative)..];
+    let magnitude = parse_unsigned(digits, most as u64)? as i32;
+    Ok(if is_negative { -magnitude } else { magnitude })
+}
+
+fn starts_with_minus(text: &[u8]) -> bool
+    ensures { result ≡ starts_with_minus text.now }
+{
+    !text.is_empty() && text[0] == b'-'
+}
+
+// The number that 1 to 20 digits write. 20 digits do not fit 64 bits.
+fn value_of(text: &[u8]) -> Option<u128>
+    ensures { MatchOption result (is_unsigned text.now ≡ false)
+        (λ n. (is_unsigned text.now ≡ true) × (n ≡ digits_value 10 text.now)) }
+{
+    if text.is_empty() || text.len() > MAX_DIGITS {
+        return None;
+    }
+    let mut value: u128 = 0;
+    for byte in text {
+        if !byte.is_ascii_digit() {
+            return None;
+        }
+        value = value * 10 + u128::from(*byte - b'0');
+    }
+    Some(value)
+}
+
+/// Appends the digits of the number.
+pub fn write_unsigned(n: u64, into: &mut List<u8>) -> Result<(), AllocError>
+    ensures ok { OnOk result (into.new ≡ into.old ++ decimal n) }
+    ensures err { OnErr result (into.new ≡ into.old) }
+{
+    into.extend_from_slice(Buffer::new().format(n).as_bytes())
+}
+
+/// Appends the digits of the number, after a `-` if it is negative.
+pub fn write_signed(number: i32, into: &mut List<u8>) -> Result<(), AllocError>
+    ensures ok { OnOk result (into.new ≡ into.old ++ signed_decimal number) }
+    ensures err { OnErr result (into.new ≡ into.old) }
+{
+    into.extend_from_slice(Buffer::new().format(number).as_bytes())
+}
+
+#[cfg(test)]
+mod tests {
+    use super::*;
+    use std::test::Fail;
+
+    #[test]
+    fn reads_numbers(rt: HostRuntime) -> Result<(), Fail> {
+        assert_eq!(rt; parse_unsigned(b"0042", 42), Ok(42));
+        assert_eq!(rt; parse_unsigned(b"43", 42), Err(NumberFault::OutOfRange));
+        assert_eq!(rt;
+            parse_unsigned(b"18446744073709551615", u64::MAX),
+            Ok(u64::MAX)
+        );
+        assert_eq!(rt;
+            parse_unsigned(b"18446744073709551616", u64::MAX),
+            Err(NumberFault::OutOfRange)
+        );
+        assert_eq!(rt;
+            parse_unsigned(b"000000000000000000001", 9),
+            Err(NumberFault::Misspelt)
+        );
+        assert_eq!(rt; parse_unsigned(b"+1", 9), Err(NumberFault::Misspelt));
+        assert_eq!(rt; parse_signed(b"-1000", 1000), Ok(-1000));
+        assert_eq!(rt; parse_signed(b"-1001", 1000), Err(NumberFault::OutOfRange));
+        assert_eq!(rt; parse_signed(b"--1", 1000), Err(NumberFault::Misspelt));
+        Ok(())
+    }
+
+    #[test]
+    fn writes_numbers(rt: HostRuntime) -> Result<(), Fail> {
+        let mut text = List::new(rt.alloc());
+        write_unsigned(u64::MAX, &mut text)?;
+        write_signed(-70, &mut text)?;
+        assert_eq!(rt; text.as_slice(), b"18446744073709551615-70".as_slice());
+        Ok(())
+    }
+}
