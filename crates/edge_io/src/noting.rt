@@ -1,0 +1,28 @@
+// The note of a failed read.
+ghost use Rattle.std.specs.Prelude.{◌≡◌, ◌++◌, ◌∷◌, [], OnOk, OnErr};
+ghost use Rattle.edge_io.specs.Shelf.{IsNotRead, failed_after};
+
+use crate::Taken;
+use polyline_geometry::List;
+use std::alloc::{AllocError, Global};
+
+// Appends the name to the names of the failed reads.
+fn note(alloc: Global, failed: &mut List<List<u8>>, name: &str) -> Result<(), AllocError>
+    ensures ok { OnOk result (failed.new ≡ failed.old ++ name.now ∷ []) }
+    ensures err { OnErr result (failed.new ≡ failed.old) }
+{
+    let mut copy = List::new(alloc);
+    copy.extend_from_slice(name.as_bytes())?;
+    failed.push(copy)
+}
+
+/// Notes the name of a read that failed, and gives the read's answer.
+pub fn fail_read(alloc: Global, failed: &mut List<List<u8>>, name: &str) -> Taken
+    ensures noted { failed.new ≡ failed_after result name.now failed.old }
+    ensures fault { IsNotRead result }
+{
+    match note(alloc, failed, name) {
+        Ok(()) => Taken::Failed,
+        Err(_) => Taken::NoMemory,
+    }
+}
