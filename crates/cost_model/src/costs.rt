@@ -1,0 +1,34 @@
+ghost use Rattle.std.specs.Prelude.{◌≡◌, ◌*◌, ◌≤◌};
+ghost use Rattle.cost_model.specs.Options.{IsAccepted};
+ghost use Rattle.cost_model.specs.Costs.{emission, transition, PointCostIsBounded};
+
+use crate::params::Params;
+
+/// The scaled cost of a candidate whose squared distance from its point is `d2` cm²: the greatest
+/// whole number of at most `1000·d2 / (2·sigma²)`.
+#[tactic(auto, using(crate::proofs::Bounds::emission_small))]
+pub fn emission(p: &Params, d2: u64) -> u64
+    requires options { IsAccepted p.now }
+    requires within { d2 ≤ p.now.radius * p.now.radius }
+    ensures value { result ≡ emission p.now d2 }
+    ensures small { result ≤ 5_000_000_000_000 }
+{
+    let sigma = u64::from(p.sigma);
+    d2 * 1000 / (2 * (sigma * sigma))
+}
+
+/// The scaled cost of a route of this length in cm between two points at this straight distance in
+/// cm: the greatest whole number of at most `1000·|route - straight| / beta`.
+#[tactic(auto, using(crate::proofs::Bounds::transition_small))]
+pub fn transition(p: &Params, route: u32, straight: u32) -> u64
+    requires options { IsAccepted p.now }
+    ensures value { result ≡ transition p.now route straight }
+    ensures small { route ≤ 210_000_000 → straight ≤ 2_828_427_124 → result ≤ 2_828_427_124_000 }
+{
+    u64::from(route.abs_diff(straight)) * 1000 / u64::from(p.beta)
+}
+
+/// A law, with nothing to run: one point adds at most 7,900,000,000,000 to the cost of a sequence.
+pub fn point_cost_is_bounded()
+    ensures { PointCostIsBounded }
+{}
