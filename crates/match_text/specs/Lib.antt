@@ -1,0 +1,4 @@
+pub mod MatchText
+pub mod Parts
+pub mod Reading
+pub mod Grammar

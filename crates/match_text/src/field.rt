@@ -1,0 +1,64 @@
+//! What stands at the front of a text, and the rest of it.
+ghost use Rattle.std.specs.Prelude.{◌≡◌, ◌-◌, ◌^◌, ◌≤◌, length, IfSome};
+ghost use Rattle.std.specs.Option.{option_map};
+ghost use Rattle.std.specs.List.{prefix_len};
+ghost use Rattle.std.specs.Char.{is_ascii_digit};
+ghost use Rattle.match_text.specs.Reading.{after_bytes, has_leading_zero, number_at, field_at};
+
+use decimal_text::parse_unsigned;
+
+/// What stands after these bytes at the front, if they stand there.
+pub fn after<'a>(text: &'a [u8], bytes: &[u8]) -> Option<&'a [u8]>
+    ensures { option_map (λ rest. rest.now) result ≡ after_bytes bytes.now text.now }
+{
+    if text.starts_with(bytes) {
+        Some(&text[bytes.len()..])
+    } else {
+        None
+    }
+}
+
+/// The number of at most `most` at the front, without leading zeros, and what stands after it.
+#[tactic(auto, unfolding(crate::specs::Reading::number_at))]
+pub fn number(text: &[u8], most: u64) -> Option<(u64, &[u8])>
+    ensures value { option_map (λ x. (x.0, x.1.now)) result ≡ number_at most text.now }
+    ensures range { IfSome result (λ x. x.0 ≤ most) }
+{
+    let (digits, rest) = text.split_at(digit_count(text));
+    if has_leading_zero(digits) {
+        return None;
+    }
+    let number = parse_unsigned(digits, most).ok()?;
+    Some((number, rest))
+}
+
+// How many digits stand at the front.
+fn digit_count(text: &[u8]) -> usize
+    ensures value { result ≡ prefix_len is_ascii_digit text.now }
+    ensures within { result ≤ length text.now }
+{
+    text.iter().take_while(|byte| byte.is_ascii_digit()).count()
+}
+
+fn has_leading_zero(digits: &[u8]) -> bool
+    ensures { result ≡ has_leading_zero digits.now }
+{
+    matches!(digits, [b'0', _, ..])
+}
+
+/// The number of at most `most` after these bytes at the front, and what stands after it.
+#[tactic(auto, unfolding(crate::specs::Reading::field_at))]
+pub fn field<'a>(text: &'a [u8], bytes: &[u8], most: u64) -> Option<(u64, &'a [u8])>
+    ensures value { option_map (λ x. (x.0, x.1.now)) result ≡ field_at bytes.now most text.now }
+    ensures range { IfSome result (λ x. x.0 ≤ most) }
+{
+    number(after(text, bytes)?, most)
+}
+
+/// The number of 32 bits after these bytes at the front, and what stands after it.
+pub fn short_field<'a>(text: &'a [u8], bytes: &[u8]) -> Option<(u32, &'a [u8])>
+    ensures { option_map (λ x. (x.0, x.1.now)) result ≡ field_at bytes.now (2 ^ 32 - 1) text.now }
+{
+    let (number, rest) = field(text, bytes, u64::from(u32::MAX))?;
+    Some((number as u32, rest))
+}

@@ -1,0 +1,30 @@
+//! A trace with its match, in the ids of the network file.
+use polyline_geometry::List;
+
+/// What a point of a trace was matched to.
+#[derive(Clone, Copy, Debug, PartialEq, Eq)]
+pub enum Label {
+    /// The point has no candidate.
+    Missing,
+    /// The point is `offset` cm along the edge with this id, `d2` cm² from it.
+    On { edge: u32, offset: u32, d2: u64 },
+}
+
+/// A piece of a trace: the points `first..=last` with one route through them.
+#[derive(Drop)]
+pub struct Routed {
+    pub first: u32,
+    pub last: u32,
+    /// The scaled cost of the match of the piece.
+    pub cost: u64,
+    /// The ids of the edges, from the first point's edge to the last point's.
+    pub route: List<u32>,
+}
+
+/// A trace with a label for each point and the pieces in their order.
+#[derive(Drop)]
+pub struct MatchedTrace {
+    pub id: u32,
+    pub labels: List<Label>,
+    pub pieces: List<Routed>,
+}

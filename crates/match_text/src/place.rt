@@ -1,0 +1,47 @@
+//! The lines of a match text after its first, and what decides which of them may come next.
+ghost use Rattle.std.specs.Prelude.{◌≡◌};
+ghost use Rattle.match_text.specs.Grammar.{IsAllowed, place_after};
+
+use crate::matched::{Label, Routed};
+
+/// A line after the first.
+#[derive(Drop)]
+pub enum Line {
+    Point(Label),
+    Piece(Routed),
+    End,
+}
+
+/// A place between two lines.
+#[derive(Clone, Copy)]
+pub struct Place {
+    /// The id of the trace.
+    pub id: u32,
+    /// The number of the next point.
+    pub next: u32,
+    /// The first point whose line waits for its piece line.
+    pub waiting: Option<u32>,
+}
+
+/// The place after this line, which may stand at `place`.
+pub fn place_after(place: Place, line: &Line) -> Place
+    requires { IsAllowed place line.now }
+    ensures { result ≡ place_after place line.now }
+{
+    match line {
+        Line::Point(Label::Missing) => Place {
+            next: place.next + 1,
+            ..place
+        },
+        Line::Point(Label::On { .. }) => Place {
+            next: place.next + 1,
+            waiting: Some(place.waiting.unwrap_or(place.next)),
+            ..place
+        },
+        Line::Piece(_) => Place {
+            waiting: None,
+            ..place
+        },
+        Line::End => place,
+    }
+}
