@@ -1,0 +1,12 @@
+-- Traces that the reader hands out.
+use Rattle.std.specs.Prelude.{ℕ, ◌≤◌, All, length}
+use Rattle.polyline_geometry.specs.Plane.{InRange}
+use Rattle.trace_reader.specs.Content.{point_limit}
+use Rattle.trace_reader.specs.declared.trace.Fix.{Fix}
+use Rattle.trace_reader.specs.declared.trace.Trace.{Trace}
+
+-- a trace has 1 to 100,000 fixes, and their coordinates are in range
+pub record IsLawfulTrace (trace : Trace) : Type 0 where
+  pub some : 1 ≤ length trace.fixes
+  pub few : length trace.fixes ≤ point_limit
+  pub in_range : All (λ fix. InRange (record { x = fix.x; y = fix.y })) trace.fixes

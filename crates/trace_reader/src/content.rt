@@ -1,0 +1,157 @@
+// The lines of the file, one after the other: its header, the open trace and the closed ones.
+ghost use Rattle.std.specs.Prelude.{◌≡◌, ◌≢◌, ◌+◌, ◌<◌, ◌≤◌, ◌∷◌, ◌++◌, [], length, OnOk, OnErr, IfOk, IfErr, Some, None};
+ghost use Rattle.std.specs.List.{list_all};
+ghost use Rattle.decimal_text.specs.Blank.{is_blank};
+ghost use Rattle.trace_reader.specs.Content.{without_return, point_limit, begin_trace};
+
+use crate::fault::TraceFault;
+use crate::row::{Header, Row, read_header, read_row};
+use crate::trace::{Fix, Trace};
+use decimal_text::is_blank;
+use polyline_geometry::List;
+use std::alloc::Global;
+
+/// What the lines so far leave open.
+#[derive(Drop)]
+pub struct ContentReader {
+    pub header: Option<Header>,
+    pub open: Option<Trace>,
+    alloc: Global,
+}
+
+const POINT_LIMIT: usize = 100_000;
+
+impl ContentReader {
+    ghost use Rattle.trace_reader.specs.Content.{add_row, read_line, no_content};
+    ghost use Rattle.trace_reader.specs.Reader.{content_of};
+    ghost use Rattle.trace_reader.specs.Reading.{end_content};
+
+    pub fn new(alloc: Global) -> Self
+        ensures { content_of result [] ≡ no_content }
+    {
+        ContentReader {
+            header: None,
+            open: None,
+            alloc,
+        }
+    }
+
+    /// Reads the line of this number, without its LF, and appends the trace that it closes.
+    pub fn read_line(
+        &mut self,
+        number: u64,
+        line: &[u8],
+        into: &mut List<Trace>,
+    ) -> Result<(), TraceFault>
+        ensures ok { OnOk result
+            (read_line number (content_of self.old into.old) line.now ≡ Ok (content_of self.new into.new)) }
+        ensures err { IfErr result (λ fault. fault ≢ TraceFault.Memory
+            → read_line number (content_of self.old into.old) line.now ≡ Err fault) }
+        ensures same { OnErr result (into.new ≡ into.old) }
+        ensures one { length into.new ≤ length into.old + 1 }
+    {
+        let text = without_return(line);
+        if is_skipped(text) {
+            return Ok(());
+        }
+        match self.header {
+            None => match read_header(text) {
+                None => Err(TraceFault::BadHeader),
+                Some(header) => {
+                    self.header = Some(header);
+                    Ok(())
+                }
+            },
+            Some(header) => match read_row(header, number, text) {
+                Ok(row) => self.add_row(number, row, into),
+                Err(fault) => Err(fault),
+            },
+        }
+    }
+
+    fn add_row(&mut self, number: u64, row: Row, into: &mut List<Trace>) -> Result<(), TraceFault>
+        ensures ok { OnOk result
+            (add_row number (content_of self.old into.old) row ≡ Ok (content_of self.new into.new)) }
+        ensures err { IfErr result (λ fault. fault ≢ TraceFault.Memory
+            → add_row number (content_of self.old into.old) row ≡ Err fault) }
+        ensures same { OnErr result (into.new ≡ into.old) }
+        ensures one { length into.new ≤ length into.old + 1 }
+    {
+        match self.open.take() {
+            None => {
+                self.open = Some(begin_trace(self.alloc, row)?);
+                Ok(())
+            }
+            Some(trace) => {
+                if trace.id == row.id {
+                    self.open = Some(extend_trace(trace, number, row.fix)?);
+                } else {
+                    self.open = Some(begin_trace(self.alloc, row)?);
+                    into.push(trace)?;
+                }
+                Ok(())
+            }
+        }
+    }
+
+    /// Appends the trace that is open at the end of the file, and begins anew.
+    pub fn end(&mut self, into: &mut List<Trace>) -> Result<(), TraceFault>
+        ensures ok { OnOk result
+            (end_content (content_of self.old into.old) self.old.header ≡ record { traces = into.new; fault = None }) }
+        ensures anew { OnOk result (content_of self.new [] ≡ no_content) }
+        ensures err { IfErr result (λ fault. fault ≢ TraceFault.Memory
+            → end_content (content_of self.old into.old) self.old.header ≡ record { traces = into.old; fault = Some fault }) }
+        ensures same { OnErr result (into.new ≡ into.old) }
+    {
+        match self.header {
+            None => Err(TraceFault::BadHeader),
+            Some(_) => {
+                if let Some(last) = self.open.take() {
+                    into.push(last)?;
+                }
+                self.header = None;
+                Ok(())
+            }
+        }
+    }
+}
+
+fn begin_trace(alloc: Global, row: Row) -> Result<Trace, TraceFault>
+    ensures ok { IfOk result (λ trace. trace ≡ begin_trace row) }
+    ensures err { IfErr result (λ fault. fault ≡ TraceFault.Memory) }
+{
+    let mut fixes = List::new(alloc);
+    fixes.push(row.fix)?;
+    Ok(Trace { id: row.id, fixes })
+}
+
+// The trace with one fix more, in the line of this number.
+fn extend_trace(mut trace: Trace, number: u64, fix: Fix) -> Result<Trace, TraceFault>
+    ensures ok { IfOk result (λ longer. (length trace.fixes < point_limit)
+        × (longer ≡ record { id = trace.id; fixes = trace.fixes ++ fix ∷ [] })) }
+    ensures err { IfErr result (λ fault. fault ≢ TraceFault.Memory
+        → (point_limit ≤ length trace.fixes) × (fault ≡ TraceFault.TraceTooLong number)) }
+{
+    if trace.fixes.len() >= POINT_LIMIT {
+        return Err(TraceFault::TraceTooLong(number));
+    }
+    trace.fixes.push(fix)?;
+    Ok(trace)
+}
+
+// Whether the line has no byte but spaces and tabs.
+fn is_skipped(text: &[u8]) -> bool
+    ensures { result ≡ list_all is_blank text.now }
+{
+    text.iter().all(|byte| is_blank(*byte))
+}
+
+// The line without a CR at its end.
+fn without_return(line: &[u8]) -> &[u8]
+    ensures { result.now ≡ without_return line.now }
+{
+    match line {
+        [text @ .., b'\r'] => text,
+        _ => line,
+    }
+}
