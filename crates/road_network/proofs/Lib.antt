@@ -1,0 +1,14 @@
+pub mod Adding
+pub mod FaultText
+pub mod Finished
+pub mod Growing
+pub mod Least
+pub mod Leaving
+pub mod Lines
+pub mod Names
+pub mod Places
+pub mod Readings
+pub mod Records
+pub mod RowsRead
+pub mod Stored
+pub mod Travel

@@ -1,0 +1,10 @@
+pub mod Net
+pub mod Walk
+pub mod Near
+pub mod Stored
+pub mod Places
+pub mod NetworkFile
+pub mod FaultLine
+pub mod Rows
+pub mod Between
+pub mod Drafted

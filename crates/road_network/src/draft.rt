@@ -1,0 +1,194 @@
+//! A network as its edges are read, one after the other.
+ghost use Rattle.std.specs.Prelude.{◌≡◌, ◌≢◌, ◌+◌, ◌<◌, ◌≤◌, None, Some, IfOk, IfErr, OnOk, length};
+ghost use Rattle.std.specs.List.{All};
+ghost use Rattle.polyline_geometry.specs.Plane.{InRange, line_length};
+ghost use Rattle.road_network.specs.NetworkFile.{add_row, first_fault, limit_faults, line_faults, no_net, place_of, repeated_point, with_node};
+ghost use Rattle.road_network.specs.Drafted.{drafted, IsDraft};
+ghost use Rattle.road_network.specs.Rows.{row_with};
+
+use crate::counting::{place_edges, starts_of};
+use crate::fault::NetworkFault;
+use crate::{EdgeId, Network, NodeId, StoredEdge};
+use indexmap::IndexSet;
+use polyline_geometry::{List, Point, straight};
+use std::alloc::{AllocError, Global};
+
+/// The most nodes, edges, points of all lines, and centimetres of one edge.
+const MOST_NODES: usize = 60_000;
+
+const MOST_EDGES: usize = 150_000;
+
+const MOST_POINTS: usize = 1_000_000;
+
+const LONGEST_EDGE: u64 = 100_000_000;
+
+/// The first three fields of a record: an edge's id, and those of the nodes that it joins.
+#[derive(Clone, Copy)]
+pub(crate) struct RowHead {
+    pub name: u32,
+    pub from: u64,
+    pub to: u64,
+}
+
+/// A network whose edges are still being read.
+#[derive(Drop)]
+pub(crate) struct Draft {
+    nodes: IndexSet<u64>,
+    names: IndexSet<u32>,
+    edges: List<StoredEdge>,
+    points: List<Point>,
+}
+
+/// The place, from 1, of the first point that equals the one before it.
+fn repeated_point(line: &[Point]) -> Option<u32>
+    requires { length line.now ≤ 200_000_000 }
+    ensures { result ≡ repeated_point line.now }
+{
+    for i in 1..line.len() {
+        if line[i] == line[i - 1] {
+            return Some(i as u32 + 1);
+        }
+    }
+    None
+}
+
+/// The length of a line of any number of points, in cm.
+fn length_of(line: &[Point]) -> u64
+    requires few { length line.now ≤ 200_000_000 }
+    requires within { All InRange line.now }
+    ensures { result ≡ line_length line.now }
+{
+    let mut length = 0;
+    for i in 1..line.len() {
+        length += u64::from(straight(line[i - 1], line[i]));
+    }
+    length
+}
+
+/// The length of an edge's line, in cm, if the line is faultless.
+fn check_line(rec: u32, line: &[Point]) -> Result<u32, NetworkFault>
+    requires few { length line.now ≤ 200_000_000 }
+    requires within { All InRange line.now }
+    ensures ok { OnOk result (first_fault (line_faults rec line.now) ≡ None) }
+    ensures length { IfOk result (λ length. length ≡ line_length line.now) }
+    ensures fault { IfErr result (λ e. first_fault (line_faults rec line.now) ≡ Some e) }
+{
+    if line.len() < 2 {
+        return Err(NetworkFault::ShortLine(rec));
+    }
+    if let Some(place) = repeated_point(line) {
+        return Err(NetworkFault::RepeatedPoint(rec, place));
+    }
+    let length = length_of(line);
+    if length > LONGEST_EDGE {
+        return Err(NetworkFault::EdgeTooLong(rec));
+    }
+    Ok(length as u32)
+}
+
+/// The number of a node, which is new if no earlier record names it.
+fn number_of(nodes: &mut IndexSet<u64>, name: u64) -> Result<NodeId, NetworkFault>
+    requires { length nodes.old.keys ≤ 1_000_000 }
+    ensures nodes { OnOk result (nodes.new.keys ≡ with_node nodes.old.keys name) }
+    ensures place { IfOk result (λ node. node.0 ≡ place_of nodes.new.keys name) }
+    ensures memory { IfErr result (λ e. e ≡ NetworkFault.Memory) }
+{
+    let (place, _) = nodes.insert_full(name)?;
+    Ok(NodeId(place as u32))
+}
+
+/// Whether a network may have so many edges, nodes and points of all lines.
+fn check_limits(rec: u32, edges: usize, nodes: usize, points: usize) -> Result<(), NetworkFault>
+    ensures ok { OnOk result (first_fault (limit_faults rec edges nodes points) ≡ None) }
+    ensures fault { IfErr result (λ e. first_fault (limit_faults rec edges nodes points) ≡ Some e) }
+{
+    if edges > MOST_EDGES {
+        return Err(NetworkFault::TooManyEdges(rec));
+    }
+    if nodes > MOST_NODES {
+        return Err(NetworkFault::TooManyNodes(rec));
+    }
+    if points > MOST_POINTS {
+        return Err(NetworkFault::TooManyPoints(rec));
+    }
+    Ok(())
+}
+
+impl Draft {
+    /// The network without nodes and edges.
+    pub fn new(alloc: Global) -> Draft
+        ensures network { drafted result ≡ no_net }
+        ensures draft { IsDraft result }
+    {
+        Draft {
+            nodes: IndexSet::new(alloc),
+            names: IndexSet::new(alloc),
+            edges: List::new(alloc),
+            points: List::new(alloc),
+        }
+    }
+
+    /// The number of the record whose edge comes next, from 1.
+    pub fn next_record(&self) -> u32
+        requires { IsDraft self.now }
+        ensures { result ≡ length (drafted self.now).edges + 1 }
+    {
+        self.edges.len() as u32 + 1
+    }
+
+    /// Adds the edge of the next record. After an error the draft is of no use.
+    pub fn add(&mut self, head: &RowHead, line: &[Point]) -> Result<(), NetworkFault>
+        requires draft { IsDraft self.old }
+        requires few { length line.now ≤ 200_000_000 }
+        requires within { All InRange line.now }
+        ensures draft { OnOk result (IsDraft self.new) }
+        ensures network { OnOk result (add_row (drafted self.old) (row_with head.now line.now) ≡ Ok (drafted self.new)) }
+        ensures fault { IfErr result (λ e. e ≢ NetworkFault.Memory → add_row (drafted self.old) (row_with head.now line.now) ≡ Err e) }
+    {
+        let rec = self.next_record();
+        let (_, is_new) = self.names.insert_full(head.name)?;
+        if !is_new {
+            return Err(NetworkFault::DuplicateEdge(rec));
+        }
+        let length = check_line(rec, line)?;
+        let from = number_of(&mut self.nodes, head.from)?;
+        let to = number_of(&mut self.nodes, head.to)?;
+        let first = self.points.len();
+        let end = first + line.len();
+        check_limits(rec, self.edges.len() + 1, self.nodes.len(), end)?;
+        let edge = StoredEdge {
+            name: head.name,
+            from,
+            to,
+            length,
+            first,
+            end,
+        };
+        self.points.extend_from_slice(line)?;
+        self.edges.push(edge)?;
+        Ok(())
+    }
+
+    /// The network of all edges that were added.
+    pub fn finish(self, alloc: Global) -> Result<Network, AllocError>
+        requires { IsDraft self }
+        ensures { IfOk result (λ n. n ≡ drafted self) }
+    {
+        let Draft {
+            nodes,
+            names: _,
+            edges,
+            points,
+        } = self;
+        let starts = starts_of(alloc, nodes.len(), edges.as_slice())?;
+        let leaving = place_edges(alloc, starts.as_slice(), edges.as_slice())?;
+        let nodes = nodes.as_slice().to_vec(alloc)?;
+        Ok(Network {
+            nodes,
+            edges: edges.into_vec(),
+            points: points.into_vec(),
+            starts,
+            leaving,
+        })
+    }
+}

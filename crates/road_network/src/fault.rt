@@ -1,0 +1,139 @@
+//! What may be wrong with a network file, and the line that says it.
+ghost use Rattle.std.specs.Prelude.{◌≡◌, ◌≢◌, ◌++◌, OnOk, OnErr};
+ghost use Rattle.decimal_text.specs.Number.{decimal};
+ghost use Rattle.road_network.specs.FaultLine.{fault_line, fault_text, record_line};
+
+use decimal_text::write_unsigned;
+use polyline_geometry::List;
+use std::alloc::{AllocError, AllocFailed, Global};
+use thiserror::Error;
+
+/// The first fault of a network file. A record, a field and a place are numbered from 1, and the
+/// header is no record.
+#[derive(Clone, Copy, Debug, PartialEq, Eq, Error)]
+pub enum NetworkFault {
+    /// The first record is missing or is not the four names.
+    #[error("bad header")]
+    BadHeader,
+    /// The record has not four fields.
+    #[error("record {0}: wrong number of fields")]
+    FieldCount(u32),
+    /// A field of the record is misspelt.
+    #[error("record {0} field {1}: bad number")]
+    BadNumber(u32, u32),
+    /// A value of the record is out of range.
+    #[error("record {0} field {1}: out of range")]
+    OutOfRange(u32, u32),
+    /// An earlier record has this edge id.
+    #[error("record {0}: edge id repeated")]
+    DuplicateEdge(u32),
+    /// The line has one point.
+    #[error("record {0}: line too short")]
+    ShortLine(u32),
+    /// The point at this place of the line equals the one before it.
+    #[error("record {0} point {1}: point repeated")]
+    RepeatedPoint(u32, u32),
+    /// The edge is longer than 100,000,000 cm.
+    #[error("record {0}: edge too long")]
+    EdgeTooLong(u32),
+    /// The file has more than 150,000 edges.
+    #[error("record {0}: too many edges")]
+    TooManyEdges(u32),
+    /// The file has more than 60,000 nodes.
+    #[error("record {0}: too many nodes")]
+    TooManyNodes(u32),
+    /// The lines have more than 1,000,000 points together.
+    #[error("record {0}: too many points")]
+    TooManyPoints(u32),
+    /// The file has more than 134,217,728 bytes.
+    #[error("file too long")]
+    FileTooLong,
+    /// Memory is wanting.
+    #[error("out of memory")]
+    Memory,
+}
+
+impl From<AllocError> for NetworkFault {
+    ghost use Rattle.road_network.specs.declared.fault.NetworkFault.{NetworkFault};
+
+    ghost from_gives = { λ _ e. e ≡ NetworkFault.Memory };
+
+    fn from(_: AllocError) -> NetworkFault {
+        NetworkFault::Memory
+    }
+}
+
+impl<T: Drop> From<AllocFailed<T>> for NetworkFault {
+    ghost use Rattle.road_network.specs.declared.fault.NetworkFault.{NetworkFault};
+
+    ghost from_gives = { λ _ e. e ≡ NetworkFault.Memory };
+
+    fn from(_: AllocFailed<T>) -> NetworkFault {
+        NetworkFault::Memory
+    }
+}
+
+/// Appends the number of a record and what is said of it.
+fn write_record(line: &mut List<u8>, rec: u32, rest: &[u8]) -> Result<(), AllocError>
+    ensures { OnOk result (line.new ≡ line.old ++ record_line rec rest.now) }
+{
+    line.extend_from_slice(b"network record ")?;
+    write_unsigned(u64::from(rec), line)?;
+    line.extend_from_slice(rest)
+}
+
+/// Appends the number of a record, that of one of its parts, and what is said of it.
+fn write_part(
+    line: &mut List<u8>,
+    rec: u32,
+    part: &[u8],
+    place: u32,
+    rest: &[u8],
+) -> Result<(), AllocError>
+    ensures { OnOk result (line.new ≡ line.old ++ record_line rec (part.now ++ decimal place ++ rest.now)) }
+{
+    write_record(line, rec, part)?;
+    write_unsigned(u64::from(place), line)?;
+    line.extend_from_slice(rest)
+}
+
+impl NetworkFault {
+    /// Appends what the fault's line says, without its LF.
+    fn write_text(&self, line: &mut List<u8>) -> Result<(), AllocError>
+        ensures { OnOk result (line.new ≡ line.old ++ fault_text self.now) }
+    {
+        match *self {
+            NetworkFault::BadHeader => line.extend_from_slice(b"network: bad header"),
+            NetworkFault::FieldCount(rec) => write_record(line, rec, b": wrong number of fields"),
+            NetworkFault::BadNumber(rec, field) => {
+                write_part(line, rec, b" field ", field, b": bad number")
+            }
+            NetworkFault::OutOfRange(rec, field) => {
+                write_part(line, rec, b" field ", field, b": out of range")
+            }
+            NetworkFault::DuplicateEdge(rec) => write_record(line, rec, b": edge id repeated"),
+            NetworkFault::ShortLine(rec) => write_record(line, rec, b": line too short"),
+            NetworkFault::RepeatedPoint(rec, place) => {
+                write_part(line, rec, b" point ", place, b": point repeated")
+            }
+            NetworkFault::EdgeTooLong(rec) => write_record(line, rec, b": edge too long"),
+            NetworkFault::TooManyEdges(rec) => write_record(line, rec, b": too many edges"),
+            NetworkFault::TooManyNodes(rec) => write_record(line, rec, b": too many nodes"),
+            NetworkFault::TooManyPoints(rec) => write_record(line, rec, b": too many points"),
+            NetworkFault::FileTooLong => line.extend_from_slice(b"network: file too long"),
+            NetworkFault::Memory => Ok(()),
+        }
+    }
+
+    /// Appends the line that says the fault. Want of memory has no line.
+    pub fn write_line(&self, alloc: Global, into: &mut List<u8>) -> Result<(), AllocError>
+        requires { self.now ≢ NetworkFault.Memory }
+        ensures ok { OnOk result (into.new ≡ into.old ++ fault_line self.now) }
+        ensures err { OnErr result (into.new ≡ into.old) }
+    {
+        let mut line = List::new(alloc);
+        self.write_text(&mut line)?;
+        line.push(b'\n')?;
+        into.extend_from_slice(line.as_slice())
+    }
+}

@@ -1,0 +1,187 @@
+//! What the four fields of a record say.
+ghost use Rattle.std.specs.Prelude.{◌≡◌, ◌≢◌, ◌+◌, ◌<◌, ◌≤◌, ◌∷◌, [], IfOk, IfErr, OnOk, length};
+ghost use Rattle.std.specs.List.{All, position_or_len, sum_by};
+ghost use Rattle.decimal_text.specs.Blank.{is_blank};
+ghost use Rattle.csv.specs.Records.{field_at, fields_of};
+ghost use Rattle.polyline_geometry.specs.Plane.{InRange};
+ghost use Rattle.road_network.specs.NetworkFile.{both, field_faults, field_with, first_fault, is_fault, line_of, make_point, point_of, row_of, row_from, unless};
+ghost use Rattle.road_network.specs.Rows.{row_with, worse};
+ghost use Rattle.decimal_text.specs.Number.{unsigned_within};
+
+use crate::draft::RowHead;
+use crate::fault::NetworkFault;
+use csv::ByteRecord;
+use decimal_text::{NumberFault, is_blank, parse_signed, parse_unsigned, trim};
+use polyline_geometry::{List, Point};
+use std::alloc::AllocError;
+
+/// The greatest coordinate, in cm.
+const GREATEST_COORDINATE: u32 = 1_000_000_000;
+
+/// The fault of two readings: a misspelling stands before a value out of range.
+fn worse(earlier: Option<NumberFault>, later: NumberFault) -> NumberFault
+    ensures { result ≡ worse earlier later }
+{
+    match earlier {
+        Some(NumberFault::Misspelt) => NumberFault::Misspelt,
+        Some(NumberFault::OutOfRange) | None => later,
+    }
+}
+
+/// The point of two coordinates.
+fn make_point(
+    x: Result<i32, NumberFault>,
+    y: Result<i32, NumberFault>,
+) -> Result<Point, NumberFault>
+    ensures { result ≡ both make_point x y }
+{
+    match (x, y) {
+        (Ok(x), Ok(y)) => Ok(Point { x, y }),
+        (Ok(_), Err(fault)) => Err(fault),
+        (Err(fault), Ok(_)) => Err(fault),
+        (Err(first), Err(second)) => Err(worse(Some(first), second)),
+    }
+}
+
+/// Where the first blank stands, or the length of a text without one.
+fn first_blank(text: &[u8]) -> usize
+    ensures place { result ≡ position_or_len is_blank text.now }
+    ensures within { result ≤ length text.now }
+{
+    for (i, byte) in text.iter().enumerate() {
+        if is_blank(*byte) {
+            return i;
+        }
+    }
+    text.len()
+}
+
+/// One part of a line: two coordinates with spaces or tabs between them.
+fn read_point(part: &[u8]) -> Result<Point, NumberFault>
+    ensures value { result ≡ point_of part.now }
+    ensures within { IfOk result InRange }
+{
+    let text = trim(part);
+    let blank = first_blank(text);
+    let rest = trim(&text[text.len().min(blank + 1)..]);
+    make_point(
+        parse_signed(&text[..blank], GREATEST_COORDINATE),
+        parse_signed(rest, GREATEST_COORDINATE),
+    )
+}
+
+/// Reads a line into `line`, in place of the points that it has, and says what is wrong with it.
+fn read_line(field: &[u8], line: &mut List<Point>) -> Result<Option<NumberFault>, AllocError>
+    ensures value { IfOk result (λ fault. line_of field.now ≡ unless fault line.new) }
+    ensures within { OnOk result (All InRange line.new) }
+    ensures few { OnOk result (length line.new ≤ length field.now + 1) }
+{
+    line.truncate(0);
+    let mut fault = None;
+    for part in field.split(|byte| *byte == b';') {
+        match read_point(part) {
+            Ok(point) => {
+                line.push(point)?;
+            }
+            Err(found) => {
+                fault = Some(worse(fault, found));
+            }
+        }
+    }
+    Ok(fault)
+}
+
+/// Whether a reading has this fault.
+fn is_fault(kind: NumberFault, reading: Option<NumberFault>) -> bool
+    ensures { result ≡ is_fault kind reading }
+{
+    match (kind, reading) {
+        (NumberFault::Misspelt, Some(NumberFault::Misspelt)) => true,
+        (NumberFault::OutOfRange, Some(NumberFault::OutOfRange)) => true,
+        _ => false,
+    }
+}
+
+/// The number, from 1, of the first field whose reading has this fault.
+fn field_with(kind: NumberFault, readings: &[Option<NumberFault>]) -> Option<u32>
+    requires { length readings.now ≤ 4 }
+    ensures { result ≡ field_with kind readings.now }
+{
+    for (i, reading) in readings.iter().enumerate() {
+        if is_fault(kind, *reading) {
+            return Some(i as u32 + 1);
+        }
+    }
+    None
+}
+
+/// Whether all fields of a record were read. Every misspelling stands before every value out of
+/// range.
+fn check_fields(rec: u32, readings: &[Option<NumberFault>]) -> Result<(), NetworkFault>
+    requires { length readings.now ≤ 4 }
+    ensures ok { OnOk result (first_fault (field_faults rec readings.now) ≡ None) }
+    ensures fault { IfErr result (λ e. first_fault (field_faults rec readings.now) ≡ Some e) }
+{
+    if let Some(field) = field_with(NumberFault::Misspelt, readings) {
+        return Err(NetworkFault::BadNumber(rec, field));
+    }
+    if let Some(field) = field_with(NumberFault::OutOfRange, readings) {
+        return Err(NetworkFault::OutOfRange(rec, field));
+    }
+    Ok(())
+}
+
+/// Reads the four fields of record number `rec`, the points of the line into `line`.
+fn read_fields(
+    rec: u32,
+    name: &[u8],
+    from: &[u8],
+    to: &[u8],
+    points: &[u8],
+    line: &mut List<Point>,
+) -> Result<RowHead, NetworkFault>
+    ensures row { IfOk result (λ head. row_of rec (name.now ∷ from.now ∷ to.now ∷ points.now ∷ []) ≡ Ok (row_with head line.new)) }
+    ensures within { OnOk result (All InRange line.new) }
+    ensures few { OnOk result (length line.new ≤ length points.now + 1) }
+    ensures fault { IfErr result (λ e. e ≢ NetworkFault.Memory → row_of rec (name.now ∷ from.now ∷ to.now ∷ points.now ∷ []) ≡ Err e) }
+{
+    let name = parse_unsigned(name, u64::from(u32::MAX));
+    let from = parse_unsigned(from, u64::MAX);
+    let to = parse_unsigned(to, u64::MAX);
+    let fault = read_line(points, line)?;
+    check_fields(rec, &[name.err(), from.err(), to.err(), fault])?;
+    Ok(RowHead {
+        name: name.unwrap_or(0) as u32,
+        from: from.unwrap_or(0),
+        to: to.unwrap_or(0),
+    })
+}
+
+/// The field at a place, from 0.
+pub(crate) fn field_at(fields: &ByteRecord, place: usize) -> &[u8]
+    requires { place < length (fields_of fields.now) }
+    ensures { field_at (fields_of fields.now) place ≡ Some result.now }
+{
+    fields.get(place).unwrap()
+}
+
+/// Reads record number `rec`: its first three fields, and the points of its line into `line`.
+pub(crate) fn read_row(
+    rec: u32,
+    fields: &ByteRecord,
+    line: &mut List<Point>,
+) -> Result<RowHead, NetworkFault>
+    ensures row { IfOk result (λ head. row_of rec (fields_of fields.now) ≡ Ok (row_with head line.new)) }
+    ensures within { OnOk result (All InRange line.new) }
+    ensures few { OnOk result (length line.new ≤ sum_by length (fields_of fields.now) + 1) }
+    ensures fault { IfErr result (λ e. e ≢ NetworkFault.Memory → row_of rec (fields_of fields.now) ≡ Err e) }
+{
+    if fields.len() != 4 {
+        return Err(NetworkFault::FieldCount(rec));
+    }
+    let name = field_at(fields, 0);
+    let from = field_at(fields, 1);
+    let to = field_at(fields, 2);
+    let points = field_at(fields, 3);
+    read_fields(rec, name, from, to, points, line)
+}

@@ -1,0 +1,103 @@
+//! Reads a network file, record by record.
+ghost use Rattle.std.specs.Prelude.{◌≡◌, ◌≢◌, ◌≤◌, [], true, false, IfOk, IfErr, OnOk, length};
+ghost use Rattle.std.specs.List.{sum_by};
+ghost use Rattle.csv.specs.Records.{fields_of};
+ghost use Rattle.road_network.specs.Between.{IsBetween, IsNext, records_left, text_left};
+ghost use Rattle.road_network.specs.Drafted.{drafted, IsDraft};
+ghost use Rattle.road_network.specs.NetworkFile.{add_record, add_records, is_header, network_of, no_net};
+
+use crate::Network;
+use crate::draft::Draft;
+use crate::fault::NetworkFault;
+use crate::fields::{field_at, read_row};
+use csv::{ByteRecord, Reader, ReaderBuilder};
+use polyline_geometry::{List, Point};
+use std::alloc::Global;
+
+/// The most bytes of a network file.
+const MOST_BYTES: usize = 134_217_728;
+
+/// Reads the next record into `row`, and says whether there was one.
+fn read_next(reader: &mut Reader<&[u8]>, row: &mut ByteRecord) -> Result<bool, NetworkFault>
+    requires { IsBetween reader.old }
+    ensures next { IfOk result (λ found. found ≡ true → IsNext reader.old reader.new (fields_of row.new)) }
+    ensures end { IfOk result (λ found. found ≡ false → records_left reader.old ≡ []) }
+    ensures memory { IfErr result (λ e. e ≡ NetworkFault.Memory) }
+{
+    let Ok(found) = reader.read_byte_record(row) else {
+        return Err(NetworkFault::Memory);
+    };
+    Ok(found)
+}
+
+/// Adds the edge of one record. `line` lends its memory to the points of the record.
+fn add_record(
+    draft: &mut Draft,
+    fields: &ByteRecord,
+    line: &mut List<Point>,
+) -> Result<(), NetworkFault>
+    requires draft { IsDraft draft.old }
+    requires small { sum_by length (fields_of fields.now) ≤ 134_217_728 }
+    ensures draft { OnOk result (IsDraft draft.new) }
+    ensures network { OnOk result (add_record (drafted draft.old) (fields_of fields.now) ≡ Ok (drafted draft.new)) }
+    ensures fault { IfErr result (λ e. e ≢ NetworkFault.Memory → add_record (drafted draft.old) (fields_of fields.now) ≡ Err e) }
+{
+    let head = read_row(draft.next_record(), fields, line)?;
+    draft.add(&head, line.as_slice())
+}
+
+/// The network of the records that are left, or the fault of the first faulty one.
+fn read_edges(
+    alloc: Global,
+    reader: &mut Reader<&[u8]>,
+    row: &mut ByteRecord,
+) -> Result<Network, NetworkFault>
+    requires between { IsBetween reader.old }
+    requires small { length (text_left reader.old) ≤ 134_217_728 }
+    ensures network { IfOk result (λ n. add_records no_net (records_left reader.old) ≡ Ok n) }
+    ensures fault { IfErr result (λ e. e ≢ NetworkFault.Memory → add_records no_net (records_left reader.old) ≡ Err e) }
+{
+    let mut draft = Draft::new(alloc);
+    let mut line = List::new(alloc);
+    while read_next(reader, row)? {
+        add_record(&mut draft, row, &mut line)?;
+    }
+    Ok(draft.finish(alloc)?)
+}
+
+/// Whether a record is the header of a network file.
+fn is_header(row: &ByteRecord) -> bool
+    ensures { result ≡ is_header (fields_of row.now) }
+{
+    if row.len() != 4 {
+        return false;
+    }
+    let is_edge = field_at(row, 0) == b"edge".as_slice();
+    let is_from = field_at(row, 1) == b"from".as_slice();
+    let is_to = field_at(row, 2) == b"to".as_slice();
+    let is_line = field_at(row, 3) == b"line".as_slice();
+    is_edge & is_from & is_to & is_line
+}
+
+/// The network of a file, or its first fault, or `Memory` where memory is wanting. The file is read
+/// once, a record at a time; nothing of it is kept but the ids and the points.
+pub fn read_network(alloc: Global, bytes: &[u8]) -> Result<Network, NetworkFault>
+    ensures network { IfOk result (λ n. network_of bytes.now ≡ Ok n) }
+    ensures fault { IfErr result (λ e. e ≢ NetworkFault.Memory → network_of bytes.now ≡ Err e) }
+{
+    if bytes.len() > MOST_BYTES {
+        return Err(NetworkFault::FileTooLong);
+    }
+    let mut reader = ReaderBuilder::new()
+        .has_headers(false)
+        .flexible(true)
+        .from_reader(alloc, bytes);
+    let mut row = ByteRecord::new(alloc);
+    if !read_next(&mut reader, &mut row)? {
+        return Err(NetworkFault::BadHeader);
+    }
+    if !is_header(&row) {
+        return Err(NetworkFault::BadHeader);
+    }
+    read_edges(alloc, &mut reader, &mut row)
+}

@@ -1,0 +1,169 @@
+//! The road network: read from its file, and handed out part by part.
+//!
+//! - [`read_network`] reads a network file; [`NetworkFault`] says what is wrong with one, and
+//!   writes the line that says it.
+//! - [`Network`] hands out nodes and edges by their numbers, [`NodeId`] and [`EdgeId`]; an edge
+//!   has an id, two nodes, a line and a length in cm.
+//! - [`Candidate`] is an edge with the snap of a point to it.
+//!
+//! Contracts see a network as the record `Net` of `specs/Net.antt`. Walks and their order are in
+//! `specs/Walk.antt`, the candidates of a point in `specs/Near.antt`, and what a file says in
+//! `specs/NetworkFile.antt`. The clauses to read first are those of [`read_network`].
+#![tactic(auto)]
+
+ghost use Rattle.std.specs.Prelude.{◌≡◌, ◌<◌, ◌≤◌, ℕ, length};
+ghost use Rattle.std.specs.List.{All, Contains};
+ghost use Rattle.road_network.specs.Net.{Net, HasEdge, HasNode, IsLawful, edge_line, edge_name, leaving, node_name, source, span, target};
+
+mod counting;
+mod draft;
+mod fault;
+mod fields;
+mod file;
+#[cfg(test)]
+mod tests;
+
+pub use fault::NetworkFault;
+pub use file::read_network;
+use polyline_geometry::Point;
+use std::marker::Model;
+
+/// The number of a node of a network, from 0.
+#[derive(Clone, Copy, Debug, PartialEq, Eq, PartialOrd, Ord)]
+pub struct NodeId(pub u32);
+
+/// The number of an edge of a network, from 0: its place in the file.
+#[derive(Clone, Copy, Debug, PartialEq, Eq, PartialOrd, Ord)]
+pub struct EdgeId(pub u32);
+
+/// An edge with the snap of a point to it.
+#[derive(Clone, Copy, Debug, PartialEq, Eq)]
+pub struct Candidate {
+    pub edge: EdgeId,
+    /// The squared distance of the point from the edge, in cm².
+    pub d2: u64,
+    /// How far along the edge the snapped point lies, in cm.
+    pub offset: u32,
+}
+
+/// An edge as a network stores it. Its line is `points[first..end]`.
+#[derive(Clone, Copy)]
+struct StoredEdge {
+    name: u32,
+    from: NodeId,
+    to: NodeId,
+    length: u32,
+    first: usize,
+    end: usize,
+}
+
+/// A network: nodes and directed edges with lines. All points lie in one list, and so do the
+/// leaving edges of all nodes: those of node v are `leaving[starts[v]..starts[v + 1]]`.
+#[derive(Drop)]
+pub struct Network {
+    nodes: Vec<u64>,
+    edges: Vec<StoredEdge>,
+    points: Vec<Point>,
+    starts: Vec<u32>,
+    leaving: Vec<EdgeId>,
+}
+
+impl Model for Network {
+    ghost use Rattle.road_network.specs.Net.{Net};
+
+    ghost Value = { Net };
+
+    ghost use Rattle.road_network.specs.Stored.{shown, IsKept};
+
+    ghost view = { shown };
+
+    ghost invariant = { IsKept };
+}
+
+impl Network {
+    /// Takes no memory and does nothing: its clause tells what every network meets.
+    pub fn known(&self)
+        ensures { IsLawful self.now }
+    {
+        let _ = &self.edges;
+    }
+
+    /// How many nodes there are.
+    pub fn node_count(&self) -> u32
+        ensures { result ≡ length self.now.nodes }
+    {
+        self.nodes.len() as u32
+    }
+
+    /// How many edges there are.
+    pub fn edge_count(&self) -> u32
+        ensures { result ≡ length self.now.edges }
+    {
+        self.edges.len() as u32
+    }
+
+    /// The node where an edge begins.
+    pub fn from(&self, e: EdgeId) -> NodeId
+        requires { HasEdge self.now e.0 }
+        ensures { result.0 ≡ source self.now e.0 }
+    {
+        self.edges[e.0 as usize].from
+    }
+
+    /// The node where an edge ends.
+    pub fn to(&self, e: EdgeId) -> NodeId
+        requires { HasEdge self.now e.0 }
+        ensures { result.0 ≡ target self.now e.0 }
+    {
+        self.edges[e.0 as usize].to
+    }
+
+    /// The length of an edge, in cm.
+    pub fn length(&self, e: EdgeId) -> u32
+        requires { HasEdge self.now e.0 }
+        ensures { result ≡ span self.now e.0 }
+    {
+        self.edges[e.0 as usize].length
+    }
+
+    /// The line of an edge: at least two points, and neighbouring points differ.
+    pub fn line(&self, e: EdgeId) -> &[Point]
+        requires { HasEdge self.now e.0 }
+        ensures { result.now ≡ edge_line self.now e.0 }
+    {
+        let edge = &self.edges[e.0 as usize];
+        &self.points[edge.first..edge.end]
+    }
+
+    /// The edge's id in the file.
+    pub fn name(&self, e: EdgeId) -> u32
+        requires { HasEdge self.now e.0 }
+        ensures { result ≡ edge_name self.now e.0 }
+    {
+        self.edges[e.0 as usize].name
+    }
+
+    /// The node's id in the file.
+    pub fn node_name(&self, n: NodeId) -> u64
+        requires { HasNode self.now n.0 }
+        ensures { result ≡ node_name self.now n.0 }
+    {
+        self.nodes[n.0 as usize]
+    }
+
+    /// The edges that begin at a node, by rising number.
+    #[tactic(auto, using(crate::proofs::Leaving::leaving_each, crate::proofs::Leaving::leaving_every))]
+    pub fn out(&self, n: NodeId) -> &[EdgeId]
+        requires { HasNode self.now n.0 }
+        ensures list { result.now ≡ leaving self.now n.0 }
+        ensures each { All (λ e. HasEdge self.now e.0 × (source self.now e.0 ≡ n.0)) result.now }
+        ensures every { (e : ℕ)
+            → HasEdge self.now e
+            → source self.now e ≡ n.0
+            → Contains result.now (record { 0 = e }) }
+    {
+        let first = self.starts[n.0 as usize] as usize;
+        let end = self.starts[n.0 as usize + 1] as usize;
+        &self.leaving[first..end]
+    }
+}
