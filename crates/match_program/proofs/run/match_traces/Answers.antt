@@ -1,0 +1,12 @@
+use Rattle.std.proofs.lemmas.Result.{err_from_is_err_and}
+use Rattle.match_program.proofs.CommandEnds.{match_performs, network_unloaded}
+use Rattle.match_program.proofs.run.match_traces.Goals as goal
+
+pub returns-in_err-roads : goal.returns-in_err-roads
+returns-in_err-roads g c =
+    let p = err_from_is_err_and c.from_residual.result c.from_residual.ensures.1 in
+    rw (p.1, p.2) (network_unloaded c.args.network.now c.args.traces.now (g.S.Shelf.holds c.args.shelf.now) _ _ (g.K.Sink.written c.args.out.now) (g.K.Sink.faults c.args.out.now) _ c.in_err-roads.ensures.err)
+
+pub returns : goal.returns
+returns g c =
+    match_performs c.args.network.now c.args.traces.now c.in_ok-roads.roads (g.S.Shelf.holds c.args.shelf.now) _ (g.S.Shelf.failed c.args.shelf.now) _ _ (g.K.Sink.written c.args.out.now) _ (g.K.Sink.faults c.args.out.now) _ c.match_file.result c.in_ok-roads.ensures.ok c.load_network.ensures.holds c.in_ok-roads.ensures.same c.match_file.ensures

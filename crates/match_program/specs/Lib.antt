@@ -1,0 +1,12 @@
+pub mod Batches
+pub mod Ending
+pub mod Headline
+pub mod Lines
+pub mod Matches
+pub mod Nearest
+pub mod OnePoint
+pub mod Outcome
+pub mod Performs
+pub mod Read
+pub mod Stream
+pub mod Tally
