@@ -1,0 +1,23 @@
+pub mod Lists
+pub mod Orders
+pub mod Costs
+pub mod Step
+pub mod Linked
+pub mod Chosen
+pub mod CellsOfLinked
+pub mod LinkedOfCells
+pub mod Runs
+pub mod Ends
+pub mod PieceLists
+pub mod Matches
+pub mod Unique
+pub mod Commitment
+pub mod Meeting
+pub mod Commits
+pub mod BestValue
+pub mod Routes
+pub mod RouteLengths
+pub mod Growth
+pub mod Committing
+mod Examples
+pub mod CandidateLayers

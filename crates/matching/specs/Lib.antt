@@ -1,0 +1,16 @@
+pub mod Order
+pub mod Sequences
+pub mod Cells
+pub mod Pieces
+pub mod Local
+pub mod Match
+pub mod Asked
+pub mod Committed
+pub mod Best
+pub mod Meeting
+pub mod Routes
+pub mod RouteLength
+pub mod Layers
+pub mod Growth
+pub mod SoFar
+pub mod Places

@@ -1,0 +1,23 @@
+//! Laws on the definitions alone. Each function is there for its clause and does nothing.
+ghost use Rattle.road_network.specs.Net.{Net};
+ghost use Rattle.cost_model.specs.declared.params.Params.{Params};
+ghost use Rattle.matching.specs.Committed.{CommitmentLasts};
+ghost use Rattle.matching.specs.Layers.{trellis};
+ghost use Rattle.matching.specs.Local.{CellsAreLocal};
+ghost use Rattle.matching.specs.RouteLength.{RouteLengthsAreLeast};
+
+/// The length that a trellis takes for a route is that of the least of all routes.
+pub fn route_lengths_are_least()
+    ensures { RouteLengthsAreLeast }
+{}
+
+/// Tables have the least costs over all sequences, and their pointers, exactly where the cells of each
+/// layer agree with those of the layer before.
+pub fn cells_are_local()
+    ensures { (net : Net) (p : Params) → CellsAreLocal (trellis net p) }
+{}
+
+/// What is committed stays, whatever follows.
+pub fn commitment_lasts()
+    ensures { (net : Net) (p : Params) → CommitmentLasts (trellis net p) }
+{}

@@ -1,0 +1,19 @@
+//! What a match is: the definitions that every crate that matches, follows, certifies or checks cites,
+//! and their theory.
+//!
+//! A trace is a list of [`Layer`]s: points with their candidates. A sequence gives one candidate per
+//! point; its cost is that of its candidates and of the routes between them. The match of a piece is
+//! its best sequence. Everything is stated over all sequences and all routes; that a table of
+//! [`Cell`]s, filled from layer to layer, holds the best sequences is a theorem (`CellsAreLocal`).
+//!
+//! Read first: `specs/Sequences.antt` (`Trellis`, `cost`, `IsBest`), and `trellis` in
+//! `specs/Layers.antt`, which says what the layers of a trace cost.
+#![tactic(auto)]
+
+mod lawful;
+mod laws;
+mod parts;
+
+pub use lawful::{are_layers, is_candidate, is_layer};
+pub use laws::{cells_are_local, commitment_lasts, route_lengths_are_least};
+pub use parts::{Cell, Layer, Piece};
