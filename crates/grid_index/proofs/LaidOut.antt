@@ -1,0 +1,87 @@
+-- Entries laid out by slot are the table of a grid.
+use Rattle.std.proofs.Common.{◌≡◌, ℕ, ◌+◌, ◌-◌, ◌*◌, ◌<◌, ◌≤◌, List, length, get_or, take, drop, map, All, refl, sym, ap, ◌∙◌, subst, inl, inr, arith, ⊎_elim, length-drop, length-take}
+use Rattle.std.specs.List.{Contains}
+use Rattle.std.specs.List.Sorted.{IsPermutation}
+use Rattle.std.proofs.lemmas.Bool.{cases_lt}
+use Rattle.std.proofs.lemmas.List.{get_or-drop, get_or-map, get_or-take, length-map}
+use Rattle.std.proofs.lemmas.List.Elements.{All-map}
+use Rattle.std.proofs.lemmas.List.Sorted.{All-permutation, Contains-permutation}
+use Rattle.road_network.specs.declared.EdgeId.{EdgeId}
+use Rattle.road_network.specs.Net.{Net}
+use Rattle.grid_index.specs.declared.entries.Entry.{Entry}
+use Rattle.grid_index.specs.declared.entries.Entries.{Entries}
+use Rattle.grid_index.specs.Cells.{cell, slot}
+use Rattle.grid_index.specs.Entries.{HasAll}
+use Rattle.grid_index.specs.Starts.{AreStarts}
+use Rattle.grid_index.specs.Table.{IsLaidOut}
+use Rattle.grid_index.proofs.Slots.{slot_within}
+
+abbrev starts_at : List ℕ → ℕ → ℕ
+starts_at starts s = get_or starts s 0
+
+-- starts rise
+starts_rise : (sorted : List Entry) (starts : List ℕ) (count s : ℕ) (d : Entry) → AreStarts sorted starts count → s + 1 < count → starts_at starts s ≤ starts_at starts (s + 1)
+starts_rise sorted starts count s d h lt =
+    ⊎_elim
+    (λ back.
+    let here = h.each s (omega (arith, lt)) in
+    let next = h.each (s + 1) lt in
+    let low = here.before (starts_at starts (s + 1)) d back in
+    let high = next.after (starts_at starts (s + 1)) d (omega arith) (omega (arith, back, here.within)) in
+    absurd (omega (arith, low, high)))
+    (λ le. le)
+    (cases_lt (starts_at starts (s + 1)) (starts_at starts s))
+
+-- an entry lies between the starts of its slot
+entry_between : (sorted : List Entry) (starts : List ℕ) (count k s : ℕ) (x : Entry) → AreStarts sorted starts count → k < length sorted → get_or sorted k x ≡ x
+    → x.slot ≡ s → s + 1 < count → (starts_at starts s ≤ k) × (k < starts_at starts (s + 1))
+entry_between sorted starts count k s x h lt is at small =
+    let here = h.each s (omega (arith, small)) in
+    let next = h.each (s + 1) small in
+    let same : (get_or sorted k x).slot ≡ s = ap (λ (e : Entry). e.slot) is ∙ at in (
+      ⊎_elim (λ under. let low = here.before k x under in absurd (omega (arith, low, same))) (λ le. le) (cases_lt k (starts_at starts s)),
+      ⊎_elim (λ under. under) (λ le. let high = next.after k x le lt in absurd (omega (arith, high, same))) (cases_lt k (starts_at starts (s + 1))),
+    )
+
+-- an element between two places is in that part of the list
+contains_between : (members : List EdgeId) (e : EdgeId) (a b k : ℕ) → a ≤ k → k < b → b ≤ length members → get_or members k e ≡ e → Contains (take (b - a) (drop a members)) e
+contains_between members e a b k low high within is =
+    let n = length-take (b - a) (drop a members) in
+    let m = length-drop a members in (
+      k - a,
+      omega (arith, n, m, low, high, within),
+      get_or-take (b - a) (drop a members) (k - a) e (omega (arith, low, high)) ∙ get_or-drop a members (k - a) e ∙ ap (λ i. get_or members i e) (omega (arith, low)) ∙ is,
+    )
+
+pub table_of : (net : Net) (side width : ℕ) (s : Entries) (sorted : List Entry) (starts : List ℕ) (members : List EdgeId)
+    → 1 ≤ width → HasAll net side width (length net.edges) s → IsPermutation s.at_slots.items sorted
+    → AreStarts sorted starts (width * width + 1) → members ≡ map (λ (x : Entry). x.edge) sorted
+    → IsLaidOut net side width starts members s.wide.items
+table_of net side width s sorted starts members some all same h is =
+    let none : Entry = record { slot = 0; edge = record { 0 = 0 } } in
+    let n : length members ≡ length sorted = ap length is ∙ length-map sorted (λ (x : Entry). x.edge) in
+    let in_members = λ (e : EdgeId) (c r : ℕ) (there : Contains s.at_slots.items (record { slot = slot width c r; edge = e })).
+    let x : Entry = record { slot = slot width c r; edge = e } in
+    let found = Contains-permutation s.at_slots.items sorted x same there in
+    let under = slot_within width c r some in
+    let between = entry_between sorted starts (width * width + 1) found.0 (slot width c r) x h found.1 found.2 refl (omega (arith, under)) in
+    let end = (h.each (slot width c r + 1) (omega (arith, under))).within in
+    let at : get_or members found.0 e ≡ e
+    = ap (λ ms. get_or ms found.0 e) is ∙ get_or-map (λ (y : Entry). y.edge) sorted found.0 x e found.1 ∙ ap (λ (y : Entry). y.edge) found.2
+    in
+    contains_between members e (starts_at starts (slot width c r)) (starts_at starts (slot width c r + 1)) found.0 between.0 between.1 (omega (arith, end, n)) at
+    in
+    record {
+      slots = record {
+        count = h.count_is;
+        order = λ v lt. starts_rise sorted starts (width * width + 1) v none h (omega (arith, lt));
+        within = λ v lt. let end = (h.each (v + 1) (omega (arith, lt))).within in omega (arith, end, n);
+      };
+      members_below = subst (λ ms. All (λ e. e.0 < length net.edges) ms) (sym is)
+          (All-map (λ (e : EdgeId). e.0 < length net.edges) (λ (x : Entry). x.edge) sorted (All-permutation (λ (x : Entry). x.edge.0 < length net.edges) s.at_slots.items sorted same all.below.at_slots));
+      wide_below = all.below.wide;
+      found = λ e has i lt.
+          ⊎_elim (λ l. inl l)
+          (λ r. inr (λ q inside. in_members (record { 0 = e }) (cell side q.x) (cell side q.y) (r q inside)))
+          (all.entered e has i lt);
+    }

@@ -1,0 +1,21 @@
+use Rattle.std.proofs.Common.{◌≡◌, ◌≤◌, rules, arith}
+use Rattle.grid_index.specs.Cells.{shifted}
+use Rattle.grid_index.proofs.Places.{between, cell_within}
+use Rattle.grid_index.proofs.cells.Cells.of_box.Goals as goal
+
+pub returns-clause-covers : goal.returns-clause-covers
+returns-clause-covers c = λ q inside.
+    let side = c.args.side in
+    let ax : c.shifted-ax.result ≡ shifted c.args.a.x = search rules in
+    let bx : c.shifted-bx.result ≡ shifted c.args.b.x = search rules in
+    let ay : c.shifted-ay.result ≡ shifted c.args.a.y = search rules in
+    let by : c.shifted-by.result ≡ shifted c.args.b.y = search rules in
+    let x = between c.args.a.x c.args.b.x q.x c.requires.a_in.x_abs c.requires.b_in.x_abs inside.x in
+    let y = between c.args.a.y c.args.b.y q.y c.requires.a_in.y_abs c.requires.b_in.y_abs inside.y in
+    let xl : c.min.result ≤ shifted q.x = omega (arith, x.0, c.min.ensures, ax, bx) in
+    let xh : shifted q.x ≤ c.max.result = omega (arith, x.1, c.max.ensures, ax, bx) in
+    let yl : c.min-2.result ≤ shifted q.y = omega (arith, y.0, c.min-2.ensures, ay, by) in
+    let yh : shifted q.y ≤ c.max-2.result = omega (arith, y.1, c.max-2.ensures, ay, by) in
+    let h = cell_within side c.min.result c.max.result q.x c.requires.side xl xh in
+    let k = cell_within side c.min-2.result c.max-2.result q.y c.requires.side yl yh in
+    record { left = h.0; right = h.1; bottom = k.0; top = k.1 }

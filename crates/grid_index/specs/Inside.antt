@@ -1,0 +1,12 @@
+-- What a grid keeps inside.
+use Rattle.std.specs.Prelude.{◌≤◌}
+use Rattle.grid_index.specs.declared.grid.Grid.TheInside.{Inside}
+use Rattle.grid_index.specs.GridOf.{GridOf}
+use Rattle.grid_index.specs.Table.{IsTableOf}
+
+abbrev pub shown : Inside → GridOf
+shown g = record { net = g.net.now; side = g.table.layout.side }
+
+pub record IsKept (g : Inside) : Type 0 where
+  pub side_small : g.table.layout.side ≤ 1_000_000
+  pub table : IsTableOf g.net.now g.table

@@ -1,0 +1,7 @@
+pub mod Cells
+pub mod Entries
+pub mod Starts
+pub mod GridOf
+pub mod Table
+pub mod Inside
+pub mod Rising

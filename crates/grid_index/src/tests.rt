@@ -1,0 +1,44 @@
+use crate::Grid;
+use polyline_geometry::Point;
+use road_network::{EdgeId, read_network};
+use std::test::Fail;
+
+#[test]
+fn near_the_ends_of_two_edges(rt: HostRuntime) -> Result<(), Fail> {
+    let net = read_network(
+        rt.alloc(),
+        b"edge,from,to,line\n10,1,2,0 0;10000 0\n11,2,3,10000 0;20000 0\n",
+    )?;
+    let grid = Grid::build(rt.alloc(), &net, 10_000)?;
+    let near = grid.near(rt.alloc(), Point { x: 1_000, y: 300 }, 10_000)?;
+    assert_eq!(rt; near.as_slice(), [EdgeId(0), EdgeId(1)].as_slice());
+    Ok(())
+}
+
+#[test]
+fn near_a_wide_edge(rt: HostRuntime) -> Result<(), Fail> {
+    let net = read_network(
+        rt.alloc(),
+        b"edge,from,to,line\n1,1,2,-1000000000 0;-900000000 0\n",
+    )?;
+    let grid = Grid::build(rt.alloc(), &net, 10_000)?;
+    let near = grid.near(
+        rt.alloc(),
+        Point {
+            x: -950_000_000,
+            y: 5,
+        },
+        10_000,
+    )?;
+    assert_eq!(rt; near.as_slice(), [EdgeId(0)].as_slice());
+    Ok(())
+}
+
+#[test]
+fn near_nothing(rt: HostRuntime) -> Result<(), Fail> {
+    let net = read_network(rt.alloc(), b"edge,from,to,line\n")?;
+    let grid = Grid::build(rt.alloc(), &net, 10_000)?;
+    let near = grid.near(rt.alloc(), Point { x: 0, y: 0 }, 10_000)?;
+    assert_eq!(rt; near.len(), 0);
+    Ok(())
+}
