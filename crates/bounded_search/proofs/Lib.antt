@@ -1,0 +1,9 @@
+pub mod ClosedTables
+pub mod RowChecks
+pub mod OneRow
+pub mod LabelSetting
+pub mod RowOfLabels
+pub mod WaitingNodes
+pub mod TouchedNodes
+pub mod KnownNodes
+pub mod LastEdges

@@ -1,0 +1,19 @@
+use Rattle.std.proofs.Common.{◌-◌, None, arith}
+use Rattle.bounded_search.specs.declared.table_row.Entry.{Entry}
+use Rattle.bounded_search.proofs.RowChecks.{rises_apart}
+use Rattle.bounded_search.proofs.finder.place_from.Goals as goal
+
+abbrev nothing : Entry
+nothing = record { node = record { 0 = 0 }; distance = 0; last = None }
+
+pub place_between-requires-clause-below : goal.place_between-requires-clause-below
+place_between-requires-clause-below c k d lt = omega (arith, rises_apart 0 c.args.entries.now c.requires.rising k (c.args.start - k) c.args.start d nothing (omega arith) c.requires.start)
+
+pub place_between-requires-clause-above : goal.place_between-requires-clause-above
+place_between-requires-clause-above c k d from lt = omega (arith, rises_apart 0 c.args.entries.now c.requires.rising c.args.start (k - c.args.start) k nothing d (omega arith) lt)
+
+pub place_between-requires-else-n-here-clause-below : goal.place_between-requires-else-n-here-clause-below
+place_between-requires-else-n-here-clause-below c k d lt = omega (arith, rises_apart 0 c.args.entries.now c.requires.rising k (c.args.start - k) c.args.start d nothing (omega arith) c.requires.start)
+
+pub place_between-requires-else-n-here-clause-above : goal.place_between-requires-else-n-here-clause-above
+place_between-requires-else-n-here-clause-above c k d from lt = omega (arith, rises_apart 0 c.args.entries.now c.requires.rising c.args.start (k - c.args.start) k nothing d (omega arith) lt)

@@ -1,0 +1,32 @@
+-- Which nodes' rows are known, and which rows are held: a list with one place for each node, with nothing or a row.
+use Rattle.std.specs.Prelude.{◌≡◌, ◌⊎◌, ◌↔◌, ℕ, suc, List, [], ◌∷◌, Option, Some, None, Contains, Result, MatchResult, slice_get}
+use Rattle.road_network.specs.Net.{Net}
+use Rattle.bounded_search.specs.Table.{TableRow}
+
+-- the nodes whose places hold a row, where the first place is that of node i
+abbrev pub known_from : ℕ → List (Option TableRow) → List ℕ
+known_from i [] = []
+known_from i (None ∷ places) = known_from (suc i) places
+known_from i (Some row ∷ places) = i ∷ known_from (suc i) places
+
+-- the nodes whose places hold a row, by rising number
+abbrev pub known_nodes : List (Option TableRow) → List ℕ
+known_nodes places = known_from 0 places
+
+-- node n is known, and else what was known before
+abbrev pub Adds : List ℕ → ℕ → List ℕ → Type 0
+Adds before n after = (m : ℕ) → Contains after m ↔ ((m ≡ n) ⊎ Contains before m)
+
+-- what is known after the row of n was asked for: after Ok n too, after Err perhaps n too, and nothing else is new
+abbrev pub Learns : List ℕ → ℕ → {A E : Type 0} → Result A E → List ℕ → Type 0
+Learns before n result after = MatchResult result (λ _. Adds before n after) (λ _. (after ≡ before) ⊎ Adds before n after)
+
+-- each place that held a row holds it still
+abbrev pub Extends : List (Option TableRow) → List (Option TableRow) → Type 0
+Extends before after = (k : ℕ) (row : TableRow) → slice_get before k ≡ Some (Some row) → slice_get after k ≡ Some (Some row)
+
+-- own rows as contracts see them: the table that they are of, and the known nodes by rising number
+pub record KnownRows : Type 0 where
+  pub network : Net
+  pub bound : ℕ
+  pub known : List ℕ

@@ -1,0 +1,15 @@
+pub mod Table
+pub mod Closed
+pub mod RowRules
+pub mod RowInside
+pub mod Finding
+pub mod Labels
+pub mod Touched
+pub mod QueueInside
+pub mod Waiting
+pub mod SearcherInside
+pub mod Known
+pub mod OwnInside
+pub mod Refusing
+pub mod Lenders
+pub mod Laws
