@@ -1,0 +1,86 @@
+//! The nearest candidates so far, kept in order while edges are taken by rising number.
+ghost use Rattle.std.specs.Prelude.{◌≡◌, ℕ, ◌+◌, ◌*◌, ◌≤◌, ◌<◌, ◌⊎◌, length, take, OnOk};
+ghost use Rattle.std.specs.List.{All};
+ghost use Rattle.std.specs.List.Sorted.{IsNonDecreasingBy};
+ghost use Rattle.polyline_geometry.specs.Plane.{InRange};
+ghost use Rattle.road_network.specs.Net.{HasEdge};
+ghost use Rattle.road_network.specs.Near.{candidate_at, placed};
+ghost use Rattle.candidate_search.specs.Nearest.{IsFound, IsPlace, with_one};
+
+use polyline_geometry::{Point, snap_line_below};
+use road_network::{Candidate, EdgeId, Network};
+use std::alloc::AllocError;
+
+/// Whose candidates are wanted, and which.
+#[derive(Clone, Copy)]
+pub(crate) struct Search {
+    pub(crate) at: Point,
+    pub(crate) k: usize,
+    /// In cm.
+    pub(crate) radius: u64,
+    ghost at_in: { InRange at },
+    ghost k_some: { 1 ≤ k },
+    ghost radius_small: { radius ≤ 100_000 },
+}
+
+/// The place of the first candidate that is farther.
+fn place_of(found: &[Candidate], d2: u64) -> usize
+    requires { IsNonDecreasingBy (λ c. c.d2) found.now }
+    ensures { IsPlace found.now d2 result }
+{
+    found.partition_point(|candidate| candidate.d2 <= d2)
+}
+
+/// The squared distance from which on a later edge is no candidate.
+fn limit_of(found: &[Candidate], search: Search) -> u64
+    requires few { length found.now ≤ search.k }
+    requires sorted { IsNonDecreasingBy (λ c. c.d2) found.now }
+    ensures within { result ≤ search.radius * search.radius + 1 }
+    ensures far { (d2 : ℕ) → result ≤ d2 → (search.radius * search.radius < d2) ⊎ ((length found.now ≡ search.k) × All (λ c. c.d2 ≤ d2) found.now) }
+{
+    let beyond = search.radius * search.radius + 1;
+    if found.len() < search.k {
+        beyond
+    } else {
+        found[search.k - 1].d2.min(beyond)
+    }
+}
+
+/// Puts a candidate of a later edge at its place, and drops what is then beyond the first k.
+fn insert(found: &mut Vec<Candidate>, k: usize, candidate: Candidate) -> Result<(), AllocError>
+    requires { IsFound k candidate.edge.0 found.old.items }
+    ensures list { OnOk result (found.new.items ≡ take k (placed candidate found.old.items)) }
+    ensures found { OnOk result (IsFound k (candidate.edge.0 + 1) found.new.items) }
+{
+    let place = place_of(found.as_slice(), candidate.d2);
+    found.insert(place, candidate)?;
+    found.truncate(k);
+    Ok(())
+}
+
+/// Takes one more edge, by rising number.
+pub(crate) fn consider(
+    net: &Network,
+    found: &mut Vec<Candidate>,
+    search: Search,
+    edge: EdgeId,
+) -> Result<(), AllocError>
+    requires edge { HasEdge net.now edge.0 }
+    requires found { IsFound search.k edge.0 found.old.items }
+    ensures list { OnOk result (found.new.items ≡ with_one search.k search.radius found.old.items (candidate_at net.now search.at edge.0)) }
+    ensures found { OnOk result (IsFound search.k (edge.0 + 1) found.new.items) }
+{
+    net.known();
+    let limit = limit_of(found.as_slice(), search);
+    match snap_line_below(net.line(edge), search.at, limit) {
+        None => Ok(()),
+        Some(snap) => {
+            let candidate = Candidate {
+                edge,
+                d2: snap.d2,
+                offset: snap.offset,
+            };
+            insert(found, search.k, candidate)
+        }
+    }
+}

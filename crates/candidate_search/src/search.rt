@@ -1,0 +1,70 @@
+//! The candidates of a point.
+ghost use Rattle.std.specs.Prelude.{◌≡◌, ℕ, ◌≤◌, IfOk};
+ghost use Rattle.polyline_geometry.specs.Plane.{InRange};
+ghost use Rattle.cost_model.specs.Options.{IsAccepted};
+ghost use Rattle.road_network.specs.Near.{candidates};
+
+use crate::nearest::{Search, consider};
+use cost_model::Params;
+use grid_index::Grid;
+use polyline_geometry::{List, Point};
+use road_network::{Candidate, EdgeId, Network};
+use std::alloc::{AllocError, Global};
+
+/// What the options say of a search.
+fn search_for(p: &Params, at: Point) -> Search
+    requires options { IsAccepted p.now }
+    requires at_in { InRange at }
+    ensures at { result.at ≡ at }
+    ensures k { result.k ≡ p.now.k }
+    ensures radius { result.radius ≡ p.now.radius }
+{
+    Search {
+        at,
+        k: p.k as usize,
+        radius: u64::from(p.radius),
+    }
+}
+
+/// The candidates of a point, among the edges that the grid gives.
+pub fn candidates(
+    alloc: Global,
+    net: &Network,
+    grid: &Grid,
+    p: &Params,
+    at: Point,
+) -> Result<List<Candidate>, AllocError>
+    requires options { IsAccepted p.now }
+    requires at_in { InRange at }
+    requires network { grid.now.net ≡ net.now }
+    requires side { p.now.radius ≤ grid.now.side }
+    ensures { IfOk result (λ list. list ≡ candidates net.now p.now.k p.now.radius at) }
+{
+    net.known();
+    let search = search_for(p, at);
+    let edges = grid.near(alloc, at, p.radius)?;
+    let mut found = Vec::with_capacity(alloc, search.k + 1)?;
+    for edge in edges.as_slice() {
+        consider(net, &mut found, search, *edge)?;
+    }
+    Ok(List::from_vec(found))
+}
+
+/// The candidates of a point, by a scan of all edges.
+pub fn candidates_plain(
+    alloc: Global,
+    net: &Network,
+    p: &Params,
+    at: Point,
+) -> Result<List<Candidate>, AllocError>
+    requires options { IsAccepted p.now }
+    requires at_in { InRange at }
+    ensures { IfOk result (λ list. list ≡ candidates net.now p.now.k p.now.radius at) }
+{
+    let search = search_for(p, at);
+    let mut found = Vec::with_capacity(alloc, search.k + 1)?;
+    for number in 0..net.edge_count() {
+        consider(net, &mut found, search, EdgeId(number))?;
+    }
+    Ok(List::from_vec(found))
+}
