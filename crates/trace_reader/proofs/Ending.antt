@@ -1,7 +1,7 @@
 -- The end of the file.
-use Rattle.std.proofs.Common.{◌≡◌, ◌≢◌, ℕ, ◌+◌, List, [], ◌∷◌, ◌++◌, Option, Some, None, Result, Ok, Err, option_to_list, refl, sym, ◌∙◌, ap, subst, append_assoc, append-nil}
+use Rattle.std.proofs.Common.{◌≡◌, ◌≢◌, ℕ, ◌+◌, List, [], ◌++◌, Option, Some, None, Result, Ok, Err, option_to_list, refl, sym, ◌∙◌, ap, append_assoc, append-nil}
 use Rattle.trace_reader.specs.Content.{Content, read_line}
-use Rattle.trace_reader.specs.Reading.{Progress, Reading, reads, refused, read_bytes, reading_of, nothing_read, closed, closed_of, Outcome, end_content, end_read, end_reading, file_traces, file_fault}
+use Rattle.trace_reader.specs.Reading.{reads, reading_of, nothing_read, closed, end_content, end_read, end_reading, file_traces, file_fault}
 use Rattle.trace_reader.specs.Reader.{progress_of, content_of, StandsFor, Ends, EndsFaulty}
 use Rattle.trace_reader.specs.Steps.{start_of, EndsFile, FailsEnd}
 use Rattle.trace_reader.specs.declared.row.Header.{Header}
@@ -9,7 +9,7 @@ use Rattle.trace_reader.specs.declared.reader.TraceReader.{TraceReader}
 use Rattle.trace_reader.specs.declared.trace.Trace.{Trace}
 use Rattle.trace_reader.specs.declared.fault.TraceFault.{TraceFault}
 use Rattle.trace_reader.specs.declared.fault.TraceFault.TheVariants.{Memory}
-use Rattle.trace_reader.proofs.Growing.{with_closed, outcome_onto, end_reading-with_closed, content_onto, read_onto, read_line-onto}
+use Rattle.trace_reader.proofs.Growing.{end_reading-with_closed, content_onto, read_onto, read_line-onto}
 use Rattle.trace_reader.proofs.Feeding.{append_cancel, closed-stands}
 
 -- the last line is refused, or memory ran out in it

@@ -1,17 +1,13 @@
 -- What a call leaves, for the bytes that the reader stands for.
-use Rattle.std.proofs.Common.{◌≡◌, ◌≢◌, ℕ, ◌+◌, ◌-◌, ◌<◌, ◌≤◌, Bool, true, false, List, [], ◌∷◌, ◌++◌, length, take, drop, Option, Some, None, Result, Ok, Err, refl, sym, ◌∙◌, ap, subst, arith, append_assoc, append-nil, length-append}
+use Rattle.std.proofs.Common.{◌≡◌, ℕ, ◌+◌, ◌-◌, ◌<◌, List, [], ◌∷◌, ◌++◌, length, take, Option, Some, None, refl, sym, ◌∙◌, ap, arith, append_assoc, append-nil, length-append}
 use Rattle.std.proofs.lemmas.Bool.{lt-leb}
-use Rattle.std.proofs.lemmas.Grind.{common_steps}
 use Rattle.std.proofs.lemmas.List.Sums.{fold-append}
-use Rattle.trace_reader.specs.Parts.{is_reached}
-use Rattle.trace_reader.specs.Content.{Content}
 use Rattle.trace_reader.specs.Reading.{Progress, Reading, reads, refused, read_byte, read_bytes, reading_of, nothing_read, closed, closed_of, fault_in, fault_of}
-use Rattle.trace_reader.specs.Reader.{progress_of, content_of, StandsFor, Closes, Fails, Feeds, Takes, FeedsSome}
+use Rattle.trace_reader.specs.Reader.{progress_of, StandsFor, Closes, Fails, Takes}
 use Rattle.trace_reader.specs.Steps.{start_of, Reaches, TakesLines, FailsLines}
 use Rattle.trace_reader.specs.declared.reader.TraceReader.{TraceReader}
 use Rattle.trace_reader.specs.declared.trace.Trace.{Trace}
 use Rattle.trace_reader.specs.declared.fault.TraceFault.{TraceFault}
-use Rattle.trace_reader.specs.declared.fault.TraceFault.TheVariants.{Memory}
 use Rattle.trace_reader.proofs.Growing.{onto, progress_onto, with_closed, brought, read_bytes-with_closed, closed_of-read_bytes}
 use Rattle.trace_reader.proofs.Underway.{few}
 

@@ -1,17 +1,15 @@
 -- What was closed before a call stays in front of what is closed in it.
-use Rattle.std.proofs.Common.{◌≡◌, ℕ, ◌+◌, ◌<◌, Bool, true, false, ◌==◌, cond, nat_le, nat_lt, List, [], ◌∷◌, ◌++◌, length, Option, Some, None, Result, Ok, Err, option_to_list, refl, sym, ◌∙◌, ap, subst, arith, append_assoc, append-nil}
-use Rattle.std.specs.Prelude.{if◌then◌else◌}
-use Rattle.std.specs.List.{list_all, fold}
+use Rattle.std.proofs.Common.{◌≡◌, ℕ, ◌+◌, Bool, true, false, ◌==◌, cond, nat_le, nat_lt, List, [], ◌∷◌, ◌++◌, length, Option, Some, None, Result, Ok, Err, option_to_list, refl, sym, ◌∙◌, ap, append_assoc, append-nil}
+use Rattle.std.specs.List.{list_all}
 use Rattle.decimal_text.specs.Blank.{is_blank}
 use Rattle.trace_reader.specs.Row.{header_of, fields_of, row_of}
-use Rattle.trace_reader.specs.Content.{Content, add_to, add_row, add_header, add_read, add_text, read_line, without_return, begin_trace, extend_trace, point_limit}
+use Rattle.trace_reader.specs.Content.{Content, add_to, add_row, add_header, add_read, add_text, read_line, without_return, begin_trace, point_limit}
 use Rattle.trace_reader.specs.Reading.{Progress, Reading, reads, refused, read_byte, read_bytes, file_limit, line_limit, end_line, closed_of, Outcome, end_content, end_read, end_reading}
 use Rattle.trace_reader.proofs.Unended.{refused_stays}
 use Rattle.trace_reader.specs.declared.row.Header.{Header}
 use Rattle.trace_reader.specs.declared.row.Row.{Row}
 use Rattle.trace_reader.specs.declared.trace.Trace.{Trace}
 use Rattle.trace_reader.specs.declared.fault.TraceFault.{TraceFault}
-use Rattle.trace_reader.specs.declared.fault.TraceFault.TheVariants.{BadHeader, TraceTooLong, FileTooLong, LineTooLong}
 
 -- the same with these traces closed before
 abbrev pub content_onto : List Trace → Content → Content

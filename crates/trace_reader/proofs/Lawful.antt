@@ -1,5 +1,5 @@
 -- Each trace that is closed is lawful.
-use Rattle.std.proofs.Common.{◌≡◌, ℕ, ◌+◌, ◌<◌, ◌≤◌, Bool, true, false, ◌==◌, cond, nat_lt, nat_le, List, [], ◌∷◌, ◌++◌, length, ℤ, Option, Some, None, Result, Ok, Err, option_to_list, refl, sym, ◌∙◌, ap, subst, arith, length-append}
+use Rattle.std.proofs.Common.{◌≡◌, ℕ, ◌+◌, ◌<◌, Bool, true, false, ◌==◌, cond, nat_lt, nat_le, List, [], ◌∷◌, length, ℤ, Option, Some, None, Result, Ok, Err, option_to_list, refl, sym, subst, arith, length-append}
 use Rattle.std.specs.List.{All, list_all}
 use Rattle.std.specs.Option.{IfSome}
 use Rattle.std.proofs.lemmas.Bool.{ltb-true}
@@ -9,8 +9,8 @@ use Rattle.trace_reader.proofs.Magnitudes.{abs-signed_within}
 use Rattle.decimal_text.specs.Blank.{is_blank, trim}
 use Rattle.decimal_text.specs.declared.number.NumberFault.{NumberFault}
 use Rattle.trace_reader.specs.Row.{header_of, fields_of, row_of, numbers_of, u32_of, time_of, coordinate_of}
-use Rattle.trace_reader.specs.Content.{Content, no_content, add_to, add_row, add_header, add_read, add_text, read_line, without_return, begin_trace, extend_trace, point_limit}
-use Rattle.trace_reader.specs.Reading.{Progress, Reading, reads, refused, read_byte, read_bytes, reading_of, nothing_read, end_line, closed, closed_of, Outcome, end_content, end_read, end_reading, file_traces, file_limit, line_limit}
+use Rattle.trace_reader.specs.Content.{Content, add_to, add_row, add_header, add_read, add_text, read_line, without_return, begin_trace, extend_trace, point_limit}
+use Rattle.trace_reader.specs.Reading.{Progress, Reading, reads, refused, read_byte, read_bytes, reading_of, nothing_read, end_line, closed, closed_of, end_content, end_read, end_reading, file_traces, file_limit, line_limit}
 use Rattle.trace_reader.specs.Trace.{IsLawfulTrace}
 use Rattle.trace_reader.specs.declared.row.Header.{Header}
 use Rattle.trace_reader.specs.declared.row.Header.TheVariants.{Untimed, Timed}

@@ -1,14 +1,12 @@
 -- What callers need of the words on a file's bytes.
-use Rattle.std.proofs.Common.{◌≡◌, ℕ, zero, ◌+◌, ◌<◌, ◌≤◌, Bool, true, false, ◌==◌, cond, nat_le, List, ◌++◌, [], ◌∷◌, length, IsSome, Option, Some, None, Result, Ok, Err, refl, sym, ◌∙◌, ap, subst, arith, append_assoc, append-nil}
-use Rattle.std.specs.Option.{is_some}
+use Rattle.std.proofs.Common.{◌≡◌, ℕ, ◌+◌, ◌<◌, ◌≤◌, Bool, true, false, ◌==◌, cond, nat_le, List, ◌++◌, [], ◌∷◌, length, IsSome, Some, None, Result, Ok, Err, refl, sym, ◌∙◌, ap, subst, arith, append_assoc, append-nil}
 use Rattle.std.proofs.lemmas.Bool.{leb-false}
 use Rattle.trace_reader.specs.Content.{Content, read_line}
-use Rattle.trace_reader.specs.Reader.{StandsFor, progress_of}
+use Rattle.trace_reader.specs.Reader.{StandsFor}
 use Rattle.trace_reader.specs.Reading.{Progress, Reading, reads, refused, read_byte, read_bytes, reading_of, nothing_read, end_line, closed, closed_of, fault_in, fault_of, end_reading, file_traces, file_fault, file_limit, line_limit}
 use Rattle.trace_reader.specs.declared.trace.Trace.{Trace}
 use Rattle.trace_reader.specs.declared.reader.TraceReader.{TraceReader}
 use Rattle.trace_reader.specs.declared.fault.TraceFault.{TraceFault}
-use Rattle.trace_reader.specs.declared.fault.TraceFault.TheVariants.{FileTooLong, LineTooLong}
 use Rattle.trace_reader.proofs.Feeding.{reading_of-append}
 use Rattle.trace_reader.proofs.Growing.{closed_grows, end_reading-with_closed}
 use Rattle.trace_reader.proofs.Unended.{refused_stays}

@@ -1,10 +1,10 @@
 -- The cases of a line.
-use Rattle.std.proofs.Common.{◌≡◌, ◌≢◌, ℕ, ◌+◌, ◌<◌, ◌≤◌, Bool, true, false, ◌==◌, nat_lt, cond, List, [], ◌∷◌, ◌++◌, length, Option, Some, None, Result, Ok, Err, refl, sym, ◌∙◌, ap, arith}
+use Rattle.std.proofs.Common.{◌≡◌, ◌≢◌, ℕ, ◌<◌, ◌≤◌, true, false, cond, List, [], ◌∷◌, ◌++◌, length, Some, None, Result, Ok, Err, sym, ◌∙◌, ap}
 use Rattle.std.specs.List.{list_all}
 use Rattle.std.proofs.lemmas.Bool.{lt-ltb, le-ltb, eq-eqb, ne_eqb}
 use Rattle.decimal_text.specs.Blank.{is_blank}
 use Rattle.trace_reader.specs.Row.{header_of, fields_of, row_of}
-use Rattle.trace_reader.specs.Content.{Content, add_to, add_row, add_header, add_read, add_text, read_line, without_return, begin_trace, extend_trace, point_limit}
+use Rattle.trace_reader.specs.Content.{Content, add_row, add_read, add_text, read_line, without_return, begin_trace, extend_trace, point_limit}
 use Rattle.trace_reader.specs.declared.row.Header.{Header}
 use Rattle.trace_reader.specs.declared.row.Row.{Row}
 use Rattle.trace_reader.specs.declared.trace.Trace.{Trace}

@@ -1,5 +1,5 @@
 -- A signed number that is read is within its range.
-use Rattle.std.proofs.Common.{◌≡◌, ℕ, ◌≤◌, Bool, true, false, cond, List, ℤ, pos, negsuc, nat_abs, suc, zero, drop, Result, Ok, Err, refl, ap, arith}
+use Rattle.std.proofs.Common.{◌≡◌, ℕ, ◌≤◌, Bool, true, false, cond, List, ℤ, pos, nat_abs, suc, zero, drop, Result, Ok, Err, refl, ap, arith}
 use Rattle.std.specs.Prelude.{neg_ℤ}
 use Rattle.std.specs.Result.{result_map_both}
 use Rattle.std.specs.Str.Parse.{starts_with_minus}

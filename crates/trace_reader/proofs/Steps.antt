@@ -1,21 +1,19 @@
 -- One line of a piece, seen from the reader.
-use Rattle.std.proofs.Common.{◌≡◌, ◌≢◌, ℕ, ◌+◌, ◌-◌, ◌<◌, ◌≤◌, Bool, true, false, ◌==◌, List, [], ◌∷◌, ◌++◌, length, take, drop, get_or, Option, Some, None, Result, Ok, Err, refl, sym, ◌∙◌, ap, subst, inl, inr, arith, append_assoc, length-append}
-use Rattle.std.specs.List.{All, fold}
+use Rattle.std.proofs.Common.{◌≡◌, ◌≢◌, ℕ, ◌+◌, ◌<◌, ◌≤◌, false, ◌==◌, List, [], ◌∷◌, ◌++◌, length, take, get_or, sym, ◌∙◌, ap, subst, inl, inr, arith}
 use Rattle.std.proofs.lemmas.Bool.{eqb-true}
-use Rattle.std.proofs.lemmas.List.{take_more, take-append-drop, take-take, length-take}
+use Rattle.std.proofs.lemmas.List.{take_more, take-take}
 use Rattle.std.proofs.lemmas.List.Elements.{All-take}
 use Rattle.std.proofs.lemmas.List.Sums.{fold-append}
-use Rattle.memchr.specs.Find.{NoneBefore, Passes, is_byte}
-use Rattle.trace_reader.specs.Content.{Content, read_line}
+use Rattle.memchr.specs.Find.{Passes, is_byte}
+use Rattle.trace_reader.specs.Content.{read_line}
 use Rattle.trace_reader.specs.Parts.{HasNoEnd}
-use Rattle.trace_reader.specs.Reading.{Progress, Reading, reads, refused, read_byte, read_bytes, file_limit, line_limit, end_line, closed_of}
+use Rattle.trace_reader.specs.Reading.{Reading, reads, refused, read_byte, read_bytes, file_limit, end_line, closed_of}
 use Rattle.trace_reader.specs.Reader.{progress_of, content_of}
-use Rattle.trace_reader.specs.Steps.{start_of, Exceeds, HasRoom, Reaches, Refuses, TakesLine}
+use Rattle.trace_reader.specs.Steps.{start_of, Exceeds, HasRoom}
 use Rattle.trace_reader.specs.declared.reader.TraceReader.{TraceReader}
 use Rattle.trace_reader.specs.declared.trace.Trace.{Trace}
 use Rattle.trace_reader.specs.declared.fault.TraceFault.{TraceFault}
-use Rattle.trace_reader.specs.declared.fault.TraceFault.TheVariants.{FileTooLong, LineTooLong, Memory}
-use Rattle.trace_reader.proofs.Places.{HasNo, HasNo-before}
+use Rattle.trace_reader.specs.declared.fault.TraceFault.TheVariants.{FileTooLong}
 use Rattle.trace_reader.proofs.Unended.{with_part, refused_stays, read_part, read_file_too_long, read_line_too_long, read_ended, read_end_too_long, closed_of-part}
 
 pub refused_in_part : (reader : TraceReader) (part : List ℕ) (given : List Trace) (fault : TraceFault) → HasNoEnd part → Exceeds reader (length part) fault

@@ -1,16 +1,15 @@
 -- The lines of a piece, one after the other.
-use Rattle.std.proofs.Common.{◌≡◌, ◌≢◌, ℕ, ◌+◌, ◌-◌, ◌<◌, ◌≤◌, Bool, true, false, List, [], ◌∷◌, ◌++◌, length, take, drop, Option, Some, None, nat_le, refl, sym, ◌∙◌, ap, subst, inl, inr, arith, length-append, length-drop}
+use Rattle.std.proofs.Common.{◌≡◌, ℕ, ◌+◌, ◌-◌, ◌<◌, false, List, ◌++◌, length, take, drop, Option, Some, None, sym, ◌∙◌, ap, inl, inr, arith, length-append, length-drop}
 use Rattle.std.proofs.Math.Seq.{take-add}
 use Rattle.std.proofs.lemmas.Bool.{leb-false, cases_lt}
 use Rattle.std.proofs.lemmas.List.{take-append-drop}
 use Rattle.std.proofs.lemmas.List.Sums.{fold-append}
 use Rattle.trace_reader.specs.Parts.{is_reached}
-use Rattle.trace_reader.specs.Reading.{Reading, reads, refused, read_byte, read_bytes, closed_of}
+use Rattle.trace_reader.specs.Reading.{refused, read_byte, read_bytes, closed_of}
 use Rattle.trace_reader.specs.Steps.{start_of, Reaches, Refuses, TakesLine, IsUnderway, FailsLines}
 use Rattle.trace_reader.specs.declared.reader.TraceReader.{TraceReader}
 use Rattle.trace_reader.specs.declared.trace.Trace.{Trace}
 use Rattle.trace_reader.specs.declared.fault.TraceFault.{TraceFault}
-use Rattle.trace_reader.specs.declared.fault.TraceFault.TheVariants.{Memory}
 use Rattle.trace_reader.proofs.Growing.{closed_grows}
 
 -- what follows the bytes that were taken is read from where they led

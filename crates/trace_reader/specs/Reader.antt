@@ -1,6 +1,5 @@
 -- What a reader stands for, and what its calls leave.
 use Rattle.std.specs.Prelude.{◌≡◌, ◌≢◌, ℕ, ◌+◌, ◌<◌, ◌≤◌, List, [], ◌++◌, length, take, Result, Ok, Err, Some, None}
-use Rattle.std.specs.Prelude.{Option}
 use Rattle.trace_reader.specs.Content.{Content}
 use Rattle.trace_reader.specs.Reading.{Progress, reads, reading_of, closed, fault_in, file_traces, file_fault}
 use Rattle.trace_reader.specs.declared.content.ContentReader.{ContentReader}

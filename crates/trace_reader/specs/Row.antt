@@ -1,5 +1,5 @@
 -- One line of the trace file: a header, or a row of numbers.
-use Rattle.std.specs.Prelude.{ℕ, ◌+◌, ◌-◌, ◌^◌, Bool, true, false, ◌==◌, List, [], ◌∷◌, ℤ, pos, codes, Result, Ok, Err, Some, None, is_some, unwrap_or, position, if◌then◌else◌}
+use Rattle.std.specs.Prelude.{ℕ, ◌+◌, ◌-◌, ◌^◌, Bool, true, false, ◌==◌, List, [], ◌∷◌, ℤ, codes, Result, Ok, Err, Some, None, is_some, unwrap_or, position, if◌then◌else◌}
 use Rattle.std.specs.Prelude.{Option}
 use Rattle.std.specs.Result.{result_err}
 use Rattle.std.specs.List.{slice_split}

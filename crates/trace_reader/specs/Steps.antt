@@ -1,6 +1,6 @@
 -- What the parts of a call leave, seen from where it began.
-use Rattle.std.specs.Prelude.{◌≡◌, ◌≢◌, ℕ, ◌+◌, ◌-◌, ◌<◌, ◌≤◌, Bool, true, false, List, [], ◌++◌, length, take, ◌⊎◌, nat_le, Result, Ok, Err, Option, Some, None}
-use Rattle.trace_reader.specs.Reading.{Progress, Reading, reads, refused, read_bytes, closed_of, file_limit, line_limit, end_reading, nothing_read}
+use Rattle.std.specs.Prelude.{◌≡◌, ◌≢◌, ℕ, ◌+◌, ◌-◌, ◌<◌, ◌≤◌, false, List, [], ◌++◌, length, take, ◌⊎◌, Option, Some, None}
+use Rattle.trace_reader.specs.Reading.{Reading, reads, refused, read_bytes, closed_of, file_limit, line_limit, end_reading, nothing_read}
 use Rattle.trace_reader.specs.Parts.{is_reached}
 use Rattle.trace_reader.specs.Reader.{progress_of}
 use Rattle.trace_reader.specs.declared.reader.TraceReader.{TraceReader}

@@ -1,8 +1,7 @@
 -- Traces that the reader hands out.
-use Rattle.std.specs.Prelude.{ℕ, ◌≤◌, All, length}
+use Rattle.std.specs.Prelude.{◌≤◌, All, length}
 use Rattle.polyline_geometry.specs.Plane.{InRange}
 use Rattle.trace_reader.specs.Content.{point_limit}
-use Rattle.trace_reader.specs.declared.trace.Fix.{Fix}
 use Rattle.trace_reader.specs.declared.trace.Trace.{Trace}
 
 -- a trace has 1 to 100,000 fixes, and their coordinates are in range

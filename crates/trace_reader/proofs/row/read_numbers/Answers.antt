@@ -1,8 +1,7 @@
-use Rattle.std.proofs.Common.{◌≡◌, ◌∙◌, Option, Result, ℕ, ℤ, Ok, Err, Some, ap, sym, subst, arith, rules}
+use Rattle.std.proofs.Common.{◌≡◌, ◌∙◌, ap}
 use Rattle.std.specs.Option.{option_map}
-use Rattle.std.specs.Result.{result_err}
 use Rattle.decimal_text.specs.Number.{signed_within}
-use Rattle.trace_reader.specs.Row.{numbers_of, u32_of, coordinate_of, time_of}
+use Rattle.trace_reader.specs.Row.{coordinate_of, time_of}
 use Rattle.trace_reader.proofs.Fields.{numbers_of-faulty}
 use Rattle.trace_reader.proofs.row.read_numbers.Goals as goal
 use Rattle.trace_reader.proofs.row.read_numbers.Goals.{in_default-via-in-Ok+in-Ok+in-Ok+in_default, in_default-via-in-Ok+in-Ok+in_default, in_default-via-in-Ok+in_default, in_default-via-in_default, in-None, in-Some}

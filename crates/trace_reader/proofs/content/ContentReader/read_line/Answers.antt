@@ -1,12 +1,8 @@
-use Rattle.std.proofs.Common.{◌≡◌, ◌≢◌, ◌∙◌, Bool, List, ℕ, Option, false, true, Ok, Err, Some, None, ap, sym, subst, arith, rules}
-use Rattle.std.specs.Bool.{⊤}
+use Rattle.std.proofs.Common.{◌≡◌, ◌∙◌, false, sym}
 use Rattle.std.specs.List.{list_all}
 use Rattle.std.proofs.lemmas.Result.{on_ok_weaker, MatchResult-weaker}
 use Rattle.decimal_text.specs.Blank.{is_blank}
-use Rattle.trace_reader.specs.Content.{without_return, add_row, read_line}
-use Rattle.trace_reader.specs.Reader.{content_of}
-use Rattle.trace_reader.specs.Row.{header_of, fields_of, row_of}
-use Rattle.trace_reader.specs.declared.fault.TraceFault.TheVariants.{Memory}
+use Rattle.trace_reader.specs.Content.{without_return}
 use Rattle.trace_reader.proofs.Lines.{skip_line, bad_header, header_line, row_line, faulty_line}
 use Rattle.trace_reader.proofs.content.ContentReader.read_line.Goals as goal
 

@@ -1,6 +1,4 @@
-use Rattle.std.proofs.Common.{◌≡◌, ◌∙◌, ap, sym}
 use Rattle.std.proofs.lemmas.Result.{err_from_is_err_and}
-use Rattle.trace_reader.specs.Content.{read_line}
 use Rattle.trace_reader.specs.Reader.{content_of}
 use Rattle.trace_reader.proofs.Ending.{fails_in_rest, fails_in_end}
 use Rattle.trace_reader.proofs.reader.TraceReader.end_file.Goals as goal

@@ -1,10 +1,9 @@
-use Rattle.std.proofs.Common.{◌≡◌, ◌+◌, ◌∙◌, ◌∷◌, [], Ok, Err, length, ap, sym, arith}
+use Rattle.std.proofs.Common.{◌+◌, ◌∙◌, ◌∷◌, [], length, ap, sym}
 use Rattle.std.proofs.lemmas.Result.{err_from_is_err_and}
 use Rattle.trace_reader.specs.Reading.{reads, end_line}
 use Rattle.trace_reader.specs.Reader.{content_of, progress_of}
 use Rattle.trace_reader.proofs.Steps.{refused_in_part, refused_in_front, refused_at_end, ended}
 use Rattle.trace_reader.proofs.Unended.{with_part}
-use Rattle.trace_reader.specs.Steps.{start_of}
 use Rattle.trace_reader.proofs.reader.TraceReader.end_line.Goals as goal
 
 pub returns-in_err-check_limits-clause-err : goal.returns-in_err-check_limits-clause-err

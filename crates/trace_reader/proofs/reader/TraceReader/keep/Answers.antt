@@ -1,4 +1,4 @@
-use Rattle.std.proofs.Common.{◌≡◌, ◌+◌, ◌∙◌, length, ap, sym, arith}
+use Rattle.std.proofs.Common.{◌+◌, ◌∙◌, length, ap, sym}
 use Rattle.std.proofs.lemmas.Result.{err_from_is_err_and}
 use Rattle.trace_reader.specs.Reading.{reads}
 use Rattle.trace_reader.specs.Reader.{content_of}

@@ -1,4 +1,4 @@
-use Rattle.std.proofs.Common.{◌≡◌, ◌∙◌, [], refl, sym, ap}
+use Rattle.std.proofs.Common.{◌∙◌, [], refl, sym, ap}
 use Rattle.trace_reader.specs.Content.{no_content}
 use Rattle.trace_reader.specs.Reading.{reads, reading_of}
 use Rattle.trace_reader.proofs.reader.TraceReader.open.Goals as goal

@@ -1,7 +1,5 @@
-use Rattle.std.proofs.Common.{◌≡◌, ◌≤◌, ◌<◌, ◌-◌, ℕ, false, List, length, take}
-use Rattle.trace_reader.specs.Parts.{is_reached}
-use Rattle.trace_reader.specs.Reading.{read_bytes, closed_of}
-use Rattle.trace_reader.specs.Steps.{start_of, Reaches, IsUnderway}
+use Rattle.std.proofs.Common.{◌≡◌, ◌-◌, length}
+use Rattle.trace_reader.specs.Steps.{IsUnderway}
 use Rattle.trace_reader.proofs.reader.TraceReader.take_lines.Given as goal
 
 abbrev pub invariant-loop-taken : goal.invariant-loop-taken
