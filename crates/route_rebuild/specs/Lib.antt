@@ -1,0 +1,4 @@
+pub mod Numbers
+pub mod Routes
+pub mod Chosen
+pub mod Laws

@@ -1,0 +1,44 @@
+-- The route of a piece: over its chosen candidates, in order of travel.
+use Rattle.std.specs.Prelude.{ℕ, zero, suc, ◌≡◌, ◌+◌, ◌-◌, ◌<◌, ◌≤◌, List, [], ◌∷◌, ◌++◌, Option, None, pos, reverse, slice_index_or, unwrap_or}
+use Rattle.cost_model.specs.declared.params.Params.{Params}
+use Rattle.matching.specs.declared.parts.Layer.{Layer}
+use Rattle.matching.specs.declared.parts.Piece.{Piece}
+use Rattle.matching.specs.Layers.{candidate_at}
+use Rattle.matching.specs.Routes.{Route, Direct, Over, IsTheRoute}
+use Rattle.road_network.specs.Net.{Net, target}
+use Rattle.road_network.specs.declared.Candidate.{Candidate}
+
+-- the edges that a route to candidate b adds: none where it is direct, and else its walk and the edge of b
+abbrev pub edges_of : Candidate → Route → List ℕ
+edges_of b Direct = []
+edges_of b (Over w) = reverse w ++ b.edge.0 ∷ []
+
+-- es goes on from the candidate of point i over those of the next k points, by the route of each neighbouring pair
+abbrev pub GoesOn : Net → ℕ → ℕ → (ℕ → Candidate) → ℕ → ℕ → List ℕ → Type 0
+GoesOn n bound back chosen i zero es = es ≡ []
+GoesOn n bound back chosen i (suc k) es =
+    (r : Route) × (rest : List ℕ) × IsTheRoute n bound back (chosen i) (chosen (i + 1)) r
+    × (es ≡ edges_of (chosen (i + 1)) r ++ rest) × GoesOn n bound back chosen (i + 1) k rest
+
+-- what stands for a layer past the last one
+abbrev pub no_layer : Layer
+no_layer = record { point = record { x = pos 0; y = pos 0 }; candidates = []; time = 0 }
+
+-- the chosen candidate of point i
+abbrev pub chosen_at : List Layer → List (Option ℕ) → ℕ → Candidate
+chosen_at layers ranks i = candidate_at (slice_index_or layers i no_layer) (unwrap_or (slice_index_or ranks i None) 0)
+
+-- es is the route of the piece: the edge of its first chosen candidate, and on over the others
+pub record IsRouteOf (n : Net) (p : Params) (layers : List Layer) (ranks : List (Option ℕ)) (piece : Piece) (es : List ℕ) : Type 0 where
+  pub rest : List ℕ
+  pub begins : es ≡ (chosen_at layers ranks piece.first).edge.0 ∷ rest
+  pub goes_on : GoesOn n p.bound p.back (chosen_at layers ranks) piece.first (piece.last - piece.first) rest
+
+-- v is the node at the end of the edge of a chosen candidate before the piece's last point
+abbrev pub IsChosenEnd : Net → List Layer → List (Option ℕ) → Piece → ℕ → Type 0
+IsChosenEnd n layers ranks piece v =
+    (k : ℕ) × (piece.first ≤ k) × (k < piece.last) × (v ≡ target n (chosen_at layers ranks k).edge.0)
+
+-- the piece of this number
+abbrev pub piece_at : List Piece → ℕ → Piece
+piece_at pieces i = slice_index_or pieces i (record { first = 0; last = 0; cost = 0 })
