@@ -73,6 +73,7 @@ network_before (Some files) network traces net found = subst IsAccepted (sym fou
 not_first : Traces ≡ Network → ⊥
 not_first e = cc
 
-pub match_performs : (network traces : List ℕ) (net : Net) (told told' : Option (List ℕ → Option (List ℕ))) (failed failed' failed'' : List (List ℕ)) (out out' : Option (List ℕ)) (count count' : ℕ) (ending : Result (Unit {0}) Stop) → IsStage told (λ files. network_stage files network) (Ok net) → told' ≡ told → failed' ≡ failed → MatchesTraces net told' traces failed' failed'' out out' count count' ending → Performs (Ok (match_files network traces)) told failed failed'' out out' count count' ending
-match_performs network traces net told told' failed failed' failed'' out out' count count' ending found same_told same_failed part =
+pub match_performs : (network traces : List ℕ) (roads net : Net) (told told' : Option (List ℕ → Option (List ℕ))) (failed failed' failed'' : List (List ℕ)) (out out' : Option (List ℕ)) (count count' : ℕ) (ending : Result (Unit {0}) Stop) → IsStage told (λ files. network_stage files network) (Ok roads) → told' ≡ told → failed' ≡ failed → net ≡ roads → MatchesTraces net told' traces failed' failed'' out out' count count' ending → Performs (Ok (match_files network traces)) told failed failed'' out out' count count' ending
+match_performs network traces roads net told told' failed failed' failed'' out out' count count' ending loaded same_told same_failed same_net part =
+    let found : IsStage told (λ files. network_stage files network) (Ok net) = subst (λ n. IsStage told (λ files. network_stage files network) (Ok n)) (sym same_net) loaded in
     part_performs (Ok (match_files network traces)) (λ files. matches_stage net files traces) refusals.Traces Traces traces told failed failed'' out out' count count' ending (traces_agree told network traces net found) tt tt refl (network_before told network traces net found) not_first (subst (λ f. MatchesTraces net told traces f failed'' out out' count count' ending) same_failed (subst (λ t. MatchesTraces net t traces failed' failed'' out out' count count' ending) same_told part))

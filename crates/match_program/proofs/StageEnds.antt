@@ -16,7 +16,7 @@ use Rattle.match_program.specs.declared.ending.Stop.TheVariants.{Refused, NoMemo
 abbrev pub ComesTo : {A : Type 0} → Result Command (List ℕ) → Option (List ℕ → Option (List ℕ)) → ℕ → ((List ℕ → Option (List ℕ)) → Option (Result A (List ℕ))) → ((List ℕ → Option (List ℕ)) → A → Option Outcome) → Type 0
 ComesTo command told status stage next = IfSome told (λ files. outcome_of command files ≡ after_stage status (stage files) (next files))
 
-partial_nothing : (command : Result Command (List ℕ)) (told : Option (List ℕ → Option (List ℕ))) (out : Option (List ℕ)) → IsPartial command told out out
+pub partial_nothing : (command : Result Command (List ℕ)) (told : Option (List ℕ → Option (List ℕ))) (out : Option (List ℕ)) → IsPartial command told out out
 partial_nothing command None out = tt
 partial_nothing command (Some files) out = (0, appends_nothing out)
 

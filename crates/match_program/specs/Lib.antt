@@ -3,7 +3,6 @@ pub mod Ending
 pub mod Headline
 pub mod Lines
 pub mod Matches
-pub mod Nearest
 pub mod OnePoint
 pub mod Outcome
 pub mod Performs

@@ -1,9 +1,9 @@
 -- The match of a trace of one point: the nearest candidate, and the text.
-use Rattle.std.specs.Prelude.{ℕ, ◌*◌, ◌/◌, ◌==◌, not, Bool, List, [], ◌∷◌, ◌++◌, length, codes, slice_get, pos, Some, None, is_some}
+use Rattle.std.specs.Prelude.{ℕ, ◌*◌, ◌/◌, ◌≤◌, ◌==◌, not, Bool, List, [], ◌∷◌, ◌++◌, length, codes, slice_get, pos, Some, None, is_some}
 use Rattle.std.specs.declared.option.Option.{Option}
 use Rattle.polyline_geometry.specs.declared.plane.Point.{Point}
 use Rattle.road_network.specs.declared.Candidate.{Candidate}
-use Rattle.road_network.specs.Net.{Net, edge_name}
+use Rattle.road_network.specs.Net.{Net, HasEdge, edge_name}
 use Rattle.road_network.specs.Near.{candidates}
 use Rattle.trace_reader.specs.declared.trace.Fix.{Fix}
 use Rattle.trace_reader.specs.declared.trace.Trace.{Trace}
@@ -17,6 +17,11 @@ first_place (fix ∷ fixes) = record { x = fix.x; y = fix.y }
 -- the best candidate of a point
 abbrev pub best_at : Net → Point → Option Candidate
 best_at net place = slice_get (candidates net 8 10_000 place) 0
+
+-- an edge of the network within the radius
+pub record IsOne (net : Net) (found : Candidate) : Type 0 where
+  pub has : HasEdge net found.edge.0
+  pub near : found.d2 ≤ 100_000_000
 
 -- the lines between the first and the last of the text
 abbrev pub middle_of : Net → Option Candidate → List ℕ

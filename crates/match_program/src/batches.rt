@@ -11,13 +11,13 @@ ghost use Rattle.match_program.specs.Performs.{PutsText};
 ghost use Rattle.match_program.specs.Tally.{Adds, Fits};
 
 use crate::ending::{Refusal, Stop};
+use crate::matcher::Matcher;
 use crate::one_point::{is_long, match_traces};
 use crate::stages::{put_text, refuse_traces, refused};
 use crate::tally::{Tally, append_total, count_points};
 use crate::words_out::append_worded;
 use edge_io::Sink;
 use polyline_geometry::List;
-use road_network::Network;
 use std::alloc::{AllocError, Global};
 use trace_reader::{Trace, TraceFault, TraceReader};
 
@@ -36,17 +36,17 @@ pub struct Batches {
 // Matches these traces, writes their texts and counts them.
 fn write_traces<K: Sink>(
     alloc: Global,
-    network: &Network,
+    matcher: &Matcher,
     traces: &[Trace],
     tally: &mut Tally,
     out: &mut K,
 ) -> Result<(), Stop>
     requires lawful { All IsLawfulTrace traces.now }
     requires fits { Fits traces.now tally.old }
-    ensures puts { PutsText (K.written out.old) (K.written out.new) (K.faults out.old) (K.faults out.new) (texts_of network.now traces.now) result }
-    ensures adds { OnOk result (Adds network.now traces.now tally.old tally.new) }
+    ensures puts { PutsText (K.written out.old) (K.written out.new) (K.faults out.old) (K.faults out.new) (texts_of matcher.now.network.now traces.now) result }
+    ensures adds { OnOk result (Adds matcher.now.network.now traces.now tally.old tally.new) }
 {
-    let Ok(matched) = match_traces(alloc, network, traces) else {
+    let Ok(matched) = match_traces(alloc, matcher, traces) else {
         return Err(Stop::NoMemory);
     };
     put_text(out, matched.text.as_slice())?;
@@ -124,17 +124,17 @@ impl Batches {
     }
 
     // Writes all traces that wait.
-    fn write<K: Sink>(&mut self, alloc: Global, network: &Network, out: &mut K) -> Result<(), Stop>
-        requires { IsHeld network.now (K.written out.old) self.old }
-        ensures { (base : Option (ListOf ℕ)) (traces : ListOf Trace) → Holds network.now base (K.written out.old) traces self.old
-            → WritesBatch network.now base (K.written out.new) (K.faults out.old) (K.faults out.new) traces self.old self.new result }
+    fn write<K: Sink>(&mut self, alloc: Global, matcher: &Matcher, out: &mut K) -> Result<(), Stop>
+        requires { IsHeld matcher.now.network.now (K.written out.old) self.old }
+        ensures { (base : Option (ListOf ℕ)) (traces : ListOf Trace) → Holds matcher.now.network.now base (K.written out.old) traces self.old
+            → WritesBatch matcher.now.network.now base (K.written out.new) (K.faults out.old) (K.faults out.new) traces self.old self.new result }
     {
         if self.waiting.as_slice().is_empty() {
             return Ok(());
         }
         let waiting = self.waiting.as_slice();
         let short = count_short(waiting);
-        write_traces(alloc, network, &waiting[..short], &mut self.tally, out)?;
+        write_traces(alloc, matcher, &waiting[..short], &mut self.tally, out)?;
         if short < waiting.len() {
             return Err(refuse_long(alloc, self.tally.traces));
         }
@@ -146,18 +146,18 @@ impl Batches {
     fn refuse<K: Sink>(
         &mut self,
         alloc: Global,
-        network: &Network,
+        matcher: &Matcher,
         fault: TraceFault,
         out: &mut K,
     ) -> Stop
-        requires { IsHeld network.now (K.written out.old) self.old }
-        ensures { (base : Option (ListOf ℕ)) (traces : ListOf Trace) → Holds network.now base (K.written out.old) traces self.old
-            → RefusesAt network.now base (K.written out.old) (K.written out.new) (K.faults out.old) (K.faults out.new) traces fault result }
+        requires { IsHeld matcher.now.network.now (K.written out.old) self.old }
+        ensures { (base : Option (ListOf ℕ)) (traces : ListOf Trace) → Holds matcher.now.network.now base (K.written out.old) traces self.old
+            → RefusesAt matcher.now.network.now base (K.written out.old) (K.written out.new) (K.faults out.old) (K.faults out.new) traces fault result }
     {
         if let TraceFault::Memory = fault {
             return Stop::NoMemory;
         }
-        match self.write(alloc, network, out) {
+        match self.write(alloc, matcher, out) {
             Ok(()) => refuse_traces(alloc, fault),
             Err(stop) => stop,
         }
@@ -167,41 +167,41 @@ impl Batches {
     fn write_full<K: Sink>(
         &mut self,
         alloc: Global,
-        network: &Network,
+        matcher: &Matcher,
         out: &mut K,
     ) -> Result<(), Stop>
-        requires { IsHeld network.now (K.written out.old) self.old }
-        ensures { (base : Option (ListOf ℕ)) (traces : ListOf Trace) → Holds network.now base (K.written out.old) traces self.old
-            → WritesFull network.now base (K.written out.new) (K.faults out.old) (K.faults out.new) traces self.old self.new result }
+        requires { IsHeld matcher.now.network.now (K.written out.old) self.old }
+        ensures { (base : Option (ListOf ℕ)) (traces : ListOf Trace) → Holds matcher.now.network.now base (K.written out.old) traces self.old
+            → WritesFull matcher.now.network.now base (K.written out.new) (K.faults out.old) (K.faults out.new) traces self.old self.new result }
     {
         if self.waiting.len() < BATCH {
             return Ok(());
         }
-        self.write(alloc, network, out)
+        self.write(alloc, matcher, out)
     }
 
     // Takes bytes of a piece until a batch of traces waits, writes it, and says how many bytes were taken.
     fn take_some<K: Sink>(
         &mut self,
         alloc: Global,
-        network: &Network,
+        matcher: &Matcher,
         piece: &[u8],
         out: &mut K,
     ) -> Result<usize, Stop>
-        requires ready { IsReady network.now (K.written out.old) self.old }
+        requires ready { IsReady matcher.now.network.now (K.written out.old) self.old }
         requires some { 1 ≤ length piece.now }
         requires short { length piece.now ≤ 65_536 }
         ensures some { IfOk result (λ taken. (1 ≤ taken) × (taken ≤ length piece.now)) }
-        ensures takes { (base : Option (ListOf ℕ)) (fed : ListOf ℕ) → IsBetween network.now base (K.written out.old) fed self.old
-            → TakesSome network.now base (K.written out.new) (K.faults out.old) (K.faults out.new) fed piece.now self.new result }
+        ensures takes { (base : Option (ListOf ℕ)) (fed : ListOf ℕ) → IsBetween matcher.now.network.now base (K.written out.old) fed self.old
+            → TakesSome matcher.now.network.now base (K.written out.new) (K.faults out.old) (K.faults out.new) fed piece.now self.new result }
     {
         let room = (BATCH - self.waiting.len()) as u32;
         match self.reader.feed_some(piece, room, &mut self.waiting) {
             Ok(taken) => {
-                self.write_full(alloc, network, out)?;
+                self.write_full(alloc, matcher, out)?;
                 Ok(taken as usize)
             }
-            Err(fault) => Err(self.refuse(alloc, network, fault, out)),
+            Err(fault) => Err(self.refuse(alloc, matcher, fault, out)),
         }
     }
 
@@ -209,18 +209,18 @@ impl Batches {
     pub fn take_piece<K: Sink>(
         &mut self,
         alloc: Global,
-        network: &Network,
+        matcher: &Matcher,
         piece: &[u8],
         out: &mut K,
     ) -> Result<(), Stop>
-        requires ready { IsReady network.now (K.written out.old) self.old }
+        requires ready { IsReady matcher.now.network.now (K.written out.old) self.old }
         requires short { length piece.now ≤ 65_536 }
-        ensures { (base : Option (ListOf ℕ)) (fed : ListOf ℕ) → IsBetween network.now base (K.written out.old) fed self.old
-            → TakesPiece network.now base (K.written out.new) (K.faults out.old) (K.faults out.new) (fed ++ piece.now) self.new result }
+        ensures { (base : Option (ListOf ℕ)) (fed : ListOf ℕ) → IsBetween matcher.now.network.now base (K.written out.old) fed self.old
+            → TakesPiece matcher.now.network.now base (K.written out.new) (K.faults out.old) (K.faults out.new) (fed ++ piece.now) self.new result }
     {
         let mut rest = piece;
         while !rest.is_empty() {
-            let taken = self.take_some(alloc, network, rest, out)?;
+            let taken = self.take_some(alloc, matcher, rest, out)?;
             rest = behind(rest, taken);
         }
         Ok(())
@@ -230,17 +230,17 @@ impl Batches {
     pub fn finish<K: Sink>(
         &mut self,
         alloc: Global,
-        network: &Network,
+        matcher: &Matcher,
         out: &mut K,
     ) -> Result<(), Stop>
-        requires { IsReady network.now (K.written out.old) self.old }
-        ensures { (base : Option (ListOf ℕ)) (fed : ListOf ℕ) → IsBetween network.now base (K.written out.old) fed self.old
-            → Finishes network.now base (K.written out.new) (K.faults out.old) (K.faults out.new) fed result }
+        requires { IsReady matcher.now.network.now (K.written out.old) self.old }
+        ensures { (base : Option (ListOf ℕ)) (fed : ListOf ℕ) → IsBetween matcher.now.network.now base (K.written out.old) fed self.old
+            → Finishes matcher.now.network.now base (K.written out.new) (K.faults out.old) (K.faults out.new) fed result }
     {
         if let Err(fault) = self.reader.finish(&mut self.waiting) {
-            return Err(self.refuse(alloc, network, fault, out));
+            return Err(self.refuse(alloc, matcher, fault, out));
         }
-        self.write(alloc, network, out)?;
+        self.write(alloc, matcher, out)?;
         put_total(alloc, self.tally, out)
     }
 }

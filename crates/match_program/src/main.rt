@@ -5,7 +5,8 @@
 //!
 //! - `words` reads the command line, `stages` the network, `stream` the trace file piece by piece.
 //! - `batches` holds the traces that wait, and matches and writes them 256 at a time.
-//! - `one_point` and `nearest` match a trace of one point. Longer traces are not matched yet.
+//! - `matcher` finds the nearest edge of a point by the grid, and `one_point` matches a trace of one point.
+//!   Longer traces are not matched yet.
 //! - `ending` has why the work ended early, and what is then said on err.
 //!
 //! Read the clause `outcome` of `run` first, and then `specs/Outcome.antt` and `specs/Matches.antt`.
@@ -14,7 +15,7 @@
 mod batches;
 mod ending;
 mod files;
-mod nearest;
+mod matcher;
 mod one_point;
 mod run;
 mod stages;

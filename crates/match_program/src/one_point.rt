@@ -3,10 +3,9 @@ ghost use Rattle.std.specs.Prelude.{◌≡◌, ◌≤◌, ◌<◌, ◌^◌, ◌+
 ghost use Rattle.polyline_geometry.specs.Plane.{InRange};
 ghost use Rattle.trace_reader.specs.Trace.{IsLawfulTrace};
 ghost use Rattle.match_program.specs.Matches.{pieces_of, texts_of};
-ghost use Rattle.match_program.specs.Nearest.{IsOne};
-ghost use Rattle.match_program.specs.OnePoint.{first_place, is_found, is_long, middle_of, text_with};
+ghost use Rattle.match_program.specs.OnePoint.{IsOne, first_place, is_found, is_long, middle_of, text_with};
 
-use crate::nearest::nearest;
+use crate::matcher::Matcher;
 use crate::words_out::append_worded;
 use polyline_geometry::{List, Point};
 use road_network::{Candidate, Network};
@@ -78,18 +77,18 @@ fn append_text(
 /// Matches traces of one point each, and writes their texts.
 pub fn match_traces(
     alloc: Global,
-    network: &Network,
+    matcher: &Matcher,
     traces: &[Trace],
 ) -> Result<Matched, AllocError>
     requires { All IsLawfulTrace traces.now }
-    ensures text { IfOk result (λ matched. matched.text ≡ texts_of network.now traces.now) }
-    ensures pieces { IfOk result (λ matched. matched.pieces ≡ pieces_of network.now traces.now) }
+    ensures text { IfOk result (λ matched. matched.text ≡ texts_of matcher.now.network.now traces.now) }
+    ensures pieces { IfOk result (λ matched. matched.pieces ≡ pieces_of matcher.now.network.now traces.now) }
 {
     let mut text = List::new(alloc);
     let mut pieces = 0;
     for trace in traces {
-        let best = nearest(network, first_place(trace));
-        append_text(&mut text, network, best, trace.id)?;
+        let best = matcher.best(alloc, first_place(trace))?;
+        append_text(&mut text, matcher.network, best, trace.id)?;
         pieces += u64::from(best.is_some());
     }
     Ok(Matched { text, pieces })

@@ -7,6 +7,7 @@ ghost use Rattle.match_program.specs.Outcome.{command_of, match_files};
 ghost use Rattle.match_program.specs.Performs.{Performs};
 
 use crate::ending::{Refusal, Stop, say, status_after};
+use crate::matcher::Matcher;
 use crate::stages::{load_network, refused};
 use crate::stream::match_file;
 use crate::words::read_words;
@@ -25,7 +26,10 @@ fn match_traces<S: Shelf, K: Sink>(
     ensures { Performs (Ok (match_files network.now traces.now)) (S.holds shelf.old) (S.failed shelf.old) (S.failed shelf.new) (K.written out.old) (K.written out.new) (K.faults out.old) (K.faults out.new) result }
 {
     let roads = load_network(alloc, shelf, network)?;
-    match_file(alloc, &roads, shelf, traces, out)
+    let Ok(matcher) = Matcher::open(alloc, &roads) else {
+        return Err(Stop::NoMemory);
+    };
+    match_file(alloc, &matcher, shelf, traces, out)
 }
 
 // The work of the words, but for what is said on err.

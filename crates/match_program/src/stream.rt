@@ -5,8 +5,8 @@ ghost use Rattle.match_program.specs.Stream.{MatchesTraces, TakesFile};
 
 use crate::batches::Batches;
 use crate::ending::{File, Stop};
+use crate::matcher::Matcher;
 use edge_io::{Shelf, Sink, Taken};
-use road_network::Network;
 use std::alloc::Global;
 
 const TRACE_LIMIT: u64 = 1_099_511_627_776;
@@ -16,14 +16,14 @@ const PIECE: u64 = 65_536;
 // Reads a file to its end, to the first byte above the limit or to its first fault.
 fn take_file<S: Shelf, K: Sink>(
     alloc: Global,
-    network: &Network,
+    matcher: &Matcher,
     shelf: &mut S,
     name: &str,
     batches: &mut Batches,
     out: &mut K,
 ) -> Result<(), Stop>
-    requires { IsBetween network.now (K.written out.old) (K.written out.old) [] batches.old }
-    ensures { TakesFile network.now (S.holds shelf.old) name.now (S.failed shelf.old) (S.failed shelf.new) (K.written out.old) (K.written out.new) (K.faults out.old) (K.faults out.new) batches.new result }
+    requires { IsBetween matcher.now.network.now (K.written out.old) (K.written out.old) [] batches.old }
+    ensures { TakesFile matcher.now.network.now (S.holds shelf.old) name.now (S.failed shelf.old) (S.failed shelf.new) (K.written out.old) (K.written out.new) (K.faults out.old) (K.faults out.new) batches.new result }
 {
     let mut piece = Vec::new(alloc);
     let mut at: u64 = 0;
@@ -32,7 +32,7 @@ fn take_file<S: Shelf, K: Sink>(
         let most = (TRACE_LIMIT + 1 - at).min(PIECE) as u32;
         match shelf.read(name, at, &mut piece, most) {
             Taken::Got(count) => {
-                batches.take_piece(alloc, network, &piece, out)?;
+                batches.take_piece(alloc, matcher, &piece, out)?;
                 at += u64::from(count);
             }
             Taken::End => return Ok(()),
@@ -47,14 +47,14 @@ fn take_file<S: Shelf, K: Sink>(
 /// than a piece and a batch of traces.
 pub fn match_file<S: Shelf, K: Sink>(
     alloc: Global,
-    network: &Network,
+    matcher: &Matcher,
     shelf: &mut S,
     name: &str,
     out: &mut K,
 ) -> Result<(), Stop>
-    ensures { MatchesTraces network.now (S.holds shelf.old) name.now (S.failed shelf.old) (S.failed shelf.new) (K.written out.old) (K.written out.new) (K.faults out.old) (K.faults out.new) result }
+    ensures { MatchesTraces matcher.now.network.now (S.holds shelf.old) name.now (S.failed shelf.old) (S.failed shelf.new) (K.written out.old) (K.written out.new) (K.faults out.old) (K.faults out.new) result }
 {
     let mut batches = Batches::new(alloc);
-    take_file(alloc, network, shelf, name, &mut batches, out)?;
-    batches.finish(alloc, network, out)
+    take_file(alloc, matcher, shelf, name, &mut batches, out)?;
+    batches.finish(alloc, matcher, out)
 }

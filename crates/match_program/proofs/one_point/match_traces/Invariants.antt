@@ -4,6 +4,6 @@ use Rattle.match_program.proofs.one_point.match_traces.Given as goal
 
 abbrev pub invariant-loop-trace : goal.invariant-loop-trace
 invariant-loop-trace l = record {
-  text : l.text ≡ texts_of l.network (take l.trace-index l.traces);
-  pieces : l.pieces ≡ pieces_of l.network (take l.trace-index l.traces);
+  text : l.text ≡ texts_of l.matcher.network.now (take l.trace-index l.traces);
+  pieces : l.pieces ≡ pieces_of l.matcher.network.now (take l.trace-index l.traces);
 }

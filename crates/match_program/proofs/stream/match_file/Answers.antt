@@ -2,8 +2,8 @@ use Rattle.match_program.proofs.FileEnds.{begun, finish_part}
 use Rattle.match_program.proofs.stream.match_file.Goals as goal
 
 pub take_file-requires : goal.take_file-requires
-take_file-requires g c = begun c.args.network.now (g.K.Sink.written c.args.out.now) c.new-batches.result c.new-batches.ensures
+take_file-requires g c = begun c.args.matcher.now.network.now (g.K.Sink.written c.args.out.now) c.new-batches.result c.new-batches.ensures
 
 pub returns : goal.returns
 returns g c =
-    finish_part c.args.network.now (g.S.Shelf.holds c.args.shelf.now) c.args.name.now (g.S.Shelf.failed c.args.shelf.now) (g.S.Shelf.failed c.take_file.new.shelf) (g.K.Sink.written c.args.out.now) (g.K.Sink.written c.take_file.new.out) _ (g.K.Sink.faults c.args.out.now) (g.K.Sink.faults c.take_file.new.out) _ c.take_file.new.batches c.finish.result c.in_ok-take_file.ensures c.finish.ensures
+    finish_part c.args.matcher.now.network.now (g.S.Shelf.holds c.args.shelf.now) c.args.name.now (g.S.Shelf.failed c.args.shelf.now) (g.S.Shelf.failed c.take_file.new.shelf) (g.K.Sink.written c.args.out.now) (g.K.Sink.written c.take_file.new.out) _ (g.K.Sink.faults c.args.out.now) (g.K.Sink.faults c.take_file.new.out) _ c.take_file.new.batches c.finish.result c.in_ok-take_file.ensures c.finish.ensures
