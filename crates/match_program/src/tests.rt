@@ -1,8 +1,12 @@
+ghost use Rattle.std.specs.Prelude.{◌≤◌};
+
 use crate::run::run;
+use decimal_text::write_unsigned;
 use edge_io::{MemoryShelf, MemorySink};
 use polyline_geometry::List;
 use std::alloc::{AllocError, Global};
 use std::test::Fail;
+use std::thread::Threads;
 
 const NETWORK_A: &[u8] = b"edge,from,to,line\n10,1,2,0 0;10000 0\n11,2,3,10000 0;20000 0\n";
 
@@ -23,17 +27,16 @@ fn numbers(alloc: Global, all: &[u64]) -> Result<List<u64>, AllocError> {
     Ok(list)
 }
 
-// A shelf of the files `net` and `tra`.
-fn shelf(
+// The files `net` and `tra`.
+fn files(
     alloc: Global,
     network: &[u8],
     traces: &[u8],
-    fail: &[u64],
-) -> Result<MemoryShelf, AllocError> {
+) -> Result<List<(List<u8>, List<u8>)>, AllocError> {
     let mut files = List::new(alloc);
     files.push((bytes(alloc, b"net")?, bytes(alloc, network)?))?;
     files.push((bytes(alloc, b"tra")?, bytes(alloc, traces)?))?;
-    Ok(MemoryShelf::new(alloc, files, numbers(alloc, fail)?))
+    Ok(files)
 }
 
 fn words(alloc: Global, all: &[&str]) -> Result<Vec<String>, AllocError> {
@@ -219,7 +222,8 @@ fn gives(case: &Case, status: u8, out: &[u8], err: &[u8]) -> bool {
 fn answers_of_the_table(rt: HostRuntime) -> Result<(), Fail> {
     let alloc = rt.alloc();
     for case in &CASES {
-        let mut shelf = shelf(alloc, case.network, case.traces, case.fail[0])?;
+        let files = files(alloc, case.network, case.traces)?;
+        let mut shelf = MemoryShelf::new(alloc, files, numbers(alloc, case.fail[0])?);
         let mut out = MemorySink::new(alloc, numbers(alloc, case.fail[1])?);
         let mut err = MemorySink::new(alloc, numbers(alloc, case.fail[2])?);
         let words = words(alloc, case.words)?;
@@ -227,5 +231,76 @@ fn answers_of_the_table(rt: HostRuntime) -> Result<(), Fail> {
         let given = gives(case, status, out.bytes(), err.bytes());
         assert!(rt; given, "{}", case.shows);
     }
+    Ok(())
+}
+
+// The answer of a case where each read gives at most so many bytes.
+fn is_same_dripped<R: Threads>(
+    rt: &R,
+    alloc: Global,
+    case: &Case,
+    most: u32,
+) -> Result<bool, AllocError>
+    requires { 1 ≤ most }
+{
+    let files = files(alloc, case.network, case.traces)?;
+    let mut shelf = MemoryShelf::drip(alloc, files, List::new(alloc), most);
+    let mut out = MemorySink::new(alloc, List::new(alloc));
+    let mut err = MemorySink::new(alloc, List::new(alloc));
+    let words = words(alloc, case.words)?;
+    let status = run(rt, alloc, &words, &mut shelf, &mut out, &mut err);
+    Ok(gives(case, status, out.bytes(), err.bytes()))
+}
+
+#[test]
+fn a_cutting_of_the_reads_changes_nothing(rt: HostRuntime) -> Result<(), Fail> {
+    let two_traces = &CASES[5];
+    assert!(rt; is_same_dripped(&rt, rt.alloc(), two_traces, 1)?);
+    assert!(rt; is_same_dripped(&rt, rt.alloc(), two_traces, 7)?);
+    let fault = &CASES[13];
+    assert!(rt; is_same_dripped(&rt, rt.alloc(), fault, 1)?);
+    assert!(rt; is_same_dripped(&rt, rt.alloc(), fault, 2)?);
+    Ok(())
+}
+
+// A file of so many traces of one point.
+fn many_traces(alloc: Global, count: u64) -> Result<List<u8>, AllocError> {
+    let mut text = bytes(alloc, b"trace,x,y\n")?;
+    for id in 0..count {
+        write_unsigned(id, &mut text)?;
+        text.extend_from_slice(b",1000,0\n")?;
+    }
+    Ok(text)
+}
+
+// The texts of the first of them.
+fn many_texts(alloc: Global, count: u64) -> Result<List<u8>, AllocError> {
+    let mut text = List::new(alloc);
+    for id in 0..count {
+        text.extend_from_slice(b"trace ")?;
+        write_unsigned(id, &mut text)?;
+        text.extend_from_slice(
+            b"\nat 0 edge 10 offset 1000 d2 0\npiece 0 0 cost 0 route 10\nend ",
+        )?;
+        write_unsigned(id, &mut text)?;
+        text.extend_from_slice(b"\n")?;
+    }
+    Ok(text)
+}
+
+// The fourth call is the one behind the 600 traces: two batches were written before it.
+#[test]
+fn traces_are_written_in_batches(rt: HostRuntime) -> Result<(), Fail> {
+    let alloc = rt.alloc();
+    let files = files(alloc, NETWORK_A, many_traces(alloc, 600)?.as_slice())?;
+    let mut shelf = MemoryShelf::new(alloc, files, numbers(alloc, &[4])?);
+    let mut out = MemorySink::new(alloc, List::new(alloc));
+    let mut err = MemorySink::new(alloc, List::new(alloc));
+    let words = words(alloc, MATCH)?;
+    let status = run(&rt, alloc, &words, &mut shelf, &mut out, &mut err);
+    let texts = many_texts(alloc, 512)?;
+    assert_eq!(rt; status, 3);
+    assert!(rt; out.bytes() == texts.as_slice());
+    assert_eq!(rt; err.bytes(), b"fmm: cannot read traces\n".as_slice());
     Ok(())
 }
