@@ -1,0 +1,86 @@
+#!/usr/bin/env python3
+"""measure.py FOLDER PROGRAM [PROGRAM ..] [--repeat R] [--jobs NAME,..]: times programs with FMM's command line on the inputs
+that make_inputs.py wrote to FOLDER.
+
+Each row is one job of one program: seconds and processor seconds (the least of R runs; the second is steadier on a busy
+machine), points a second, peak memory in MB, and the ratios to the first program. `same` says that output, error output and
+exit status are those of the first program.
+"""
+import argparse
+import hashlib
+import os
+import shlex
+import subprocess
+import time
+
+JOBS = [
+    # name, file whose lines are counted, words
+    ("load network", "city-net.csv", ["match", "city-net.csv", "no-traces.csv"]),
+    ("read points", "city-points.csv", ["match", "far-net.csv", "city-points.csv"]),
+    ("match points", "city-points.csv", ["match", "city-net.csv", "city-points.csv"]),
+    ("match town", "town-traces.csv", ["match", "town-net.csv", "town-traces.csv", "--workers", "1"]),
+    ("match city", "city-traces.csv", ["match", "city-net.csv", "city-traces.csv", "--workers", "1"]),
+]
+
+
+def write_small_inputs(folder):
+    with open(os.path.join(folder, "no-traces.csv"), "w") as f:
+        f.write("trace,x,y\n")
+    with open(os.path.join(folder, "far-net.csv"), "w") as f:
+        f.write("edge,from,to,line\n1,1,2,-1000000000 -1000000000;-999999000 -1000000000\n")
+
+
+def lines_of(path):
+    with open(path, "rb") as f:
+        return sum(block.count(b"\n") for block in iter(lambda: f.read(1 << 20), b"")) - 1
+
+
+def run(command, folder):
+    """Seconds, processor seconds, peak memory in bytes, the status, and a digest of all that was answered."""
+    out = os.path.join(folder, "measured")
+    with open(out, "wb") as f, open(out + ".err", "wb") as g:
+        begin = time.monotonic()
+        child = subprocess.Popen(command, cwd=folder, stdin=subprocess.DEVNULL, stdout=f, stderr=g)
+        _, ended, usage = os.wait4(child.pid, 0)
+        seconds = time.monotonic() - begin
+    status = child.returncode = os.waitstatus_to_exitcode(ended)
+    digest = hashlib.sha256(str(status).encode())
+    for path in (out, out + ".err"):
+        with open(path, "rb") as f:
+            for block in iter(lambda: f.read(1 << 20), b""):
+                digest.update(block)
+    return seconds, usage.ru_utime + usage.ru_stime, usage.ru_maxrss * 1024, status, digest.hexdigest()
+
+
+def measure(binary, words, folder, repeat):
+    runs = [run(binary + words, folder) for _ in range(repeat)]
+    return min(r[0] for r in runs), min(r[1] for r in runs), max(r[2] for r in runs), runs[0][3], runs[0][4]
+
+
+def main():
+    parser = argparse.ArgumentParser()
+    parser.add_argument("folder")
+    parser.add_argument("programs", nargs="+")
+    parser.add_argument("--repeat", type=int, default=3)
+    parser.add_argument("--jobs", default="")
+    args = parser.parse_args()
+    folder = os.path.abspath(args.folder)
+    write_small_inputs(folder)
+    wanted = [name for name in args.jobs.split(",") if name]
+    programs = [[os.path.abspath(w) if os.path.exists(w) else w for w in shlex.split(p)] for p in args.programs]
+    print(f"{'job':14} {'program':16} {'seconds':>8} {'cpu s':>8} {'ratio':>6} {'per cpu s':>10} {'peak MB':>8} {'ratio':>6}  answer")
+    for name, counted, words in JOBS:
+        if wanted and name not in wanted:
+            continue
+        count = lines_of(os.path.join(folder, counted))
+        first = None
+        for program in programs:
+            seconds, cpu, peak, status, digest = measure(program, words, folder, args.repeat)
+            first = first or (cpu, peak, digest)
+            answer = ("" if status == 0 else f"status {status} ") + ("same" if digest == first[2] else "another answer")
+            print(f"{name:14} {os.path.basename(program[-1])[-16:]:16} {seconds:8.2f} {cpu:8.2f} {cpu / first[0]:6.2f} "
+                  f"{count / max(cpu, 1e-9):10.0f} {peak / 1e6:8.1f} {peak / first[1]:6.2f}  {answer}", flush=True)
+
+
+if __name__ == "__main__":
+    main()
