@@ -1,5 +1,5 @@
 -- What is read at the front of a text is what was written there.
-use Rattle.std.proofs.Common.{◌≡◌, ℕ, zero, suc, ◌-◌, ◌+◌, ◌^◌, ◌<◌, ◌≤◌, get_or, eq-eqb, Bool, true, false, cond, eqb, ◌&&◌, nat_eq, nat_lt, List, [], ◌∷◌, ◌++◌, length, take, drop, Option, Some, None, Result, Ok, Err, refl, sym, ap, ◌∙◌, arith}
+use Rattle.std.proofs.Common.{◌≡◌, ℕ, zero, suc, ◌-◌, ◌^◌, ◌<◌, ◌≤◌, get_or, eq-eqb, Bool, true, false, cond, eqb, ◌&&◌, nat_eq, nat_lt, List, [], ◌∷◌, ◌++◌, length, take, drop, Option, Some, None, Result, Ok, Err, refl, sym, ap, ◌∙◌, arith}
 use Rattle.std.specs.List.{starts_with, prefix_len, list_all}
 use Rattle.std.specs.Option.{option_map}
 use Rattle.std.specs.Result.{result_ok}
@@ -11,8 +11,8 @@ use Rattle.std.proofs.lemmas.Fmt.{decimal_digit}
 use Rattle.std.specs.Char.{is_ascii_digit}
 use Rattle.decimal_text.specs.Number.{decimal, unsigned_within}
 use Rattle.decimal_text.specs.declared.number.NumberFault.{NumberFault}
-use Rattle.decimal_text.proofs.Laws.{Spells-unsigned_within, decimal-unsigned_within, unsigned_within-decimal, all_digits-decimal, no_leading_zero-decimal, length-decimal}
-use Rattle.match_text.specs.Reading.{◌>>=◌, after_bytes, has_leading_zero, number_of, number_at, field_at}
+use Rattle.decimal_text.proofs.Laws.{Spells-unsigned_within, decimal-unsigned_within, unsigned_within-decimal, all_digits-decimal, no_leading_zero-decimal}
+use Rattle.match_text.specs.Reading.{◌>>=◌, after_bytes, has_leading_zero, number_of, number_at, number_after}
 
 starts_after : (bytes text : List ℕ) → true ≡ pointwise nat_eq bytes (take (length bytes) text) → after_bytes bytes text ≡ Some (drop (length bytes) text)
 starts_after [] text h = refl
@@ -117,14 +117,14 @@ number_again most n rest small fits ends =
     let split : number_at most (decimal n ++ rest) ≡ number_of most (decimal n) rest = ap (λ (p : List ℕ × List ℕ). number_of most p.0 p.1) (λ i. (front i, back i)) in
     split ∙ rw (no_leading_zero n (omega arith), unsigned_within-decimal most n small fits) refl
 
-pub field_takes : (bytes : List ℕ) (most n : ℕ) (text rest : List ℕ) → most < 2 ^ 64 → field_at bytes most text ≡ Some (n, rest) → (text ≡ bytes ++ (decimal n ++ rest)) × (n ≤ most)
-unfolding field_at
-field_takes bytes most n text rest fits e =
+pub number_after_takes : (bytes : List ℕ) (most n : ℕ) (text rest : List ℕ) → most < 2 ^ 64 → number_after bytes most text ≡ Some (n, rest) → (text ≡ bytes ++ (decimal n ++ rest)) × (n ≤ most)
+unfolding number_after
+number_after_takes bytes most n text rest fits e =
     let a = bind_found (after_bytes bytes text) (number_at most) (n, rest) e in
     let number = number_takes most n a.0 rest fits a.2 in
     (after_takes bytes text a.0 a.1 ∙ ap (λ (t : List ℕ). bytes ++ t) number.0, number.1)
 
-pub field_again : (bytes : List ℕ) (most n : ℕ) (rest : List ℕ) → n ≤ most → most < 2 ^ 64 → EndsDigits rest → field_at bytes most (bytes ++ (decimal n ++ rest)) ≡ Some (n, rest)
-unfolding field_at
-field_again bytes most n rest small fits ends =
+pub number_after_again : (bytes : List ℕ) (most n : ℕ) (rest : List ℕ) → n ≤ most → most < 2 ^ 64 → EndsDigits rest → number_after bytes most (bytes ++ (decimal n ++ rest)) ≡ Some (n, rest)
+unfolding number_after
+number_after_again bytes most n rest small fits ends =
     bind_some (after_bytes bytes (bytes ++ (decimal n ++ rest))) (number_at most) (decimal n ++ rest) (after_again bytes (decimal n ++ rest)) ∙ number_again most n rest small fits ends

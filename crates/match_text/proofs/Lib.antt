@@ -5,3 +5,7 @@ pub mod Lines
 pub mod Routes
 pub mod Pieces
 pub mod Next
+pub mod Steps
+pub mod Laid
+pub mod Lawful
+pub mod Whole

@@ -1,13 +1,13 @@
 -- The first byte of a line tells which line it is.
-use Rattle.std.proofs.Common.{◌≡◌, ℕ, ◌^◌, ◌<◌, List, [], ◌∷◌, ◌++◌, get_or, Option, Some, None, refl, sym, ap, ◌∙◌, arith}
+use Rattle.std.proofs.Common.{◌≡◌, ℕ, ◌^◌, ◌<◌, List, ◌++◌, get_or, Option, Some, None, refl, sym, ap, ◌∙◌, arith}
 use Rattle.std.specs.Option.{IfSome}
 use Rattle.match_text.specs.declared.matched.Label.TheVariants.{Missing, On}
 use Rattle.match_text.specs.declared.place.Line.{Line}
 use Rattle.match_text.specs.declared.place.Line.TheVariants.{Point, Piece, End}
 use Rattle.match_text.specs.declared.place.Place.{Place}
 use Rattle.match_text.specs.Reading.{label_at, none_at, end_at}
-use Rattle.match_text.specs.Grammar.{IsAllowed, text_at, Reads, ReadsLine}
-use Rattle.match_text.proofs.Lines.{Takes, label_takes, label_again, none_takes, none_again, end_takes, end_again}
+use Rattle.match_text.specs.Grammar.{IsAllowed, text_at, ReadsLine}
+use Rattle.match_text.proofs.Lines.{label_takes, label_again, none_takes, none_again, end_takes, end_again}
 
 abbrev first_of : List ℕ → ℕ
 first_of text = get_or text 0 0

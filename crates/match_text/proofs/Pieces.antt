@@ -1,12 +1,12 @@
 -- A piece line that is read is the piece line that was written.
-use Rattle.std.proofs.Common.{◌≡◌, ◌≢◌, ℕ, ◌+◌, ◌^◌, ◌<◌, List, [], ◌∷◌, ◌++◌, map, Option, Some, None, refl, sym, ap, subst, ◌∙◌, append_assoc, arith}
+use Rattle.std.proofs.Common.{◌≡◌, ◌≢◌, ℕ, ◌+◌, List, [], ◌++◌, map, Option, Some, None, sym, ap, ◌∙◌, append_assoc}
 use Rattle.std.proofs.lemmas.Option.{none-some, some_pair_parts}
 use Rattle.decimal_text.specs.Number.{decimal}
 use Rattle.match_text.specs.declared.matched.Routed.{Routed}
 use Rattle.match_text.specs.declared.place.Place.{Place}
 use Rattle.match_text.specs.MatchText.{words_after, piece_line, PieceFits}
-use Rattle.match_text.specs.Reading.{head_at, Head}
-use Rattle.match_text.specs.Grammar.{EndsPiece, Reads, ReadsPiece, ReadsRoute}
+use Rattle.match_text.specs.PieceHead.{head_at, Head}
+use Rattle.match_text.specs.Grammar.{EndsPiece, ReadsPiece, ReadsRoute}
 use Rattle.match_text.proofs.Lines.{head_text, head_takes, head_again}
 
 abbrev route_text : List ℕ → List ℕ

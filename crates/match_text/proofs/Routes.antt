@@ -1,5 +1,5 @@
 -- The edges of a route, read one after the other.
-use Rattle.std.proofs.Common.{◌≡◌, ℕ, ◌-◌, ◌+◌, ◌^◌, ◌<◌, ◌≤◌, List, [], ◌∷◌, ◌++◌, length, map, Option, Some, None, refl, sym, ap, subst, ◌∙◌, append_assoc, arith, length-append}
+use Rattle.std.proofs.Common.{◌≡◌, ℕ, ◌^◌, ◌<◌, ◌≤◌, List, [], ◌∷◌, ◌++◌, length, map, Option, Some, None, refl, sym, ap, subst, ◌∙◌, append_assoc, arith, length-append}
 use Rattle.std.specs.Prelude.{codes}
 use Rattle.std.specs.Option.{option_map, IfSome}
 use Rattle.std.specs.List.{AllByRecursion}
@@ -7,9 +7,9 @@ use Rattle.std.proofs.lemmas.List.{append-nil}
 use Rattle.std.proofs.lemmas.Option.{some_pair_parts, same_Some, none-some}
 use Rattle.decimal_text.specs.Number.{decimal}
 use Rattle.match_text.specs.MatchText.{words_after}
-use Rattle.match_text.specs.Reading.{after_bytes, field_at, most32}
-use Rattle.match_text.specs.Grammar.{ReadsRoute, Reads}
-use Rattle.match_text.proofs.Fields.{EndsDigits, after_takes, after_again, field_takes, field_again}
+use Rattle.match_text.specs.Reading.{after_bytes, number_after, most32}
+use Rattle.match_text.specs.Grammar.{ReadsRoute}
+use Rattle.match_text.proofs.Fields.{EndsDigits, after_takes, number_after_takes, number_after_again}
 
 abbrev lf : List ℕ
 lf = 10 ∷ []
@@ -31,11 +31,11 @@ ends_digits (e ∷ es) rest = refl
 first_edge : (e : ℕ) (es rest : List ℕ) → route_text (e ∷ es) ++ rest ≡ codes " " ++ (decimal e ++ (route_text es ++ rest))
 first_edge e es rest = ap (λ (t : List ℕ). 32 ∷ t) (append_assoc (decimal e) (route_text es) rest)
 
-edge_again : (e : ℕ) (es rest text : List ℕ) → e < 2 ^ 32 → text ≡ route_text (e ∷ es) ++ rest → field_at (codes " ") most32 text ≡ Some (e, route_text es ++ rest)
-edge_again e es rest text small eq = ap (field_at (codes " ") most32) (eq ∙ first_edge e es rest) ∙ field_again (codes " ") most32 e (route_text es ++ rest) (omega arith) (omega arith) (ends_digits es rest)
+edge_again : (e : ℕ) (es rest text : List ℕ) → e < 2 ^ 32 → text ≡ route_text (e ∷ es) ++ rest → number_after (codes " ") most32 text ≡ Some (e, route_text es ++ rest)
+edge_again e es rest text small eq = ap (number_after (codes " ") most32) (eq ∙ first_edge e es rest) ∙ number_after_again (codes " ") most32 e (route_text es ++ rest) (omega arith) (omega arith) (ends_digits es rest)
 
 -- neither an edge nor the end of the line comes
-pub no_route : (text : List ℕ) → field_at (codes " ") most32 text ≡ None → after_bytes lf text ≡ None → ReadsRoute text None
+pub no_route : (text : List ℕ) → number_after (codes " ") most32 text ≡ None → after_bytes lf text ≡ None → ReadsRoute text None
 no_route text no_edge no_end = record { found = tt; only = only }
   where
     only : (edges rest : List ℕ) → EdgesFit edges → text ≡ route_text edges ++ rest → ◌≡◌ {A = Option (List ℕ × List ℕ)} None (Some (edges, rest))
@@ -51,11 +51,11 @@ route_ends text rest end = record { found = (tt, after_takes lf text rest end); 
     only (e ∷ es) others fits eq = absurd (cc (sym eq ∙ after_takes lf text rest end))
 
 -- an edge comes, and then the rest of the route
-pub route_more : (text : List ℕ) (e : ℕ) (next : List ℕ) (read : Option (List ℕ × List ℕ)) → field_at (codes " ") most32 text ≡ Some (e, next) → ReadsRoute next read → ReadsRoute text (prepended (e ∷ []) read)
+pub route_more : (text : List ℕ) (e : ℕ) (next : List ℕ) (read : Option (List ℕ × List ℕ)) → number_after (codes " ") most32 text ≡ Some (e, next) → ReadsRoute next read → ReadsRoute text (prepended (e ∷ []) read)
 route_more text e next read first reads = record { found = found read reads.found; only = only }
   where
     taken : (text ≡ codes " " ++ (decimal e ++ next)) × (e ≤ most32)
-    taken = field_takes (codes " ") most32 e text next (omega arith) first
+    taken = number_after_takes (codes " ") most32 e text next (omega arith) first
 
     found : (read : Option (List ℕ × List ℕ)) → IfSome read (λ x. EdgesFit x.0 × (next ≡ route_text x.0 ++ x.1)) → IfSome (prepended (e ∷ []) read) (λ x. EdgesFit x.0 × (text ≡ route_text x.0 ++ x.1))
     found None h = tt
@@ -84,15 +84,15 @@ GoesOn text edges left = (read : Option (List ℕ × List ℕ)) → ReadsRoute l
 pub begins : (text : List ℕ) → GoesOn text [] text
 begins text read reads = rw prepended_none reads
 
-pub goes_on : (text edges left : List ℕ) (e : ℕ) (next : List ℕ) → field_at (codes " ") most32 left ≡ Some (e, next) → GoesOn text edges left → GoesOn text (edges ++ e ∷ []) next
+pub goes_on : (text edges left : List ℕ) (e : ℕ) (next : List ℕ) → number_after (codes " ") most32 left ≡ Some (e, next) → GoesOn text edges left → GoesOn text (edges ++ e ∷ []) next
 goes_on text edges left e next first so_far read reads = rw (← prepended_more edges e read) (so_far (prepended (e ∷ []) read) (route_more left e next read first reads))
 
-pub goes_down : (left : List ℕ) (e : ℕ) (next : List ℕ) → field_at (codes " ") most32 left ≡ Some (e, next) → length next < length left
+pub goes_down : (left : List ℕ) (e : ℕ) (next : List ℕ) → number_after (codes " ") most32 left ≡ Some (e, next) → length next < length left
 goes_down left e next first =
-    let parts = field_takes (codes " ") most32 e left next (omega arith) first in
+    let parts = number_after_takes (codes " ") most32 e left next (omega arith) first in
     omega (arith, ap length parts.0, length-append (decimal e) next)
 
-pub fails : (text edges left : List ℕ) → field_at (codes " ") most32 left ≡ None → after_bytes lf left ≡ None → GoesOn text edges left → ReadsRoute text None
+pub fails : (text edges left : List ℕ) → number_after (codes " ") most32 left ≡ None → after_bytes lf left ≡ None → GoesOn text edges left → ReadsRoute text None
 fails text edges left no_edge no_end so_far = so_far None (no_route left no_edge no_end)
 
 pub ends : (text edges left rest : List ℕ) → after_bytes lf left ≡ Some rest → GoesOn text edges left → ReadsRoute text (Some (edges, rest))

@@ -1,10 +1,12 @@
 -- Which line may come next, and what the lines from a place on are.
-use Rattle.std.specs.Prelude.{◌≡◌, ◌≢◌, ℕ, zero, suc, ◌+◌, ◌^◌, ◌<◌, ◌≤◌, List, [], ◌∷◌, ◌++◌, length, take, map, Option, Some, None, IfSome, unwrap_or, Result, Ok, Err}
+use Rattle.std.specs.Prelude.{◌≡◌, ◌≢◌, ℕ, suc, ◌+◌, ◌^◌, ◌<◌, ◌≤◌, List, [], ◌∷◌, ◌++◌, length, take, map, Option, Some, None, IfSome, unwrap_or, Result, Ok, Err}
 use Rattle.std.specs.List.{concat, AllByRecursion}
 use Rattle.decimal_text.specs.Number.{decimal}
 use Rattle.match_text.specs.declared.matched.Label.{Label}
 use Rattle.match_text.specs.declared.matched.Label.TheVariants.{Missing, On}
 use Rattle.match_text.specs.declared.matched.Routed.{Routed}
+use Rattle.match_text.specs.declared.fault.TextFault.{TextFault}
+use Rattle.match_text.specs.declared.fault.TextFault.TheVariants.{BadLine, Memory}
 use Rattle.match_text.specs.declared.place.Line.{Line}
 use Rattle.match_text.specs.declared.place.Line.TheVariants.{Point, Piece, End}
 use Rattle.match_text.specs.declared.place.Place.{Place}
@@ -68,6 +70,11 @@ pub record IsWhole (place : Place) (lines : List Line) (text : List ℕ) : Type 
   pub allowed : Continues place lines
   pub whole : text ≡ concat (texts_from place lines)
 
+-- these lines and no others
+pub record IsOnly (place : Place) (lines : List Line) (text : List ℕ) : Type 0 where
+  pub is : IsWhole place lines text
+  pub only : (others : List Line) → IsWhole place others text → others ≡ lines
+
 -- n lines may come, and the line after them may not or is missing
 pub record FailsAfter (place : Place) (n : ℕ) (text : List ℕ) : Type 0 where
   pub before : BeginsFrom place n text
@@ -76,7 +83,7 @@ pub record FailsAfter (place : Place) (n : ℕ) (text : List ℕ) : Type 0 where
 
 -- what the text from this place on is: lines, or a number of lines before a bad one
 abbrev pub Means : Place → List ℕ → Result (List Line) ℕ → Type 0
-Means place text (Ok lines) = IsWhole place lines text
+Means place text (Ok lines) = IsOnly place lines text
 Means place text (Err n) = FailsAfter place n text
 
 -- the text, or its front, is one of these, in one way
@@ -93,3 +100,21 @@ ReadsPiece place text read = Reads (EndsPiece place) piece_line text read
 -- the edges of a route, each after a space, and LF
 abbrev pub ReadsRoute : List ℕ → Option (List ℕ × List ℕ) → Type 0
 ReadsRoute text read = Reads (AllByRecursion (λ edge. edge < 2 ^ 32)) (λ edges. words_after (map decimal edges)) text read
+
+abbrev pub labels_of : List Line → List Label
+labels_of [] = []
+labels_of (Point label ∷ lines) = label ∷ labels_of lines
+labels_of (Piece piece ∷ lines) = labels_of lines
+labels_of (End ∷ lines) = labels_of lines
+
+abbrev pub pieces_of : List Line → List Routed
+pieces_of [] = []
+pieces_of (Point label ∷ lines) = pieces_of lines
+pieces_of (Piece piece ∷ lines) = piece ∷ pieces_of lines
+pieces_of (End ∷ lines) = pieces_of lines
+
+-- what was read of the lines after the trace line, or the number of the bad one
+abbrev pub ReadsLines : ℕ → List ℕ → Result (List Label × List Routed) TextFault → Type 0
+ReadsLines id text (Ok x) = (lines : List Line) × IsOnly (start id) lines text × (x.0 ≡ labels_of lines) × (x.1 ≡ pieces_of lines)
+ReadsLines id text (Err (BadLine n)) = (before : ℕ) × (n ≡ before + 2) × FailsAfter (start id) before text
+ReadsLines id text (Err Memory) = Unit {0}

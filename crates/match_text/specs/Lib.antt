@@ -2,3 +2,4 @@ pub mod MatchText
 pub mod Parts
 pub mod Reading
 pub mod Grammar
+pub mod PieceHead

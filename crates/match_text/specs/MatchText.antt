@@ -1,5 +1,5 @@
 -- The text of one matched trace, and which matched traces are lawful.
-use Rattle.std.specs.Prelude.{◌≢◌, ℕ, zero, suc, ◌^◌, ◌<◌, ◌≤◌, ◌↔◌, ◌⊎◌, ◌==◌, if◌then◌else◌, List, [], ◌∷◌, ◌++◌, length, map, codes}
+use Rattle.std.specs.Prelude.{◌≡◌, ◌-◌, ◌≢◌, ℕ, zero, suc, ◌+◌, ◌^◌, ◌<◌, ◌≤◌, ◌↔◌, ◌⊎◌, ◌==◌, if◌then◌else◌, List, [], ◌∷◌, ◌++◌, length, take, map, codes}
 use Rattle.std.specs.List.{concat, AllByRecursion}
 use Rattle.decimal_text.specs.Number.{decimal}
 use Rattle.match_text.specs.declared.matched.Label.{Label}
@@ -44,7 +44,7 @@ piece_after i (piece ∷ pieces) rest = if piece.last == i then piece_line piece
 -- the lines of the points from i on, the line of a piece directly after that of its last point
 abbrev pub point_lines : ℕ → List Label → List Routed → List (List ℕ)
 point_lines i [] pieces = []
-point_lines i (label ∷ labels) pieces = label_line i label ∷ piece_after i pieces (point_lines (suc i) labels)
+point_lines i (label ∷ labels) pieces = label_line i label ∷ piece_after i pieces (point_lines (i + 1) labels)
 
 abbrev pub lines_of : MatchedTrace → List (List ℕ)
 lines_of m = trace_line m.id ∷ (point_lines 0 m.labels m.pieces ++ end_line m.id ∷ [])
@@ -72,7 +72,7 @@ IsCovered (piece ∷ pieces) i = ((piece.first ≤ i) × (i ≤ piece.last)) ⊎
 -- none begins before the point i, and each begins after the one before it ends
 abbrev pub IsRising : ℕ → List Routed → Type 0
 IsRising i [] = Unit {0}
-IsRising i (piece ∷ pieces) = (i ≤ piece.first) × (piece.first ≤ piece.last) × IsRising (suc piece.last) pieces
+IsRising i (piece ∷ pieces) = (i ≤ piece.first) × (piece.first ≤ piece.last) × IsRising (piece.last + 1) pieces
 
 pub record IsLawful (m : MatchedTrace) : Type 0 where
   pub rising : IsRising 0 m.pieces
@@ -97,3 +97,21 @@ pub record Fits (m : MatchedTrace) : Type 0 where
   pub id : m.id < 2 ^ 32
   pub labels : AllByRecursion LabelFits m.labels
   pub pieces : AllByRecursion PieceFits m.pieces
+
+-- ---- the first line that is not allowed or is missing
+
+-- the first n lines of the text are the first n lines of the text of some lawful matched trace
+pub record BeginsWithLines (n : ℕ) (text : List ℕ) : Type 0 where
+  pub trace : MatchedTrace
+  pub lawful : IsLawful trace
+  pub fits : Fits trace
+  pub enough : n ≤ length (lines_of trace)
+  pub rest : List ℕ
+  pub begins : text ≡ concat (take n (lines_of trace)) ++ rest
+
+-- the lines before line n are allowed, and line n, from 1, is not or is missing
+pub record IsFirstBadLine (n : ℕ) (text : List ℕ) : Type 0 where
+  pub positive : 1 ≤ n
+  pub before : BeginsWithLines (n - 1) text
+  pub bad : ¬ BeginsWithLines n text
+  pub not_whole : (m : MatchedTrace) → IsLawful m → Fits m → text ≢ text_of m

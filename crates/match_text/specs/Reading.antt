@@ -1,11 +1,11 @@
 -- Reading from left to right: what stands at the front of a text, and the rest.
-use Rattle.std.specs.Prelude.{◌≡◌, ℕ, ◌-◌, ◌^◌, List, [], ◌∷◌, length, take, drop, Option, Some, None, Bool, ◌&&◌, ◌||◌, not, is_some, nat_lt, slice_index, ◌==◌, if◌then◌else◌, codes}
+use Rattle.std.specs.Prelude.{ℕ, ◌-◌, ◌^◌, List, [], ◌∷◌, length, take, drop, Option, Some, None, Bool, ◌&&◌, ◌||◌, not, is_some, nat_lt, slice_index, ◌==◌, if◌then◌else◌, codes}
+use Rattle.std.specs.Borrow.{Bor}
 use Rattle.std.specs.Option.{option_map}
 use Rattle.std.specs.Result.{result_ok}
 use Rattle.std.specs.List.{prefix_len}
 use Rattle.std.specs.Char.{is_ascii_digit}
 use Rattle.decimal_text.specs.Number.{unsigned_within}
-use Rattle.match_text.specs.declared.matched.Label.{Label}
 use Rattle.match_text.specs.declared.matched.Label.TheVariants.{Missing, On}
 use Rattle.match_text.specs.declared.place.Line.{Line}
 use Rattle.match_text.specs.declared.place.Line.TheVariants.{Point, End}
@@ -15,6 +15,10 @@ infixl 10 ◌>>=◌
 abbrev pub ◌>>=◌ : {A B : Type 0} → Option A → (A → Option B) → Option B
 (Some x) >>= f = f x
 None >>= f = None
+
+-- what was read, and the bytes after it
+abbrev pub seen : {A : Type 0} → Option (A × Bor (List ℕ)) → Option (A × List ℕ)
+seen read = option_map (λ x. (x.0, x.1.now)) read
 
 -- what stands after these bytes
 abbrev pub after_bytes : List ℕ → List ℕ → Option (List ℕ)
@@ -35,8 +39,8 @@ unfoldable pub number_at : ℕ → List ℕ → Option (ℕ × List ℕ)
 number_at most text = let len = prefix_len is_ascii_digit text in number_of most (take len text) (drop len text)
 
 -- the number after these bytes
-unfoldable pub field_at : List ℕ → ℕ → List ℕ → Option (ℕ × List ℕ)
-field_at bytes most text = after_bytes bytes text >>= number_at most
+unfoldable pub number_after : List ℕ → ℕ → List ℕ → Option (ℕ × List ℕ)
+number_after bytes most text = after_bytes bytes text >>= number_at most
 
 -- ---- lines: what they say, and what stands after them
 
@@ -45,20 +49,20 @@ most32 = 2 ^ 32 - 1
 
 unfoldable pub trace_at : List ℕ → Option (ℕ × List ℕ)
 trace_at text = do
-  id ← field_at (codes "trace ") most32 text
+  id ← number_after (codes "trace ") most32 text
   rest ← after_bytes (10 ∷ []) id.1
   Some (id.0, rest)
 
 -- the end line of the trace, where no point waits
 unfoldable pub end_at : Place → List ℕ → Option (Line × List ℕ)
 end_at place text = do
-  id ← field_at (codes "end ") most32 text
+  id ← number_after (codes "end ") most32 text
   if not (id.0 == place.id) || is_some place.waiting then None else (after_bytes (10 ∷ []) id.1 >>= λ rest. Some (End, rest))
 
 -- the number of the next point after these bytes
 unfoldable pub numbered_at : List ℕ → ℕ → List ℕ → Option (List ℕ)
 numbered_at bytes next text = do
-  point ← field_at bytes 99999 text
+  point ← number_after bytes 99999 text
   if point.0 == next then Some point.1 else None
 
 -- the line of the next point without candidates, where no point waits
@@ -71,23 +75,8 @@ none_at place text = do
 unfoldable pub label_at : Place → List ℕ → Option (Line × List ℕ)
 label_at place text = do
   point ← numbered_at (codes "at ") place.next text
-  edge ← field_at (codes " edge ") most32 point
-  offset ← field_at (codes " offset ") most32 edge.1
-  d2 ← field_at (codes " d2 ") (2 ^ 64 - 1) offset.1
+  edge ← number_after (codes " edge ") most32 point
+  offset ← number_after (codes " offset ") most32 edge.1
+  d2 ← number_after (codes " d2 ") (2 ^ 64 - 1) offset.1
   rest ← after_bytes (10 ∷ []) d2.1
   Some (Point (On edge.0 offset.0 d2.0), rest)
-
--- the first and the last point of a piece, its cost, and what stands after the word `route`
-pub record Head : Type 0 where
-  pub first : ℕ
-  pub last : ℕ
-  pub cost : ℕ
-  pub rest : List ℕ
-
-unfoldable pub head_at : List ℕ → Option Head
-head_at text = do
-  first ← field_at (codes "piece ") most32 text
-  last ← field_at (codes " ") most32 first.1
-  cost ← field_at (codes " cost ") (2 ^ 64 - 1) last.1
-  rest ← after_bytes (codes " route") cost.1
-  Some (record { first = first.0; last = last.0; cost = cost.0; rest = rest })

@@ -6,20 +6,30 @@
 //! line `piece F L cost C route E1 E2 ..`, and one line `end ID`.
 //!
 //! [`write_match`] appends the text, and [`read_match`] takes exactly the texts of lawful matched
-//! traces and names the first line that is not allowed in its place. [`write_label`],
-//! [`write_piece`] and their kin write single lines. The text is defined once, by `text_of` of
-//! `specs/MatchText.antt`; read the clauses of [`read_match`] first.
+//! traces and names the first line that is not allowed in its place. For texts with the same lines
+//! there are calls that write one line ([`write_trace`], [`write_label`], [`write_piece`],
+//! [`write_end`]) or read one ([`read_trace`], [`read_piece`]), and [`front`] reads words and numbers.
+//!
+//! The text is defined once, by `text_of` in `specs/MatchText.antt`, and so is what is lawful, by
+//! `IsLawful`. Read the clauses of [`read_match`] first.
 #![tactic(auto)]
 
 mod fault;
-mod field;
+pub mod front;
 mod line;
 mod matched;
 mod place;
+mod reading;
 mod scan;
 mod writing;
 
 pub use fault::TextFault;
 pub use line::{write_end, write_label, write_piece, write_trace};
 pub use matched::{Label, MatchedTrace, Routed};
+pub use place::Place;
+pub use reading::read_match;
+pub use scan::{read_piece, read_trace};
 pub use writing::write_match;
+
+#[cfg(test)]
+mod tests;

@@ -12,14 +12,14 @@ pub enum Line {
     End,
 }
 
-/// A place between two lines.
+/// A place between two lines of a text: what decides which line may come next.
 #[derive(Clone, Copy)]
 pub struct Place {
     /// The id of the trace.
     pub id: u32,
     /// The number of the next point.
     pub next: u32,
-    /// The first point whose line waits for its piece line.
+    /// The first point with candidates that waits for its piece line.
     pub waiting: Option<u32>,
 }
 

@@ -1,10 +1,11 @@
 //! The line at the front of a text.
 ghost use Rattle.std.specs.Prelude.{◌≡◌, ◌+◌, ◌^◌, ◌<◌, ◌↔◌, IfOk, IsTrue, slice_index};
 ghost use Rattle.std.specs.Option.{option_map, option_copied};
-ghost use Rattle.match_text.specs.Reading.{trace_at, end_at, numbered_at, none_at, label_at, head_at};
+ghost use Rattle.match_text.specs.Reading.{seen, trace_at, end_at, numbered_at, none_at, label_at};
+ghost use Rattle.match_text.specs.PieceHead.{head_of, head_at};
 ghost use Rattle.match_text.specs.Grammar.{ReadsLine, ReadsPiece, ReadsRoute};
 
-use crate::field::{after, field, short_field};
+use crate::front::{after, number_after, short_number_after};
 use crate::matched::{Label, Routed};
 use crate::place::{Line, Place};
 use polyline_geometry::List;
@@ -13,12 +14,12 @@ use std::alloc::{AllocError, Global};
 /// The greatest number of a point.
 const LAST_POINT: u64 = 99_999;
 
-/// The id in the trace line at the front, and what stands after the line.
+/// The id in the line `trace ID` at the front, and what stands after the line.
 #[tactic(auto, unfolding(crate::specs::Reading::trace_at))]
-pub fn trace_line(text: &[u8]) -> Option<(u32, &[u8])>
-    ensures { option_map (λ x. (x.0, x.1.now)) result ≡ trace_at text.now }
+pub fn read_trace(text: &[u8]) -> Option<(u32, &[u8])>
+    ensures { seen result ≡ trace_at text.now }
 {
-    let (id, rest) = short_field(text, b"trace ")?;
+    let (id, rest) = short_number_after(text, b"trace ")?;
     let rest = after(rest, b"\n")?;
     Some((id, rest))
 }
@@ -26,10 +27,10 @@ pub fn trace_line(text: &[u8]) -> Option<(u32, &[u8])>
 // The end line of the trace, and what stands after it.
 #[tactic(auto, unfolding(crate::specs::Reading::end_at))]
 fn end_line(place: Place, text: &[u8]) -> Option<(Line, &[u8])>
-    ensures value { option_map (λ x. (x.0, x.1.now)) result ≡ end_at place text.now }
+    ensures value { seen result ≡ end_at place text.now }
     ensures id { place.id < 2 ^ 32 }
 {
-    let (id, rest) = short_field(text, b"end ")?;
+    let (id, rest) = short_number_after(text, b"end ")?;
     if id != place.id || place.waiting.is_some() {
         return None;
     }
@@ -42,7 +43,7 @@ fn end_line(place: Place, text: &[u8]) -> Option<(Line, &[u8])>
 fn numbered<'a>(text: &'a [u8], bytes: &[u8], next: u32) -> Option<&'a [u8]>
     ensures { option_copied result ≡ numbered_at bytes.now next text.now }
 {
-    let (point, rest) = field(text, bytes, LAST_POINT)?;
+    let (point, rest) = number_after(text, bytes, LAST_POINT)?;
     if point != u64::from(next) {
         return None;
     }
@@ -52,7 +53,7 @@ fn numbered<'a>(text: &'a [u8], bytes: &[u8], next: u32) -> Option<&'a [u8]>
 // The line of the next point, which has no candidate, and what stands after it.
 #[tactic(auto, unfolding(crate::specs::Reading::none_at))]
 fn none_line(place: Place, text: &[u8]) -> Option<(Line, &[u8])>
-    ensures { option_map (λ x. (x.0, x.1.now)) result ≡ none_at place text.now }
+    ensures { seen result ≡ none_at place text.now }
 {
     let rest = numbered(text, b"none ", place.next)?;
     if place.waiting.is_some() {
@@ -65,12 +66,12 @@ fn none_line(place: Place, text: &[u8]) -> Option<(Line, &[u8])>
 // The line of the next point, which has candidates, and what stands after it.
 #[tactic(auto, unfolding(crate::specs::Reading::label_at))]
 fn label_line(place: Place, text: &[u8]) -> Option<(Line, &[u8])>
-    ensures { option_map (λ x. (x.0, x.1.now)) result ≡ label_at place text.now }
+    ensures { seen result ≡ label_at place text.now }
 {
     let rest = numbered(text, b"at ", place.next)?;
-    let (edge, rest) = short_field(rest, b" edge ")?;
-    let (offset, rest) = short_field(rest, b" offset ")?;
-    let (d2, rest) = field(rest, b" d2 ", u64::MAX)?;
+    let (edge, rest) = short_number_after(rest, b" edge ")?;
+    let (offset, rest) = short_number_after(rest, b" offset ")?;
+    let (d2, rest) = number_after(rest, b" d2 ", u64::MAX)?;
     let rest = after(rest, b"\n")?;
     Some((Line::Point(Label::On { edge, offset, d2 }), rest))
 }
@@ -84,13 +85,13 @@ struct Head<'a> {
     rest: &'a [u8],
 }
 
-#[tactic(auto, unfolding(crate::specs::Reading::head_at))]
+#[tactic(auto, unfolding(crate::specs::PieceHead::head_at))]
 fn piece_head(text: &[u8]) -> Option<Head>
-    ensures { option_map (λ h. record { first = h.first; last = h.last; cost = h.cost; rest = h.rest.now }) result ≡ head_at text.now }
+    ensures { option_map head_of result ≡ head_at text.now }
 {
-    let (first, rest) = short_field(text, b"piece ")?;
-    let (last, rest) = short_field(rest, b" ")?;
-    let (cost, rest) = field(rest, b" cost ", u64::MAX)?;
+    let (first, rest) = short_number_after(text, b"piece ")?;
+    let (last, rest) = short_number_after(rest, b" ")?;
+    let (cost, rest) = number_after(rest, b" cost ", u64::MAX)?;
     let rest = after(rest, b" route")?;
     Some(Head {
         first,
@@ -102,11 +103,11 @@ fn piece_head(text: &[u8]) -> Option<Head>
 
 // The edges of a route up to the end of its line, and what stands after the line.
 fn route(alloc: Global, text: &[u8]) -> Result<Option<(List<u32>, &[u8])>, AllocError>
-    ensures { IfOk result (λ read. ReadsRoute text.now (option_map (λ x. (x.0, x.1.now)) read)) }
+    ensures { IfOk result (λ read. ReadsRoute text.now (seen read)) }
 {
     let mut route = List::new(alloc);
     let mut rest = text;
-    while let Some((edge, next)) = short_field(rest, b" ") {
+    while let Some((edge, next)) = short_number_after(rest, b" ") {
         route.push(edge)?;
         rest = next;
     }
@@ -116,13 +117,16 @@ fn route(alloc: Global, text: &[u8]) -> Result<Option<(List<u32>, &[u8])>, Alloc
     Ok(Some((route, rest)))
 }
 
-// The piece whose line may stand here, and what stands after its line.
-fn piece_line(
+/// The piece whose line is at the front, if it may stand at this place, and what stands after it.
+///
+/// A piece line may stand where points wait: it has the first of them and the last, and a route of
+/// one edge at least.
+pub fn read_piece(
     alloc: Global,
     place: Place,
     text: &[u8],
 ) -> Result<Option<(Routed, &[u8])>, AllocError>
-    ensures { IfOk result (λ read. ReadsPiece place text.now (option_map (λ x. (x.0, x.1.now)) read)) }
+    ensures { IfOk result (λ read. ReadsPiece place text.now (seen read)) }
 {
     let Some(head) = piece_head(text) else {
         return Ok(None);
@@ -158,14 +162,14 @@ pub fn next_line(
     place: Place,
     text: &[u8],
 ) -> Result<Option<(Line, &[u8])>, AllocError>
-    ensures { IfOk result (λ read. ReadsLine place text.now (option_map (λ x. (x.0, x.1.now)) read)) }
+    ensures { IfOk result (λ read. ReadsLine place text.now (seen read)) }
 {
     match first_byte(text) {
         b'a' => Ok(label_line(place, text)),
         b'n' => Ok(none_line(place, text)),
         b'e' => Ok(end_line(place, text)),
         b'p' => {
-            let Some((piece, rest)) = piece_line(alloc, place, text)? else {
+            let Some((piece, rest)) = read_piece(alloc, place, text)? else {
                 return Ok(None);
             };
             Ok(Some((Line::Piece(piece), rest)))

@@ -1,7 +1,7 @@
 use Rattle.std.proofs.Common.{◌≡◌, [], length, arith, ap, rules, sym, ◌∙◌}
 use Rattle.std.proofs.lemmas.List.{nil_from_length}
 use Rattle.match_text.proofs.Pieces.{no_head, not_open, no_route, empty_route, piece_read}
-use Rattle.match_text.proofs.scan.piece_line.Goals as goal
+use Rattle.match_text.proofs.scan.read_piece.Goals as goal
 
 pub returns-in_default : goal.returns-in_default
 returns-in_default c = no_head c.args.place c.args.text.now c.in_default.ensures

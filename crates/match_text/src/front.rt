@@ -1,15 +1,15 @@
 //! What stands at the front of a text, and the rest of it.
 ghost use Rattle.std.specs.Prelude.{◌≡◌, ◌-◌, ◌^◌, ◌≤◌, length, IfSome};
-ghost use Rattle.std.specs.Option.{option_map};
+ghost use Rattle.std.specs.Option.{option_copied};
 ghost use Rattle.std.specs.List.{prefix_len};
 ghost use Rattle.std.specs.Char.{is_ascii_digit};
-ghost use Rattle.match_text.specs.Reading.{after_bytes, has_leading_zero, number_at, field_at};
+ghost use Rattle.match_text.specs.Reading.{seen, after_bytes, has_leading_zero, number_at, number_after};
 
 use decimal_text::parse_unsigned;
 
 /// What stands after these bytes at the front, if they stand there.
 pub fn after<'a>(text: &'a [u8], bytes: &[u8]) -> Option<&'a [u8]>
-    ensures { option_map (λ rest. rest.now) result ≡ after_bytes bytes.now text.now }
+    ensures { option_copied result ≡ after_bytes bytes.now text.now }
 {
     if text.starts_with(bytes) {
         Some(&text[bytes.len()..])
@@ -21,7 +21,7 @@ pub fn after<'a>(text: &'a [u8], bytes: &[u8]) -> Option<&'a [u8]>
 /// The number of at most `most` at the front, without leading zeros, and what stands after it.
 #[tactic(auto, unfolding(crate::specs::Reading::number_at))]
 pub fn number(text: &[u8], most: u64) -> Option<(u64, &[u8])>
-    ensures value { option_map (λ x. (x.0, x.1.now)) result ≡ number_at most text.now }
+    ensures value { seen result ≡ number_at most text.now }
     ensures range { IfSome result (λ x. x.0 ≤ most) }
 {
     let (digits, rest) = text.split_at(digit_count(text));
@@ -47,18 +47,18 @@ fn has_leading_zero(digits: &[u8]) -> bool
 }
 
 /// The number of at most `most` after these bytes at the front, and what stands after it.
-#[tactic(auto, unfolding(crate::specs::Reading::field_at))]
-pub fn field<'a>(text: &'a [u8], bytes: &[u8], most: u64) -> Option<(u64, &'a [u8])>
-    ensures value { option_map (λ x. (x.0, x.1.now)) result ≡ field_at bytes.now most text.now }
+#[tactic(auto, unfolding(crate::specs::Reading::number_after))]
+pub fn number_after<'a>(text: &'a [u8], bytes: &[u8], most: u64) -> Option<(u64, &'a [u8])>
+    ensures value { seen result ≡ number_after bytes.now most text.now }
     ensures range { IfSome result (λ x. x.0 ≤ most) }
 {
     number(after(text, bytes)?, most)
 }
 
 /// The number of 32 bits after these bytes at the front, and what stands after it.
-pub fn short_field<'a>(text: &'a [u8], bytes: &[u8]) -> Option<(u32, &'a [u8])>
-    ensures { option_map (λ x. (x.0, x.1.now)) result ≡ field_at bytes.now (2 ^ 32 - 1) text.now }
+pub fn short_number_after<'a>(text: &'a [u8], bytes: &[u8]) -> Option<(u32, &'a [u8])>
+    ensures { seen result ≡ number_after bytes.now (2 ^ 32 - 1) text.now }
 {
-    let (number, rest) = field(text, bytes, u64::from(u32::MAX))?;
+    let (number, rest) = number_after(text, bytes, u64::from(u32::MAX))?;
     Some((number as u32, rest))
 }

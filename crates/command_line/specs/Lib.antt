@@ -1,0 +1,4 @@
+pub mod Options
+pub mod FaultLine
+pub mod Syntax
+pub mod Words

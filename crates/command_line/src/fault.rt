@@ -1,0 +1,48 @@
+// Why words are refused, and the line that says so.
+ghost use Rattle.std.specs.Prelude.{◌≡◌};
+ghost use Rattle.command_line.specs.FaultLine.{fault_line};
+
+use crate::option::OptionName;
+use std::alloc::AllocError;
+
+/// Why the words give no command.
+#[derive(Clone, Copy, PartialEq, Eq, Debug)]
+pub enum WordsFault {
+    /// The words are not those of a command.
+    Usage,
+    /// The value of this option is no number, or is out of its range.
+    BadValue(OptionName),
+    /// Memory is wanting.
+    Memory,
+}
+
+impl From<AllocError> for WordsFault {
+    ghost use Rattle.command_line.specs.declared.fault.WordsFault.{WordsFault};
+
+    ghost from_gives = { λ _ e. e ≡ WordsFault.Memory };
+
+    fn from(_: AllocError) -> WordsFault {
+        WordsFault::Memory
+    }
+}
+
+impl WordsFault {
+    /// The line that says the fault, with its LF.
+    #[tactic(auto, unfolding(crate::specs::FaultLine::fault_line))]
+    pub fn line(self) -> &'static str
+        ensures { result.now ≡ fault_line self }
+    {
+        match self {
+            WordsFault::Usage => "fmm: bad command line\n",
+            WordsFault::BadValue(OptionName::K) => "fmm: bad value k\n",
+            WordsFault::BadValue(OptionName::Radius) => "fmm: bad value radius\n",
+            WordsFault::BadValue(OptionName::Sigma) => "fmm: bad value sigma\n",
+            WordsFault::BadValue(OptionName::Beta) => "fmm: bad value beta\n",
+            WordsFault::BadValue(OptionName::Bound) => "fmm: bad value bound\n",
+            WordsFault::BadValue(OptionName::Workers) => "fmm: bad value workers\n",
+            WordsFault::BadValue(OptionName::Back) => "fmm: bad value back\n",
+            WordsFault::BadValue(OptionName::Gap) => "fmm: bad value gap\n",
+            WordsFault::Memory => "fmm: out of memory\n",
+        }
+    }
+}
