@@ -156,10 +156,10 @@ const CASES: [Case; 15] = [
         shows: "the first put on out fails",
         words: MATCH,
         network: NETWORK_A,
-        traces: b"trace,x,y\n",
+        traces: AT_RADIUS,
         fail: [&[], &[1], &[]],
         status: 4,
-        out: b"total traces 0 point",
+        out: b"trace 1\nat 0 edge 10 offset 5000 d2 10000",
         err: b"fmm: write failed\n",
     },
     Case {
