@@ -6,7 +6,7 @@
 //! Both are scaled by 1000 and rounded towards minus infinity. [`Params`] has the numbers that a
 //! run may choose; [`Params::check`] accepts them, and everything above takes accepted ones.
 //!
-//! Read first: the clause of `emission`, and `IsAccepted` in `specs/Costs.antt`.
+//! Read first: the clause of `emission`, and `IsAccepted` in `specs/Options.antt`.
 #![tactic(auto)]
 
 mod costs;
