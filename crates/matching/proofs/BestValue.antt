@@ -26,7 +26,7 @@ both true P Q x y e h = inr (e, h)
 both false P Q x y e h = inr (sym e, h)
 
 -- numbers first, and then what a test r says: one of the two always comes first
-in_order : (x y : ℕ) (r b : Bool) (P Q : Type 0) → cond r P Q → (ltb x y || (eqb x y && r)) ≡ b → cond b ((x < y) ⊎ ((x ≡ y) × P)) ((y < x) ⊎ ((y ≡ x) × Q))
+pub in_order : (x y : ℕ) (r b : Bool) (P Q : Type 0) → cond r P Q → (ltb x y || (eqb x y && r)) ≡ b → cond b ((x < y) ⊎ ((x ≡ y) × P)) ((y < x) ⊎ ((y ≡ x) × Q))
 in_order x y r b P Q h e =
     ⊎_elim
     (λ lt. let v : (ltb x y || (eqb x y && r)) ≡ true = grind (arith, nat_tests) in
@@ -40,7 +40,7 @@ in_order x y r b P Q h e =
     (cases_lt y x))
     (cases_lt x y)
 
-not_after-means : (xs ys : List ℕ) (b : Bool) → not_after xs ys ≡ b → cond b (NotAfter xs ys) (NotAfter ys xs)
+pub not_after-means : (xs ys : List ℕ) (b : Bool) → not_after xs ys ≡ b → cond b (NotAfter xs ys) (NotAfter ys xs)
 not_after-means [] ys true h = tt
 not_after-means [] ys false h = absurd (cc)
 not_after-means (x ∷ xs) [] true h = absurd (cc)

@@ -17,6 +17,7 @@ pub mod Commits
 pub mod BestValue
 pub mod Routes
 pub mod RouteLengths
+pub mod RouteBetweens
 pub mod Growth
 pub mod Committing
 mod Examples
