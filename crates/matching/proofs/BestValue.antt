@@ -91,7 +91,7 @@ least-found : (price : List ℕ → Option ℕ) (lists : List (List ℕ)) → Is
 least-found price [] = λ c r k q. k
 least-found price (ranks ∷ lists) = lesser-found price lists ranks (price ranks) (least price lists) refl (least-found price lists)
 
-abbrev IsBestOrNone : {L : Type 0} → Trellis L → List L → Option Priced → Type 0
+abbrev pub IsBestOrNone : {L : Type 0} → Trellis L → List L → Option Priced → Type 0
 IsBestOrNone t layers None = (c : ℕ) (ranks : List ℕ) → cost t layers ranks ≡ Some c → ⊥
 IsBestOrNone t layers (Some p) = IsBest t layers p.cost p.ranks
 

@@ -18,6 +18,8 @@ pub mod BestValue
 pub mod Routes
 pub mod RouteLengths
 pub mod RouteBetweens
+pub mod Greatest
+pub mod Values
 pub mod Growth
 pub mod Committing
 mod Examples
