@@ -20,6 +20,7 @@ pub mod RouteLengths
 pub mod RouteBetweens
 pub mod Greatest
 pub mod Values
+pub mod Asking
 pub mod Growth
 pub mod Committing
 mod Examples

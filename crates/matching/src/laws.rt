@@ -1,8 +1,9 @@
 //! Laws on the definitions alone. Each function is there for its clause and does nothing.
 ghost use Rattle.road_network.specs.Net.{Net};
 ghost use Rattle.cost_model.specs.declared.params.Params.{Params};
+ghost use Rattle.matching.specs.AskedValue.{AskedIsTested};
 ghost use Rattle.matching.specs.Committed.{CommitmentLasts};
-ghost use Rattle.matching.specs.Layers.{trellis};
+ghost use Rattle.matching.specs.Layers.{end_of, trellis};
 ghost use Rattle.matching.specs.Local.{CellsAreLocal};
 ghost use Rattle.matching.specs.RouteBetween.{RoutesAreLeast};
 ghost use Rattle.matching.specs.RouteLength.{RouteLengthsAreLeast};
@@ -37,4 +38,9 @@ pub fn matches_are_the_solution()
 /// No piece of that value ends before it begins.
 pub fn solutions_have_points()
     ensures { (net : Net) (p : Params) → SolutionsHavePoints (trellis net p) }
+{}
+
+/// The test of the nodes whose rows a trace asks for tells them.
+pub fn asked_is_tested()
+    ensures { (net : Net) (p : Params) → AskedIsTested (trellis net p) (end_of net) }
 {}
