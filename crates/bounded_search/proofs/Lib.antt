@@ -8,3 +8,5 @@ pub mod TouchedNodes
 pub mod KnownNodes
 pub mod LastEdges
 pub mod Counting
+pub mod GivenLabels
+pub mod GivenRows
