@@ -45,12 +45,12 @@ LeavesRelaxedOrBack n bound table before v d =
     (e : ℕ) → HasEdge n e → source n e ≡ v → is_node before (target n e) ≡ false → IsRelaxedWithin n bound table e d
 
 -- an entry's node is the network's, its distance is within the bound, and the edges out of it are relaxed or lead back
-pub record IsLookedAt (n : Net) (bound : ℕ) (table : ℕ → Option Label) (x : Entry) : Type 0 where
+pub record IsRelaxedAt (n : Net) (bound : ℕ) (table : ℕ → Option Label) (x : Entry) : Type 0 where
   pub node : HasNode n x.node.0
   pub within : x.distance ≤ bound
   pub relaxed : LeavesRelaxedOrBack n bound table (start_of n x.last) x.node.0 x.distance
 
 -- so it is with each entry, and all labels but one are given
 pub record IsGiven (n : Net) (bound : ℕ) (entries : List Entry) : Type 0 where
-  pub each : All (IsLookedAt n bound (label_in entries)) entries
+  pub each : All (IsRelaxedAt n bound (label_in entries)) entries
   pub all : sum_by (given_by n bound entries) entries + 1 ≡ length entries

@@ -1,9 +1,10 @@
-//! Whether a row is the table's: each entry is looked at alone, with the edges out of its node.
+//! Whether a row is the table's: the edges out of each entry's node are looked at once, and the last edges
+//! among them are counted.
 ghost use Rattle.std.specs.Prelude.{◌≡◌, ◌<◌, ◌≤◌, ◌+◌, ◌↔◌, ℕ, false, length, Some, IfSome, IsSome, IsTrue};
 ghost use Rattle.std.specs.List.{count_by};
 ghost use Rattle.road_network.specs.Net.{HasNode, HasEdge, leaving, target};
 ghost use Rattle.bounded_search.specs.Closed.{IsNoWorse, IsRelaxedWithin};
-ghost use Rattle.bounded_search.specs.Given.{IsGiven, IsLookedAt, LeavesRelaxedOrBack, given_by, gives, is_label_by, is_node, start_of};
+ghost use Rattle.bounded_search.specs.Given.{IsGiven, IsRelaxedAt, LeavesRelaxedOrBack, given_by, gives, is_label_by, is_node, start_of};
 ghost use Rattle.bounded_search.specs.Table.{IsRow, RisesFrom, label_in, label_of};
 
 use crate::finder::Fingers;
@@ -35,7 +36,7 @@ fn gives_all(net: &Network, bound: u32, entries: &[Entry]) -> bool
     let mut fingers = Fingers::new();
     let mut given = 0;
     for (place, x) in entries.iter().enumerate() {
-        let Some(count) = look_at(net, bound, entries, place, x, &mut fingers) else {
+        let Some(count) = given_at(net, bound, entries, place, x, &mut fingers) else {
             return false;
         };
         given += count;
@@ -45,7 +46,7 @@ fn gives_all(net: &Network, bound: u32, entries: &[Entry]) -> bool
 
 /// How many labels the edges out of an entry's node give, where the entry is within the bound and they
 /// are relaxed.
-fn look_at(
+fn given_at(
     net: &Network,
     bound: u32,
     entries: &[Entry],
@@ -55,7 +56,7 @@ fn look_at(
 ) -> Option<usize>
     requires rising { RisesFrom 0 entries.now }
     requires place { place < length entries.now }
-    ensures some { IsSome result ↔ IsLookedAt net.now bound (label_in entries.now) x.now }
+    ensures some { IsSome result ↔ IsRelaxedAt net.now bound (label_in entries.now) x.now }
     ensures count { IfSome result (λ count. count ≡ given_by net.now bound entries.now x.now) }
 {
     if x.node.0 >= net.node_count() || x.distance > bound {
