@@ -7,3 +7,6 @@ pub mod WaitingNodes
 pub mod TouchedNodes
 pub mod KnownNodes
 pub mod LastEdges
+pub mod Counting
+pub mod GivenLabels
+pub mod GivenRows

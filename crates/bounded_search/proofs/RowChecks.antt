@@ -1,39 +1,17 @@
 -- What is tested at one label, against the records that say it.
-use Rattle.std.proofs.Common.{◌≡◌, ◌↔◌, ℕ, ◌+◌, ◌-◌, ◌<◌, ◌≤◌, ◌≢◌, inl, inr, zero, suc, length, List, [], ◌∷◌, slice_index_or, Option, Some, None, refl, sym, ap, subst, ◌∙◌, arith}
+use Rattle.std.proofs.Common.{◌≡◌, ◌↔◌, ℕ, ◌+◌, ◌-◌, ◌<◌, ◌≤◌, ◌≢◌, inl, inr, zero, suc, length, List, [], ◌∷◌, slice_index_or, Some, None, refl, sym, ap, subst, ◌∙◌, arith}
 use Rattle.std.proofs.lemmas.Option.{same_Some}
 use Rattle.std.proofs.lemmas.Bool.Decides.{eqb_tells}
 use Rattle.std.proofs.lemmas.List.Elements.{recursion_from_All}
 use Rattle.std.specs.List.{All, AllByRecursion}
 use Rattle.std.specs.Option.{option_map}
-use Rattle.road_network.specs.Net.{Net, HasEdge, IsLawful, source, target, span}
-use Rattle.road_network.specs.declared.EdgeId.{EdgeId}
+use Rattle.road_network.specs.Net.{Net, IsLawful}
 use Rattle.bounded_search.specs.declared.table_row.Label.{Label}
 use Rattle.bounded_search.specs.declared.table_row.Entry.{Entry}
 use Rattle.bounded_search.specs.Table.{IsRow, RisesFrom, TableRow, entry_in, label_in, label_of}
-use Rattle.bounded_search.specs.Closed.{IsClosed, IsClosedAt, IsReached, IsRelaxed, IsNoWorse, origin_label}
+use Rattle.bounded_search.specs.Closed.{IsClosed, IsClosedAt, IsReached, origin_label}
 use Rattle.bounded_search.specs.RowRules.{MeetsRowRules}
 use Rattle.bounded_search.proofs.ClosedTables.{table_of_closed, closed_of_table, some_there}
-
--- what a look into a row gives of a label
-pub listed_by : (row : List Entry) (v w : ℕ) (x : Entry) → Some x ≡ entry_in row v → v ≡ w → label_in row w ≡ Some (label_of x)
-listed_by row v w x e same = ap (label_in row) (sym same) ∙ sym (ap (option_map label_of) e)
-
-pub reached_is : (n : Net) (table : ℕ → Option Label) (v : ℕ) (l b : Label) (e : EdgeId) → l.last ≡ Some e → HasEdge n e.0 → target n e.0 ≡ v → table (source n e.0) ≡ Some b → (b.distance + span n e.0 ≡ l.distance) ↔ IsReached n table v l
-reached_is n table v l b e last has ends listed = (
-  λ d. record { edge = e.0; has = has; ends = ends; before = b; listed = listed; distance = d; last = last },
-  λ en.
-      let same : e ≡ record { 0 = en.edge } = same_Some e (record { 0 = en.edge }) (sym last ∙ en.last) in
-      let number : e.0 ≡ en.edge = ap (λ (k : EdgeId). k.0) same in
-      let before : b ≡ en.before = same_Some b en.before (sym listed ∙ (ap (λ (k : ℕ). table (source n k)) number ∙ en.listed)) in
-      let spans : span n e.0 ≡ span n en.edge = ap (span n) number in
-      omega (arith, en.distance, ap (λ (k : Label). k.distance) before),
-)
-
-pub relaxed_is : (n : Net) (table : ℕ → Option Label) (e d : ℕ) (b : Label) → table (target n e) ≡ Some b → IsNoWorse b d e ↔ IsRelaxed n table e d
-relaxed_is n table e d b listed = (
-  λ h. record { label = b; listed = listed; no_worse = h },
-  λ r. subst (λ (k : Label). IsNoWorse k d e) (same_Some r.label b (sym r.listed ∙ listed)) r.no_worse,
-)
 
 -- what holds of each entry holds of what a look gives
 pub at_listed : (Q : ℕ → Label → Type 0) (row : List Entry) (v : ℕ) (l : Label) → AllByRecursion (λ x. Q x.node.0 (label_of x)) row → label_in row v ≡ Some l → Q v l

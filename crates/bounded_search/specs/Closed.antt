@@ -29,12 +29,6 @@ pub record IsRelaxed (n : Net) (table : ℕ → Option Label) (e d : ℕ) : Type
   pub listed : table (target n e) ≡ Some label
   pub no_worse : IsNoWorse label d e
 
--- node v is listed at a distance below d
-pub record IsNearer (table : ℕ → Option Label) (v d : ℕ) : Type 0 where
-  pub label : Label
-  pub listed : table v ≡ Some label
-  pub below : label.distance < d
-
 -- edge e leads beyond the bound from distance d, or is relaxed
 abbrev pub IsRelaxedWithin : Net → ℕ → (ℕ → Option Label) → ℕ → ℕ → Type 0
 IsRelaxedWithin n bound table e d = d + span n e ≤ bound → IsRelaxed n table e (d + span n e)

@@ -1,5 +1,6 @@
 pub mod Table
 pub mod Closed
+pub mod Given
 pub mod RowRules
 pub mod RowInside
 pub mod Finding

@@ -1,8 +1,10 @@
-//! Whether a row is the table's: each entry is looked at alone, with the edges out of its node.
-ghost use Rattle.std.specs.Prelude.{◌≡◌, ◌<◌, ◌≤◌, ◌+◌, ◌↔◌, ℕ, length, IfSome, IsSome, IsTrue};
-ghost use Rattle.std.specs.List.{All};
-ghost use Rattle.road_network.specs.Net.{HasNode, HasEdge};
-ghost use Rattle.bounded_search.specs.Closed.{IsClosedAt, IsNearer, IsReached, IsRelaxed, IsRelaxedWithin, LeavesRelaxed};
+//! Whether a row is the table's: the edges out of each entry's node are looked at once, and the last edges
+//! among them are counted.
+ghost use Rattle.std.specs.Prelude.{◌≡◌, ◌<◌, ◌≤◌, ◌+◌, ◌↔◌, ℕ, false, length, Some, IfSome, IsSome, IsTrue};
+ghost use Rattle.std.specs.List.{count_by};
+ghost use Rattle.road_network.specs.Net.{HasNode, HasEdge, leaving, target};
+ghost use Rattle.bounded_search.specs.Closed.{IsNoWorse, IsRelaxedWithin};
+ghost use Rattle.bounded_search.specs.Given.{IsGiven, IsRelaxedAt, LeavesRelaxedOrBack, given_by, gives, is_label_by, is_node, start_of};
 ghost use Rattle.bounded_search.specs.Table.{IsRow, RisesFrom, label_in, label_of};
 
 use crate::finder::Fingers;
@@ -13,96 +15,72 @@ use road_network::{EdgeId, Network, NodeId};
 ///
 /// Any row may be asked about: a node or edge that the network does not have, and a distance above
 /// the bound, make the answer false. No memory is taken and no sum wraps. It costs one binary search
-/// for each entry and for each edge out of an entry's node.
+/// for each edge out of an entry's node, but for the edge back to the node before.
 pub fn check_row(net: &Network, bound: u32, origin: NodeId, row: &Row) -> bool
     requires { HasNode net.now origin.0 }
     ensures { IsTrue result ↔ IsRow net.now bound origin.0 row.now }
 {
     net.known();
     row.known();
-    row.origin() == origin && is_closed(net, bound, origin, row.entries())
+    row.origin() == origin && gives_all(net, bound, row.entries())
 }
 
-/// Whether every entry is closed.
-fn is_closed(net: &Network, bound: u32, origin: NodeId, entries: &[Entry]) -> bool
-    requires origin { HasNode net.now origin.0 }
-    requires rising { RisesFrom 0 entries.now }
-    ensures { IsTrue result
-        ↔ All (λ x. IsClosedAt net.now bound origin.0 (label_in entries.now) x.node.0 (label_of x)) entries.now }
+/// Whether the edges out of all entries' nodes are relaxed, and give all labels but the origin's.
+///
+/// An edge gives the label where it ends if it is that label's last edge, at that label's distance. So each
+/// label is given once at most, and a count tells that none is left out.
+fn gives_all(net: &Network, bound: u32, entries: &[Entry]) -> bool
+    requires { RisesFrom 0 entries.now }
+    ensures { IsTrue result ↔ IsGiven net.now bound entries.now }
 {
     let mut fingers = Fingers::new();
+    let mut given = 0;
     for (place, x) in entries.iter().enumerate() {
-        if !is_closed_at(net, bound, origin, entries, place, x, &mut fingers) {
+        let Some(count) = given_at(net, bound, entries, place, x, &mut fingers) else {
             return false;
-        }
+        };
+        given += count;
     }
-    true
+    given + 1 == entries.len()
 }
 
-/// Whether an entry is within the bound and reached by its last edge, and its edges are relaxed.
-fn is_closed_at(
+/// How many labels the edges out of an entry's node give, where the entry is within the bound and they
+/// are relaxed.
+fn given_at(
     net: &Network,
     bound: u32,
-    origin: NodeId,
     entries: &[Entry],
     place: usize,
     x: &Entry,
     fingers: &mut Fingers,
-) -> bool
-    requires origin { HasNode net.now origin.0 }
+) -> Option<usize>
     requires rising { RisesFrom 0 entries.now }
     requires place { place < length entries.now }
-    ensures { IsTrue result
-        ↔ IsClosedAt net.now bound origin.0 (label_in entries.now) x.now.node.0 (label_of x.now) }
+    ensures some { IsSome result ↔ IsRelaxedAt net.now bound (label_in entries.now) x.now }
+    ensures count { IfSome result (λ count. count ≡ given_by net.now bound entries.now x.now) }
 {
-    net.known();
-    if x.distance > bound {
-        return false;
+    if x.node.0 >= net.node_count() || x.distance > bound {
+        return None;
     }
-    if x.node == origin {
-        return leaves_relaxed(net, bound, entries, place, x, None, fingers);
-    }
-    let Some(before) = reached_from(net, entries, place, x, fingers) else {
-        return false;
-    };
-    leaves_relaxed(net, bound, entries, place, x, Some(before), fingers)
+    let before = start_of(net, x.last);
+    count_given(net, bound, entries, place, x, before, fingers)
 }
 
-/// The node from which an entry is reached by its last edge, where that node is listed at the distance
-/// that makes it so.
-fn reached_from(
-    net: &Network,
-    entries: &[Entry],
-    place: usize,
-    x: &Entry,
-    fingers: &mut Fingers,
-) -> Option<NodeId>
-    requires rising { RisesFrom 0 entries.now }
-    requires place { place < length entries.now }
-    ensures reached { IsSome result
-        ↔ IsReached net.now (label_in entries.now) x.now.node.0 (label_of x.now) }
-    ensures nearer { IfSome result (λ before. IsNearer (label_in entries.now) before.0 x.now.distance) }
-    ensures node { IfSome result (λ _. HasNode net.now x.now.node.0) }
+/// The node where a last edge begins, if the network has that edge.
+fn start_of(net: &Network, last: Option<EdgeId>) -> Option<NodeId>
+    ensures { result ≡ start_of net.now last }
 {
-    net.known();
-    let e = x.last?;
-    if e.0 >= net.edge_count() {
-        return None;
+    let e = last?;
+    if e.0 < net.edge_count() {
+        Some(net.from(e))
+    } else {
+        None
     }
-    if net.to(e) != x.node {
-        return None;
-    }
-    let node = net.from(e);
-    let before = fingers.find(entries, place, node)?;
-    if u64::from(before.distance) + u64::from(net.length(e)) != u64::from(x.distance) {
-        return None;
-    }
-    Some(node)
 }
 
-/// Whether every edge within the bound out of an entry's node is relaxed. `before` is a node that is
-/// listed nearer than the entry: an edge back to it needs no look.
-fn leaves_relaxed(
+/// How many labels the edges out of an entry's node give, where they are relaxed. An edge back to the node
+/// before is not looked at: where the entry's own label is given, that node is nearer.
+fn count_given(
     net: &Network,
     bound: u32,
     entries: &[Entry],
@@ -110,24 +88,26 @@ fn leaves_relaxed(
     x: &Entry,
     before: Option<NodeId>,
     fingers: &mut Fingers,
-) -> bool
+) -> Option<usize>
     requires node { HasNode net.now x.now.node.0 }
     requires rising { RisesFrom 0 entries.now }
     requires place { place < length entries.now }
-    requires before { IfSome before (λ v. IsNearer (label_in entries.now) v.0 x.now.distance) }
-    ensures { IsTrue result
-        ↔ LeavesRelaxed net.now bound (label_in entries.now) x.now.node.0 x.now.distance }
+    ensures some { IsSome result
+        ↔ LeavesRelaxedOrBack net.now bound (label_in entries.now) before x.now.node.0 x.now.distance }
+    ensures count { IfSome result (λ count. count
+        ≡ count_by (λ e. gives net.now bound (label_in entries.now) before x.now.distance e.0) (leaving net.now x.now.node.0)) }
 {
+    let mut count = 0;
     for e in net.out(x.node) {
-        if !is_relaxed_within(net, bound, entries, place, *e, x.distance, before, fingers) {
-            return false;
+        if try_edge(net, bound, entries, place, *e, x.distance, before, fingers)? {
+            count += 1;
         }
     }
-    true
+    Some(count)
 }
 
-/// Whether an edge leads beyond the bound from this distance, or is relaxed.
-fn is_relaxed_within(
+/// Whether an edge gives the label where it ends, if it is relaxed, or leads back or beyond the bound.
+fn try_edge(
     net: &Network,
     bound: u32,
     entries: &[Entry],
@@ -136,45 +116,41 @@ fn is_relaxed_within(
     distance: u32,
     before: Option<NodeId>,
     fingers: &mut Fingers,
-) -> bool
+) -> Option<bool>
     requires edge { HasEdge net.now e.0 }
     requires rising { RisesFrom 0 entries.now }
     requires place { place < length entries.now }
-    requires before { IfSome before (λ v. IsNearer (label_in entries.now) v.0 distance) }
-    ensures { IsTrue result ↔ IsRelaxedWithin net.now bound (label_in entries.now) e.0 distance }
+    ensures some { IsSome result
+        ↔ (is_node before (target net.now e.0) ≡ false
+        → IsRelaxedWithin net.now bound (label_in entries.now) e.0 distance) }
+    ensures given { IfSome result (λ given. given ≡ gives net.now bound (label_in entries.now) before distance e.0) }
 {
-    let target = net.to(e);
+    let end = net.to(e);
     if let Some(node) = before
-        && node == target
+        && node == end
     {
-        return true;
+        return Some(false);
     }
     let at = u64::from(distance) + u64::from(net.length(e));
-    at > u64::from(bound) || is_relaxed(net, entries, place, e, at, fingers)
+    if at > u64::from(bound) {
+        return Some(false);
+    }
+    let found = fingers.find(entries, place, end)?;
+    compare(found, e, at)
 }
 
-/// Whether the node where an edge ends is listed, no worse than by this edge at this distance.
-fn is_relaxed(
-    net: &Network,
-    entries: &[Entry],
-    place: usize,
-    e: EdgeId,
-    distance: u64,
-    fingers: &mut Fingers,
-) -> bool
-    requires edge { HasEdge net.now e.0 }
-    requires rising { RisesFrom 0 entries.now }
-    requires place { place < length entries.now }
-    ensures { IsTrue result ↔ IsRelaxed net.now (label_in entries.now) e.0 distance }
+/// Whether an entry has just the label that an edge gives at a distance, if it is no worse.
+fn compare(found: Entry, e: EdgeId, distance: u64) -> Option<bool>
+    ensures some { IsSome result ↔ IsNoWorse (label_of found) distance e.0 }
+    ensures same { IfSome result (λ same. same ≡ is_label_by (Some (label_of found)) distance e.0) }
 {
-    match fingers.find(entries, place, net.to(e)) {
-        Some(found) => {
-            let least = u64::from(found.distance);
-            match found.last {
-                Some(last) => least < distance || (least == distance && last <= e),
-                None => least < distance,
-            }
-        }
-        None => false,
+    let least = u64::from(found.distance);
+    if least < distance {
+        return Some(false);
     }
+    let last = found.last?;
+    if least > distance || last > e {
+        return None;
+    }
+    Some(last == e)
 }
