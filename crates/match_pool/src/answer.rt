@@ -9,6 +9,9 @@ ghost use Rattle.trace_reader.specs.Trace.{IsLawfulTrace};
 ghost use Rattle.trellis.specs.Asking.{KnowsAll, LearnsOnly};
 ghost use Rattle.match_pool.specs.Match.{asks, layers_of, match_of};
 
+use crate::labels::labels;
+use crate::layers::layers;
+use crate::routes::pieces;
 use bounded_search::Rows;
 use cost_model::Params;
 use grid_index::Grid;
@@ -19,6 +22,7 @@ use road_network::Network;
 use std::alloc::{AllocError, Global};
 use trace_reader::Trace;
 use trellis::Solved;
+use viterbi::match_trace;
 
 /// The match of a trace, and what it was found by.
 #[derive(Drop)]
@@ -62,5 +66,17 @@ pub fn match_one<R: Rows>(
     ensures known { IfOk result (λ _.
         KnowsAll (R.known rows.new) (λ v. asks net.now p.now trace.now v ≡ true)) }
 {
-    Err(AllocError)
+    let layers = layers(alloc, net, grid, p, trace.fixes.as_slice())?;
+    let solved = match_trace(alloc, net, p, rows, layers.as_slice())?;
+    let labels = labels(alloc, net, layers.as_slice(), solved.ranks.as_slice())?;
+    let pieces = pieces(alloc, net, p, rows, layers.as_slice(), &solved)?;
+    Ok(Answer {
+        layers,
+        solved,
+        matched: MatchedTrace {
+            id: trace.id,
+            labels,
+            pieces,
+        },
+    })
 }
