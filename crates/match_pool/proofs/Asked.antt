@@ -1,5 +1,5 @@
 -- The rows that become known are those that the trace asks for.
-use Rattle.std.proofs.Common.{◌≡◌, ℕ, true, List, Option, sym, ap, ◌∙◌, subst}
+use Rattle.std.proofs.Common.{◌≡◌, ℕ, true, List, Option, sym, ap, ◌∙◌}
 use Rattle.cost_model.specs.declared.params.Params.{Params}
 use Rattle.road_network.specs.Net.{Net}
 use Rattle.trace_reader.specs.declared.trace.Trace.{Trace}
@@ -13,7 +13,7 @@ use Rattle.matching.specs.Value.{Solution}
 use Rattle.matching.proofs.Asking.{is_asked-tells}
 use Rattle.trellis.specs.Asking.{KnowsAll, LearnsOnly}
 use Rattle.trellis.proofs.Learning.{only_then}
-use Rattle.match_pool.specs.Match.{asks, layers_of, solution_of}
+use Rattle.match_pool.specs.Match.{asks, layers_of}
 use Rattle.match_pool.proofs.Matched.{IsFound, solution_found}
 
 -- whether the trace asks, by what was found

@@ -1,7 +1,7 @@
 -- The trace asks for the end of the edge of each chosen candidate before a piece's last point.
-use Rattle.std.proofs.Common.{◌≡◌, ℕ, zero, suc, ◌+◌, ◌-◌, ◌<◌, ◌≤◌, IsTrue, List, [], ◌∷◌, ◌++◌, Option, Some, None, refl, sym, ap, ◌∙◌, subst, arith, length, take, drop, reverse, get_or}
+use Rattle.std.proofs.Common.{◌≡◌, ℕ, zero, suc, ◌+◌, ◌-◌, ◌<◌, ◌≤◌, IsTrue, List, [], ◌∷◌, ◌++◌, Option, Some, None, sym, ap, ◌∙◌, subst, arith, length, take, drop, reverse, get_or}
 use Rattle.std.specs.Prelude.{unwrap_or}
-use Rattle.std.proofs.lemmas.List.{get_or-take, length-drop, length-reverse, length-take-le, reverse-append, take-append-drop, take-take}
+use Rattle.std.proofs.lemmas.List.{length-drop, length-reverse, reverse-append, take-append-drop, take-take}
 use Rattle.std.proofs.lemmas.List.Elements.{Contains-get_or}
 use Rattle.std.proofs.lemmas.Option.{slice_get-get_or}
 use Rattle.std.proofs.Math.Seq.{drop-append_seam, drop-cons}
@@ -82,9 +82,12 @@ chosen_reached t layers ranks tables piece i m count ge le inside =
     drop-reverse points q (i + 1 - first) (omega (arith, len, ge, le)) ∙ ap reverse (take-take (i + 1 - first) (last + 1 - first) (drop first layers) (omega (arith, le))) in
     let rank-is : get_or chosen q 0 ≡ unwrap_or (get_or ranks i None) 0 = point_rank ranks m.chosen first last i m.ranks-are ge le (omega (arith, inside, count)) in
     let ranks-are : drop q chosen ≡ unwrap_or (get_or ranks i None) 0 ∷ drop (suc q) chosen =
-    drop-cons chosen q 0 (omega (arith, same_count, long, ge, le)) ∙ ap (λ r. r ∷ drop (suc q) chosen) rank-is in
-    (earlier.0, drop (suc q) chosen, subst (λ xs. cost t xs (unwrap_or (get_or ranks i None) 0 ∷ drop (suc q) chosen) ≡ Some earlier.0) points-are
-    (subst (λ rs. cost t (drop q back) rs ≡ Some earlier.0) ranks-are earlier.1))
+    drop-cons chosen q 0 (omega (arith, same_count, long, ge, le)) ∙ ap (λ r. r ∷ drop (suc q) chosen) rank-is in (
+      earlier.0,
+      drop (suc q) chosen,
+      subst (λ xs. cost t xs (unwrap_or (get_or ranks i None) 0 ∷ drop (suc q) chosen) ≡ Some earlier.0) points-are
+          (subst (λ rs. cost t (drop q back) rs ≡ Some earlier.0) ranks-are earlier.1),
+    )
 
 pub chosen_asked : (n : Net) (p : Params) (layers : List Layer) (ranks : List (Option ℕ)) (pieces : List Piece) (tables : List (List Cell)) (k v : ℕ)
     → IsLawful n → AreLayers n p layers → IsMatch (trellis n p) layers ranks pieces tables → k < length pieces
@@ -102,19 +105,22 @@ chosen_asked n p layers ranks pieces tables k v lawful are is lt (i, ge, less, e
     let le : i ≤ piece.last = omega (arith, less) in (
       piece,
       Contains-get_or pieces k none lt,
-      (i, record {
-        after_first = ge;
-        to_last = le;
-        here = get_or layers i no_layer;
-        next = get_or layers (i + 1) no_layer;
-        rank = unwrap_or (get_or ranks i None) 0;
-        here-is = slice_get-get_or layers i no_layer (omega (arith, le, inside));
-        next-is = slice_get-get_or layers (i + 1) no_layer next.layer;
-        next-some = omega (arith, among);
-        near = near_in t layers piece.first piece.last i no_layer whole.can.near ge less inside;
-        reached = chosen_reached t layers ranks tables piece i (is.each k none lt) is.ranks-count ge le inside;
-        node-is = sym end;
-      }),
+      (
+        i,
+        record {
+          after_first = ge;
+          to_last = le;
+          here = get_or layers i no_layer;
+          next = get_or layers (i + 1) no_layer;
+          rank = unwrap_or (get_or ranks i None) 0;
+          here-is = slice_get-get_or layers i no_layer (omega (arith, le, inside));
+          next-is = slice_get-get_or layers (i + 1) no_layer next.layer;
+          next-some = omega (arith, among);
+          near = near_in t layers piece.first piece.last i no_layer whole.can.near ge less inside;
+          reached = chosen_reached t layers ranks tables piece i (is.each k none lt) is.ranks-count ge le inside;
+          node-is = sym end;
+        },
+      ),
     )
 
 -- so a piece's route makes known what the trace asks for alone

@@ -1,9 +1,8 @@
 -- The labels of points, one point after the other.
-use Rattle.std.proofs.Common.{◌≡◌, ℕ, zero, suc, ◌+◌, ◌<◌, ◌≤◌, List, [], ◌∷◌, ◌++◌, Option, None, refl, sym, ap, ◌∙◌, arith, length, take, get_or}
+use Rattle.std.proofs.Common.{◌≡◌, ℕ, zero, suc, ◌+◌, ◌<◌, List, [], ◌∷◌, ◌++◌, Option, None, sym, ap, ◌∙◌, arith, length, take, get_or}
 use Rattle.road_network.specs.Net.{Net}
 use Rattle.matching.specs.declared.parts.Layer.{Layer}
 use Rattle.matching.specs.Places.{IsAt}
-use Rattle.match_text.specs.declared.matched.Label.{Label}
 use Rattle.match_pool.specs.Match.{label_of, labels_of}
 
 labels_next : (n : Net) (layers : List Layer) (ranks : List (Option ℕ)) (i : ℕ) (l : Layer) → IsAt layers i l → i < length ranks

@@ -2,17 +2,15 @@
 use Rattle.std.proofs.Common.{◌≡◌, ℕ, zero, suc, ◌+◌, ◌<◌, ◌≤◌, ◌≢◌, inl, inr, List, [], ◌∷◌, Option, Some, None, refl, ap, arith, length, map, get_or, ⊎_elim}
 use Rattle.std.specs.List.{AllByRecursion}
 use Rattle.cost_model.specs.declared.params.Params.{Params}
-use Rattle.road_network.specs.Net.{Net, edge_name}
+use Rattle.road_network.specs.Net.{Net}
 use Rattle.matching.specs.declared.parts.Cell.{Cell}
 use Rattle.matching.specs.declared.parts.Layer.{Layer}
 use Rattle.matching.specs.declared.parts.Piece.{Piece}
 use Rattle.matching.specs.Layers.{AreLayers, trellis}
 use Rattle.matching.specs.Match.{IsMatch}
 use Rattle.matching.specs.Pieces.{ArePieces}
-use Rattle.matching.specs.Value.{Solution}
 use Rattle.matching.proofs.Lists.{element}
 use Rattle.route_rebuild.specs.Routes.{route_of}
-use Rattle.match_text.specs.declared.matched.Label.{Label}
 use Rattle.match_text.specs.declared.matched.Routed.{Routed}
 use Rattle.match_text.specs.MatchText.{IsCovered, IsLawful, IsMatched, IsOn, IsRising}
 use Rattle.match_pool.specs.Match.{label_of, labels_of, matched_of, routed_of}
@@ -98,15 +96,15 @@ pub lawful_match : (n : Net) (p : Params) (id : ℕ) (layers : List Layer) (rank
 lawful_match n p id layers ranks pieces tables are is = record {
   rising = rising n p layers ranks 0 pieces is.pieces-are;
   covers = λ i. (
-      (λ matched.
-      let h = ranked_if n layers ranks i matched in
-      let l = element layers i h.below in
-      let lies = ranked_lies (trellis n p) layers ranks pieces tables i h.rank l.0 is h.below l.1.is h.is in
-      covered_if n p layers ranks pieces i lies.0 lies.1),
-      (λ covered.
-      let lies = lies_if n p layers ranks pieces i covered in
-      let r = rank_there (trellis n p) layers ranks pieces tables i lies.0 is lies.1 in
-      matched_if n layers ranks i r.0 (lies_below (trellis n p) layers pieces i lies.0 is.pieces-are lies.1) r.1),
+    (λ matched.
+        let h = ranked_if n layers ranks i matched in
+        let l = element layers i h.below in
+        let lies = ranked_lies (trellis n p) layers ranks pieces tables i h.rank l.0 is h.below l.1.is h.is in
+        covered_if n p layers ranks pieces i lies.0 lies.1),
+    (λ covered.
+        let lies = lies_if n p layers ranks pieces i covered in
+        let r = rank_there (trellis n p) layers ranks pieces tables i lies.0 is lies.1 in
+        matched_if n layers ranks i r.0 (lies_below (trellis n p) layers pieces i lies.0 is.pieces-are lies.1) r.1),
   );
   routes = routes n p layers ranks pieces;
   few = let few = are.few in omega (arith, few, labels_length n layers ranks);

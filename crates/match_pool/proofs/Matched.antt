@@ -12,11 +12,11 @@ use Rattle.matching.specs.declared.parts.Layer.{Layer}
 use Rattle.matching.specs.declared.parts.Piece.{Piece}
 use Rattle.matching.specs.Layers.{AreLayers, trellis}
 use Rattle.matching.specs.Match.{IsMatch}
-use Rattle.matching.specs.Value.{Solution, solution}
+use Rattle.matching.specs.Value.{solution}
 use Rattle.matching.proofs.Values.{solution-is}
 use Rattle.match_text.specs.declared.matched.MatchedTrace.{MatchedTrace}
 use Rattle.match_text.specs.MatchText.{IsLawful}
-use Rattle.match_pool.specs.Match.{labels_of, layer_of, layers_of, match_of, matched_of, routed_of, solution_of}
+use Rattle.match_pool.specs.Match.{layer_of, layers_of, match_of, matched_of, routed_of, solution_of}
 use Rattle.match_pool.proofs.Lawful.{labels_all, lawful_match}
 use Rattle.match_pool.proofs.Points.{pieces_count}
 use Rattle.match_pool.proofs.TraceLayers.{are_layers}

@@ -1,5 +1,5 @@
 -- The ranks of a match name candidates.
-use Rattle.std.proofs.Common.{◌≡◌, ℕ, ◌<◌, List, Option, Some, None, IfSome, refl, sym, ap, ◌∙◌, subst, arith, length, get_or}
+use Rattle.std.proofs.Common.{◌≡◌, ℕ, ◌<◌, List, Option, Some, None, IfSome, refl, sym, ◌∙◌, subst, length, get_or}
 use Rattle.std.specs.Prelude.{unwrap_or}
 use Rattle.std.proofs.lemmas.List.{get_or_default}
 use Rattle.cost_model.specs.declared.params.Params.{Params}
@@ -35,7 +35,7 @@ pub are_ranked : (n : Net) (p : Params) (layers : List Layer) (ranks : List (Opt
 are_ranked n p layers ranks pieces tables lawful are is = record {
   count = is.ranks-count;
   each = λ i l at. record {
-      edges = λ j d lt. ((all-at (IsLayer n p) layers i l are.each at).candidates j d lt).edge;
-      among = if_some (λ r. r < length l.candidates) (get_or ranks i None) (λ r e. rank_among n p layers ranks pieces tables i r l lawful are is at e);
+    edges = λ j d lt. ((all-at (IsLayer n p) layers i l are.each at).candidates j d lt).edge;
+    among = if_some (λ r. r < length l.candidates) (get_or ranks i None) (λ r e. rank_among n p layers ranks pieces tables i r l lawful are is at e);
   };
 }

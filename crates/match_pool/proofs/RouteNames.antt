@@ -1,5 +1,5 @@
 -- The edges of a route are edges of the network, and a piece with its route is that of the match.
-use Rattle.std.proofs.Common.{◌≡◌, ℕ, ◌<◌, ◌≤◌, List, [], ◌∷◌, Option, All, map, sym, ap, subst, ◌∙◌, arith, length}
+use Rattle.std.proofs.Common.{◌≡◌, ℕ, ◌<◌, List, [], ◌∷◌, Option, All, map, ap, ◌∙◌, length}
 use Rattle.std.proofs.lemmas.List.Elements.{All-cons, All-nil}
 use Rattle.cost_model.specs.declared.params.Params.{Params}
 use Rattle.road_network.specs.declared.EdgeId.{EdgeId}
@@ -11,7 +11,7 @@ use Rattle.matching.specs.declared.parts.Piece.{Piece}
 use Rattle.matching.specs.Layers.{AreLayers, trellis}
 use Rattle.matching.specs.Match.{IsMatch}
 use Rattle.route_rebuild.specs.Numbers.{numbers}
-use Rattle.route_rebuild.specs.Routes.{IsRouteOf, chosen_at, piece_at, route_of}
+use Rattle.route_rebuild.specs.Routes.{IsRouteOf, chosen_at, piece_at}
 use Rattle.route_rebuild.proofs.ChosenRun.{chosen_run}
 use Rattle.route_rebuild.proofs.Joining.{routes_join}
 use Rattle.route_rebuild.proofs.RouteValue.{route_of-is}

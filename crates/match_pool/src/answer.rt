@@ -54,7 +54,7 @@ fn in_ids<R: Rows>(
         solved.now.ranks solved.now.pieces solved.now.tables }
     ensures matched { IfOk result (λ matched.
         matched ≡ matched_of net.now p.now id layers.now
-            (record { ranks = solved.now.ranks; pieces = solved.now.pieces })) }
+        (record { ranks = solved.now.ranks; pieces = solved.now.pieces })) }
     ensures network { R.network rows.new ≡ R.network rows.old }
     ensures bound { R.bound rows.new ≡ R.bound rows.old }
     ensures source { R.source rows.new ≡ R.source rows.old }
@@ -86,7 +86,7 @@ pub fn match_one<R: Rows>(
     ensures layers { IfOk result (λ answer. answer.layers ≡ layers_of net.now p.now trace.now) }
     ensures solved { IfOk result (λ answer.
         IsMatch (trellis net.now p.now) answer.layers
-            answer.solved.ranks answer.solved.pieces answer.solved.tables) }
+        answer.solved.ranks answer.solved.pieces answer.solved.tables) }
     ensures matched { IfOk result (λ answer. answer.matched ≡ match_of net.now p.now trace.now) }
     ensures lawful { IfOk result (λ answer. IsLawful answer.matched) }
     ensures labels_count { IfOk result (λ answer.

@@ -53,7 +53,7 @@ fn routed<R: Rows>(
     requires number { number < length solved.now.pieces }
     ensures routed { IfOk result (λ routed.
         routed ≡ routed_of net.now p.now layers.now solved.now.ranks
-            (piece_at solved.now.pieces number)) }
+        (piece_at solved.now.pieces number)) }
     ensures network { R.network rows.new ≡ R.network rows.old }
     ensures bound { R.bound rows.new ≡ R.bound rows.old }
     ensures source { R.source rows.new ≡ R.source rows.old }

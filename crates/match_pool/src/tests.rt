@@ -124,8 +124,7 @@ fn two_fixes_on_one_edge(rt: HostRuntime) -> Result<(), Fail> {
     let net = read_network(rt.alloc(), ROW)?;
     let mut rows = OwnRows::open(rt.alloc(), &net, DEFAULTS.bound)?;
     let places = [(1_000, 300), (9_000, -300)];
-    let answer =
-        match_fixes(rt.alloc(), &net, &DEFAULTS, &mut rows, &places)?.ok_or("no trace")?;
+    let answer = match_fixes(rt.alloc(), &net, &DEFAULTS, &mut rows, &places)?.ok_or("no trace")?;
     assert_eq!(rt; answer.matched.id, 7);
     assert_eq!(rt;
         answer.matched.labels.as_slice(),
@@ -133,7 +132,10 @@ fn two_fixes_on_one_edge(rt: HostRuntime) -> Result<(), Fail> {
     );
     assert!(rt; has_pieces(&answer, &[(0, 1, 112)]));
     let first = answer.solved.tables.get(0).ok_or("no table")?;
-    assert_eq!(rt; first.as_slice(), [first_cell(45), first_cell(40_545)].as_slice());
+    assert_eq!(rt;
+        first.as_slice(),
+        [first_cell(45), first_cell(40_545)].as_slice()
+    );
     let last = answer.solved.tables.get(1).ok_or("no table")?;
     assert_eq!(rt; last.as_slice(), [cell(112, 0), cell(1_568, 0)].as_slice());
     assert_eq!(rt; rows.count(), 2);
@@ -145,8 +147,7 @@ fn a_fix_without_candidates_and_a_refused_row(rt: HostRuntime) -> Result<(), Fai
     let net = read_network(rt.alloc(), ROW)?;
     let mut rows = OwnRows::open(rt.alloc(), &net, DEFAULTS.bound)?;
     let places = [(1_000, 0), (1_000, 50_000), (2_000, 0)];
-    let answer =
-        match_fixes(rt.alloc(), &net, &DEFAULTS, &mut rows, &places)?.ok_or("no trace")?;
+    let answer = match_fixes(rt.alloc(), &net, &DEFAULTS, &mut rows, &places)?.ok_or("no trace")?;
     assert_eq!(rt;
         answer.matched.labels.as_slice(),
         [on_first(1_000, 0), Label::Missing, on_first(2_000, 0)].as_slice()

@@ -96,8 +96,8 @@ point_chosen ranks chosen first last j are from_first to_last inside =
     let at : first + k ≡ j = omega (arith, from_first) in (
       len,
       ap (λ (i : ℕ). get_or ranks i None) (sym at)
-      ∙ (sym (between ranks first last k None (omega (arith, from_first, to_last)))
-      ∙ (ap (λ (l : List (Option ℕ)). get_or l k None) are ∙ get_or-map_some chosen k 0 lt)),
+          ∙ (sym (between ranks first last k None (omega (arith, from_first, to_last)))
+          ∙ (ap (λ (l : List (Option ℕ)). get_or l k None) are ∙ get_or-map_some chosen k 0 lt)),
     )
 
 pub point_rank : (ranks : List (Option ℕ)) (chosen : List ℕ) (first last j : ℕ) → from_to first last ranks ≡ map (λ r. Some r) chosen → first ≤ j → j ≤ last → last < length ranks → get_or (reverse chosen) (last - j) 0 ≡ unwrap_or (get_or ranks j None) 0

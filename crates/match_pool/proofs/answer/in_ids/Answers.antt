@@ -1,4 +1,4 @@
-use Rattle.std.proofs.Common.{◌≡◌, ◌≤◌, List, Option, ℕ, sym, ap, ◌∙◌, subst, arith}
+use Rattle.std.proofs.Common.{sym, subst, arith}
 use Rattle.matching.specs.Layers.{trellis}
 use Rattle.match_pool.specs.Ranked.{AreRanked}
 use Rattle.match_pool.proofs.Points.{pieces_count}

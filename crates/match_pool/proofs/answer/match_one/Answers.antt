@@ -1,8 +1,6 @@
 use Rattle.std.proofs.Common.{sym, ap, ◌∙◌, subst, map}
 use Rattle.matching.specs.Asked.{IsAsked}
 use Rattle.matching.specs.Layers.{AreLayers, end_of, trellis}
-use Rattle.matching.specs.Match.{IsMatch}
-use Rattle.matching.specs.Value.{Solution}
 use Rattle.trellis.specs.Asking.{KnowsAll, LearnsOnly}
 use Rattle.match_pool.specs.Match.{layer_of, matched_of}
 use Rattle.match_pool.proofs.Asked.{known_found, learned_found}

@@ -1,5 +1,5 @@
-use Rattle.std.proofs.Common.{◌++◌, ◌∷◌, [], None, sym, ap, ◌∙◌, arith, take, get_or}
-use Rattle.match_pool.specs.Match.{label_of, labels_of}
+use Rattle.std.proofs.Common.{◌++◌, ◌∷◌, [], sym, ap, ◌∙◌, arith, take}
+use Rattle.match_pool.specs.Match.{labels_of}
 use Rattle.match_pool.proofs.LabelLists.{labels_more}
 use Rattle.match_pool.proofs.labels.labels.Goals as goal
 

@@ -1,4 +1,4 @@
-use Rattle.std.proofs.Common.{◌≡◌, List, All, map, sym, ap, ◌∙◌, subst}
+use Rattle.std.proofs.Common.{List, All, map, sym, ap, ◌∙◌, subst}
 use Rattle.std.specs.Prelude.{slice_index_or}
 use Rattle.matching.specs.declared.parts.Piece.{Piece}
 use Rattle.match_text.specs.declared.matched.Routed.{Routed}
