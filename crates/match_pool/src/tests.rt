@@ -171,11 +171,9 @@ fn two_fixes_on_one_edge(rt: HostRuntime) -> Result<(), Fail> {
 }
 
 #[test]
-fn a_fix_without_candidates_and_a_refused_row(rt: HostRuntime) -> Result<(), Fail> {
+fn a_fix_without_candidates(rt: HostRuntime) -> Result<(), Fail> {
     let net = read_network(rt.alloc(), ROW)?;
-    let mut first = List::new(rt.alloc());
-    first.push(1)?;
-    let mut rows = RefusingRows::open(rt.alloc(), &net, DEFAULTS.bound, first)?;
+    let mut rows = OwnRows::open(rt.alloc(), &net, DEFAULTS.bound)?;
     let places = [(1_000, 0), (1_000, 50_000), (2_000, 0)];
     let wanted = Wanted {
         labels: &[on_first(1_000, 0), Label::Missing, on_first(2_000, 0)],
@@ -183,6 +181,16 @@ fn a_fix_without_candidates_and_a_refused_row(rt: HostRuntime) -> Result<(), Fai
         cells: &[cell(0, None), cell(32_000, None)],
     };
     assert!(rt; gives(rt.alloc(), &net, &DEFAULTS, &mut rows, &places, &wanted)?);
+    assert_eq!(rt; rows.count(), 0);
+    Ok(())
+}
+
+#[test]
+fn a_refused_row(rt: HostRuntime) -> Result<(), Fail> {
+    let net = read_network(rt.alloc(), ROW)?;
+    let mut first = List::new(rt.alloc());
+    first.push(1)?;
+    let mut rows = RefusingRows::open(rt.alloc(), &net, DEFAULTS.bound, first)?;
     assert!(rt; match_fixes(rt.alloc(), &net, &DEFAULTS, &mut rows, &NEAR).is_err());
     Ok(())
 }
