@@ -7,3 +7,4 @@ pub mod WaitingNodes
 pub mod TouchedNodes
 pub mod KnownNodes
 pub mod LastEdges
+pub mod Counting

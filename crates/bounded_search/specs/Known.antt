@@ -1,6 +1,6 @@
 -- Which nodes' rows are known, and which rows are held: a list with one place for each node, with nothing or a row.
-use Rattle.std.specs.Prelude.{◌≡◌, ◌⊎◌, ◌↔◌, ℕ, suc, List, [], ◌∷◌, Option, Some, None, Contains, Result, MatchResult, slice_get}
-use Rattle.road_network.specs.Net.{Net}
+use Rattle.std.specs.Prelude.{◌≡◌, ◌⊎◌, ◌↔◌, ◌≤◌, ◌+◌, ℕ, suc, List, [], ◌∷◌, Option, Some, None, Contains, Result, MatchResult, slice_get}
+use Rattle.road_network.specs.Net.{Net, HasNode}
 use Rattle.bounded_search.specs.Table.{TableRow}
 
 -- the nodes whose places hold a row, where the first place is that of node i
@@ -30,3 +30,13 @@ pub record KnownRows : Type 0 where
   pub network : Net
   pub bound : ℕ
   pub known : List ℕ
+
+-- the numbers rise strictly, from b on
+abbrev pub Rises : ℕ → List ℕ → Type 0
+Rises b [] = Unit {0}
+Rises b (x ∷ xs) = (b ≤ x) × Rises (x + 1) xs
+
+-- known nodes as own rows list them: by rising number, each a node of the network
+pub record IsKnownList (n : Net) (known : List ℕ) : Type 0 where
+  pub rising : Rises 0 known
+  pub nodes : (v : ℕ) → Contains known v → HasNode n v

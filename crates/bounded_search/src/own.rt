@@ -2,7 +2,7 @@
 ghost use Rattle.std.specs.Prelude.{◌≡◌, ◌<◌, ◌≤◌, ◌↔◌, [], length, Contains, IfOk, OnOk, OnErr, IsTrue, IsOk};
 ghost use Rattle.road_network.specs.Net.{HasNode};
 ghost use Rattle.bounded_search.specs.Table.{IsRow};
-ghost use Rattle.bounded_search.specs.Known.{Adds};
+ghost use Rattle.bounded_search.specs.Known.{Adds, IsKnownList};
 
 use crate::Rows;
 use crate::label_setting::Searcher;
@@ -49,6 +49,13 @@ impl<'n> OwnRows<'n> {
             rows,
             count: 0,
         })
+    }
+
+    /// What the known nodes always meet.
+    pub fn known(&self)
+        ensures { IsKnownList self.now.network self.now.known }
+    {
+        let _ = &self.rows;
     }
 
     /// How many nodes are known.

@@ -3,15 +3,12 @@ use Rattle.std.specs.Prelude.{slice_get}
 use Rattle.std.specs.Option.{option_copied}
 use Rattle.bounded_search.specs.Known.{KnownRows, known_nodes}
 use Rattle.bounded_search.specs.Table.{TableRow, IsRow}
-use Rattle.bounded_search.proofs.KnownNodes.{get_at, inside, known_row, knows_by}
+use Rattle.bounded_search.proofs.KnownNodes.{get_at, known_inside, knows_by}
 use Rattle.bounded_search.proofs.own.OwnRows.get.Goals as goal
-
-inside_known : (rows : List (Option TableRow)) (n : ℕ) → Contains (known_nodes rows) n → n < length rows
-inside_known rows n known = let r = known_row rows n known in inside rows n (Some r.0) r.1
 
 pub index-requires : goal.index-requires
 index-requires c =
-    let lt : c.args.n.0 < length c.self.inside.rows.items = inside_known c.self.inside.rows.items c.args.n.0 (rw (← c.self.view_is) at c.requires) in
+    let lt : c.args.n.0 < length c.self.inside.rows.items = known_inside c.self.inside.rows.items c.args.n.0 (rw (← c.self.view_is) at c.requires) in
     omega arith
 
 pub unwrap-requires : goal.unwrap-requires
@@ -19,7 +16,7 @@ unwrap-requires c =
     let rows : List (Option TableRow) = c.self.inside.rows.items in
     let n : ℕ = c.args.n.0 in
     let known : Contains (known_nodes rows) n = rw (← c.self.view_is) at c.requires in
-    let at : slice_get rows n ≡ Some c.index.result.now = get_at rows n c.index.result.now (inside_known rows n known) c.index.ensures in
+    let at : slice_get rows n ≡ Some c.index.result.now = get_at rows n c.index.result.now (known_inside rows n known) c.index.ensures in
     c.as_ref.ensures.variant ∙ (knows_by rows n c.index.result.now at).1 known
 
 pub returns : goal.returns
@@ -27,6 +24,6 @@ returns c =
     let rows : List (Option TableRow) = c.self.inside.rows.items in
     let n : ℕ = c.args.n.0 in
     let known : Contains (known_nodes rows) n = rw (← c.self.view_is) at c.requires in
-    let at : slice_get rows n ≡ Some c.index.result.now = get_at rows n c.index.result.now (inside_known rows n known) c.index.ensures in
+    let at : slice_get rows n ≡ Some c.index.result.now = get_at rows n c.index.result.now (known_inside rows n known) c.index.ensures in
     let holds : slice_get rows n ≡ Some (Some c.unwrap.result.now) = at ∙ ap Some (sym c.as_ref.ensures.value ∙ ap option_copied c.unwrap.ensures) in
     subst (λ (o : KnownRows). IsRow o.network o.bound n c.unwrap.result.now) c.self.view_is (c.self.invariant.holds.rows n c.unwrap.result.now holds)

@@ -1,0 +1,13 @@
+use Rattle.std.proofs.Common.{◌<◌, length, subst, arith}
+use Rattle.bounded_search.specs.Known.{KnownRows, IsKnownList}
+use Rattle.bounded_search.proofs.KnownNodes.{known_inside, known_rises}
+use Rattle.bounded_search.proofs.own.OwnRows.known.Goals as goal
+
+pub returns : goal.returns
+returns c =
+    let rows = c.self.inside.rows.items in
+    let inv = c.self.invariant in
+    subst (λ (o : KnownRows). IsKnownList o.network o.known) c.self.view_is (record {
+      rising = known_rises 0 rows;
+      nodes = λ v known. let lt : v < length rows = known_inside rows v known in omega (arith, inv.holds.places_count);
+    })
