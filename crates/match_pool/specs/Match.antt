@@ -11,7 +11,7 @@ use Rattle.matching.specs.declared.parts.Layer.{Layer}
 use Rattle.matching.specs.declared.parts.Piece.{Piece}
 use Rattle.matching.specs.Layers.{candidate_at, end_of, trellis}
 use Rattle.matching.specs.Value.{Solution, solution}
-use Rattle.matching.specs.Asked.{is_asked}
+use Rattle.matching.specs.AskedValue.{is_asked}
 use Rattle.route_rebuild.specs.Routes.{route_of}
 use Rattle.match_text.specs.declared.matched.Label.{Label}
 use Rattle.match_text.specs.declared.matched.Label.TheVariants.{Missing, On}

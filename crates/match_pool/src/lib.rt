@@ -5,5 +5,10 @@
 #![tactic(auto)]
 
 mod answer;
+mod labels;
+mod layers;
+mod routes;
+#[cfg(test)]
+mod tests;
 
 pub use answer::{Answer, match_one};

@@ -15,5 +15,8 @@ mod laws;
 mod parts;
 
 pub use lawful::{are_layers, is_candidate, is_layer};
-pub use laws::{cells_are_local, commitment_lasts, route_lengths_are_least};
+pub use laws::{
+    asked_is_tested, cells_are_local, commitment_lasts, matches_are_the_solution,
+    route_lengths_are_least, routes_are_least, solutions_have_points,
+};
 pub use parts::{Cell, Layer, Piece};

@@ -51,7 +51,7 @@ get_or-map_some (x ∷ xs) zero e lt = refl
 get_or-map_some (x ∷ xs) (suc k) e lt = get_or-map_some xs k e (omega (arith, lt))
 
 -- an element between two places, by its place in the whole list
-between : {X : Type 0} (xs : List X) (first last k : ℕ) (d : X) → k < last + 1 - first → get_or (from_to first last xs) k d ≡ get_or xs (first + k) d
+pub between : {X : Type 0} (xs : List X) (first last k : ℕ) (d : X) → k < last + 1 - first → get_or (from_to first last xs) k d ≡ get_or xs (first + k) d
 between xs first last k d lt = get_or-take (last + 1 - first) (drop first xs) k d lt ∙ get_or-drop first xs k d
 
 -- a piece lies within the points
@@ -59,12 +59,12 @@ pub record IsWithin (layers_count : ℕ) (p : Piece) : Type 0 where
   pub some : p.first ≤ p.last
   pub inside : p.last < layers_count
 
-pieces_within : {L : Type 0} (t : Trellis L) (layers : List L) (i : ℕ) (pieces : List Piece) (k : ℕ) (d : Piece) → ArePieces t layers i pieces → k < length pieces → IsWithin (length layers) (slice_index_or pieces k d)
+pub pieces_within : {L : Type 0} (t : Trellis L) (layers : List L) (i : ℕ) (pieces : List Piece) (k : ℕ) (d : Piece) → ArePieces t layers i pieces → k < length pieces → IsWithin (length layers) (slice_index_or pieces k d)
 pieces_within t layers i [] k d are lt = absurd (omega (arith, lt))
 pieces_within t layers i (p ∷ pieces) zero d are lt = record { some = are.2; inside = omega (arith, are.2, are.3.within, length-drop p.first layers) }
 pieces_within t layers i (p ∷ pieces) (suc k) d are lt = pieces_within t layers (p.last + 1) pieces k d are.4 (omega (arith, lt))
 
-length_between : {X : Type 0} (xs : List X) (first last : ℕ) → first ≤ last → last < length xs → length (from_to first last xs) ≡ last + 1 - first
+pub length_between : {X : Type 0} (xs : List X) (first last : ℕ) → first ≤ last → last < length xs → length (from_to first last xs) ≡ last + 1 - first
 length_between xs first last le lt = let d = length-drop first xs in length-take-of (last + 1 - first) (drop first xs) (omega (arith, d, le, lt))
   where
     length-take-of : {X : Type 0} (n : ℕ) (ys : List X) → n ≤ length ys → length (take n ys) ≡ n
@@ -86,17 +86,25 @@ point_layer xs first last j d from_first to_last inside =
     mirrored (from_to first last xs) (j - first) (last - j) d (omega (arith, len, from_first, to_last)) (omega (arith, len, from_first, to_last))
     ∙ (between xs first last (j - first) d (omega (arith, from_first, to_last)) ∙ ap (λ (i : ℕ). get_or xs i d) at)
 
-point_rank : (ranks : List (Option ℕ)) (chosen : List ℕ) (first last j : ℕ) → from_to first last ranks ≡ map (λ r. Some r) chosen → first ≤ j → j ≤ last → last < length ranks → get_or (reverse chosen) (last - j) 0 ≡ unwrap_or (get_or ranks j None) 0
-point_rank ranks chosen first last j are from_first to_last inside =
+-- the rank of point j of the piece
+pub point_chosen : (ranks : List (Option ℕ)) (chosen : List ℕ) (first last j : ℕ) → from_to first last ranks ≡ map (λ r. Some r) chosen → first ≤ j → j ≤ last → last < length ranks
+    → (length chosen ≡ last + 1 - first) × (get_or ranks j None ≡ Some (get_or chosen (j - first) 0))
+point_chosen ranks chosen first last j are from_first to_last inside =
     let len : length chosen ≡ last + 1 - first = sym (length-map_some chosen) ∙ (ap length (sym are) ∙ length_between ranks first last (omega (arith, from_first, to_last)) inside) in
     let k : ℕ = j - first in
     let lt : k < length chosen = omega (arith, len, from_first, to_last) in
-    let at : first + k ≡ j = omega (arith, from_first) in
-    let there : get_or ranks j None ≡ Some (get_or chosen k 0) =
-    ap (λ (i : ℕ). get_or ranks i None) (sym at)
-    ∙ (sym (between ranks first last k None (omega (arith, from_first, to_last)))
-    ∙ (ap (λ (l : List (Option ℕ)). get_or l k None) are ∙ get_or-map_some chosen k 0 lt)) in
-    mirrored chosen k (last - j) 0 lt (omega (arith, len, from_first, to_last)) ∙ sym (ap (λ (o : Option ℕ). unwrap_or o 0) there)
+    let at : first + k ≡ j = omega (arith, from_first) in (
+      len,
+      ap (λ (i : ℕ). get_or ranks i None) (sym at)
+          ∙ (sym (between ranks first last k None (omega (arith, from_first, to_last)))
+          ∙ (ap (λ (l : List (Option ℕ)). get_or l k None) are ∙ get_or-map_some chosen k 0 lt)),
+    )
+
+pub point_rank : (ranks : List (Option ℕ)) (chosen : List ℕ) (first last j : ℕ) → from_to first last ranks ≡ map (λ r. Some r) chosen → first ≤ j → j ≤ last → last < length ranks → get_or (reverse chosen) (last - j) 0 ≡ unwrap_or (get_or ranks j None) 0
+point_rank ranks chosen first last j are from_first to_last inside =
+    let there = point_chosen ranks chosen first last j are from_first to_last inside in
+    let len = there.0 in
+    mirrored chosen (j - first) (last - j) 0 (omega (arith, len, from_first, to_last)) (omega (arith, len, from_first, to_last)) ∙ sym (ap (λ (o : Option ℕ). unwrap_or o 0) there.1)
 
 same_move : {L : Type 0} (t : Trellis L) (h h2 l l2 : L) (a a2 j j2 w : ℕ) → h ≡ h2 → l ≡ l2 → a ≡ a2 → j ≡ j2 → t.transition h a l j ≡ Some w → t.transition h2 a2 l2 j2 ≡ Some w
 same_move t h h2 l l2 a a2 j j2 w from_is to_is rank_is next_is e =

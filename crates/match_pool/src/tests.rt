@@ -1,0 +1,163 @@
+//! Traces on two edges in a row.
+ghost use Rattle.std.specs.Prelude.{◌≡◌, ◌↔◌, IsTrue};
+ghost use Rattle.std.specs.List.{All};
+ghost use Rattle.cost_model.specs.Options.{IsAccepted};
+ghost use Rattle.polyline_geometry.specs.Plane.{InRange};
+ghost use Rattle.trace_reader.specs.Trace.{IsLawfulTrace};
+ghost use Rattle.match_pool.specs.Match.{place_of};
+
+use crate::{Answer, match_one};
+use bounded_search::{OwnRows, RefusingRows, Rows};
+use cost_model::Params;
+use grid_index::Grid;
+use match_text::Label;
+use matching::Cell;
+use polyline_geometry::List;
+use road_network::{Network, read_network};
+use std::alloc::{AllocError, Global};
+use std::test::Fail;
+use trace_reader::{Fix, Trace};
+
+const DEFAULTS: Params = Params {
+    k: 8,
+    radius: 10_000,
+    sigma: 1_000,
+    beta: 1_000,
+    bound: 300_000,
+    workers: 4,
+    back: 0,
+    gap: u32::MAX,
+};
+
+/// Two edges in a row.
+const ROW: &[u8] = b"edge,from,to,line\n10,1,2,0 0;10000 0\n11,2,3,10000 0;20000 0\n";
+
+/// The greatest coordinate of a fix, in cm.
+const GREATEST: u32 = 1_000_000_000;
+
+fn is_in_range(fix: &Fix) -> bool
+    ensures { IsTrue result ↔ InRange (place_of fix.now) }
+{
+    fix.x.unsigned_abs() <= GREATEST && fix.y.unsigned_abs() <= GREATEST
+}
+
+fn are_in_range(fixes: &[Fix]) -> bool
+    ensures { IsTrue result ↔ All (λ fix. InRange (place_of fix)) fixes.now }
+{
+    fixes.iter().all(|fix| is_in_range(fix))
+}
+
+fn is_lawful(trace: &Trace) -> bool
+    ensures { IsTrue result ↔ IsLawfulTrace trace.now }
+{
+    1 <= trace.fixes.len() && trace.fixes.len() <= 100_000 && are_in_range(trace.fixes.as_slice())
+}
+
+/// The match of a trace of these fixes. None where a trace cannot have them.
+fn match_fixes<R: Rows>(
+    alloc: Global,
+    net: &Network,
+    p: &Params,
+    rows: &mut R,
+    places: &[(i32, i32)],
+) -> Result<Option<Answer>, AllocError>
+    requires options { IsAccepted p.now }
+    requires network { R.network rows.old ≡ net.now }
+    requires bound { R.bound rows.old ≡ p.now.bound }
+{
+    let mut fixes = List::new(alloc);
+    for (x, y) in places {
+        fixes.push(Fix {
+            x: *x,
+            y: *y,
+            time: 0,
+        })?;
+    }
+    let trace = Trace { id: 7, fixes };
+    if !is_lawful(&trace) {
+        return Ok(None);
+    }
+    let grid = Grid::build(alloc, net, p.radius)?;
+    Ok(Some(match_one(alloc, net, &grid, p, rows, &trace)?))
+}
+
+fn on_first(offset: u32, d2: u64) -> Label {
+    Label::On {
+        edge: 10,
+        offset,
+        d2,
+    }
+}
+
+fn first_cell(cost: u64) -> Cell {
+    Cell {
+        cost: Some(cost),
+        from: None,
+    }
+}
+
+fn cell(cost: u64, from: u32) -> Cell {
+    Cell {
+        cost: Some(cost),
+        from: Some(from),
+    }
+}
+
+/// The pieces of an answer are these, by first and last point and cost, and each runs on edge 10.
+fn has_pieces(answer: &Answer, wanted: &[(u32, u32, u64)]) -> bool {
+    let pieces = answer.matched.pieces.as_slice();
+    if pieces.len() != wanted.len() {
+        return false;
+    }
+    for (i, piece) in pieces.iter().enumerate() {
+        if (piece.first, piece.last, piece.cost) != wanted[i]
+            || piece.route.as_slice() != [10].as_slice()
+        {
+            return false;
+        }
+    }
+    true
+}
+
+#[test]
+fn two_fixes_on_one_edge(rt: HostRuntime) -> Result<(), Fail> {
+    let net = read_network(rt.alloc(), ROW)?;
+    let mut rows = OwnRows::open(rt.alloc(), &net, DEFAULTS.bound)?;
+    let places = [(1_000, 300), (9_000, -300)];
+    let answer = match_fixes(rt.alloc(), &net, &DEFAULTS, &mut rows, &places)?.ok_or("no trace")?;
+    assert_eq!(rt; answer.matched.id, 7);
+    assert_eq!(rt;
+        answer.matched.labels.as_slice(),
+        [on_first(1_000, 90_000), on_first(9_000, 90_000)].as_slice()
+    );
+    assert!(rt; has_pieces(&answer, &[(0, 1, 112)]));
+    let first = answer.solved.tables.get(0).ok_or("no table")?;
+    assert_eq!(rt;
+        first.as_slice(),
+        [first_cell(45), first_cell(40_545)].as_slice()
+    );
+    let last = answer.solved.tables.get(1).ok_or("no table")?;
+    assert_eq!(rt; last.as_slice(), [cell(112, 0), cell(1_568, 0)].as_slice());
+    assert_eq!(rt; rows.count(), 2);
+    Ok(())
+}
+
+#[test]
+fn a_fix_without_candidates_and_a_refused_row(rt: HostRuntime) -> Result<(), Fail> {
+    let net = read_network(rt.alloc(), ROW)?;
+    let mut rows = OwnRows::open(rt.alloc(), &net, DEFAULTS.bound)?;
+    let places = [(1_000, 0), (1_000, 50_000), (2_000, 0)];
+    let answer = match_fixes(rt.alloc(), &net, &DEFAULTS, &mut rows, &places)?.ok_or("no trace")?;
+    assert_eq!(rt;
+        answer.matched.labels.as_slice(),
+        [on_first(1_000, 0), Label::Missing, on_first(2_000, 0)].as_slice()
+    );
+    assert!(rt; has_pieces(&answer, &[(0, 0, 0), (2, 2, 0)]));
+    assert_eq!(rt; rows.count(), 0);
+    let mut first = List::new(rt.alloc());
+    first.push(1)?;
+    let mut refusing = RefusingRows::open(rt.alloc(), &net, DEFAULTS.bound, first)?;
+    let near = [(1_000, 300), (9_000, -300)];
+    assert!(rt; match_fixes(rt.alloc(), &net, &DEFAULTS, &mut refusing, &near).is_err());
+    Ok(())
+}
