@@ -72,27 +72,31 @@ struct Case {
 
 const MATCH: &[&str] = &["match", "net", "tra"];
 
+const MATCHED: Case = Case {
+    shows: "two points, and each node that was asked for",
+    words: MATCH,
+    network: STRAIGHT,
+    traces: TWO_POINTS,
+    fail: [&[], &[], &[]],
+    status: 0,
+    out: TWO_POINTS_TEXT,
+    err: b"",
+};
+
+const FAULTY: Case = Case {
+    shows: "traces before a fault are written",
+    words: MATCH,
+    network: STRAIGHT,
+    traces: b"trace,x,y\n1,1000,0\n2,1000,0\n7,2000,0\n7,12x,0\n",
+    fail: [&[], &[], &[]],
+    status: 6,
+    out: b"trace 1\nat 0 edge 10 offset 1000 d2 0\npiece 0 0 cost 0 route 10\nend 1\ntrace 2\nat 0 edge 10 offset 1000 d2 0\npiece 0 0 cost 0 route 10\nend 2\n",
+    err: b"traces line 5 field 2: bad number\n",
+};
+
 const CASES: [Case; 19] = [
-    Case {
-        shows: "two points, and each node that was asked for",
-        words: MATCH,
-        network: STRAIGHT,
-        traces: TWO_POINTS,
-        fail: [&[], &[], &[]],
-        status: 0,
-        out: TWO_POINTS_TEXT,
-        err: b"",
-    },
-    Case {
-        shows: "traces before a fault are written",
-        words: MATCH,
-        network: STRAIGHT,
-        traces: b"trace,x,y\n1,1000,0\n2,1000,0\n7,2000,0\n7,12x,0\n",
-        fail: [&[], &[], &[]],
-        status: 6,
-        out: b"trace 1\nat 0 edge 10 offset 1000 d2 0\npiece 0 0 cost 0 route 10\nend 1\ntrace 2\nat 0 edge 10 offset 1000 d2 0\npiece 0 0 cost 0 route 10\nend 2\n",
-        err: b"traces line 5 field 2: bad number\n",
-    },
+    MATCHED,
+    FAULTY,
     Case {
         shows: "a node that two traces ask for counts once",
         words: MATCH,
@@ -305,12 +309,10 @@ fn is_same_dripped<R: Threads>(
 
 #[test]
 fn a_cutting_of_the_reads_changes_nothing(rt: HostRuntime) -> Result<(), Fail> {
-    let two_points = &CASES[0];
-    assert!(rt; is_same_dripped(&rt, rt.alloc(), two_points, 1)?);
-    assert!(rt; is_same_dripped(&rt, rt.alloc(), two_points, 7)?);
-    let fault = &CASES[1];
-    assert!(rt; is_same_dripped(&rt, rt.alloc(), fault, 1)?);
-    assert!(rt; is_same_dripped(&rt, rt.alloc(), fault, 2)?);
+    assert!(rt; is_same_dripped(&rt, rt.alloc(), &MATCHED, 1)?);
+    assert!(rt; is_same_dripped(&rt, rt.alloc(), &MATCHED, 7)?);
+    assert!(rt; is_same_dripped(&rt, rt.alloc(), &FAULTY, 1)?);
+    assert!(rt; is_same_dripped(&rt, rt.alloc(), &FAULTY, 2)?);
     Ok(())
 }
 
