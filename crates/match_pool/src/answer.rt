@@ -36,7 +36,7 @@ pub struct Answer {
     pub matched: MatchedTrace,
 }
 
-/// The match of these layers, as the match in the ids of the network file of a trace with this id.
+/// The match of these layers in the ids of the network file, for a trace with this id.
 fn in_ids<R: Rows>(
     alloc: Global,
     net: &Network,
@@ -69,6 +69,9 @@ fn in_ids<R: Rows>(
 }
 
 /// The match of a trace. Exactly the rows that it asks for become known.
+///
+/// `grid` is of this network, with cells of at least the radius, and `rows` are of this network and
+/// the bound of these options. Err says that memory was refused; what was known is still known then.
 pub fn match_one<R: Rows>(
     alloc: Global,
     net: &Network,

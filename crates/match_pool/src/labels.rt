@@ -1,7 +1,5 @@
 //! The labels of the points of a trace.
-ghost use Rattle.std.specs.Prelude.{◌≡◌, ◌<◌, IfOk, IfSome, length};
-ghost use Rattle.std.specs.List.{All};
-ghost use Rattle.road_network.specs.Net.{HasEdge};
+ghost use Rattle.std.specs.Prelude.{◌≡◌, IfOk};
 ghost use Rattle.match_pool.specs.Match.{label_of, labels_of};
 ghost use Rattle.match_pool.specs.Ranked.{AreRanked, IsRanked};
 

@@ -1,5 +1,5 @@
 //! The pieces of a trace with their routes.
-ghost use Rattle.std.specs.Prelude.{◌≡◌, ◌<◌, ◌≤◌, ℕ, IfOk, length, map};
+ghost use Rattle.std.specs.Prelude.{◌≡◌, ◌<◌, ◌≤◌, IfOk, length, map};
 ghost use Rattle.std.specs.List.{All};
 ghost use Rattle.bounded_search.specs.Known.{Extends};
 ghost use Rattle.cost_model.specs.Options.{IsAccepted};

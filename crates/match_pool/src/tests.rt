@@ -10,13 +10,14 @@ use crate::{Answer, match_one};
 use bounded_search::{OwnRows, RefusingRows, Rows};
 use cost_model::Params;
 use grid_index::Grid;
-use match_text::Label;
+use match_text::{Label, Routed};
 use matching::Cell;
 use polyline_geometry::List;
 use road_network::{Network, read_network};
 use std::alloc::{AllocError, Global};
 use std::test::Fail;
 use trace_reader::{Fix, Trace};
+use trellis::Potentials;
 
 const DEFAULTS: Params = Params {
     k: 8,
@@ -81,35 +82,20 @@ fn match_fixes<R: Rows>(
     Ok(Some(match_one(alloc, net, &grid, p, rows, &trace)?))
 }
 
-fn on_first(offset: u32, d2: u64) -> Label {
-    Label::On {
-        edge: 10,
-        offset,
-        d2,
-    }
+/// What a trace is matched to: its labels, its pieces by first and last point and cost, each with the
+/// route 10, and the cells of its last point.
+#[derive(Clone, Copy)]
+struct Wanted<'a> {
+    labels: &'a [Label],
+    pieces: &'a [(u32, u32, u64)],
+    cells: &'a [Cell],
 }
 
-fn first_cell(cost: u64) -> Cell {
-    Cell {
-        cost: Some(cost),
-        from: None,
-    }
-}
-
-fn cell(cost: u64, from: u32) -> Cell {
-    Cell {
-        cost: Some(cost),
-        from: Some(from),
-    }
-}
-
-/// The pieces of an answer are these, by first and last point and cost, and each runs on edge 10.
-fn has_pieces(answer: &Answer, wanted: &[(u32, u32, u64)]) -> bool {
-    let pieces = answer.matched.pieces.as_slice();
-    if pieces.len() != wanted.len() {
+fn has_pieces(found: &[Routed], wanted: &[(u32, u32, u64)]) -> bool {
+    if found.len() != wanted.len() {
         return false;
     }
-    for (i, piece) in pieces.iter().enumerate() {
+    for (i, piece) in found.iter().enumerate() {
         if (piece.first, piece.last, piece.cost) != wanted[i]
             || piece.route.as_slice() != [10].as_slice()
         {
@@ -119,25 +105,67 @@ fn has_pieces(answer: &Answer, wanted: &[(u32, u32, u64)]) -> bool {
     true
 }
 
+fn ends_with(tables: &[Potentials], cells: &[Cell]) -> bool {
+    match tables.last() {
+        None => false,
+        Some(table) => table.as_slice() == cells,
+    }
+}
+
+fn is_wanted(answer: &Answer, wanted: &Wanted) -> bool {
+    answer.matched.id == 7
+        && answer.matched.labels.as_slice() == wanted.labels
+        && has_pieces(answer.matched.pieces.as_slice(), wanted.pieces)
+        && ends_with(answer.solved.tables.as_slice(), wanted.cells)
+}
+
+/// Whether the match of a trace of fixes at these places is the one that is wanted.
+fn gives<R: Rows>(
+    alloc: Global,
+    net: &Network,
+    p: &Params,
+    rows: &mut R,
+    places: &[(i32, i32)],
+    wanted: &Wanted,
+) -> Result<bool, AllocError>
+    requires options { IsAccepted p.now }
+    requires network { R.network rows.old ≡ net.now }
+    requires bound { R.bound rows.old ≡ p.now.bound }
+{
+    match match_fixes(alloc, net, p, rows, places)? {
+        None => Ok(false),
+        Some(answer) => Ok(is_wanted(&answer, wanted)),
+    }
+}
+
+fn on_first(offset: u32, d2: u64) -> Label {
+    Label::On {
+        edge: 10,
+        offset,
+        d2,
+    }
+}
+
+fn cell(cost: u64, from: Option<u32>) -> Cell {
+    Cell {
+        cost: Some(cost),
+        from,
+    }
+}
+
+/// Two places beside the first edge.
+const NEAR: [(i32, i32); 2] = [(1_000, 300), (9_000, -300)];
+
 #[test]
 fn two_fixes_on_one_edge(rt: HostRuntime) -> Result<(), Fail> {
     let net = read_network(rt.alloc(), ROW)?;
     let mut rows = OwnRows::open(rt.alloc(), &net, DEFAULTS.bound)?;
-    let places = [(1_000, 300), (9_000, -300)];
-    let answer = match_fixes(rt.alloc(), &net, &DEFAULTS, &mut rows, &places)?.ok_or("no trace")?;
-    assert_eq!(rt; answer.matched.id, 7);
-    assert_eq!(rt;
-        answer.matched.labels.as_slice(),
-        [on_first(1_000, 90_000), on_first(9_000, 90_000)].as_slice()
-    );
-    assert!(rt; has_pieces(&answer, &[(0, 1, 112)]));
-    let first = answer.solved.tables.get(0).ok_or("no table")?;
-    assert_eq!(rt;
-        first.as_slice(),
-        [first_cell(45), first_cell(40_545)].as_slice()
-    );
-    let last = answer.solved.tables.get(1).ok_or("no table")?;
-    assert_eq!(rt; last.as_slice(), [cell(112, 0), cell(1_568, 0)].as_slice());
+    let wanted = Wanted {
+        labels: &[on_first(1_000, 90_000), on_first(9_000, 90_000)],
+        pieces: &[(0, 1, 112)],
+        cells: &[cell(112, Some(0)), cell(1_568, Some(0))],
+    };
+    assert!(rt; gives(rt.alloc(), &net, &DEFAULTS, &mut rows, &NEAR, &wanted)?);
     assert_eq!(rt; rows.count(), 2);
     Ok(())
 }
@@ -145,19 +173,16 @@ fn two_fixes_on_one_edge(rt: HostRuntime) -> Result<(), Fail> {
 #[test]
 fn a_fix_without_candidates_and_a_refused_row(rt: HostRuntime) -> Result<(), Fail> {
     let net = read_network(rt.alloc(), ROW)?;
-    let mut rows = OwnRows::open(rt.alloc(), &net, DEFAULTS.bound)?;
-    let places = [(1_000, 0), (1_000, 50_000), (2_000, 0)];
-    let answer = match_fixes(rt.alloc(), &net, &DEFAULTS, &mut rows, &places)?.ok_or("no trace")?;
-    assert_eq!(rt;
-        answer.matched.labels.as_slice(),
-        [on_first(1_000, 0), Label::Missing, on_first(2_000, 0)].as_slice()
-    );
-    assert!(rt; has_pieces(&answer, &[(0, 0, 0), (2, 2, 0)]));
-    assert_eq!(rt; rows.count(), 0);
     let mut first = List::new(rt.alloc());
     first.push(1)?;
-    let mut refusing = RefusingRows::open(rt.alloc(), &net, DEFAULTS.bound, first)?;
-    let near = [(1_000, 300), (9_000, -300)];
-    assert!(rt; match_fixes(rt.alloc(), &net, &DEFAULTS, &mut refusing, &near).is_err());
+    let mut rows = RefusingRows::open(rt.alloc(), &net, DEFAULTS.bound, first)?;
+    let places = [(1_000, 0), (1_000, 50_000), (2_000, 0)];
+    let wanted = Wanted {
+        labels: &[on_first(1_000, 0), Label::Missing, on_first(2_000, 0)],
+        pieces: &[(0, 0, 0), (2, 2, 0)],
+        cells: &[cell(0, None), cell(32_000, None)],
+    };
+    assert!(rt; gives(rt.alloc(), &net, &DEFAULTS, &mut rows, &places, &wanted)?);
+    assert!(rt; match_fixes(rt.alloc(), &net, &DEFAULTS, &mut rows, &NEAR).is_err());
     Ok(())
 }
