@@ -1,19 +1,17 @@
 -- How many traces and points a file may have.
-use Rattle.std.proofs.Common.{◌≡◌, ℕ, ◌+◌, ◌≤◌, ◌<◌, ◌^◌, List, [], ◌∷◌, ◌++◌, length, take, drop, sym, ◌∙◌, ap, arith, suc, cond, true, false, All, length-append}
+use Rattle.std.proofs.Common.{◌≡◌, ℕ, ◌+◌, ◌≤◌, ◌<◌, ◌^◌, List, [], ◌∷◌, ◌++◌, length, take, drop, sym, arith, All, length-append}
 use Rattle.std.specs.List.{AllByRecursion}
-use Rattle.std.proofs.lemmas.List.{take-append-drop}
 use Rattle.std.proofs.lemmas.List.Elements.{recursion_from_All, All-take, All-drop, All-same}
-use Rattle.std.proofs.lemmas.List.Sums.{sum_by-append, count_by-le-length}
+use Rattle.std.proofs.lemmas.List.Sums.{sum_by-append}
 use Rattle.std.proofs.Math.Seq.{drop-append_seam, take-append_seam}
-use Rattle.road_network.specs.Net.{Net}
+use Rattle.match_pool.specs.Match.{match_of}
 use Rattle.trace_reader.specs.Trace.{IsLawfulTrace}
 use Rattle.trace_reader.specs.Reading.{closed, file_traces}
 use Rattle.trace_reader.specs.declared.trace.Trace.{Trace}
 use Rattle.trace_reader.proofs.Lawful.{IsLawfulTrace-closed, IsLawfulTrace-file_traces}
 use Rattle.match_program.proofs.PointCounts.{points-append, points-closed, points-file_traces}
 use Rattle.match_program.specs.Batches.{IsBounded, Counts}
-use Rattle.match_program.specs.Matches.{points_of, pieces_of, short_count}
-use Rattle.match_program.specs.OnePoint.{is_found, is_long}
+use Rattle.match_program.specs.Matches.{Setting, points_of, pieces_of}
 use Rattle.match_program.specs.Tally.{Fits, Adds}
 use Rattle.match_program.specs.declared.tally.Tally.{Tally}
 
@@ -37,8 +35,8 @@ bounded_closed bytes short = bounded (closed bytes) (length bytes) (IsLawfulTrac
 pub bounded_file : (bytes : List ℕ) → length bytes < 2 ^ 61 → IsBounded (file_traces bytes)
 bounded_file bytes short = bounded (file_traces bytes) (length bytes + 1) (IsLawfulTrace-file_traces bytes) (points-file_traces bytes) (omega arith)
 
-pieces-append : (net : Net) (front back : List Trace) → pieces_of net (front ++ back) ≡ pieces_of net front + pieces_of net back
-pieces-append net front back = sum_by-append (λ trace. cond (is_found net trace) 1 0) front back
+pub pieces-append : (on : Setting) (front back : List Trace) → pieces_of on (front ++ back) ≡ pieces_of on front + pieces_of on back
+pieces-append on front back = sum_by-append (λ trace. length (match_of on.network on.params trace).pieces) front back
 
 -- the front of bounded traces is bounded
 pub bounded_front : (front back : List Trace) → IsBounded (front ++ back) → IsBounded front
@@ -51,27 +49,21 @@ bounded_front front back all = record {
 pub lawful_back : (front back : List Trace) → All IsLawfulTrace (front ++ back) → All IsLawfulTrace back
 lawful_back front back all = All-same IsLawfulTrace back (drop (length front) (front ++ back)) (sym (drop-append_seam front back)) (All-drop IsLawfulTrace (length front) (front ++ back) all)
 
-pub short_within : (traces : List Trace) → short_count traces ≤ length traces
-short_within [] = omega arith
-short_within (trace ∷ traces) =
-    elim (is_long trace) as (λ b. cond b 0 (suc (short_count traces)) ≤ suc (length traces)) [ true ↦ omega arith | false ↦ omega (arith, short_within traces) ]
-
--- counts of some traces that wait behind those that were counted
-pub fits_front : (net : Net) (matched waiting : List Trace) (n : ℕ) (tally : Tally) → IsBounded (matched ++ waiting) → Counts net matched tally → Fits (take n waiting) tally
-fits_front net matched waiting n tally all counts =
+-- the counts of traces that wait behind those that were counted
+pub fits_waiting : (on : Setting) (matched waiting : List Trace) (tally : Tally) → IsBounded (matched ++ waiting) → Counts on matched tally → Fits waiting tally
+fits_waiting on matched waiting tally all counts =
     let few = all.few in
     let few_points = all.few_points in
-    let front : length (take n waiting) + length (drop n waiting) ≡ length waiting = sym (length-append (take n waiting) (drop n waiting)) ∙ ap length (take-append-drop n waiting) in
-    let front_points : points_of (take n waiting) + points_of (drop n waiting) ≡ points_of waiting = sym (sum_by-append (λ t. length t.fixes) (take n waiting) (drop n waiting)) ∙ ap points_of (take-append-drop n waiting) in
     record {
-      few = omega (arith, counts.traces_are, few, length-append matched waiting, front);
-      few_points = omega (arith, counts.points_are, few_points, points-append matched waiting, front_points);
-      few_pieces = omega (arith, counts.pieces_are, few, length-append matched waiting, front, count_by-le-length (is_found net) matched);
+      few = omega (arith, counts.traces_are, few, length-append matched waiting);
+      few_points = omega (arith, counts.points_are, few_points, points-append matched waiting);
+      few_pieces = omega (arith, counts.few_pieces, counts.points_are);
     }
 
-pub counts_more : (net : Net) (matched more : List Trace) (old new : Tally) → Counts net matched old → Adds net more old new → Counts net (matched ++ more) new
-counts_more net matched more old new counts adds = record {
+pub counts_more : (on : Setting) (matched more : List Trace) (old new : Tally) → Counts on matched old → Adds on more old new → Counts on (matched ++ more) new
+counts_more on matched more old new counts adds = record {
   traces_are = omega (arith, counts.traces_are, adds.more, length-append matched more);
   points_are = omega (arith, counts.points_are, adds.more_points, points-append matched more);
-  pieces_are = omega (arith, counts.pieces_are, adds.more_pieces, pieces-append net matched more);
+  pieces_are = omega (arith, counts.pieces_are, adds.more_pieces, pieces-append on matched more);
+  few_pieces = omega (arith, counts.few_pieces, counts.pieces_are, adds.more_pieces, adds.few_pieces, points-append matched more);
 }

@@ -1,12 +1,13 @@
+pub mod Asking
 pub mod BatchEnds
 pub mod CommandEnds
 pub mod Counting
 pub mod FileEnds
 pub mod FinishEnds
 pub mod Matching
-pub mod NearestEdge
 pub mod NetworkStage
 pub mod PieceEnds
 pub mod PointCounts
 pub mod RunEnds
 pub mod StageEnds
+pub mod TextSteps

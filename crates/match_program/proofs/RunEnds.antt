@@ -9,7 +9,8 @@ use Rattle.edge_io.specs.Sink.{AppendsPrefix, Puts}
 use Rattle.edge_io.specs.declared.sink.Put.{Put}
 use Rattle.edge_io.specs.declared.sink.Put.TheVariants as puts
 use Rattle.match_program.specs.Lines.{write_line}
-use Rattle.match_program.specs.Outcome.{Command, command_of, outcome, out_text}
+use Rattle.command_line.specs.Words.{PlainCommand, command_or_line}
+use Rattle.match_program.specs.Outcome.{outcome, out_text}
 use Rattle.match_program.specs.Matches.{Outcome}
 use Rattle.match_program.specs.Ending.{stop_line, line_of, refusal_status, status_after}
 use Rattle.match_program.specs.Performs.{IsWhole, IsPartial, Performs}
@@ -19,13 +20,13 @@ use Rattle.match_program.specs.declared.ending.Refusal.TheVariants as refusals
 use Rattle.match_program.specs.declared.ending.Stop.{Stop}
 use Rattle.match_program.specs.declared.ending.Stop.TheVariants.{Refused, NoMemory, Unread, Unwritten}
 
-whole_is_partial : (asked : Result Command (List ℕ)) (told : Option (List ℕ → Option (List ℕ))) (out out' : Option (List ℕ)) (status : ℕ) (line : List ℕ) → IsWhole asked told out out' status line → IsPartial asked told out out'
+whole_is_partial : (asked : Result PlainCommand (List ℕ)) (told : Option (List ℕ → Option (List ℕ))) (out out' : Option (List ℕ)) (status : ℕ) (line : List ℕ) → IsWhole asked told out out' status line → IsPartial asked told out out'
 whole_is_partial asked None out out' status line whole = tt
 whole_is_partial asked (Some files) out out' status line whole =
     subst (λ o. AppendsPrefix out out' (out_text o)) (sym whole.1) (prefix_whole out out' whole.0 whole.2)
 
 -- out has gained a prefix of the outcome's text, however the work ended
-pub prefix : (asked : Result Command (List ℕ)) (told : Option (List ℕ → Option (List ℕ))) (failed failed' : List (List ℕ)) (out out' : Option (List ℕ)) (count count' : ℕ) (ending : Result (Unit {0}) Stop) → Performs asked told failed failed' out out' count count' ending → IsPartial asked told out out'
+pub prefix : (asked : Result PlainCommand (List ℕ)) (told : Option (List ℕ → Option (List ℕ))) (failed failed' : List (List ℕ)) (out out' : Option (List ℕ)) (count count' : ℕ) (ending : Result (Unit {0}) Stop) → Performs asked told failed failed' out out' count count' ending → IsPartial asked told out out'
 prefix asked told failed failed' out out' count count' (Ok done) performs = whole_is_partial asked told out out' 0 [] performs.0
 prefix asked told failed failed' out out' count count' (Err (Refused refusal line)) performs = whole_is_partial asked told out out' (refusal_status refusal) line performs.0
 prefix asked told failed failed' out out' count count' (Err NoMemory) performs = performs
@@ -45,7 +46,7 @@ not_three refusals.Words e = cc
 not_three refusals.Network e = cc
 not_three refusals.Traces e = cc
 
-pub unread : (words : List (List ℕ)) (told : Option (List ℕ → Option (List ℕ))) (failed failed' : List (List ℕ)) (out out' : Option (List ℕ)) (count count' : ℕ) (err err' : Option (List ℕ)) (errs errs' : ℕ) (ending : Result (Unit {0}) Stop) (put : Put) → Performs (command_of words) told failed failed' out out' count count' ending → Puts err err' errs errs' (line_of ending) put → status_after ending put ≡ 3 → IsReadFault words told failed failed' out out' err err'
+pub unread : (words : List (List ℕ)) (told : Option (List ℕ → Option (List ℕ))) (failed failed' : List (List ℕ)) (out out' : Option (List ℕ)) (count count' : ℕ) (err err' : Option (List ℕ)) (errs errs' : ℕ) (ending : Result (Unit {0}) Stop) (put : Put) → Performs (command_or_line words) told failed failed' out out' count count' ending → Puts err err' errs errs' (line_of ending) put → status_after ending put ≡ 3 → IsReadFault words told failed failed' out out' err err'
 unread words told failed failed' out out' count count' err err' errs errs' (Ok done) puts.All performs said is = cc
 unread words told failed failed' out out' count count' err err' errs errs' (Err (Refused refusal line)) puts.All performs said is = absurd (not_three refusal is)
 unread words told failed failed' out out' count count' err err' errs errs' (Err NoMemory) puts.All performs said is = cc
@@ -68,7 +69,7 @@ unread words told failed failed' out out' count count' err err' errs errs' (Err 
 unread words told failed failed' out out' count count' err err' errs errs' (Err Unwritten) puts.NoMemory performs said is = cc
 
 -- the line of an early ending is a line
-line_is : (asked : Result Command (List ℕ)) (told : Option (List ℕ → Option (List ℕ))) (failed failed' : List (List ℕ)) (out out' : Option (List ℕ)) (count count' : ℕ) (ending : Result (Unit {0}) Stop) → Performs asked told failed failed' out out' count count' ending → (IsOk ending → ⊥) → IsLine (line_of ending)
+line_is : (asked : Result PlainCommand (List ℕ)) (told : Option (List ℕ → Option (List ℕ))) (failed failed' : List (List ℕ)) (out out' : Option (List ℕ)) (count count' : ℕ) (ending : Result (Unit {0}) Stop) → Performs asked told failed failed' out out' count count' ending → (IsOk ending → ⊥) → IsLine (line_of ending)
 line_is asked told failed failed' out out' count count' (Ok done) performs early = absurd (early refl)
 line_is asked told failed failed' out out' count count' (Err (Refused refusal line)) performs early = inl (refusal, performs.3)
 line_is asked told failed failed' out out' count count' (Err NoMemory) performs early = inr (inr (inl refl))
@@ -83,7 +84,7 @@ not_four refusals.Words e = cc
 not_four refusals.Network e = cc
 not_four refusals.Traces e = cc
 
-pub cut_line : (asked : Result Command (List ℕ)) (told : Option (List ℕ → Option (List ℕ))) (failed failed' : List (List ℕ)) (out out' : Option (List ℕ)) (count count' : ℕ) (err err' : Option (List ℕ)) (errs errs' : ℕ) (ending : Result (Unit {0}) Stop) (put : Put) → Performs asked told failed failed' out out' count count' ending → Puts err err' errs errs' (line_of ending) put → (IsOk ending → put ≡ puts.All) → status_after ending put ≡ 4 → SaysPartOfLine err err'
+pub cut_line : (asked : Result PlainCommand (List ℕ)) (told : Option (List ℕ → Option (List ℕ))) (failed failed' : List (List ℕ)) (out out' : Option (List ℕ)) (count count' : ℕ) (err err' : Option (List ℕ)) (errs errs' : ℕ) (ending : Result (Unit {0}) Stop) (put : Put) → Performs asked told failed failed' out out' count count' ending → Puts err err' errs errs' (line_of ending) put → (IsOk ending → put ≡ puts.All) → status_after ending put ≡ 4 → SaysPartOfLine err err'
 cut_line asked told failed failed' out out' count count' err err' errs errs' (Ok done) puts.All performs said quiet is = cc
 cut_line asked told failed failed' out out' count count' err err' errs errs' (Err (Refused refusal line)) puts.All performs said quiet is = absurd (not_four refusal is)
 cut_line asked told failed failed' out out' count count' err err' errs errs' (Err NoMemory) puts.All performs said quiet is = cc
@@ -98,7 +99,7 @@ cut_line asked told failed failed' out out' count count' err err' errs errs' (Er
 cut_line asked told failed failed' out out' count count' err err' errs errs' (Err (Unread f)) puts.NoMemory performs said quiet is = cc
 cut_line asked told failed failed' out out' count count' err err' errs errs' (Err Unwritten) puts.NoMemory performs said quiet is = (write_line, write_is_line, (0, said.0))
 
-whole_answers : (words : List (List ℕ)) (told : Option (List ℕ → Option (List ℕ))) (out out' : Option (List ℕ)) (status : ℕ) (line : List ℕ) → IsWhole (command_of words) told out out' status line → IsAnswered words told status
+whole_answers : (words : List (List ℕ)) (told : Option (List ℕ → Option (List ℕ))) (out out' : Option (List ℕ)) (status : ℕ) (line : List ℕ) → IsWhole (command_or_line words) told out out' status line → IsAnswered words told status
 whole_answers words None out out' status line whole = tt
 whole_answers words (Some files) out out' status line whole =
     subst (λ o. MatchOption o (status ≡ 1) (λ o. (status ≡ o.status) ⊎ (status ≡ 1))) (sym whole.1) (inl refl)
@@ -111,7 +112,7 @@ memory_answers : (words : List (List ℕ)) (told : Option (List ℕ → Option (
 memory_answers words None = tt
 memory_answers words (Some files) = memory_of 1 refl (outcome words files)
 
-pub complete : (words : List (List ℕ)) (told : Option (List ℕ → Option (List ℕ))) (failed failed' : List (List ℕ)) (out out' : Option (List ℕ)) (count count' : ℕ) (err err' : Option (List ℕ)) (errs errs' : ℕ) (ending : Result (Unit {0}) Stop) (put : Put) → Performs (command_of words) told failed failed' out out' count count' ending → Puts err err' errs errs' (line_of ending) put → IsFaultless words failed failed' count count' errs errs' → IsAnswered words told (status_after ending put)
+pub complete : (words : List (List ℕ)) (told : Option (List ℕ → Option (List ℕ))) (failed failed' : List (List ℕ)) (out out' : Option (List ℕ)) (count count' : ℕ) (err err' : Option (List ℕ)) (errs errs' : ℕ) (ending : Result (Unit {0}) Stop) (put : Put) → Performs (command_or_line words) told failed failed' out out' count count' ending → Puts err err' errs errs' (line_of ending) put → IsFaultless words failed failed' count count' errs errs' → IsAnswered words told (status_after ending put)
 complete words told failed failed' out out' count count' err err' errs errs' (Ok done) puts.All performs said faultless = whole_answers words told out out' 0 [] performs.0
 complete words told failed failed' out out' count count' err err' errs errs' (Err (Refused refusal line)) puts.All performs said faultless = whole_answers words told out out' (refusal_status refusal) line performs.0
 complete words told failed failed' out out' count count' err err' errs errs' (Err NoMemory) puts.All performs said faultless = memory_answers words told

@@ -1,8 +1,11 @@
 -- How a run ends, and the line and status of each ending.
-use Rattle.std.specs.Prelude.{◌≡◌, ◌≢◌, ◌⊎◌, ℕ, List, [], Result, Ok, Err}
+use Rattle.std.specs.Prelude.{◌≡◌, ◌≢◌, ℕ, List, [], Result, Ok, Err}
 use Rattle.edge_io.specs.declared.sink.Put.{Put}
 use Rattle.edge_io.specs.declared.sink.Put.TheVariants.{All, Failed, NoMemory as no_room}
-use Rattle.match_program.specs.Lines.{memory_line, usage_line, network_unread_line, traces_unread_line, write_line}
+use Rattle.command_line.specs.FaultLine.{fault_line as words_fault_line}
+use Rattle.command_line.specs.declared.fault.WordsFault.{WordsFault}
+use Rattle.command_line.specs.declared.fault.WordsFault.TheVariants as words_faults
+use Rattle.match_program.specs.Lines.{memory_line, network_unread_line, traces_unread_line, write_line}
 use Rattle.match_program.specs.declared.ending.File.{File}
 use Rattle.match_program.specs.declared.ending.File.TheVariants.{Network, Traces}
 use Rattle.match_program.specs.declared.files.ReadError.{ReadError}
@@ -14,7 +17,6 @@ use Rattle.road_network.specs.declared.fault.NetworkFault.TheVariants as network
 use Rattle.trace_reader.specs.Fault.{fault_line as trace_fault_line}
 use Rattle.trace_reader.specs.declared.fault.TraceFault.{TraceFault}
 use Rattle.trace_reader.specs.declared.fault.TraceFault.TheVariants as trace_faults
-use Rattle.match_program.specs.OnePoint.{long_line}
 use Rattle.match_program.specs.declared.ending.Refusal.{Refusal}
 use Rattle.match_program.specs.declared.ending.Refusal.TheVariants as refusals
 use Rattle.match_program.specs.declared.ending.Stop.{Stop}
@@ -31,9 +33,9 @@ refusal_status refusals.Traces = 6
 
 -- a line of this refusal
 abbrev pub IsRefusalLine : Refusal → List ℕ → Type 0
-IsRefusalLine refusals.Words line = line ≡ usage_line
+IsRefusalLine refusals.Words line = (fault : WordsFault) × (fault ≢ words_faults.Memory) × (line ≡ words_fault_line fault)
 IsRefusalLine refusals.Network line = (fault : NetworkFault) × (fault ≢ network_faults.Memory) × (line ≡ network_fault_line fault)
-IsRefusalLine refusals.Traces line = ((fault : TraceFault) × (fault ≢ trace_faults.Memory) × (line ≡ trace_fault_line fault)) ⊎ ((place : ℕ) × (line ≡ long_line place))
+IsRefusalLine refusals.Traces line = (fault : TraceFault) × (fault ≢ trace_faults.Memory) × (line ≡ trace_fault_line fault)
 
 abbrev pub stop_line : Stop → List ℕ
 stop_line (Refused refusal line) = line
@@ -71,6 +73,13 @@ IsRefusalOr refusal line (Refused r l) = (r ≡ refusal) × (l ≡ line)
 IsRefusalOr refusal line NoMemory = Unit {0}
 IsRefusalOr refusal line (Unread file) = ⊥
 IsRefusalOr refusal line Unwritten = ⊥
+
+-- the ending where the words have this fault, or memory ran out
+abbrev pub RefusesWords : WordsFault → Stop → Type 0
+RefusesWords fault (Refused refusal line) = (fault ≢ words_faults.Memory) × (refusal ≡ refusals.Words) × (line ≡ words_fault_line fault)
+RefusesWords fault NoMemory = Unit {0}
+RefusesWords fault (Unread file) = ⊥
+RefusesWords fault Unwritten = ⊥
 
 -- the ending where this file was not read
 abbrev pub unready : ReadError → File → Stop

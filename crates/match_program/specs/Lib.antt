@@ -1,9 +1,10 @@
+pub mod Asked
 pub mod Batches
 pub mod Ending
 pub mod Headline
 pub mod Lines
+pub mod MatcherInside
 pub mod Matches
-pub mod OnePoint
 pub mod Outcome
 pub mod Performs
 pub mod Read

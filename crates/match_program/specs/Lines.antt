@@ -5,9 +5,6 @@ use Rattle.decimal_text.specs.Number.{decimal}
 abbrev pub memory_line : List ℕ
 memory_line = codes "fmm: out of memory" ++ 10 ∷ []
 
-abbrev pub usage_line : List ℕ
-usage_line = codes "fmm: bad command line" ++ 10 ∷ []
-
 abbrev pub network_unread_line : List ℕ
 network_unread_line = codes "fmm: cannot read network" ++ 10 ∷ []
 

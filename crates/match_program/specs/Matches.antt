@@ -1,51 +1,56 @@
--- What the bytes of a trace file give on a network.
-use Rattle.std.specs.Prelude.{ℕ, suc, if◌then◌else◌, List, [], ◌∷◌, ◌++◌, length, count_by, Some, None}
+-- What the bytes of a trace file give, matched on a network.
+use Rattle.std.specs.Prelude.{ℕ, Bool, List, [], ◌++◌, length, count_by, Some, None}
 use Rattle.std.specs.declared.option.Option.{Option}
-use Rattle.std.specs.List.{flat_map, sum_by}
+use Rattle.std.specs.List.{flat_map, list_any, range_with_len, sum_by}
+use Rattle.cost_model.specs.declared.params.Params.{Params}
 use Rattle.road_network.specs.Net.{Net}
 use Rattle.trace_reader.specs.Reading.{file_traces, file_fault}
 use Rattle.trace_reader.specs.Fault.{fault_line}
 use Rattle.trace_reader.specs.declared.trace.Trace.{Trace}
 use Rattle.trace_reader.specs.declared.fault.TraceFault.{TraceFault}
+use Rattle.match_text.specs.MatchText.{text_of}
+use Rattle.match_pool.specs.Match.{asks, match_of}
 use Rattle.match_program.specs.Lines.{total_line}
-use Rattle.match_program.specs.OnePoint.{text_at, is_found, is_long, long_line}
 
 pub record Outcome : Type 0 where
   pub out : List ℕ
   pub err : List ℕ
   pub status : ℕ
 
+-- what traces are matched on: a network, and the options
+pub record Setting : Type 0 where
+  pub network : Net
+  pub params : Params
+
 -- the texts of traces, in their order
-abbrev pub texts_of : Net → List Trace → List ℕ
-texts_of net traces = flat_map (text_at net) traces
+abbrev pub texts_of : Setting → List Trace → List ℕ
+texts_of on traces = flat_map (λ trace. text_of (match_of on.network on.params trace)) traces
 
 abbrev pub points_of : List Trace → ℕ
 points_of traces = sum_by (λ trace. length trace.fixes) traces
 
-abbrev pub pieces_of : Net → List Trace → ℕ
-pieces_of net traces = count_by (is_found net) traces
+abbrev pub pieces_of : Setting → List Trace → ℕ
+pieces_of on traces = sum_by (λ trace. length (match_of on.network on.params trace).pieces) traces
 
-abbrev pub total_of : Net → List Trace → List ℕ
-total_of net traces = total_line (length traces) (points_of traces) (pieces_of net traces) 0
+-- whether one of these traces asks for the row of node v
+abbrev pub is_asked_by : Setting → List Trace → ℕ → Bool
+is_asked_by on traces v = list_any (λ trace. asks on.network on.params trace v) traces
 
--- how many traces stand before the first that has more than one point
-abbrev pub short_count : List Trace → ℕ
-short_count [] = 0
-short_count (trace ∷ traces) = if is_long trace then 0 else suc (short_count traces)
+-- how many nodes of the network the traces ask for, each once
+abbrev pub rows_of : Setting → List Trace → ℕ
+rows_of on traces = count_by (is_asked_by on traces) (range_with_len 0 (length on.network.nodes))
+
+abbrev pub total_of : Setting → List Trace → List ℕ
+total_of on traces = total_line (length traces) (points_of traces) (pieces_of on traces) (rows_of on traces)
 
 abbrev pub refused_after : List ℕ → List ℕ → Outcome
 refused_after text line = record { out = text; err = line; status = 6 }
 
--- all these traces were matched
-abbrev pub matched_all : Net → List Trace → Option TraceFault → Outcome
-matched_all net traces (Some fault) = refused_after (texts_of net traces) (fault_line fault)
-matched_all net traces None = record { out = texts_of net traces ++ total_of net traces; err = []; status = 0 }
-
--- these traces were matched, and those are left; the first that has more than one point is refused
-abbrev pub matches_from : Net → Option TraceFault → List Trace → List Trace → Outcome
-matches_from net fault matched [] = matched_all net matched fault
-matches_from net fault matched (trace ∷ left) = if is_long trace then refused_after (texts_of net matched) (long_line (length matched)) else matches_from net fault (matched ++ trace ∷ []) left
+-- what these traces give, with this fault behind them or none
+abbrev pub matched_all : Setting → List Trace → Option TraceFault → Outcome
+matched_all on traces (Some fault) = refused_after (texts_of on traces) (fault_line fault)
+matched_all on traces None = record { out = texts_of on traces ++ total_of on traces; err = []; status = 0 }
 
 -- what a trace file of these bytes gives
-abbrev pub matches_of : Net → List ℕ → Outcome
-matches_of net bytes = matches_from net (file_fault bytes) [] (file_traces bytes)
+abbrev pub matches_of : Setting → List ℕ → Outcome
+matches_of on bytes = matched_all on (file_traces bytes) (file_fault bytes)

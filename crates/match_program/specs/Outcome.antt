@@ -1,35 +1,21 @@
 -- What the words and the files define: the text for out, the text for err and the status.
-use Rattle.std.specs.Prelude.{ℕ, ◌+◌, Bool, false, ◌&&◌, not, ◌==◌, if◌then◌else◌, List, [], ◌∷◌, take, codes, Some, None, Ok, Err, option_map}
+use Rattle.std.specs.Prelude.{ℕ, ◌+◌, List, [], take, Some, None, Ok, Err, option_map}
 use Rattle.std.specs.declared.option.Option.{Option}
 use Rattle.std.specs.declared.result.Result.{Result}
-use Rattle.std.specs.Str.{bytes_eq}
-use Rattle.match_program.specs.Lines.{usage_line}
+use Rattle.command_line.specs.Words.{PlainCommand, match_files, command_or_line}
 use Rattle.road_network.specs.Net.{Net}
 use Rattle.road_network.specs.NetworkFile.{network_of}
 use Rattle.road_network.specs.FaultLine.{fault_line}
 use Rattle.road_network.specs.declared.fault.NetworkFault.{NetworkFault}
-use Rattle.match_program.specs.Matches.{Outcome, matches_of}
+use Rattle.match_program.specs.Matches.{Outcome, Setting, matches_of}
 use Rattle.match_program.specs.declared.ending.File.{File}
 use Rattle.match_program.specs.declared.ending.File.TheVariants.{Network, Traces}
 
--- what the accepted words ask for
-pub data Command : Type 0 where
-  match_files : (network traces : List ℕ) → Command
-
-abbrev pub begins_with_dash : List ℕ → Bool
-begins_with_dash [] = false
-begins_with_dash (c ∷ cs) = c == 45
-
--- the command that the words spell, or the line of their refusal
-abbrev pub command_of : List (List ℕ) → Result Command (List ℕ)
-command_of (word ∷ network ∷ traces ∷ []) = if bytes_eq word (codes "match") && (not (begins_with_dash network) && not (begins_with_dash traces)) then Ok (match_files network traces) else Err usage_line
-command_of words = Err usage_line
-
 -- the name that accepted words give for a file
-abbrev pub name_of : Result Command (List ℕ) → File → Option (List ℕ)
+abbrev pub name_of : Result PlainCommand (List ℕ) → File → Option (List ℕ)
 name_of (Err line) file = None
-name_of (Ok (match_files network traces)) Network = Some network
-name_of (Ok (match_files network traces)) Traces = Some traces
+name_of (Ok (match_files network traces params)) Network = Some network
+name_of (Ok (match_files network traces params)) Traces = Some traces
 
 -- the bytes that are read of a file: to its end, or to the first byte above the limit
 abbrev pub seen : ℕ → Option (List ℕ) → Option (List ℕ)
@@ -50,9 +36,9 @@ said (Err fault) = Err (fault_line fault)
 abbrev pub network_stage : (List ℕ → Option (List ℕ)) → List ℕ → Option (Result Net (List ℕ))
 network_stage files name = option_map (λ bytes. said (network_of bytes)) (seen network_limit (files name))
 
--- what the traces of a file give on a network
-abbrev pub matches_stage : Net → (List ℕ → Option (List ℕ)) → List ℕ → Option Outcome
-matches_stage net files name = option_map (matches_of net) (seen trace_limit (files name))
+-- what the traces of a file give, matched so
+abbrev pub matches_stage : Setting → (List ℕ → Option (List ℕ)) → List ℕ → Option Outcome
+matches_stage on files name = option_map (matches_of on) (seen trace_limit (files name))
 
 -- a file that is not held gives no outcome, a fault the status and line of a refusal, and a content goes on
 abbrev pub after_stage : {A : Type 0} → ℕ → Option (Result A (List ℕ)) → (A → Option Outcome) → Option Outcome
@@ -61,12 +47,12 @@ after_stage status (Some (Err line)) next = Some (record { out = []; err = line;
 after_stage status (Some (Ok value)) next = next value
 
 -- the outcome of accepted words, or of refused ones
-abbrev pub outcome_of : Result Command (List ℕ) → (List ℕ → Option (List ℕ)) → Option Outcome
+abbrev pub outcome_of : Result PlainCommand (List ℕ) → (List ℕ → Option (List ℕ)) → Option Outcome
 outcome_of (Err line) files = Some (record { out = []; err = line; status = 2 })
-outcome_of (Ok (match_files network traces)) files = after_stage 5 (network_stage files network) (λ net. matches_stage net files traces)
+outcome_of (Ok (match_files network traces params)) files = after_stage 5 (network_stage files network) (λ net. matches_stage (record { network = net; params = params }) files traces)
 
 abbrev pub outcome : List (List ℕ) → (List ℕ → Option (List ℕ)) → Option Outcome
-outcome words files = outcome_of (command_of words) files
+outcome words files = outcome_of (command_or_line words) files
 
 -- its text for out; none where there is no outcome
 abbrev pub out_text : Option Outcome → List ℕ
@@ -80,7 +66,7 @@ IsAccepted (Some (Err line)) = ⊥
 IsAccepted (Some (Ok value)) = Unit {0}
 
 -- each file before this one is accepted
-abbrev pub AreAcceptedBefore : Result Command (List ℕ) → (List ℕ → Option (List ℕ)) → File → Type 0
+abbrev pub AreAcceptedBefore : Result PlainCommand (List ℕ) → (List ℕ → Option (List ℕ)) → File → Type 0
 AreAcceptedBefore (Err line) files file = ⊥
-AreAcceptedBefore (Ok (match_files network traces)) files Network = Unit {0}
-AreAcceptedBefore (Ok (match_files network traces)) files Traces = IsAccepted (network_stage files network)
+AreAcceptedBefore (Ok (match_files network traces params)) files Network = Unit {0}
+AreAcceptedBefore (Ok (match_files network traces params)) files Traces = IsAccepted (network_stage files network)

@@ -3,7 +3,8 @@ use Rattle.std.specs.Prelude.{◌≡◌, ℕ, List, [], ◌∷◌, ◌++◌, Res
 use Rattle.std.specs.declared.option.Option.{Option}
 use Rattle.std.specs.Io.KnownBytes.{Appends}
 use Rattle.edge_io.specs.Sink.{AppendsPrefix, Rose}
-use Rattle.match_program.specs.Outcome.{Command, name_of, outcome_of, out_text, AreAcceptedBefore}
+use Rattle.command_line.specs.Words.{PlainCommand}
+use Rattle.match_program.specs.Outcome.{name_of, outcome_of, out_text, AreAcceptedBefore}
 use Rattle.match_program.specs.Ending.{IsRefusalLine, refusal_status}
 use Rattle.match_program.specs.Matches.{Outcome}
 use Rattle.match_program.specs.declared.ending.File.{File}
@@ -14,15 +15,15 @@ use Rattle.match_program.specs.declared.ending.Stop.{Stop}
 use Rattle.match_program.specs.declared.ending.Stop.TheVariants.{Refused, NoMemory, Unread, Unwritten}
 
 -- out has gained the whole text of the outcome, whose status and line are these
-abbrev pub IsWhole : Result Command (List ℕ) → Option (List ℕ → Option (List ℕ)) → Option (List ℕ) → Option (List ℕ) → ℕ → List ℕ → Type 0
+abbrev pub IsWhole : Result PlainCommand (List ℕ) → Option (List ℕ → Option (List ℕ)) → Option (List ℕ) → Option (List ℕ) → ℕ → List ℕ → Type 0
 IsWhole command told out out' status line = IfSome told (λ files. (text : List ℕ) × (outcome_of command files ≡ Some (record { out = text; err = line; status = status })) × Appends out out' text)
 
 -- out has gained a prefix of the outcome's text
-abbrev pub IsPartial : Result Command (List ℕ) → Option (List ℕ → Option (List ℕ)) → Option (List ℕ) → Option (List ℕ) → Type 0
+abbrev pub IsPartial : Result PlainCommand (List ℕ) → Option (List ℕ → Option (List ℕ)) → Option (List ℕ) → Option (List ℕ) → Type 0
 IsPartial command told out out' = IfSome told (λ files. AppendsPrefix out out' (out_text (outcome_of command files)))
 
 -- a read of this file failed, and was noted
-pub record IsUnread (command : Result Command (List ℕ)) (told : Option (List ℕ → Option (List ℕ))) (failed failed' : List (List ℕ)) (out out' : Option (List ℕ)) (file : File) : Type 0 where
+pub record IsUnread (command : Result PlainCommand (List ℕ)) (told : Option (List ℕ → Option (List ℕ))) (failed failed' : List (List ℕ)) (out out' : Option (List ℕ)) (file : File) : Type 0 where
   pub name : List ℕ
   pub named : name_of command file ≡ Some name
   pub noted : failed' ≡ failed ++ name ∷ []
@@ -30,12 +31,12 @@ pub record IsUnread (command : Result Command (List ℕ)) (told : Option (List �
   pub before : IfSome told (λ files. AreAcceptedBefore command files file)
 
 -- the words are accepted
-abbrev pub IsAsked : Result Command (List ℕ) → Type 0
+abbrev pub IsAsked : Result PlainCommand (List ℕ) → Type 0
 IsAsked (Err line) = ⊥
 IsAsked (Ok command) = Unit {0}
 
 -- refused words are refused as such, and others are not
-abbrev pub IsRefusalOf : Result Command (List ℕ) → Refusal → Type 0
+abbrev pub IsRefusalOf : Result PlainCommand (List ℕ) → Refusal → Type 0
 IsRefusalOf (Err line) refusals.Words = Unit {0}
 IsRefusalOf (Err line) refusals.Network = ⊥
 IsRefusalOf (Err line) refusals.Traces = ⊥
@@ -44,7 +45,7 @@ IsRefusalOf (Ok command) refusals.Network = Unit {0}
 IsRefusalOf (Ok command) refusals.Traces = Unit {0}
 
 -- what stands after the work, by its ending
-abbrev pub Performs : Result Command (List ℕ) → Option (List ℕ → Option (List ℕ)) → List (List ℕ) → List (List ℕ) → Option (List ℕ) → Option (List ℕ) → ℕ → ℕ → Result (Unit {0}) Stop → Type 0
+abbrev pub Performs : Result PlainCommand (List ℕ) → Option (List ℕ → Option (List ℕ)) → List (List ℕ) → List (List ℕ) → Option (List ℕ) → Option (List ℕ) → ℕ → ℕ → Result (Unit {0}) Stop → Type 0
 Performs command told failed failed' out out' count count' (Ok done) = IsWhole command told out out' 0 [] × (failed' ≡ failed) × (count' ≡ count) × IsAsked command
 Performs command told failed failed' out out' count count' (Err (Refused refusal line)) = IsWhole command told out out' (refusal_status refusal) line × (failed' ≡ failed) × (count' ≡ count) × IsRefusalLine refusal line × IsRefusalOf command refusal
 Performs command told failed failed' out out' count count' (Err NoMemory) = IsPartial command told out out'

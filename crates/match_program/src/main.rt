@@ -3,10 +3,11 @@
 //! `run` is the whole program over a shelf of files and two sinks, and carries the promise: what it writes
 //! is a function of the words and the files. `main` hands it the real files and streams.
 //!
-//! - `words` reads the command line, `stages` the network, `stream` the trace file piece by piece.
-//! - `batches` holds the traces that wait, and matches and writes them 256 at a time.
-//! - `matcher` finds the nearest edge of a point by the grid, and `one_point` matches a trace of one point.
-//!   Longer traces are not matched yet.
+//! - The crate `command_line` reads the words, `stages` loads the network, and `stream` reads the trace file
+//!   piece by piece.
+//! - `batches` holds the traces that wait, and matches and writes them 256 at a time, by `texts`.
+//! - `matcher` has the network, the grid of its edges and the options, and matches a trace by the crate
+//!   `match_pool`.
 //! - `ending` has why the work ended early, and what is then said on err.
 //!
 //! Read the clause `outcome` of `run` first, and then `specs/Outcome.antt` and `specs/Matches.antt`.
@@ -16,12 +17,11 @@ mod batches;
 mod ending;
 mod files;
 mod matcher;
-mod one_point;
 mod run;
 mod stages;
 mod stream;
 mod tally;
-mod words;
+mod texts;
 mod words_out;
 
 use edge_io::{FileShelf, StreamSink};

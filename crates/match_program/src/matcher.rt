@@ -1,55 +1,86 @@
-// A network with the grid of its edges, by which the nearest edge of a point is found.
-ghost use Rattle.std.specs.Prelude.{◌≡◌, IfSome, IfOk};
-ghost use Rattle.polyline_geometry.specs.Plane.{InRange};
-ghost use Rattle.match_program.specs.OnePoint.{IsOne, best_at};
+// What traces are matched on: a network with the grid of its edges, and the options.
+ghost use Rattle.std.specs.Prelude.{◌≡◌, ◌≤◌, ◌∷◌, [], length, IfOk, OnOk};
+ghost use Rattle.cost_model.specs.Options.{IsAccepted};
+ghost use Rattle.match_pool.specs.Match.{match_of};
+ghost use Rattle.match_text.specs.MatchText.{IsLawful};
+ghost use Rattle.trace_reader.specs.Trace.{IsLawfulTrace};
+ghost use Rattle.match_program.specs.Asked.{AreRowsOf, LearnsAsked};
 
-use candidate_search::candidates;
+use bounded_search::OwnRows;
 use cost_model::Params;
 use grid_index::Grid;
-use polyline_geometry::Point;
-use road_network::{Candidate, Network};
+use match_pool::match_one;
+use match_text::MatchedTrace;
+use road_network::Network;
 use std::alloc::{AllocError, Global};
+use std::marker::Model;
+use trace_reader::Trace;
 
-// The options of every run.
-const OPTIONS: Params = Params {
-    k: 8,
-    radius: 10_000,
-    sigma: 1_000,
-    beta: 1_000,
-    bound: 300_000,
-    workers: 4,
-    back: 0,
-    gap: u32::MAX,
-};
+// The least side of a cell of the grid, in cm.
+const LEAST_SIDE: u32 = 10_000;
 
-// The side of a cell of the grid, in cm: the radius, and no less than 100 m.
-const SIDE: u32 = 10_000;
-
-/// What traces are matched to: a network, and the grid of its edges.
+/// A network with the grid of its edges, and the options that traces are matched by.
 #[derive(Drop)]
 pub struct Matcher<'n> {
-    pub network: &'n Network,
+    network: &'n Network,
     grid: Grid<'n>,
-    ghost grid_of: { grid.net ≡ network.now },
-    ghost side: { grid.side ≡ 10_000 },
+    params: Params,
+}
+
+impl<'n> Model for Matcher<'n> {
+    ghost use Rattle.match_program.specs.Matches.{Setting};
+
+    ghost Value = { Setting };
+
+    ghost use Rattle.match_program.specs.MatcherInside.{setting_of, IsLaidOut};
+
+    ghost view = { setting_of };
+
+    ghost invariant = { IsLaidOut };
 }
 
 impl<'n> Matcher<'n> {
     /// Lays out the grid of a network.
-    pub fn open(alloc: Global, network: &'n Network) -> Result<Matcher<'n>, AllocError>
-        ensures { IfOk result (λ matcher. matcher.network.now ≡ network.now) }
+    pub fn open(
+        alloc: Global,
+        network: &'n Network,
+        params: Params,
+    ) -> Result<Matcher<'n>, AllocError>
+        requires { IsAccepted params }
+        ensures { IfOk result (λ matcher. matcher ≡ record { network = network.now; params = params }) }
     {
-        let grid = Grid::build(alloc, network, SIDE)?;
-        Ok(Matcher { network, grid })
+        let grid = Grid::build(alloc, network, params.radius.max(LEAST_SIDE))?;
+        Ok(Matcher {
+            network,
+            grid,
+            params,
+        })
     }
 
-    /// The nearest edge within the radius, of several as near the first in the file.
-    pub fn best(&self, alloc: Global, place: Point) -> Result<Option<Candidate>, AllocError>
-        requires { InRange place }
-        ensures value { IfOk result (λ best. best ≡ best_at self.now.network.now place) }
-        ensures one { IfOk result (λ best. IfSome best (IsOne self.now.network.now)) }
+    /// Rows of the network within the bound of the options. No node is known.
+    pub fn rows(&self, alloc: Global) -> Result<OwnRows<'n>, AllocError>
+        ensures network { IfOk result (AreRowsOf self.now) }
+        ensures known { IfOk result (λ rows. rows.known ≡ []) }
     {
-        let found = candidates(alloc, self.network, &self.grid, &OPTIONS, place)?;
-        Ok(found.get(0).copied())
+        OwnRows::open(alloc, self.network, self.params.bound)
+    }
+
+    /// The match of a trace.
+    pub fn match_trace(
+        &self,
+        alloc: Global,
+        rows: &mut OwnRows<'n>,
+        trace: &Trace,
+    ) -> Result<MatchedTrace, AllocError>
+        requires rows { AreRowsOf self.now rows.old }
+        requires trace { IsLawfulTrace trace.now }
+        ensures value { IfOk result (λ matched. matched ≡ match_of self.now.network self.now.params trace.now) }
+        ensures lawful { IfOk result IsLawful }
+        ensures few { IfOk result (λ matched. length matched.pieces ≤ length trace.now.fixes) }
+        ensures rows { AreRowsOf self.now rows.new }
+        ensures learns { OnOk result (LearnsAsked self.now (trace.now ∷ []) rows.old.known rows.new.known) }
+    {
+        let answer = match_one(alloc, self.network, &self.grid, &self.params, rows, trace)?;
+        Ok(answer.matched)
     }
 }

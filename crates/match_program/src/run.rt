@@ -1,16 +1,18 @@
 // The top call: the work of the words, what is said on err, and the status.
 ghost use Rattle.std.specs.Prelude.{◌≡◌, ◌⊎◌, IsErr, Ok, map, string_bytes};
 ghost use Rattle.edge_io.specs.Sink.{Rose};
+ghost use Rattle.command_line.specs.Words.{command_or_line, match_files};
+ghost use Rattle.cost_model.specs.Options.{IsAccepted};
 ghost use Rattle.match_program.specs.Headline.{IsAnswered, IsFaultless, IsOutcome, IsPrefixOfOutcome, IsReadFault, IsSettled, SaysAtMost, SaysPartOfLine};
 ghost use Rattle.match_program.specs.Lines.{memory_line, write_line};
-ghost use Rattle.match_program.specs.Outcome.{command_of, match_files};
 ghost use Rattle.match_program.specs.Performs.{Performs};
 
-use crate::ending::{Refusal, Stop, say, status_after};
+use crate::ending::{Stop, say, status_after};
 use crate::matcher::Matcher;
-use crate::stages::{load_network, refused};
+use crate::stages::{load_network, refuse_words};
 use crate::stream::match_file;
-use crate::words::read_words;
+use command_line::{Command, read_command};
+use cost_model::Params;
 use edge_io::{Shelf, Sink};
 use std::alloc::Global;
 use std::thread::Threads;
@@ -20,13 +22,15 @@ fn match_traces<S: Shelf, K: Sink>(
     alloc: Global,
     network: &str,
     traces: &str,
+    params: Params,
     shelf: &mut S,
     out: &mut K,
 ) -> Result<(), Stop>
-    ensures { Performs (Ok (match_files network.now traces.now)) (S.holds shelf.old) (S.failed shelf.old) (S.failed shelf.new) (K.written out.old) (K.written out.new) (K.faults out.old) (K.faults out.new) result }
+    requires { IsAccepted params }
+    ensures { Performs (Ok (match_files network.now traces.now params)) (S.holds shelf.old) (S.failed shelf.old) (S.failed shelf.new) (K.written out.old) (K.written out.new) (K.faults out.old) (K.faults out.new) result }
 {
     let roads = load_network(alloc, shelf, network)?;
-    let Ok(matcher) = Matcher::open(alloc, &roads) else {
+    let Ok(matcher) = Matcher::open(alloc, &roads, params) else {
         return Err(Stop::NoMemory);
     };
     match_file(alloc, &matcher, shelf, traces, out)
@@ -39,12 +43,18 @@ fn perform<S: Shelf, K: Sink>(
     shelf: &mut S,
     out: &mut K,
 ) -> Result<(), Stop>
-    ensures { Performs (command_of (map string_bytes words.now)) (S.holds shelf.old) (S.failed shelf.old) (S.failed shelf.new) (K.written out.old) (K.written out.new) (K.faults out.old) (K.faults out.new) result }
+    ensures { Performs (command_or_line (map string_bytes words.now)) (S.holds shelf.old) (S.failed shelf.old) (S.failed shelf.new) (K.written out.old) (K.written out.new) (K.faults out.old) (K.faults out.new) result }
 {
-    match read_words(words) {
-        None => Err(refused(alloc, Refusal::Words, b"fmm: bad command line\n")),
-        Some(job) => match_traces(alloc, job.network, job.traces, shelf, out),
-    }
+    let command = match read_command(alloc, words) {
+        Ok(command) => command,
+        Err(fault) => return Err(refuse_words(alloc, fault)),
+    };
+    let Command::Match {
+        network,
+        traces,
+        params,
+    } = command;
+    match_traces(alloc, network, traces, params, shelf, out)
 }
 
 /// Runs the command that the words spell, and says on err why it ended early. The status says how it
@@ -70,8 +80,8 @@ pub fn run<R: Threads, S: Shelf, K: Sink, E: Sink>(
     ensures cut_line { result ≡ 4 → SaysPartOfLine (E.written err.old) (E.written err.new) }
 
     // Refused words are refused as such, whatever the shelf tells.
-    ensures words { result ≡ 2 → IsErr (command_of (map string_bytes words.now)) }
-    ensures refused_words { IsErr (command_of (map string_bytes words.now)) → (result ≡ 2) ⊎ (result ≡ 1) ⊎ (result ≡ 4) }
+    ensures words { result ≡ 2 → IsErr (command_or_line (map string_bytes words.now)) }
+    ensures refused_words { IsErr (command_or_line (map string_bytes words.now)) → (result ≡ 2) ⊎ (result ≡ 1) ⊎ (result ≡ 4) }
 
     // Any other status comes only where no read or put failed.
     ensures quiet_shelf { IsSettled result → S.failed shelf.new ≡ S.failed shelf.old }

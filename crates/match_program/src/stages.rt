@@ -1,12 +1,13 @@
 // The stages of a command: each loads a file and accepts or refuses it, or puts a text on out.
 ghost use Rattle.std.specs.Prelude.{◌≡◌, ◌≢◌, IfOk, IfErr, OnOk, Ok};
-ghost use Rattle.match_program.specs.Ending.{IsRefusalOr, RefusesBytes, RefusesNetwork, RefusesTraces, unready};
+ghost use Rattle.match_program.specs.Ending.{IsRefusalOr, RefusesBytes, RefusesNetwork, RefusesTraces, RefusesWords, unready};
 ghost use Rattle.road_network.specs.NetworkFile.{network_of};
 ghost use Rattle.match_program.specs.Outcome.{network_stage};
 ghost use Rattle.match_program.specs.Performs.{FailsToLoad, IsStage, PutsText};
 
 use crate::ending::{File, Refusal, Stop};
 use crate::files::{ReadError, read_file};
+use command_line::WordsFault;
 use edge_io::{Put, Shelf, Sink};
 use polyline_geometry::List;
 use road_network::{Network, NetworkFault, read_network};
@@ -15,8 +16,8 @@ use trace_reader::TraceFault;
 
 const NETWORK_LIMIT: u64 = 134_217_728;
 
-/// The end of the work at a refusal with this line.
-pub fn refused(alloc: Global, refusal: Refusal, line: &[u8]) -> Stop
+// The end of the work at a refusal with this line.
+fn refused(alloc: Global, refusal: Refusal, line: &[u8]) -> Stop
     ensures { IsRefusalOr refusal line.now result }
 {
     let mut copy = List::new(alloc);
@@ -24,6 +25,16 @@ pub fn refused(alloc: Global, refusal: Refusal, line: &[u8]) -> Stop
         Ok(()) => Stop::Refused(refusal, copy),
         Err(_) => Stop::NoMemory,
     }
+}
+
+/// The end of the work at a fault of the words.
+pub fn refuse_words(alloc: Global, fault: WordsFault) -> Stop
+    ensures { RefusesWords fault result }
+{
+    if let WordsFault::Memory = fault {
+        return Stop::NoMemory;
+    }
+    refused(alloc, Refusal::Words, fault.line().as_bytes())
 }
 
 fn not_read(error: ReadError, file: File) -> Stop

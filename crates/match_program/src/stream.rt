@@ -14,16 +14,16 @@ const TRACE_LIMIT: u64 = 1_099_511_627_776;
 const PIECE: u64 = 65_536;
 
 // Reads a file to its end, to the first byte above the limit or to its first fault.
-fn take_file<S: Shelf, K: Sink>(
+fn take_file<'n, S: Shelf, K: Sink>(
     alloc: Global,
-    matcher: &Matcher,
+    matcher: &Matcher<'n>,
     shelf: &mut S,
     name: &str,
-    batches: &mut Batches,
+    batches: &mut Batches<'n>,
     out: &mut K,
 ) -> Result<(), Stop>
-    requires { IsBetween matcher.now.network.now (K.written out.old) (K.written out.old) [] batches.old }
-    ensures { TakesFile matcher.now.network.now (S.holds shelf.old) name.now (S.failed shelf.old) (S.failed shelf.new) (K.written out.old) (K.written out.new) (K.faults out.old) (K.faults out.new) batches.new result }
+    requires { IsBetween matcher.now (K.written out.old) (K.written out.old) [] batches.old }
+    ensures { TakesFile matcher.now (S.holds shelf.old) name.now (S.failed shelf.old) (S.failed shelf.new) (K.written out.old) (K.written out.new) (K.faults out.old) (K.faults out.new) batches.new result }
 {
     let mut piece = Vec::new(alloc);
     let mut at: u64 = 0;
@@ -52,9 +52,11 @@ pub fn match_file<S: Shelf, K: Sink>(
     name: &str,
     out: &mut K,
 ) -> Result<(), Stop>
-    ensures { MatchesTraces matcher.now.network.now (S.holds shelf.old) name.now (S.failed shelf.old) (S.failed shelf.new) (K.written out.old) (K.written out.new) (K.faults out.old) (K.faults out.new) result }
+    ensures { MatchesTraces matcher.now (S.holds shelf.old) name.now (S.failed shelf.old) (S.failed shelf.new) (K.written out.old) (K.written out.new) (K.faults out.old) (K.faults out.new) result }
 {
-    let mut batches = Batches::new(alloc);
+    let Ok(mut batches) = Batches::open(alloc, matcher) else {
+        return Err(Stop::NoMemory);
+    };
     take_file(alloc, matcher, shelf, name, &mut batches, out)?;
     batches.finish(alloc, matcher, out)
 }

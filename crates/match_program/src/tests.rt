@@ -8,12 +8,23 @@ use std::alloc::{AllocError, Global};
 use std::test::Fail;
 use std::thread::Threads;
 
-const NETWORK_A: &[u8] = b"edge,from,to,line\n10,1,2,0 0;10000 0\n11,2,3,10000 0;20000 0\n";
+const STRAIGHT: &[u8] = b"edge,from,to,line\n10,1,2,0 0;10000 0\n11,2,3,10000 0;20000 0\n";
 
-const AT_RADIUS: &[u8] = b"trace,x,y\n1,5000,10000\n";
+// Two ways of one length lead from node 2 to node 5.
+const FORKED: &[u8] =
+    b"edge,from,to,line\n1,1,2,0 0;1000 0\n2,2,3,1000 0;2000 1000\n3,2,4,1000 0;2000 -1000\n4,4,5,2000 -1000;3000 0\n5,3,5,2000 1000;3000 0\n6,5,6,3000 0;4000 0\n";
 
-const AT_RADIUS_TEXT: &[u8] =
-    b"trace 1\nat 0 edge 10 offset 5000 d2 100000000\npiece 0 0 cost 50000 route 10\nend 1\ntotal traces 1 points 1 pieces 1 rows 0\n";
+const TWO_WAYS: &[u8] = b"trace,x,y\n1,500,0\n1,3500,0\n";
+
+// Two roads side by side.
+const PARALLEL: &[u8] = b"edge,from,to,line\n1,1,2,0 0;10000 0\n2,3,4,0 400;10000 400\n";
+
+const TWO_ROADS: &[u8] = b"trace,x,y\n1,1000,100\n1,2000,300\n";
+
+const TWO_POINTS: &[u8] = b"trace,x,y\n7,1000,300\n7,9000,-300\n";
+
+const TWO_POINTS_TEXT: &[u8] =
+    b"trace 7\nat 0 edge 10 offset 1000 d2 90000\nat 1 edge 10 offset 9000 d2 90000\npiece 0 1 cost 112 route 10\nend 7\ntotal traces 1 points 2 pieces 1 rows 2\n";
 
 fn bytes(alloc: Global, text: &[u8]) -> Result<List<u8>, AllocError> {
     let mut list = List::new(alloc);
@@ -61,41 +72,115 @@ struct Case {
 
 const MATCH: &[&str] = &["match", "net", "tra"];
 
-const CASES: [Case; 15] = [
+const MATCHED: Case = Case {
+    shows: "two points, and each node that was asked for",
+    words: MATCH,
+    network: STRAIGHT,
+    traces: TWO_POINTS,
+    fail: [&[], &[], &[]],
+    status: 0,
+    out: TWO_POINTS_TEXT,
+    err: b"",
+};
+
+const FAULTY: Case = Case {
+    shows: "traces before a fault are written",
+    words: MATCH,
+    network: STRAIGHT,
+    traces: b"trace,x,y\n1,1000,0\n2,1000,0\n7,2000,0\n7,12x,0\n",
+    fail: [&[], &[], &[]],
+    status: 6,
+    out: b"trace 1\nat 0 edge 10 offset 1000 d2 0\npiece 0 0 cost 0 route 10\nend 1\ntrace 2\nat 0 edge 10 offset 1000 d2 0\npiece 0 0 cost 0 route 10\nend 2\n",
+    err: b"traces line 5 field 2: bad number\n",
+};
+
+const CASES: [Case; 19] = [
+    MATCHED,
+    FAULTY,
     Case {
-        shows: "a point at the radius",
+        shows: "a node that two traces ask for counts once",
         words: MATCH,
-        network: NETWORK_A,
-        traces: AT_RADIUS,
+        network: STRAIGHT,
+        traces: b"trace,x,y\n7,1000,300\n7,9000,-300\n8,1000,0\n8,2000,0\n",
         fail: [&[], &[], &[]],
         status: 0,
-        out: AT_RADIUS_TEXT,
+        out: b"trace 7\nat 0 edge 10 offset 1000 d2 90000\nat 1 edge 10 offset 9000 d2 90000\npiece 0 1 cost 112 route 10\nend 7\ntrace 8\nat 0 edge 10 offset 1000 d2 0\nat 1 edge 10 offset 2000 d2 0\npiece 0 1 cost 0 route 10\nend 8\ntotal traces 2 points 4 pieces 2 rows 2\n",
         err: b"",
     },
     Case {
-        shows: "a point beyond the radius",
+        shows: "a later point decides an earlier one",
         words: MATCH,
-        network: NETWORK_A,
-        traces: b"trace,x,y\n1,5000,10001\n",
+        network: PARALLEL,
+        traces: TWO_ROADS,
         fail: [&[], &[], &[]],
         status: 0,
-        out: b"trace 1\nnone 0\nend 1\ntotal traces 1 points 1 pieces 0 rows 0\n",
+        out: b"trace 1\nat 0 edge 2 offset 1000 d2 90000\nat 1 edge 2 offset 2000 d2 10000\npiece 0 1 cost 69 route 2\nend 1\ntotal traces 1 points 2 pieces 1 rows 2\n",
         err: b"",
     },
     Case {
-        shows: "no edges",
-        words: MATCH,
-        network: b"edge,from,to,line\n",
-        traces: b"trace,x,y\n1,0,0\n",
+        shows: "one candidate for each point",
+        words: &["match", "net", "tra", "--k", "1"],
+        network: PARALLEL,
+        traces: TWO_ROADS,
         fail: [&[], &[], &[]],
         status: 0,
-        out: b"trace 1\nnone 0\nend 1\ntotal traces 1 points 1 pieces 0 rows 0\n",
+        out: b"trace 1\nat 0 edge 1 offset 1000 d2 10000\npiece 0 0 cost 5 route 1\nat 1 edge 2 offset 2000 d2 10000\npiece 1 1 cost 5 route 2\nend 1\ntotal traces 1 points 2 pieces 2 rows 1\n",
+        err: b"",
+    },
+    Case {
+        shows: "a walk as long as the bound",
+        words: &["match", "net", "tra", "--k", "1", "--bound", "2828"],
+        network: FORKED,
+        traces: TWO_WAYS,
+        fail: [&[], &[], &[]],
+        status: 0,
+        out: b"trace 1\nat 0 edge 1 offset 500 d2 0\nat 1 edge 6 offset 500 d2 0\npiece 0 1 cost 828 route 1 3 4 6\nend 1\ntotal traces 1 points 2 pieces 1 rows 1\n",
+        err: b"",
+    },
+    Case {
+        shows: "a walk above the bound",
+        words: &["match", "--bound", "2827", "net", "tra", "--k=1"],
+        network: FORKED,
+        traces: TWO_WAYS,
+        fail: [&[], &[], &[]],
+        status: 0,
+        out: b"trace 1\nat 0 edge 1 offset 500 d2 0\npiece 0 0 cost 0 route 1\nat 1 edge 6 offset 500 d2 0\npiece 1 1 cost 0 route 6\nend 1\ntotal traces 1 points 2 pieces 2 rows 1\n",
+        err: b"",
+    },
+    Case {
+        shows: "a move back",
+        words: &["match", "net", "tra", "--radius", "500", "--back", "8000"],
+        network: STRAIGHT,
+        traces: b"trace,x,y\n8,9000,0\n8,1000,0\n",
+        fail: [&[], &[], &[]],
+        status: 0,
+        out: b"trace 8\nat 0 edge 10 offset 9000 d2 0\nat 1 edge 10 offset 1000 d2 0\npiece 0 1 cost 8000 route 10\nend 8\ntotal traces 1 points 2 pieces 1 rows 1\n",
+        err: b"",
+    },
+    Case {
+        shows: "a gap in time",
+        words: &["match", "net", "tra", "--gap", "60"],
+        network: STRAIGHT,
+        traces: b"trace,x,y,time\n7,1000,300,0\n7,9000,-300,61\n",
+        fail: [&[], &[], &[]],
+        status: 0,
+        out: b"trace 7\nat 0 edge 10 offset 1000 d2 90000\npiece 0 0 cost 45 route 10\nat 1 edge 10 offset 9000 d2 90000\npiece 1 1 cost 45 route 10\nend 7\ntotal traces 1 points 2 pieces 2 rows 0\n",
+        err: b"",
+    },
+    Case {
+        shows: "a point beyond the radius between two",
+        words: MATCH,
+        network: STRAIGHT,
+        traces: b"trace,x,y\n1,1000,0\n1,1000,50000\n1,2000,0\n",
+        fail: [&[], &[], &[]],
+        status: 0,
+        out: b"trace 1\nat 0 edge 10 offset 1000 d2 0\npiece 0 0 cost 0 route 10\nnone 1\nat 2 edge 10 offset 2000 d2 0\npiece 2 2 cost 0 route 10\nend 1\ntotal traces 1 points 3 pieces 2 rows 0\n",
         err: b"",
     },
     Case {
         shows: "no traces",
         words: MATCH,
-        network: NETWORK_A,
+        network: STRAIGHT,
         traces: b"trace,x,y\n",
         fail: [&[], &[], &[]],
         status: 0,
@@ -103,80 +188,20 @@ const CASES: [Case; 15] = [
         err: b"",
     },
     Case {
-        shows: "of two edges as near the earlier record",
-        words: MATCH,
-        network: b"edge,from,to,line\n20,1,2,0 0;10000 0\n5,1,2,0 0;10000 0\n",
-        traces: b"trace,x,y\n1,5000,100\n",
+        shows: "a value out of its range",
+        words: &["match", "net", "tra", "--k", "33"],
+        network: STRAIGHT,
+        traces: TWO_POINTS,
         fail: [&[], &[], &[]],
-        status: 0,
-        out: b"trace 1\nat 0 edge 20 offset 5000 d2 10000\npiece 0 0 cost 5 route 20\nend 1\ntotal traces 1 points 1 pieces 1 rows 0\n",
-        err: b"",
-    },
-    Case {
-        shows: "a nearer edge behind a farther one, and a second trace",
-        words: MATCH,
-        network: b"edge,from,to,line\n7,1,2,0 0;10000 0\n8,2,3,0 400;10000 400\n",
-        traces: b"trace,x,y\n3,5000,300\n4,-5000,0",
-        fail: [&[], &[], &[]],
-        status: 0,
-        out: b"trace 3\nat 0 edge 8 offset 5000 d2 10000\npiece 0 0 cost 5 route 8\nend 3\ntrace 4\nat 0 edge 7 offset 0 d2 25000000\npiece 0 0 cost 12500 route 7\nend 4\ntotal traces 2 points 2 pieces 2 rows 0\n",
-        err: b"",
-    },
-    Case {
-        shows: "the first call for the traces fails",
-        words: MATCH,
-        network: NETWORK_A,
-        traces: AT_RADIUS,
-        fail: [&[3], &[], &[]],
-        status: 3,
+        status: 2,
         out: b"",
-        err: b"fmm: cannot read traces\n",
+        err: b"fmm: bad value k\n",
     },
     Case {
-        shows: "the first call for the network fails",
-        words: MATCH,
-        network: NETWORK_A,
-        traces: AT_RADIUS,
-        fail: [&[1], &[], &[]],
-        status: 3,
-        out: b"",
-        err: b"fmm: cannot read network\n",
-    },
-    Case {
-        shows: "a name that is not held",
-        words: &["match", "net", "other"],
-        network: NETWORK_A,
-        traces: AT_RADIUS,
-        fail: [&[], &[], &[]],
-        status: 3,
-        out: b"",
-        err: b"fmm: cannot read traces\n",
-    },
-    Case {
-        shows: "the first put on out fails",
-        words: MATCH,
-        network: NETWORK_A,
-        traces: AT_RADIUS,
-        fail: [&[], &[1], &[]],
-        status: 4,
-        out: b"trace 1\nat 0 edge 10 offset 5000 d2 10000",
-        err: b"fmm: write failed\n",
-    },
-    Case {
-        shows: "the put of a refusal fails",
-        words: &["match", "net", "-tra"],
-        network: NETWORK_A,
-        traces: AT_RADIUS,
-        fail: [&[], &[], &[1]],
-        status: 4,
-        out: b"",
-        err: b"fmm: bad co",
-    },
-    Case {
-        shows: "a word is missing",
-        words: &["match", "net"],
-        network: NETWORK_A,
-        traces: AT_RADIUS,
+        shows: "an option twice",
+        words: &["match", "net", "tra", "--k", "3", "--k", "4"],
+        network: STRAIGHT,
+        traces: TWO_POINTS,
         fail: [&[], &[], &[]],
         status: 2,
         out: b"",
@@ -186,31 +211,61 @@ const CASES: [Case; 15] = [
         shows: "an edge id stands twice",
         words: MATCH,
         network: b"edge,from,to,line\n10,1,2,0 0;10000 0\n10,2,3,10000 0;20000 0\n",
-        traces: AT_RADIUS,
+        traces: TWO_POINTS,
         fail: [&[], &[], &[]],
         status: 5,
         out: b"",
         err: b"network record 2: edge id repeated\n",
     },
     Case {
-        shows: "a trace before a fault is written",
+        shows: "the first call for the traces fails",
         words: MATCH,
-        network: b"edge,from,to,line\n",
-        traces: b"trace,x,y\n1,5,0\n2,6,0\n3,x,0\n",
-        fail: [&[], &[], &[]],
-        status: 6,
-        out: b"trace 1\nnone 0\nend 1\n",
-        err: b"traces line 4 field 2: bad number\n",
+        network: STRAIGHT,
+        traces: TWO_POINTS,
+        fail: [&[3], &[], &[]],
+        status: 3,
+        out: b"",
+        err: b"fmm: cannot read traces\n",
     },
     Case {
-        shows: "a trace of two points",
+        shows: "the first call for the network fails",
         words: MATCH,
-        network: b"edge,from,to,line\n",
-        traces: b"trace,x,y\n1,5,0\n2,6,0\n2,7,0\n",
+        network: STRAIGHT,
+        traces: TWO_POINTS,
+        fail: [&[1], &[], &[]],
+        status: 3,
+        out: b"",
+        err: b"fmm: cannot read network\n",
+    },
+    Case {
+        shows: "a name that is not held",
+        words: &["match", "net", "other"],
+        network: STRAIGHT,
+        traces: TWO_POINTS,
         fail: [&[], &[], &[]],
-        status: 6,
-        out: b"trace 1\nnone 0\nend 1\n",
-        err: b"traces trace 1: more than one point\n",
+        status: 3,
+        out: b"",
+        err: b"fmm: cannot read traces\n",
+    },
+    Case {
+        shows: "the put of a text fails",
+        words: MATCH,
+        network: STRAIGHT,
+        traces: TWO_POINTS,
+        fail: [&[], &[1], &[]],
+        status: 4,
+        out: b"trace 7\nat 0 edge 10 offset 1000 d2 90000\nat 1 edge 10 ",
+        err: b"fmm: write failed\n",
+    },
+    Case {
+        shows: "the put of a refusal fails",
+        words: &["match", "net", "-tra"],
+        network: STRAIGHT,
+        traces: TWO_POINTS,
+        fail: [&[], &[], &[1]],
+        status: 4,
+        out: b"",
+        err: b"fmm: bad co",
     },
 ];
 
@@ -254,12 +309,10 @@ fn is_same_dripped<R: Threads>(
 
 #[test]
 fn a_cutting_of_the_reads_changes_nothing(rt: HostRuntime) -> Result<(), Fail> {
-    let two_traces = &CASES[5];
-    assert!(rt; is_same_dripped(&rt, rt.alloc(), two_traces, 1)?);
-    assert!(rt; is_same_dripped(&rt, rt.alloc(), two_traces, 7)?);
-    let fault = &CASES[13];
-    assert!(rt; is_same_dripped(&rt, rt.alloc(), fault, 1)?);
-    assert!(rt; is_same_dripped(&rt, rt.alloc(), fault, 2)?);
+    assert!(rt; is_same_dripped(&rt, rt.alloc(), &MATCHED, 1)?);
+    assert!(rt; is_same_dripped(&rt, rt.alloc(), &MATCHED, 7)?);
+    assert!(rt; is_same_dripped(&rt, rt.alloc(), &FAULTY, 1)?);
+    assert!(rt; is_same_dripped(&rt, rt.alloc(), &FAULTY, 2)?);
     Ok(())
 }
 
@@ -292,7 +345,7 @@ fn many_texts(alloc: Global, count: u64) -> Result<List<u8>, AllocError> {
 #[test]
 fn traces_are_written_in_batches(rt: HostRuntime) -> Result<(), Fail> {
     let alloc = rt.alloc();
-    let files = files(alloc, NETWORK_A, many_traces(alloc, 600)?.as_slice())?;
+    let files = files(alloc, STRAIGHT, many_traces(alloc, 600)?.as_slice())?;
     let mut shelf = MemoryShelf::new(alloc, files, numbers(alloc, &[4])?);
     let mut out = MemorySink::new(alloc, List::new(alloc));
     let mut err = MemorySink::new(alloc, List::new(alloc));

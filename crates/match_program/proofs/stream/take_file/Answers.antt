@@ -7,7 +7,7 @@ use Rattle.match_program.proofs.stream.take_file.Goals as goal
 
 pub loop-at-init : goal.loop-at-init
 loop-at-init g c = record {
-  reading = nothing_read c.args.matcher.now.network.now (g.S.Shelf.holds c.args.shelf.now) (g.K.Sink.written c.args.out.now) c.args.name.now c.args.batches.now c.requires;
+  reading = nothing_read c.args.matcher.now (g.S.Shelf.holds c.args.shelf.now) (g.K.Sink.written c.args.out.now) c.args.name.now c.args.batches.now c.requires;
   within = omega arith;
   failed = refl;
   holds = refl;

@@ -4,7 +4,7 @@ use Rattle.match_program.proofs.stream.take_file.Given as goal
 
 abbrev pub invariant-loop-at : goal.invariant-loop-at
 invariant-loop-at g l = record {
-  reading : IsReading l.matcher.network.now (g.S.Shelf.holds l.initial.shelf) (g.K.Sink.written l.initial.out) (g.K.Sink.written l.out) l.name l.at l.batches;
+  reading : IsReading l.matcher (g.S.Shelf.holds l.initial.shelf) (g.K.Sink.written l.initial.out) (g.K.Sink.written l.out) l.name l.at l.batches;
   within : l.at ≤ 1_099_511_627_777;
   failed : g.S.Shelf.failed l.shelf ≡ g.S.Shelf.failed l.initial.shelf;
   holds : g.S.Shelf.holds l.shelf ≡ g.S.Shelf.holds l.initial.shelf;
