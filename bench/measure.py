@@ -3,8 +3,9 @@
 that make_inputs.py wrote to FOLDER.
 
 Each row is one job of one program: seconds and processor seconds (the least of R runs; the second is steadier on a busy
-machine), points a second, peak memory in MB, and the ratios to the first program. `same` says that output, error output and
-exit status are those of the first program.
+machine), points a second and a processor second (edges for `load network`), peak memory in MB (the greatest of the runs), and
+the ratios of processor seconds and memory to the first program. `same` says that output, error output and exit status are
+those of the first program.
 """
 import argparse
 import hashlib
@@ -68,18 +69,23 @@ def main():
     write_small_inputs(folder)
     wanted = [name for name in args.jobs.split(",") if name]
     programs = [[os.path.abspath(w) if os.path.exists(w) else w for w in shlex.split(p)] for p in args.programs]
-    print(f"{'job':14} {'program':16} {'seconds':>8} {'cpu s':>8} {'ratio':>6} {'per cpu s':>10} {'peak MB':>8} {'ratio':>6}  answer")
+    for place, program in enumerate(programs, 1):
+        print(f"program {place}: {shlex.join(program)}")
+    print(f"{'job':14} {'program':18} {'seconds':>8} {'per s':>9} {'cpu s':>8} {'ratio':>6} {'per cpu s':>10} "
+          f"{'peak MB':>8} {'ratio':>6}  answer")
     for name, counted, words in JOBS:
         if wanted and name not in wanted:
             continue
         count = lines_of(os.path.join(folder, counted))
         first = None
-        for program in programs:
+        for place, program in enumerate(programs, 1):
             seconds, cpu, peak, status, digest = measure(program, words, folder, args.repeat)
             first = first or (cpu, peak, digest)
             answer = ("" if status == 0 else f"status {status} ") + ("same" if digest == first[2] else "another answer")
-            print(f"{name:14} {os.path.basename(program[-1])[-16:]:16} {seconds:8.2f} {cpu:8.2f} {cpu / first[0]:6.2f} "
-                  f"{count / max(cpu, 1e-9):10.0f} {peak / 1e6:8.1f} {peak / first[1]:6.2f}  {answer}", flush=True)
+            label = f"{place} {os.path.basename(program[-1])[-16:]}"
+            print(f"{name:14} {label:18} {seconds:8.2f} {count / max(seconds, 1e-9):9.0f} {cpu:8.2f} "
+                  f"{cpu / max(first[0], 1e-9):6.2f} {count / max(cpu, 1e-9):10.0f} {peak / 1e6:8.1f} "
+                  f"{peak / first[1]:6.2f}  {answer}", flush=True)
 
 
 if __name__ == "__main__":
