@@ -23,4 +23,5 @@ pub record IsFound (k e : ℕ) (found : List Candidate) : Type 0 where
 pub record IsPlace (found : List Candidate) (d2 place : ℕ) : Type 0 where
   pub within : place ≤ length found
   pub before : (i : ℕ) (d : Candidate) → i < place → (slice_index_or found i d).d2 ≤ d2
-  pub after : (i : ℕ) (d : Candidate) → place ≤ i → i < length found → d2 < (slice_index_or found i d).d2
+  pub after : (i : ℕ) (d : Candidate) → place ≤ i → i < length found
+      → d2 < (slice_index_or found i d).d2

@@ -36,7 +36,9 @@ fn limit_of(found: &[Candidate], search: Search) -> u64
     requires few { length found.now ≤ search.k }
     requires sorted { IsNonDecreasingBy (λ c. c.d2) found.now }
     ensures within { result ≤ search.radius * search.radius + 1 }
-    ensures far { (d2 : ℕ) → result ≤ d2 → (search.radius * search.radius < d2) ⊎ ((length found.now ≡ search.k) × All (λ c. c.d2 ≤ d2) found.now) }
+    ensures far { (d2 : ℕ) → result ≤ d2
+        → (search.radius * search.radius < d2)
+        ⊎ ((length found.now ≡ search.k) × All (λ c. c.d2 ≤ d2) found.now) }
 {
     let beyond = search.radius * search.radius + 1;
     if found.len() < search.k {
@@ -67,7 +69,8 @@ pub(crate) fn consider(
 ) -> Result<(), AllocError>
     requires edge { HasEdge net.now edge.0 }
     requires found { IsFound search.k edge.0 found.old.items }
-    ensures list { OnOk result (found.new.items ≡ with_one search.k search.radius found.old.items (candidate_at net.now search.at edge.0)) }
+    ensures list { OnOk result (found.new.items
+        ≡ with_one search.k search.radius found.old.items (candidate_at net.now search.at edge.0)) }
     ensures found { OnOk result (IsFound search.k (edge.0 + 1) found.new.items) }
 {
     net.known();

@@ -39,7 +39,8 @@ match_of rows = match_from (first_of (codes "NET") rows) (first_of (codes "TRACE
 -- the command of the subcommand that the words name, with what they give for each name
 unfoldable pub entered_of : Option (Text × List Row) → Result PlainCommand WordsFault
 entered_of None = Err Usage
-entered_of (Some entered) = if bytes_eq entered.0 (codes "match") then match_of entered.1 else Err Usage
+entered_of (Some entered) =
+    if bytes_eq entered.0 (codes "match") then match_of entered.1 else Err Usage
 
 abbrev pub if_taken : Kinds → Result PlainCommand WordsFault → Result PlainCommand WordsFault
 if_taken [] command = command

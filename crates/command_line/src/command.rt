@@ -32,8 +32,10 @@ pub enum Command<'a> {
 /// The command that the words ask for. The program's name is not among the words. `Memory` may come
 /// in place of any other answer.
 pub fn read_command<'a>(alloc: Global, words: &'a [String]) -> Result<Command<'a>, WordsFault>
-    ensures ok { IfOk result (λ command. command_of (map string_bytes words.now) ≡ Ok (plain command)) }
-    ensures err { IfErr result (λ fault. (fault ≡ WordsFault.Memory) ⊎ (command_of (map string_bytes words.now) ≡ Err fault)) }
+    ensures ok { IfOk result
+        (λ command. command_of (map string_bytes words.now) ≡ Ok (plain command)) }
+    ensures err { IfErr result (λ fault. (fault ≡ WordsFault.Memory)
+        ⊎ (command_of (map string_bytes words.now) ≡ Err fault)) }
     ensures accepted { IfOk result (λ command. IsAccepted (options_in (plain command))) }
 {
     let matches = match program(alloc)?.try_get_matches_from(words) {
@@ -57,7 +59,8 @@ fn refusal_of(error: &clap::Error) -> WordsFault
 
 #[tactic(auto, unfolding(crate::specs::Words::entered_of))]
 fn command_in<'a>(matches: &ArgMatches<'a>) -> Result<Command<'a>, WordsFault>
-    ensures value { result_map_both plain (λ fault. fault) result ≡ entered_of (subcommand_rows_of matches.now) }
+    ensures value { result_map_both plain (λ fault. fault) result
+        ≡ entered_of (subcommand_rows_of matches.now) }
     ensures accepted { IfOk result (λ command. IsAccepted (options_in (plain command))) }
 {
     let Some((name, found)) = matches.subcommand() else {
@@ -71,7 +74,8 @@ fn command_in<'a>(matches: &ArgMatches<'a>) -> Result<Command<'a>, WordsFault>
 
 #[tactic(auto, unfolding(crate::specs::Words::match_of))]
 fn read_match<'a>(found: &ArgMatches<'a>) -> Result<Command<'a>, WordsFault>
-    ensures value { result_map_both plain (λ fault. fault) result ≡ match_of (rows_of (found_of found.now)) }
+    ensures value { result_map_both plain (λ fault. fault) result
+        ≡ match_of (rows_of (found_of found.now)) }
     ensures accepted { IfOk result (λ command. IsAccepted (options_in (plain command))) }
 {
     let (Some(network), Some(traces)) = (text_of(found, "NET"), text_of(found, "TRACES")) else {
@@ -87,7 +91,8 @@ fn read_match<'a>(found: &ArgMatches<'a>) -> Result<Command<'a>, WordsFault>
 
 #[tactic(auto, unfolding(crate::specs::Options::params_of))]
 fn read_params(found: &ArgMatches) -> Result<Params, OptionName>
-    ensures value { result ≡ params_of (λ option. first_of (name_of option) (rows_of (found_of found.now))) }
+    ensures value { result
+        ≡ params_of (λ option. first_of (name_of option) (rows_of (found_of found.now))) }
     ensures accepted { IfOk result IsAccepted }
 {
     Ok(Params {
@@ -104,7 +109,8 @@ fn read_params(found: &ArgMatches) -> Result<Params, OptionName>
 
 #[tactic(auto, unfolding(crate::specs::Options::value_of))]
 fn read_value(found: &ArgMatches, option: OptionName) -> Result<u32, OptionName>
-    ensures value { result ≡ value_of option (first_of (name_of option) (rows_of (found_of found.now))) }
+    ensures value { result
+        ≡ value_of option (first_of (name_of option) (rows_of (found_of found.now))) }
     ensures range { IfOk result (IsWithin (range_of option).least (range_of option).most) }
 {
     let range = option.range();
@@ -119,7 +125,8 @@ fn read_value(found: &ArgMatches, option: OptionName) -> Result<u32, OptionName>
 
 // What the words give for a name.
 fn text_of<'a>(found: &ArgMatches<'a>, name: &str) -> Option<&'a str>
-    ensures { option_map (λ text. text.now) result ≡ first_of name.now (rows_of (found_of found.now)) }
+    ensures { option_map (λ text. text.now) result
+        ≡ first_of name.now (rows_of (found_of found.now)) }
 {
     found.get_str(name)
 }

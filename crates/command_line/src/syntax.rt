@@ -28,7 +28,8 @@ fn command<'a>(
     name: &'a str,
     arguments: &[&'static str],
 ) -> Result<Command<'a>, AllocError>
-    ensures shape { IfOk result (λ c. shape_of c ≡ command_shape name.now (map (λ s. s.now) arguments.now)) }
+    ensures shape { IfOk result
+        (λ c. shape_of c ≡ command_shape name.now (map (λ s. s.now) arguments.now)) }
     ensures local { IfOk result (λ c. (out-Command c).has_globals ≡ false) }
 {
     let command = with_options(alloc, Command::new(alloc, name))?;
@@ -37,7 +38,8 @@ fn command<'a>(
 
 fn with_options<'a>(alloc: Global, command: Command<'a>) -> Result<Command<'a>, AllocError>
     requires { (out-Command command).has_globals ≡ false }
-    ensures app { IfOk result (λ c. app_of c ≡ with_rules (app_of command.entry) (map option_rule all_options)) }
+    ensures app { IfOk result
+        (λ c. app_of c ≡ with_rules (app_of command.entry) (map option_rule all_options)) }
     ensures local { IfOk result (λ c. (out-Command c).has_globals ≡ false) }
 {
     let mut command = command;

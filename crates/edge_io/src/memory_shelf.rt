@@ -25,8 +25,8 @@ pub struct MemoryShelf {
 }
 
 impl MemoryShelf {
-    /// A shelf of these files, by name and bytes, whose calls of the numbers `fail` fail, counted from 1.
-    /// Where a name stands twice, its first file is the one that is held.
+    /// A shelf of these files, by name and bytes, whose calls of the numbers `fail` fail, counted
+    /// from 1. Where a name stands twice, its first file is the one that is held.
     pub fn new(alloc: Global, files: List<(List<u8>, List<u8>)>, fail: List<u64>) -> Self
         ensures holds { ⟦<MemoryShelf as Shelf>⟧.holds result ≡ Some (lookup files) }
         ensures failed { ⟦<MemoryShelf as Shelf>⟧.failed result ≡ [] }
@@ -81,16 +81,19 @@ impl Shelf for MemoryShelf {
 
     ghost failed = { λ s. s.failed };
 
-    /// Fails where this call's number is among those that fail, or the name is not held; else gives what
-    /// the file has from the place on, as much as one call may give.
+    /// Fails where this call's number is among those that fail, or the name is not held; else gives
+    /// what the file has from the place on, as much as one call may give.
     fn read(&mut self, name: &str, at: u64, into: &mut Vec<u8>, most: u32) -> Taken
         requires some { 1 ≤ most }
         requires place { at ≤ 2 ^ 40 }
         ensures grows { Grows most into.old.items into.new.items result }
-        ensures bytes { Reads (Some (lookup self.old.files)) name.now at into.old.items into.new.items result }
+        ensures bytes { Reads (Some (lookup self.old.files)) name.now at into.old.items
+            into.new.items result }
         ensures failed { self.new.failed ≡ failed_after result name.now self.old.failed }
-        ensures serves { Serves (list_any (λ n. n == self.new.calls) self.old.fail) (lookup self.old.files name.now) at (min most self.old.drip) result }
-        ensures same { self.new ≡ record self.old { calls = next_call self.old.calls; failed = self.new.failed } }
+        ensures serves { Serves (list_any (λ n. n == self.new.calls) self.old.fail)
+            (lookup self.old.files name.now) at (min most self.old.drip) result }
+        ensures same { self.new
+            ≡ record self.old { calls = next_call self.old.calls; failed = self.new.failed } }
     {
         self.calls = self.calls.saturating_add(1);
         if self.fail.as_slice().contains(&self.calls) {

@@ -47,10 +47,13 @@ impl Sink for MemorySink {
 
     ghost faults = { λ s. s.faults };
 
-    /// Fails where this put's number is among those that fail, and then writes the first half of the piece.
+    /// Fails where this put's number is among those that fail, and then writes the first half
+    /// of the piece.
     fn put(&mut self, piece: &[u8]) -> Put
-        ensures puts { Puts (Some self.old.bytes.items) (Some self.new.bytes.items) self.old.faults self.new.faults piece.now result }
-        ensures takes { Takes (list_any (λ n. n == self.new.calls) self.old.fail) self.old.bytes.items self.new.bytes.items piece.now result }
+        ensures puts { Puts (Some self.old.bytes.items) (Some self.new.bytes.items) self.old.faults
+            self.new.faults piece.now result }
+        ensures takes { Takes (list_any (λ n. n == self.new.calls) self.old.fail)
+            self.old.bytes.items self.new.bytes.items piece.now result }
         ensures calls { self.new.calls ≡ next_call self.old.calls }
         ensures fail { self.new.fail ≡ self.old.fail }
     {

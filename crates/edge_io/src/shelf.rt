@@ -18,15 +18,16 @@ pub enum Taken {
 
 /// A shelf of named files. What it holds does not change.
 pub trait Shelf {
-    /// The bytes of each name, or `None` where the name is not held; `None` as a whole where the shelf
-    /// tells nothing.
+    /// The bytes of each name, or `None` where the name is not held; `None` as a whole where the
+    /// shelf tells nothing.
     ghost holds: { Self → Option (List ℕ → Option (List ℕ)) };
 
     /// The names of the reads that failed, in their order.
     ghost failed: { Self → List (List ℕ) };
 
-    /// Appends bytes of a file from the place `at` on, at least one and at most `most`. They may be fewer
-    /// than the file has, so a file is read by calling again behind what came, until `Taken::End`.
+    /// Appends bytes of a file from the place `at` on, at least one and at most `most`.
+    /// They may be fewer than the file has, so a file is read by calling again behind what
+    /// came, until `Taken::End`.
     fn read(&mut self, name: &str, at: u64, into: &mut Vec<u8>, most: u32) -> Taken
         requires some { 1 ≤ most }
         requires place { at ≤ 2 ^ 40 }

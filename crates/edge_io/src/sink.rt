@@ -24,5 +24,6 @@ pub trait Sink {
 
     /// Writes the piece behind what was written.
     fn put(&mut self, piece: &[u8]) -> Put
-        ensures { Puts (written self.old) (written self.new) (faults self.old) (faults self.new) piece.now result };
+        ensures { Puts (written self.old) (written self.new) (faults self.old) (faults self.new)
+            piece.now result };
 }

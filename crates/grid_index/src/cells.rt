@@ -35,7 +35,8 @@ impl Cells {
         requires side { 1 ≤ side }
         ensures columns { result.left ≤ result.right }
         ensures rows { result.bottom ≤ result.top }
-        ensures covers { (q : Place) → InBox a b q → HasCell result (cell side q.x) (cell side q.y) }
+        ensures covers { (q : Place) → InBox a b q
+            → HasCell result (cell side q.x) (cell side q.y) }
     {
         let (ax, bx) = (shifted(a.x), shifted(b.x));
         let (ay, by) = (shifted(a.y), shifted(b.y));
@@ -52,7 +53,8 @@ impl Cells {
         requires p_in { InRange p }
         requires side { 1 ≤ side }
         requires reach { reach ≤ 1_000_000 }
-        ensures { (q : Place) → InSquare p reach q → HasCell result (cell side q.x) (cell side q.y) }
+        ensures { (q : Place) → InSquare p reach q
+            → HasCell result (cell side q.x) (cell side q.y) }
     {
         let (x, y) = (shifted(p.x), shifted(p.y));
         Cells {

@@ -73,7 +73,9 @@ impl<'n> Grid<'n> {
         requires reach { reach ≤ self.now.side }
         ensures edges { IfOk result (All (λ e. HasEdge self.now.net e.0)) }
         ensures rising { IfOk result AreRising }
-        ensures complete { IfOk result (λ edges. (e : ℕ) → HasEdge self.now.net e → LineMeetsSquare (edge_line self.now.net e) p reach → Contains edges (record { 0 = e })) }
+        ensures complete { IfOk result (λ edges. (e : ℕ) → HasEdge self.now.net e
+            → LineMeetsSquare (edge_line self.now.net e) p reach
+            → Contains edges (record { 0 = e })) }
     {
         let cells = Cells::of_square(p, reach, self.table.layout.side);
         let mut found = Vec::from_slice(alloc, self.table.wide.as_slice())?;

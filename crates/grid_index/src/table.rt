@@ -60,7 +60,8 @@ impl Table {
     /// Appends the edges at the cells of some columns of a row.
     fn gather_row(&self, found: &mut Vec<EdgeId>, cells: Cells, row: u32) -> Result<(), AllocError>
         requires { HasParts self.now }
-        ensures { OnOk result (Gathers self.now found.old.items found.new.items cells.left cells.right row (row + 1)) }
+        ensures { OnOk result (Gathers self.now found.old.items found.new.items cells.left
+            cells.right row (row + 1)) }
     {
         for column in cells.left..cells.right {
             let slot = slot(column, row, self.layout.width);
@@ -72,7 +73,8 @@ impl Table {
     /// Appends the edges at cells.
     pub(crate) fn gather(&self, found: &mut Vec<EdgeId>, cells: Cells) -> Result<(), AllocError>
         requires { HasParts self.now }
-        ensures { OnOk result (Gathers self.now found.old.items found.new.items cells.left cells.right cells.bottom cells.top) }
+        ensures { OnOk result (Gathers self.now found.old.items found.new.items cells.left
+            cells.right cells.bottom cells.top) }
     {
         for row in cells.bottom..cells.top {
             self.gather_row(found, cells, row)?;

@@ -17,8 +17,10 @@ abbrev pub start : ℕ → Place
 start id = record { id = id; next = 0; waiting = None }
 
 abbrev pub place_after : Place → Line → Place
-place_after place (Point Missing) = record { id = place.id; next = place.next + 1; waiting = place.waiting }
-place_after place (Point (On edge offset d2)) = record { id = place.id; next = place.next + 1; waiting = Some (unwrap_or place.waiting place.next) }
+place_after place (Point Missing) =
+    record { id = place.id; next = place.next + 1; waiting = place.waiting }
+place_after place (Point (On edge offset d2)) = record
+    { id = place.id; next = place.next + 1; waiting = Some (unwrap_or place.waiting place.next) }
 place_after place (Piece piece) = record { id = place.id; next = place.next; waiting = None }
 place_after place End = place
 
@@ -50,7 +52,8 @@ IsEnd (Piece piece) = ⊥
 -- these lines may come from this place on, and then the end line
 abbrev pub Continues : Place → List Line → Type 0
 Continues place [] = IsAllowed place End
-Continues place (line ∷ lines) = (¬ IsEnd line) × IsAllowed place line × Continues (place_after place line) lines
+Continues place (line ∷ lines) =
+    (¬ IsEnd line) × IsAllowed place line × Continues (place_after place line) lines
 
 -- the texts of these lines and of the end line
 abbrev pub texts_from : Place → List Line → List (List ℕ)
@@ -87,7 +90,8 @@ Means place text (Ok lines) = IsOnly place lines text
 Means place text (Err n) = FailsAfter place n text
 
 -- the text, or its front, is one of these, in one way
-pub record Reads {A : Type 0} (IsIn : A → Type 0) (spelling : A → List ℕ) (text : List ℕ) (read : Option (A × List ℕ)) : Type 0 where
+pub record Reads {A : Type 0} (IsIn : A → Type 0) (spelling : A → List ℕ) (text : List ℕ)
+    (read : Option (A × List ℕ)) : Type 0 where
   pub found : IfSome read (λ x. IsIn x.0 × (text ≡ spelling x.0 ++ x.1))
   pub only : (a : A) (rest : List ℕ) → IsIn a → text ≡ spelling a ++ rest → read ≡ Some (a, rest)
 
@@ -99,7 +103,8 @@ ReadsPiece place text read = Reads (EndsPiece place) piece_line text read
 
 -- the edges of a route, each after a space, and LF
 abbrev pub ReadsRoute : List ℕ → Option (List ℕ × List ℕ) → Type 0
-ReadsRoute text read = Reads (AllByRecursion (λ edge. edge < 2 ^ 32)) (λ edges. words_after (map decimal edges)) text read
+ReadsRoute text read = Reads (AllByRecursion (λ edge. edge < 2 ^ 32))
+    (λ edges. words_after (map decimal edges)) text read
 
 abbrev pub labels_of : List Line → List Label
 labels_of [] = []
@@ -115,6 +120,10 @@ pieces_of (End ∷ lines) = pieces_of lines
 
 -- what was read of the lines after the trace line, or the number of the bad one
 abbrev pub ReadsLines : ℕ → List ℕ → Result (List Label × List Routed) TextFault → Type 0
-ReadsLines id text (Ok x) = (lines : List Line) × IsOnly (start id) lines text × (x.0 ≡ labels_of lines) × (x.1 ≡ pieces_of lines)
-ReadsLines id text (Err (BadLine n)) = (before : ℕ) × (n ≡ before + 2) × FailsAfter (start id) before text
+ReadsLines id text (Ok x) =
+    (lines : List Line) × IsOnly (start id) lines text
+    × (x.0 ≡ labels_of lines)
+    × (x.1 ≡ pieces_of lines)
+ReadsLines id text (Err (BadLine n)) =
+    (before : ℕ) × (n ≡ before + 2) × FailsAfter (start id) before text
 ReadsLines id text (Err Memory) = Unit {0}

@@ -25,11 +25,13 @@ trace_line id = line (codes "trace") (decimal id ∷ [])
 abbrev pub label_line : ℕ → Label → List ℕ
 label_line i Missing = line (codes "none") (decimal i ∷ [])
 label_line i (On edge offset d2) = line (codes "at")
-    (decimal i ∷ codes "edge" ∷ decimal edge ∷ codes "offset" ∷ decimal offset ∷ codes "d2" ∷ decimal d2 ∷ [])
+    (decimal i ∷ codes "edge" ∷ decimal edge ∷ codes "offset" ∷ decimal offset
+    ∷ codes "d2" ∷ decimal d2 ∷ [])
 
 abbrev pub piece_line : Routed → List ℕ
 piece_line piece = line (codes "piece")
-    (decimal piece.first ∷ decimal piece.last ∷ codes "cost" ∷ decimal piece.cost ∷ codes "route" ∷ map decimal piece.route)
+    (decimal piece.first ∷ decimal piece.last ∷ codes "cost" ∷ decimal piece.cost
+    ∷ codes "route" ∷ map decimal piece.route)
 
 abbrev pub end_line : ℕ → List ℕ
 end_line id = line (codes "end") (decimal id ∷ [])
@@ -39,12 +41,14 @@ end_line id = line (codes "end") (decimal id ∷ [])
 -- after the line of the point i: the line of the next piece if i is its last point, and the rest
 abbrev pub piece_after : ℕ → List Routed → (List Routed → List (List ℕ)) → List (List ℕ)
 piece_after i [] rest = rest []
-piece_after i (piece ∷ pieces) rest = if piece.last == i then piece_line piece ∷ rest pieces else rest (piece ∷ pieces)
+piece_after i (piece ∷ pieces) rest =
+    if piece.last == i then piece_line piece ∷ rest pieces else rest (piece ∷ pieces)
 
 -- the lines of the points from i on, the line of a piece directly after that of its last point
 abbrev pub point_lines : ℕ → List Label → List Routed → List (List ℕ)
 point_lines i [] pieces = []
-point_lines i (label ∷ labels) pieces = label_line i label ∷ piece_after i pieces (point_lines (i + 1) labels)
+point_lines i (label ∷ labels) pieces =
+    label_line i label ∷ piece_after i pieces (point_lines (i + 1) labels)
 
 abbrev pub lines_of : MatchedTrace → List (List ℕ)
 lines_of m = trace_line m.id ∷ (point_lines 0 m.labels m.pieces ++ end_line m.id ∷ [])
@@ -72,7 +76,8 @@ IsCovered (piece ∷ pieces) i = ((piece.first ≤ i) × (i ≤ piece.last)) ⊎
 -- none begins before the point i, and each begins after the one before it ends
 abbrev pub IsRising : ℕ → List Routed → Type 0
 IsRising i [] = Unit {0}
-IsRising i (piece ∷ pieces) = (i ≤ piece.first) × (piece.first ≤ piece.last) × IsRising (piece.last + 1) pieces
+IsRising i (piece ∷ pieces) =
+    (i ≤ piece.first) × (piece.first ≤ piece.last) × IsRising (piece.last + 1) pieces
 
 pub record IsLawful (m : MatchedTrace) : Type 0 where
   pub rising : IsRising 0 m.pieces

@@ -19,4 +19,5 @@ head_at text = do
   Some (record { first = first.0; last = last.0; cost = cost.0; rest = rest })
 
 abbrev pub head_of : LentHead → Head
-head_of head = record { first = head.first; last = head.last; cost = head.cost; rest = head.rest.now }
+head_of head =
+    record { first = head.first; last = head.last; cost = head.cost; rest = head.rest.now }

@@ -32,11 +32,14 @@ has_leading_zero digits = nat_lt 1 (length digits) && (slice_index digits 0 == 4
 
 -- the number that these digits spell, and the rest
 abbrev pub number_of : ℕ → List ℕ → List ℕ → Option (ℕ × List ℕ)
-number_of most digits rest = if has_leading_zero digits then None else option_map (λ n. (n, rest)) (result_ok (unsigned_within most digits))
+number_of most digits rest =
+    if has_leading_zero digits then None
+    else option_map (λ n. (n, rest)) (result_ok (unsigned_within most digits))
 
 -- the number of all digits at the front
 unfoldable pub number_at : ℕ → List ℕ → Option (ℕ × List ℕ)
-number_at most text = let len = prefix_len is_ascii_digit text in number_of most (take len text) (drop len text)
+number_at most text =
+    let len = prefix_len is_ascii_digit text in number_of most (take len text) (drop len text)
 
 -- the number after these bytes
 unfoldable pub number_after : List ℕ → ℕ → List ℕ → Option (ℕ × List ℕ)
@@ -57,7 +60,8 @@ trace_at text = do
 unfoldable pub end_at : Place → List ℕ → Option (Line × List ℕ)
 end_at place text = do
   id ← number_after (codes "end ") most32 text
-  if not (id.0 == place.id) || is_some place.waiting then None else (after_bytes (10 ∷ []) id.1 >>= λ rest. Some (End, rest))
+  if not (id.0 == place.id) || is_some place.waiting then None
+      else (after_bytes (10 ∷ []) id.1 >>= λ rest. Some (End, rest))
 
 -- the number of the next point after these bytes
 unfoldable pub numbered_at : List ℕ → ℕ → List ℕ → Option (List ℕ)
@@ -69,7 +73,8 @@ numbered_at bytes next text = do
 unfoldable pub none_at : Place → List ℕ → Option (Line × List ℕ)
 none_at place text = do
   point ← numbered_at (codes "none ") place.next text
-  if is_some place.waiting then None else (after_bytes (10 ∷ []) point >>= λ rest. Some (Point Missing, rest))
+  if is_some place.waiting then None
+      else (after_bytes (10 ∷ []) point >>= λ rest. Some (Point Missing, rest))
 
 -- the line of the next point with candidates
 unfoldable pub label_at : Place → List ℕ → Option (Line × List ℕ)

@@ -5,10 +5,11 @@
 //! (`at I edge E offset O d2 D` or `none I`), directly after the line of a piece's last point the
 //! line `piece F L cost C route E1 E2 ..`, and one line `end ID`.
 //!
-//! [`write_match`] appends the text, and [`read_match`] takes exactly the texts of lawful matched
-//! traces and names the first line that is not allowed in its place. For texts with the same lines
-//! there are calls that write one line ([`write_trace`], [`write_label`], [`write_piece`],
-//! [`write_end`]) or read one ([`read_trace`], [`read_piece`]), and [`front`] reads words and numbers.
+//! [`write_match`] appends the text, and [`read_match`] takes exactly the texts of lawful
+//! matched traces and names the first line that is not allowed in its place. For texts with the
+//! same lines there are calls that write one line ([`write_trace`], [`write_label`],
+//! [`write_piece`], [`write_end`]) or read one ([`read_trace`], [`read_piece`]), and [`front`]
+//! reads words and numbers.
 //!
 //! The text is defined once, by `text_of` in `specs/MatchText.antt`, and so is what is lawful, by
 //! `IsLawful`. Read the clauses of [`read_match`] first.

@@ -1,5 +1,6 @@
--- The match of a trace as a value: the longest pieces, and the best sequence of each. It is what every match is
--- (`MatchesAreTheSolution`). In this file layers and ranks stand in the order of the points.
+-- The match of a trace as a value: the longest pieces, and the best sequence of each. It is
+-- what every match is (`MatchesAreTheSolution`). In this file layers and ranks stand in the
+-- order of the points.
 use Rattle.std.specs.Prelude.{◌≡◌, ℕ, zero, suc, ◌+◌, ◌-◌, ◌≤◌, ◌&&◌, ◌==◌, Bool, true, is_some, if◌then◌else◌, List, [], ◌∷◌, ◌++◌, length, map, reverse, take, drop, Option, Some, None, unwrap_or}
 use Rattle.std.specs.List.{All}
 use Rattle.matching.specs.declared.parts.Cell.{Cell}
@@ -46,14 +47,16 @@ with_piece at n sequence rest = record {
   pieces = record { first = at; last = at + n - 1; cost = sequence.cost } ∷ rest.pieces;
 }
 
--- the match of these points, of which there are at most `fuel`, and the first is point `at` of the trace
+-- the match of these points, of which there are at most `fuel`, and the first is point `at`
+-- of the trace
 abbrev pub solved_from : {L : Type 0} → Trellis L → ℕ → ℕ → List L → Solution
 solved_from t zero at layers = record { ranks = []; pieces = [] }
 solved_from t (suc fuel) at [] = record { ranks = []; pieces = [] }
 solved_from t (suc fuel) at (l ∷ layers) =
     let n = piece_length t (l ∷ layers) in
     if n == 0 then without (solved_from t fuel (at + 1) layers)
-    else with_piece at n (best_of t (take n (l ∷ layers))) (solved_from t fuel (at + n) (drop n (l ∷ layers)))
+    else with_piece at n (best_of t (take n (l ∷ layers)))
+    (solved_from t fuel (at + n) (drop n (l ∷ layers)))
 
 -- the match of a trace
 unfoldable pub solution : {L : Type 0} → Trellis L → List L → Solution
@@ -63,8 +66,10 @@ solution t layers = solved_from t (length layers) 0 layers
 abbrev pub MatchesAreTheSolution : {L : Type 0} → Trellis L → Type 0
 MatchesAreTheSolution {L} t =
     (layers : List L) (ranks : List (Option ℕ)) (pieces : List Piece) (tables : List (List Cell))
-    → IsMatch t layers ranks pieces tables → solution t layers ≡ record { ranks = ranks; pieces = pieces }
+    → IsMatch t layers ranks pieces tables
+    → solution t layers ≡ record { ranks = ranks; pieces = pieces }
 
 -- no piece of it ends before it begins
 abbrev pub SolutionsHavePoints : {L : Type 0} → Trellis L → Type 0
-SolutionsHavePoints {L} t = (layers : List L) → All (λ p. p.first ≤ p.last) (solution t layers).pieces
+SolutionsHavePoints {L} t =
+    (layers : List L) → All (λ p. p.first ≤ p.last) (solution t layers).pieces

@@ -14,13 +14,14 @@ pub fn route_lengths_are_least()
     ensures { RouteLengthsAreLeast }
 {}
 
-/// The route between two candidates as a value is the least of all routes, and None where there is none.
+/// The route between two candidates as a value is the least of all routes, and None where
+/// there is none.
 pub fn routes_are_least()
     ensures { RoutesAreLeast }
 {}
 
-/// Tables have the least costs over all sequences, and their pointers, exactly where the cells of each
-/// layer agree with those of the layer before.
+/// Tables have the least costs over all sequences, and their pointers, exactly where the cells of
+/// each layer agree with those of the layer before.
 pub fn cells_are_local()
     ensures { (net : Net) (p : Params) → CellsAreLocal (trellis net p) }
 {}

@@ -1,14 +1,15 @@
-//! What a match is: the definitions that every crate that matches, follows, certifies or checks cites,
-//! and their theory.
+//! What a match is: the definitions that every crate that matches, follows, certifies or checks
+//! cites, and their theory.
 //!
-//! A trace is a list of [`Layer`]s: points with their candidates. A sequence gives one candidate per
-//! point; its cost is that of its candidates and of the routes between them. The match of a piece is
-//! its best sequence. Everything is stated over all sequences and all routes; that a table of
-//! [`Cell`]s, filled from layer to layer, holds the best sequences is a theorem (`CellsAreLocal`).
+//! A trace is a list of [`Layer`]s: points with their candidates. A sequence gives one
+//! candidate per point; its cost is that of its candidates and of the routes between them. The
+//! match of a piece is its best sequence. Everything is stated over all sequences and all
+//! routes; that a table of [`Cell`]s, filled from layer to layer, holds the best sequences is
+//! a theorem (`CellsAreLocal`).
 //!
 //! The match, the routes and the nodes asked for are values too: `solution` in `specs/Value.antt`,
-//! `route_between` in `specs/RouteBetween.antt` and `is_asked` in `specs/AskedValue.antt`. What meets
-//! the relations is that value (`MatchesAreTheSolution`, `RoutesAreLeast`, `AskedIsTested`).
+//! `route_between` in `specs/RouteBetween.antt` and `is_asked` in `specs/AskedValue.antt`. What
+//! meets the relations is that value (`MatchesAreTheSolution`, `RoutesAreLeast`, `AskedIsTested`).
 //!
 //! Read first: `specs/Sequences.antt` (`Trellis`, `cost`, `IsBest`), and `trellis` in
 //! `specs/Layers.antt`, which says what the layers of a trace cost.

@@ -18,10 +18,13 @@ pub record InSquare (p : Point) (reach : ℕ) (q : Point) : Type 0 where
   pub x : unsigned_abs (p.x -ℤ q.x) ≤ reach
   pub y : unsigned_abs (p.y -ℤ q.y) ≤ reach
 
--- the box of the segment from a to b, and the square of half side `reach` round p, have a place in common
+-- the box of the segment from a to b, and the square of half side `reach` round p, have a
+-- place in common
 abbrev pub BoxMeetsSquare : Point → Point → Point → ℕ → Type 0
 BoxMeetsSquare a b p reach = (q : Point) × InBox a b q × InSquare p reach q
 
 -- some segment of the line has a box that meets the square of half side `reach` round p
 abbrev pub LineMeetsSquare : List Point → Point → ℕ → Type 0
-LineMeetsSquare line p reach = (i : ℕ) × (i + 1 < length line) × BoxMeetsSquare (point_at line i) (point_at line (i + 1)) p reach
+LineMeetsSquare line p reach =
+    (i : ℕ) × (i + 1 < length line)
+    × BoxMeetsSquare (point_at line i) (point_at line (i + 1)) p reach

@@ -8,7 +8,8 @@ use Rattle.polyline_geometry.specs.Plane.{snap_segment, point_at}
 abbrev pub segment_snap : List Point → Point → ℕ → Snap
 segment_snap line p i = snap_segment (point_at line i) (point_at line (suc i)) p
 
--- the first of the nearest among the first `count` segments of a line, as far as one has a squared distance below the limit
+-- the first of the nearest among the first `count` segments of a line, as far as one has a squared
+-- distance below the limit
 abbrev pub IsNearest : List Point → Point → ℕ → ℕ → Option ℕ → Type 0
 IsNearest line p limit count None = (i : ℕ) → i < count → limit ≤ (segment_snap line p i).d2
 IsNearest line p limit count (Some n) =

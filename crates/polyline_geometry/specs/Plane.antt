@@ -81,10 +81,11 @@ after before s = record { d2 = s.d2; offset = before + s.offset }
 -- the snap of p to the line from a to b and on through these points
 abbrev pub snap_from : Point → Point → List Point → Point → Snap
 snap_from a b [] p = snap_segment a b p
-snap_from a b (c ∷ rest) p = nearer (snap_segment a b p) (after (straight a b) (snap_from b c rest p))
+snap_from a b (c ∷ rest) p =
+    nearer (snap_segment a b p) (after (straight a b) (snap_from b c rest p))
 
--- the snap of p to a line: the one to the nearest segment, the first of several, with the lengths of the earlier segments
--- added to its offset; (0, 0) where there is no segment
+-- the snap of p to a line: the one to the nearest segment, the first of several, with the lengths
+-- of the earlier segments added to its offset; (0, 0) where there is no segment
 abbrev pub snap_line : List Point → Point → Snap
 snap_line [] p = record { d2 = 0; offset = 0 }
 snap_line (a ∷ []) p = record { d2 = 0; offset = 0 }

@@ -49,7 +49,8 @@ fn outside(a: i32, b: i32, z: i32) -> u64
     }
 }
 
-/// The squared distance of a point and the box of the segment from a to b: the snapped point is in it.
+/// The squared distance of a point and the box of the segment from a to b: the snapped point
+/// is in it.
 #[tactic(auto, using(crate::proofs::Distances::squares_small))]
 fn box_distance2(a: Point, b: Point, p: Point) -> u64
     requires a_in { InRange a }
@@ -70,7 +71,8 @@ fn distance2_below(a: Point, b: Point, p: Point, limit: u64) -> Option<u64>
     requires b_in { InRange b }
     requires p_in { InRange p }
     requires differ { a ≡ b → ⊥ }
-    ensures { MatchOption result (limit ≤ (snap_segment a b p).d2) (λ d2. (d2 ≡ (snap_segment a b p).d2) × (d2 < limit)) }
+    ensures { MatchOption result (limit ≤ (snap_segment a b p).d2)
+        (λ d2. (d2 ≡ (snap_segment a b p).d2) × (d2 < limit)) }
 {
     if box_distance2(a, b, p) < limit {
         let d2 = snap_distance2(a, b, p);
@@ -103,7 +105,8 @@ fn snap_on(line: &[Point], p: Point, segment: usize) -> Snap
     requires length { line_length line.now ≤ 100_000_000 }
     requires p_in { InRange p }
     requires segment { segment + 1 < length line.now }
-    ensures { result ≡ after (line_length (take (suc segment) line.now)) (segment_snap line.now p segment) }
+    ensures { result
+        ≡ after (line_length (take (suc segment) line.now)) (segment_snap line.now p segment) }
 {
     let before = sum_of_segments(&line[..segment + 1]) as u32;
     let snap = snap_segment(line[segment], line[segment + 1], p);
@@ -119,7 +122,8 @@ pub fn snap_line_below(line: &[Point], p: Point, limit: u64) -> Option<Snap>
     requires line { IsLine line.now }
     requires length { line_length line.now ≤ 100_000_000 }
     requires p_in { InRange p }
-    ensures { result ≡ (if nat_lt (snap_line line.now p).d2 limit then Some (snap_line line.now p) else None) }
+    ensures { result
+        ≡ (if nat_lt (snap_line line.now p).d2 limit then Some (snap_line line.now p) else None) }
 {
     let segment = nearest_segment(line, p, limit)?;
     Some(snap_on(line, p, segment))

@@ -11,8 +11,10 @@ use Rattle.road_network.specs.Stored.{IsStored, edge_of, net_of}
 abbrev pub drafted : Draft → Net
 drafted d = net_of d.nodes.keys d.edges d.points
 
--- the names of the nodes and the edges, the stored edges and the points of all lines belong together
-pub record BelongTogether (nodes names : List ℕ) (edges : List StoredEdge) (points : List Point) : Type 0 where
+-- the names of the nodes and the edges, the stored edges and the points of all lines belong
+-- together
+pub record BelongTogether (nodes names : List ℕ) (edges : List StoredEdge)
+    (points : List Point) : Type 0 where
   pub lawful : IsLawful (net_of nodes edges points)
   pub stored : All (IsStored points) edges
   pub named : names ≡ map (λ e. e.name) edges

@@ -12,11 +12,14 @@ record_line rec rest = codes "network record " ++ decimal rec ++ rest
 abbrev pub fault_text : NetworkFault → List ℕ
 fault_text fault.BadHeader = codes "network: bad header"
 fault_text (fault.FieldCount rec) = record_line rec (codes ": wrong number of fields")
-fault_text (fault.BadNumber rec field) = record_line rec (codes " field " ++ decimal field ++ codes ": bad number")
-fault_text (fault.OutOfRange rec field) = record_line rec (codes " field " ++ decimal field ++ codes ": out of range")
+fault_text (fault.BadNumber rec field) =
+    record_line rec (codes " field " ++ decimal field ++ codes ": bad number")
+fault_text (fault.OutOfRange rec field) =
+    record_line rec (codes " field " ++ decimal field ++ codes ": out of range")
 fault_text (fault.DuplicateEdge rec) = record_line rec (codes ": edge id repeated")
 fault_text (fault.ShortLine rec) = record_line rec (codes ": line too short")
-fault_text (fault.RepeatedPoint rec place) = record_line rec (codes " point " ++ decimal place ++ codes ": point repeated")
+fault_text (fault.RepeatedPoint rec place) =
+    record_line rec (codes " point " ++ decimal place ++ codes ": point repeated")
 fault_text (fault.EdgeTooLong rec) = record_line rec (codes ": edge too long")
 fault_text (fault.TooManyEdges rec) = record_line rec (codes ": too many edges")
 fault_text (fault.TooManyNodes rec) = record_line rec (codes ": too many nodes")

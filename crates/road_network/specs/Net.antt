@@ -1,4 +1,5 @@
--- What a network is to every contract: its nodes with their names, and its edges in the order of the file.
+-- What a network is to every contract: its nodes with their names, and its edges in the order
+-- of the file.
 use Rattle.std.specs.Prelude.{ℕ, zero, suc, ◌≡◌, ◌<◌, ◌≤◌, ◌==◌, ◌++◌, ◌∷◌, [], if◌then◌else◌, List, length, slice_index, slice_index_or}
 use Rattle.std.specs.List.{sum_by}
 use Rattle.polyline_geometry.specs.declared.plane.Point.{Point}
@@ -12,7 +13,8 @@ pub record Edge : Type 0 where
   pub to : ℕ
   pub line : List Point
 
--- a network: node v is the one at place v of `nodes`, the list of their names in the file, and edge e is the one at place e of `edges`
+-- a network: node v is the one at place v of `nodes`, the list of their names in the file, and edge
+-- e is the one at place e of `edges`
 pub record Net : Type 0 where
   pub nodes : List ℕ
   pub edges : List Edge
@@ -73,7 +75,8 @@ pub record IsLawful (n : Net) : Type 0 where
 -- the edges below e that begin at node v, by rising number
 abbrev pub leaving_below : Net → ℕ → ℕ → List EdgeId
 leaving_below n v zero = []
-leaving_below n v (suc e) = if source n e == v then leaving_below n v e ++ (record { 0 = e } ∷ []) else leaving_below n v e
+leaving_below n v (suc e) =
+    if source n e == v then leaving_below n v e ++ (record { 0 = e } ∷ []) else leaving_below n v e
 
 -- the edges that begin at node v, by rising number
 abbrev pub leaving : Net → ℕ → List EdgeId

@@ -18,7 +18,8 @@ use Rattle.road_network.specs.Net.{Edge, Net, point_count}
 -- The fields of a record
 
 -- two readings together; a misspelling of either stands before a value out of range of the other
-abbrev pub both : {A B C : Type 0} → (A → B → C) → Result A NumberFault → Result B NumberFault → Result C NumberFault
+abbrev pub both : {A B C : Type 0} → (A → B → C) → Result A NumberFault → Result B NumberFault
+    → Result C NumberFault
 both f (Ok a) (Ok b) = Ok (f a b)
 both f (Ok a) (Err e) = Err e
 both f (Err Misspelt) b = Err Misspelt
@@ -72,7 +73,8 @@ is_fault OutOfRange (Some OutOfRange) = true
 abbrev pub field_with : NumberFault → List (Option NumberFault) → Option ℕ
 field_with kind readings = option_map (λ i. i + 1) (position (is_fault kind) readings)
 
--- the faults of the fields of record number rec: every misspelling stands before every value out of range
+-- the faults of the fields of record number rec: every misspelling stands before every value
+-- out of range
 abbrev pub field_faults : ℕ → List (Option NumberFault) → List (Option NetworkFault)
 field_faults rec readings =
     option_map (λ i. fault.BadNumber rec i) (field_with Misspelt readings)
@@ -87,9 +89,11 @@ pub record Row : Type 0 where
   pub line : List Point
 
 -- the row that four readings make in record number rec
-abbrev pub row_from : ℕ → Result ℕ NumberFault → Result ℕ NumberFault → Result ℕ NumberFault → Result (List Point) NumberFault → Result Row NetworkFault
+abbrev pub row_from : ℕ → Result ℕ NumberFault → Result ℕ NumberFault → Result ℕ NumberFault
+    → Result (List Point) NumberFault → Result Row NetworkFault
 row_from rec name start end line =
-    unless (first_fault (field_faults rec (result_err name ∷ result_err start ∷ result_err end ∷ result_err line ∷ [])))
+    unless (first_fault (field_faults rec
+    (result_err name ∷ result_err start ∷ result_err end ∷ result_err line ∷ [])))
     (record {
       name = result_unwrap_or name 0;
       «from» = result_unwrap_or start 0;
@@ -97,7 +101,8 @@ row_from rec name start end line =
       line = result_unwrap_or line [];
     })
 
--- the row of record number rec with these fields: an edge's name, the names of its two nodes, and its line
+-- the row of record number rec with these fields: an edge's name, the names of its two nodes,
+-- and its line
 unfoldable pub row_of : ℕ → List (List ℕ) → Result Row NetworkFault
 row_of rec (name ∷ start ∷ end ∷ line ∷ []) =
     row_from rec
@@ -109,7 +114,8 @@ row_of rec fields = Err (fault.FieldCount rec)
 
 -- The records of a file
 
--- the place of a node among the names of the nodes, and these names after a mention of the node: a new one goes last
+-- the place of a node among the names of the nodes, and these names after a mention of the node: a
+-- new one goes last
 abbrev pub place_of : List ℕ → ℕ → ℕ
 place_of nodes name = position_or_len (nat_eq name) nodes
 
@@ -122,7 +128,8 @@ nodes_with nodes r = with_node (with_node nodes r.«from») r.to
 
 -- the edge of a row
 abbrev pub edge_with : List ℕ → Row → Edge
-edge_with nodes r = record { name = r.name; «from» = place_of nodes r.«from»; to = place_of nodes r.to; line = r.line }
+edge_with nodes r = record
+    { name = r.name; «from» = place_of nodes r.«from»; to = place_of nodes r.to; line = r.line }
 
 -- the network with the edge of one more row
 abbrev pub with_row : Net → Row → Net
@@ -135,7 +142,8 @@ with_row n r = record {
 abbrev pub is_same : Point → Point → Bool
 is_same a b = int_eq a.x b.x && int_eq a.y b.y
 
--- the place, from 1, of the first of these points that equals the one before it, where a stands before them at place i
+-- the place, from 1, of the first of these points that equals the one before it, where a stands
+-- before them at place i
 abbrev pub repeated_after : ℕ → Point → List Point → Option ℕ
 repeated_after i a [] = None
 repeated_after i a (b ∷ line) = if is_same b a then Some (i + 1) else repeated_after (i + 1) b line
@@ -153,7 +161,8 @@ line_faults rec line =
     ∷ when (nat_lt 100_000_000 (line_length line)) (fault.EdgeTooLong rec)
     ∷ []
 
--- the limits that a network of so many edges, nodes and points of all lines has passed with record number rec
+-- the limits that a network of so many edges, nodes and points of all lines has passed with
+-- record number rec
 abbrev pub limit_faults : ℕ → ℕ → ℕ → ℕ → List (Option NetworkFault)
 limit_faults rec edges nodes points =
     when (nat_lt 150_000 edges) (fault.TooManyEdges rec)
@@ -170,14 +179,16 @@ abbrev pub row_faults : Net → ℕ → Row → List (Option NetworkFault)
 row_faults n rec r =
     when (has_name n r.name) (fault.DuplicateEdge rec)
     ∷ line_faults rec r.line
-    ++ limit_faults rec (length (with_row n r).edges) (length (with_row n r).nodes) (point_count (with_row n r).edges)
+    ++ limit_faults rec (length (with_row n r).edges) (length (with_row n r).nodes)
+    (point_count (with_row n r).edges)
 
 -- the network with one more row, which stands in the next record; records are numbered from 1
 unfoldable pub add_row : Net → Row → Result Net NetworkFault
 add_row n r = unless (first_fault (row_faults n (length n.edges + 1) r)) (with_row n r)
 
 -- what follows from a reading that succeeded
-abbrev pub next : {A B : Type 0} → Result A NetworkFault → (A → Result B NetworkFault) → Result B NetworkFault
+abbrev pub next : {A B : Type 0} → Result A NetworkFault → (A → Result B NetworkFault)
+    → Result B NetworkFault
 next (Ok a) f = f a
 next (Err e) f = Err e
 
@@ -202,8 +213,12 @@ is_header names = pointwise (pointwise nat_eq) names header
 -- the network of a file with these records, the first of which is the header
 unfoldable pub network_of_records : List (List (List ℕ)) → Result Net NetworkFault
 network_of_records [] = Err fault.BadHeader
-network_of_records (names ∷ records) = if is_header names then add_records no_net records else Err fault.BadHeader
+network_of_records (names ∷ records) =
+    if is_header names then add_records no_net records else Err fault.BadHeader
 
--- the network of a file, or its first fault; the records are those that csv defines, with nothing trimmed
+-- the network of a file, or its first fault; the records are those that csv defines,
+-- with nothing trimmed
 unfoldable pub network_of : List ℕ → Result Net NetworkFault
-network_of bytes = if nat_lt 134_217_728 (length bytes) then Err fault.FileTooLong else network_of_records (records default_config (strip_bom bytes))
+network_of bytes =
+    if nat_lt 134_217_728 (length bytes) then Err fault.FileTooLong
+    else network_of_records (records default_config (strip_bom bytes))

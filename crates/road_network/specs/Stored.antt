@@ -1,4 +1,5 @@
--- How a network is stored: flat lists, with the places where the parts of each edge and each node begin.
+-- How a network is stored: flat lists, with the places where the parts of each edge and
+-- each node begin.
 use Rattle.std.specs.Prelude.{ℕ, ◌≡◌, ◌+◌, ◌<◌, ◌≤◌, List, length, map, slice_index, slice_range}
 use Rattle.std.specs.List.{All}
 use Rattle.polyline_geometry.specs.declared.plane.Point.{Point}
@@ -10,7 +11,8 @@ use Rattle.road_network.specs.Net.{Edge, Net, IsLawful, leaving}
 
 -- an edge whose line is a part of the list of all points
 abbrev pub edge_of : List Point → StoredEdge → Edge
-edge_of points e = record { name = e.name; «from» = e.from.0; to = e.to.0; line = slice_range points e.first e.end }
+edge_of points e = record
+    { name = e.name; «from» = e.from.0; to = e.to.0; line = slice_range points e.first e.end }
 
 -- a network of these stored parts
 abbrev pub net_of : List ℕ → List StoredEdge → List Point → Net
@@ -27,7 +29,8 @@ IsLeavingList n starts leaving_edges v =
     × (slice_index starts (v + 1) ≤ length leaving_edges)
     × (slice_range leaving_edges (slice_index starts v) (slice_index starts (v + 1)) ≡ leaving n v)
 
--- what a stored edge meets: its line is a part of the list of all points, and its length is that of its line
+-- what a stored edge meets: its line is a part of the list of all points, and its length is that
+-- of its line
 pub record IsStored (points : List Point) (e : StoredEdge) : Type 0 where
   pub order : e.first ≤ e.end
   pub within : e.end ≤ length points
@@ -38,4 +41,5 @@ pub record IsKept (a : Inside) : Type 0 where
   pub lawful : IsLawful (shown a)
   pub stored : All (IsStored a.points.items) a.edges.items
   pub starts : length a.starts.items ≡ length a.nodes.items + 1
-  pub lists : (v : ℕ) → v < length a.nodes.items → IsLeavingList (shown a) a.starts.items a.leaving.items v
+  pub lists : (v : ℕ) → v < length a.nodes.items
+      → IsLeavingList (shown a) a.starts.items a.leaving.items v

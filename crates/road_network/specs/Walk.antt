@@ -1,7 +1,7 @@
 -- Walks through a network, their lengths and their order.
--- A walk is kept as the list of its edges FROM THE LAST TO THE FIRST, so that its last edge is the head
--- of the list, a walk that goes one edge further is `e ∷ w`, and the order that reads the edges from the
--- last to the first is the plain order of lists.
+-- A walk is kept as the list of its edges FROM THE LAST TO THE FIRST, so that its last edge is the
+-- head of the list, a walk that goes one edge further is `e ∷ w`, and the order that reads the
+-- edges from the last to the first is the plain order of lists.
 use Rattle.std.specs.Prelude.{ℕ, ◌≡◌, ◌+◌, ◌<◌, ◌⊎◌, List, [], ◌∷◌}
 use Rattle.road_network.specs.Net.{Net, HasEdge, source, target, span}
 
@@ -23,7 +23,8 @@ ReadsBefore (a ∷ x) (b ∷ y) = (a < b) ⊎ ((a ≡ b) × ReadsBefore x y)
 
 -- x is shorter than y, or as long and not behind it
 abbrev pub IsAtMost : Net → List ℕ → List ℕ → Type 0
-IsAtMost n x y = (walk_length n x < walk_length n y) ⊎ ((walk_length n x ≡ walk_length n y) × ReadsBefore x y)
+IsAtMost n x y =
+    (walk_length n x < walk_length n y) ⊎ ((walk_length n x ≡ walk_length n y) × ReadsBefore x y)
 
 -- w is the least walk from s to v
 pub record IsLeastWalk (n : Net) (s : ℕ) (w : List ℕ) (v : ℕ) : Type 0 where

@@ -142,8 +142,10 @@ impl Draft {
         requires few { length line.now ≤ 200_000_000 }
         requires within { All InRange line.now }
         ensures draft { OnOk result (IsDraft self.new) }
-        ensures network { OnOk result (add_row (drafted self.old) (row_with head.now line.now) ≡ Ok (drafted self.new)) }
-        ensures fault { IfErr result (λ e. e ≢ NetworkFault.Memory → add_row (drafted self.old) (row_with head.now line.now) ≡ Err e) }
+        ensures network { OnOk result
+            (add_row (drafted self.old) (row_with head.now line.now) ≡ Ok (drafted self.new)) }
+        ensures fault { IfErr result (λ e. e ≢ NetworkFault.Memory
+            → add_row (drafted self.old) (row_with head.now line.now) ≡ Err e) }
     {
         let rec = self.next_record();
         let (_, is_new) = self.names.insert_full(head.name)?;

@@ -90,7 +90,8 @@ fn write_part(
     place: u32,
     rest: &[u8],
 ) -> Result<(), AllocError>
-    ensures { OnOk result (line.new ≡ line.old ++ record_line rec (part.now ++ decimal place ++ rest.now)) }
+    ensures { OnOk result
+        (line.new ≡ line.old ++ record_line rec (part.now ++ decimal place ++ rest.now)) }
 {
     write_record(line, rec, part)?;
     write_unsigned(u64::from(place), line)?;

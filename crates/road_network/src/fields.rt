@@ -140,10 +140,12 @@ fn read_fields(
     points: &[u8],
     line: &mut List<Point>,
 ) -> Result<RowHead, NetworkFault>
-    ensures row { IfOk result (λ head. row_of rec (name.now ∷ from.now ∷ to.now ∷ points.now ∷ []) ≡ Ok (row_with head line.new)) }
+    ensures row { IfOk result (λ head. row_of rec (name.now ∷ from.now ∷ to.now ∷ points.now ∷ [])
+        ≡ Ok (row_with head line.new)) }
     ensures within { OnOk result (All InRange line.new) }
     ensures few { OnOk result (length line.new ≤ length points.now + 1) }
-    ensures fault { IfErr result (λ e. e ≢ NetworkFault.Memory → row_of rec (name.now ∷ from.now ∷ to.now ∷ points.now ∷ []) ≡ Err e) }
+    ensures fault { IfErr result (λ e. e ≢ NetworkFault.Memory
+        → row_of rec (name.now ∷ from.now ∷ to.now ∷ points.now ∷ []) ≡ Err e) }
 {
     let name = parse_unsigned(name, u64::from(u32::MAX));
     let from = parse_unsigned(from, u64::MAX);
@@ -171,10 +173,12 @@ pub(crate) fn read_row(
     fields: &ByteRecord,
     line: &mut List<Point>,
 ) -> Result<RowHead, NetworkFault>
-    ensures row { IfOk result (λ head. row_of rec (fields_of fields.now) ≡ Ok (row_with head line.new)) }
+    ensures row { IfOk result
+        (λ head. row_of rec (fields_of fields.now) ≡ Ok (row_with head line.new)) }
     ensures within { OnOk result (All InRange line.new) }
     ensures few { OnOk result (length line.new ≤ sum_by length (fields_of fields.now) + 1) }
-    ensures fault { IfErr result (λ e. e ≢ NetworkFault.Memory → row_of rec (fields_of fields.now) ≡ Err e) }
+    ensures fault { IfErr result
+        (λ e. e ≢ NetworkFault.Memory → row_of rec (fields_of fields.now) ≡ Err e) }
 {
     if fields.len() != 4 {
         return Err(NetworkFault::FieldCount(rec));

@@ -20,7 +20,8 @@ const MOST_BYTES: usize = 134_217_728;
 /// Reads the next record into `row`, and says whether there was one.
 fn read_next(reader: &mut Reader<&[u8]>, row: &mut ByteRecord) -> Result<bool, NetworkFault>
     requires { IsBetween reader.old }
-    ensures next { IfOk result (λ found. found ≡ true → IsNext reader.old reader.new (fields_of row.new)) }
+    ensures next { IfOk result
+        (λ found. found ≡ true → IsNext reader.old reader.new (fields_of row.new)) }
     ensures end { IfOk result (λ found. found ≡ false → records_left reader.old ≡ []) }
     ensures memory { IfErr result (λ e. e ≡ NetworkFault.Memory) }
 {
@@ -39,8 +40,10 @@ fn add_record(
     requires draft { IsDraft draft.old }
     requires small { sum_by length (fields_of fields.now) ≤ 134_217_728 }
     ensures draft { OnOk result (IsDraft draft.new) }
-    ensures network { OnOk result (add_record (drafted draft.old) (fields_of fields.now) ≡ Ok (drafted draft.new)) }
-    ensures fault { IfErr result (λ e. e ≢ NetworkFault.Memory → add_record (drafted draft.old) (fields_of fields.now) ≡ Err e) }
+    ensures network { OnOk result
+        (add_record (drafted draft.old) (fields_of fields.now) ≡ Ok (drafted draft.new)) }
+    ensures fault { IfErr result (λ e. e ≢ NetworkFault.Memory
+        → add_record (drafted draft.old) (fields_of fields.now) ≡ Err e) }
 {
     let head = read_row(draft.next_record(), fields, line)?;
     draft.add(&head, line.as_slice())
@@ -55,7 +58,8 @@ fn read_edges(
     requires between { IsBetween reader.old }
     requires small { length (text_left reader.old) ≤ 134_217_728 }
     ensures network { IfOk result (λ n. add_records no_net (records_left reader.old) ≡ Ok n) }
-    ensures fault { IfErr result (λ e. e ≢ NetworkFault.Memory → add_records no_net (records_left reader.old) ≡ Err e) }
+    ensures fault { IfErr result
+        (λ e. e ≢ NetworkFault.Memory → add_records no_net (records_left reader.old) ≡ Err e) }
 {
     let mut draft = Draft::new(alloc);
     let mut line = List::new(alloc);

@@ -12,11 +12,16 @@ use Rattle.route_rebuild.specs.Routes.{chosen_at, no_layer}
 pub record IsChosenPoint (layers : List Layer) (ranks : List (Option ℕ)) (i : ℕ) : Type 0 where
   pub layer : i < length layers
   pub rank : i < length ranks
-  pub among : unwrap_or (slice_index_or ranks i None) 0 < length (slice_index_or layers i no_layer).candidates
+  pub among : unwrap_or (slice_index_or ranks i None) 0
+      < length (slice_index_or layers i no_layer).candidates
 
 -- each point of the piece has one, and each neighbouring pair has a route
-pub record IsChosenRun (n : Net) (p : Params) (layers : List Layer) (ranks : List (Option ℕ)) (piece : Piece) : Type 0 where
+pub record IsChosenRun (n : Net) (p : Params) (layers : List Layer) (ranks : List (Option ℕ))
+    (piece : Piece) : Type 0 where
   pub some : piece.first ≤ piece.last
   pub points : (i : ℕ) → piece.first ≤ i → i ≤ piece.last → IsChosenPoint layers ranks i
-  pub candidates : (i : ℕ) → piece.first ≤ i → i ≤ piece.last → IsCandidate n p (chosen_at layers ranks i)
-  pub routes : (i : ℕ) → piece.first ≤ i → i < piece.last → (r : Route) × IsRoute n p.bound p.back (chosen_at layers ranks i) (chosen_at layers ranks (i + 1)) r
+  pub candidates : (i : ℕ) → piece.first ≤ i → i ≤ piece.last
+      → IsCandidate n p (chosen_at layers ranks i)
+  pub routes : (i : ℕ) → piece.first ≤ i → i < piece.last
+      → (r : Route)
+      × IsRoute n p.bound p.back (chosen_at layers ranks i) (chosen_at layers ranks (i + 1)) r

@@ -9,12 +9,14 @@ use Rattle.matching.specs.RouteBetween.{route_between}
 use Rattle.road_network.specs.Net.{Net, target}
 use Rattle.road_network.specs.declared.Candidate.{Candidate}
 
--- the edges that a route to candidate b adds: none where it is direct, and else its walk and the edge of b
+-- the edges that a route to candidate b adds: none where it is direct, and else its walk and the
+-- edge of b
 abbrev pub edges_of : Candidate → Route → List ℕ
 edges_of b Direct = []
 edges_of b (Over w) = reverse w ++ b.edge.0 ∷ []
 
--- es goes on from the candidate of point i over those of the next k points, by the route of each neighbouring pair
+-- es goes on from the candidate of point i over those of the next k points, by the route of
+-- each neighbouring pair
 abbrev pub GoesOn : Net → ℕ → ℕ → (ℕ → Candidate) → ℕ → ℕ → List ℕ → Type 0
 GoesOn n bound back chosen i zero es = es ≡ []
 GoesOn n bound back chosen i (suc k) es =
@@ -27,15 +29,19 @@ no_layer = record { point = record { x = pos 0; y = pos 0 }; candidates = []; ti
 
 -- the chosen candidate of point i
 abbrev pub chosen_at : List Layer → List (Option ℕ) → ℕ → Candidate
-chosen_at layers ranks i = candidate_at (slice_index_or layers i no_layer) (unwrap_or (slice_index_or ranks i None) 0)
+chosen_at layers ranks i =
+    candidate_at (slice_index_or layers i no_layer) (unwrap_or (slice_index_or ranks i None) 0)
 
 -- es is the route of the piece: the edge of its first chosen candidate, and on over the others
-pub record IsRouteOf (n : Net) (p : Params) (layers : List Layer) (ranks : List (Option ℕ)) (piece : Piece) (es : List ℕ) : Type 0 where
+pub record IsRouteOf (n : Net) (p : Params) (layers : List Layer) (ranks : List (Option ℕ))
+    (piece : Piece) (es : List ℕ) : Type 0 where
   pub rest : List ℕ
   pub begins : es ≡ (chosen_at layers ranks piece.first).edge.0 ∷ rest
-  pub goes_on : GoesOn n p.bound p.back (chosen_at layers ranks) piece.first (piece.last - piece.first) rest
+  pub goes_on : GoesOn n p.bound p.back (chosen_at layers ranks) piece.first
+      (piece.last - piece.first) rest
 
--- the same as a value: the edges that the way to candidate b adds, and those over the next k points after point i
+-- the same as a value: the edges that the way to candidate b adds, and those over the next k points
+-- after point i
 abbrev pub edges_to : Candidate → Option Route → List ℕ
 edges_to b None = []
 edges_to b (Some r) = edges_of b r
@@ -43,7 +49,8 @@ edges_to b (Some r) = edges_of b r
 abbrev pub legs : Net → ℕ → ℕ → (ℕ → Candidate) → ℕ → ℕ → List ℕ
 legs n bound back chosen i zero = []
 legs n bound back chosen i (suc k) =
-    edges_to (chosen (i + 1)) (route_between n bound back (chosen i) (chosen (i + 1))) ++ legs n bound back chosen (i + 1) k
+    edges_to (chosen (i + 1)) (route_between n bound back (chosen i) (chosen (i + 1)))
+    ++ legs n bound back chosen (i + 1) k
 
 -- the route of the piece
 unfoldable pub route_of : Net → Params → List Layer → List (Option ℕ) → Piece → List ℕ
@@ -54,7 +61,9 @@ route_of n p layers ranks piece =
 -- v is the node at the end of the edge of a chosen candidate before the piece's last point
 abbrev pub IsChosenEnd : Net → List Layer → List (Option ℕ) → Piece → ℕ → Type 0
 IsChosenEnd n layers ranks piece v =
-    (k : ℕ) × (piece.first ≤ k) × (k < piece.last) × (v ≡ target n (chosen_at layers ranks k).edge.0)
+    (k : ℕ) × (piece.first ≤ k)
+    × (k < piece.last)
+    × (v ≡ target n (chosen_at layers ranks k).edge.0)
 
 -- the piece of this number
 abbrev pub piece_at : List Piece → ℕ → Piece

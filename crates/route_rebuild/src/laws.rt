@@ -6,7 +6,8 @@ pub fn routes_join()
     ensures { RoutesJoin }
 {}
 
-/// The lengths of the routes of a piece add up to those of its edges, less the ends that lie outside.
+/// The lengths of the routes of a piece add up to those of its edges, less the ends
+/// that lie outside.
 pub fn lengths_add_up()
     ensures { LengthsAddUp }
 {}

@@ -1,12 +1,12 @@
 //! Walks rebuilt from the last edges of rows, and the route of a piece from its chosen candidates.
 //!
 //! - [`walk`] gives the least walk from a row's origin to a listed node.
-//! - [`route`] gives the edges of a matched piece in order of travel: the first point's edge, then for
-//!   each neighbouring pair nothing where its route is direct, and else its walk and the next point's
-//!   edge.
+//! - [`route`] gives the edges of a matched piece in order of travel: the first point's edge,
+//!   then for each neighbouring pair nothing where its route is direct, and else its walk and the
+//!   next point's edge.
 //!
-//! [`laws`] has that the edges of a route join, what their lengths add up to, and that the route is the
-//! value `route_of` in `specs/Routes.antt`.
+//! [`laws`] has that the edges of a route join, what their lengths add up to, and that the route is
+//! the value `route_of` in `specs/Routes.antt`.
 //!
 //! Both hand out edges from the first to the last; the definitions keep walks from the last edge to
 //! the first, so the clauses say `reverse`. The clause to read first is `route` of [`route`]:

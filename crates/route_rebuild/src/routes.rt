@@ -21,8 +21,9 @@ use road_network::{Candidate, EdgeId, Network};
 use std::alloc::{AllocError, Global};
 use trellis::Solved;
 
-/// The route of a piece, in order of travel: the edge of the first point's chosen candidate, then for
-/// each neighbouring pair nothing where its route is direct, and else its walk and the next point's edge.
+/// The route of a piece, in order of travel: the edge of the first point's chosen candidate,
+/// then for each neighbouring pair nothing where its route is direct, and else its walk and the
+/// next point's edge.
 ///
 /// It asks for the row of the node at the end of a chosen candidate's edge where the way on is not
 /// direct, and for no other. `solved` is the match of these layers with the same options.
@@ -39,10 +40,11 @@ pub fn route<R: Rows>(
     requires network { R.network rows.old ≡ net.now }
     requires bound { R.bound rows.old ≡ p.now.bound }
     requires layers { AreLayers net.now p.now layers.now }
-    requires solved { IsMatch (trellis net.now p.now) layers.now solved.now.ranks solved.now.pieces solved.now.tables }
+    requires solved { IsMatch (trellis net.now p.now) layers.now solved.now.ranks solved.now.pieces
+        solved.now.tables }
     requires piece { piece < length solved.now.pieces }
-    ensures route { IfOk result
-        (λ es. IsRouteOf net.now p.now layers.now solved.now.ranks (piece_at solved.now.pieces piece) (numbers es)) }
+    ensures route { IfOk result (λ es. IsRouteOf net.now p.now layers.now solved.now.ranks
+        (piece_at solved.now.pieces piece) (numbers es)) }
     ensures network { R.network rows.new ≡ R.network rows.old }
     ensures bound { R.bound rows.new ≡ R.bound rows.old }
     ensures source { R.source rows.new ≡ R.source rows.old }
@@ -85,9 +87,10 @@ fn follow<R: Rows>(alloc: Global, rows: &mut R, run: &Run) -> Result<List<EdgeId
     requires options { IsAccepted run.now.params.now }
     requires network { R.network rows.old ≡ run.now.net.now }
     requires bound { R.bound rows.old ≡ run.now.params.now.bound }
-    requires chosen { IsChosenRun run.now.net.now run.now.params.now run.now.layers.now run.now.ranks.now run.now.piece }
-    ensures route { IfOk result
-        (λ es. IsRouteOf run.now.net.now run.now.params.now run.now.layers.now run.now.ranks.now run.now.piece (numbers es)) }
+    requires chosen { IsChosenRun run.now.net.now run.now.params.now run.now.layers.now
+        run.now.ranks.now run.now.piece }
+    ensures route { IfOk result (λ es. IsRouteOf run.now.net.now run.now.params.now
+        run.now.layers.now run.now.ranks.now run.now.piece (numbers es)) }
     ensures network { R.network rows.new ≡ R.network rows.old }
     ensures bound { R.bound rows.new ≡ R.bound rows.old }
     ensures source { R.source rows.new ≡ R.source rows.old }
@@ -130,7 +133,8 @@ fn go_on<R: Rows>(
     ensures bound { R.bound rows.new ≡ R.bound rows.old }
     ensures source { R.source rows.new ≡ R.source rows.old }
     ensures held { Extends (R.held rows.old) (R.held rows.new) }
-    ensures learned { LearnsOnly (R.known rows.old) (R.known rows.new) (λ v. v ≡ target net.now a.now.edge.0) }
+    ensures learned { LearnsOnly (R.known rows.old) (R.known rows.new)
+        (λ v. v ≡ target net.now a.now.edge.0) }
 {
     net.known();
     if a.edge == b.edge && a.offset <= b.offset + p.back {
@@ -155,13 +159,14 @@ fn walk_between<R: Rows>(
     requires walk { (w : List ℕ)
         × IsWalk net.now (target net.now a.now.edge.0) w (source net.now b.now.edge.0)
         × (walk_length net.now w ≤ R.bound rows.old) }
-    ensures least { IfOk result (λ es.
-        IsLeastWalk net.now (target net.now a.now.edge.0) (reverse (numbers es)) (source net.now b.now.edge.0)) }
+    ensures least { IfOk result (λ es. IsLeastWalk net.now (target net.now a.now.edge.0)
+        (reverse (numbers es)) (source net.now b.now.edge.0)) }
     ensures network { R.network rows.new ≡ R.network rows.old }
     ensures bound { R.bound rows.new ≡ R.bound rows.old }
     ensures source { R.source rows.new ≡ R.source rows.old }
     ensures held { Extends (R.held rows.old) (R.held rows.new) }
-    ensures learned { LearnsOnly (R.known rows.old) (R.known rows.new) (λ v. v ≡ target net.now a.now.edge.0) }
+    ensures learned { LearnsOnly (R.known rows.old) (R.known rows.new)
+        (λ v. v ≡ target net.now a.now.edge.0) }
 {
     net.known();
     let row = rows.row(net.to(a.edge))?;

@@ -33,9 +33,11 @@ abbrev pub add_to : Option Trace → ℕ → Content → Row → Result Content 
 add_to None line content row = Ok (record content { open_trace = Some (begin_trace row) })
 add_to (Some trace) line content row =
     if trace.id == row.id then
-    (if nat_lt (length trace.fixes) point_limit then Ok (record content { open_trace = Some (extend_trace trace row) })
+    (if nat_lt (length trace.fixes) point_limit
+    then Ok (record content { open_trace = Some (extend_trace trace row) })
     else Err (TraceTooLong line))
-    else Ok (record content { closed = content.closed ++ trace ∷ []; open_trace = Some (begin_trace row) })
+    else Ok (record content
+    { closed = content.closed ++ trace ∷ []; open_trace = Some (begin_trace row) })
 
 unfoldable pub add_row : ℕ → Content → Row → Result Content TraceFault
 add_row line content row = add_to content.open_trace line content row
@@ -52,11 +54,13 @@ add_read line content (Err fault) = Err fault
 -- a line that is not skipped
 abbrev pub add_text : Option Header → ℕ → Content → List ℕ → Result Content TraceFault
 add_text None line content text = add_header content (header_of text)
-add_text (Some header) line content text = add_read line content (row_of header line (fields_of text))
+add_text (Some header) line content text =
+    add_read line content (row_of header line (fields_of text))
 
 -- a line without a CR at its end
 abbrev pub without_return : List ℕ → List ℕ
-without_return line = let last = length line - 1 in if slice_index line last == 13 then take last line else line
+without_return line =
+    let last = length line - 1 in if slice_index line last == 13 then take last line else line
 
 -- the line of this number is read; spaces and tabs alone are skipped
 unfoldable pub read_line : ℕ → Content → List ℕ → Result Content TraceFault

@@ -10,10 +10,12 @@ use Rattle.trace_reader.specs.declared.fault.TraceFault.TheVariants.{Memory}
 
 -- what a reader keeps, beside the traces that it has handed out
 abbrev pub content_of : ContentReader → List Trace → Content
-content_of reader given = record { header = reader.header; closed = given; open_trace = reader.«open» }
+content_of reader given =
+    record { header = reader.header; closed = given; open_trace = reader.«open» }
 
 abbrev pub progress_of : TraceReader → List Trace → Progress
-progress_of reader given = record { bytes = reader.bytes; lines = reader.lines; line = reader.line; content = content_of reader.content given }
+progress_of reader given =
+    record { bytes = reader.bytes; lines = reader.lines; line = reader.line; content = content_of reader.content given }
 
 -- the reader was fed these bytes, which have no fault
 pub record StandsFor (reader : TraceReader) (fed : List ℕ) : Type 0 where
@@ -41,13 +43,16 @@ pub record Fails (fed piece : List ℕ) (old new : List Trace) (fault : TraceFau
   pub known : fault ≢ Memory → (rest ≡ []) × (fault_in (fed ++ piece) ≡ Some fault)
 
 -- what `feed` leaves of a reader that stands for these bytes
-abbrev pub Feeds : List ℕ → List ℕ → TraceReader → List Trace → List Trace → Result (Unit {0}) TraceFault → Type 0
-Feeds fed piece reader old new (Ok done) = StandsFor reader (fed ++ piece) × Closes fed piece old new
+abbrev pub Feeds : List ℕ → List ℕ → TraceReader → List Trace → List Trace
+    → Result (Unit {0}) TraceFault → Type 0
+Feeds fed piece reader old new (Ok done) =
+    StandsFor reader (fed ++ piece) × Closes fed piece old new
 Feeds fed piece reader old new (Err fault) = Fails fed piece old new fault
 
 -- the first n bytes of the piece were taken: the whole piece, or up to the byte that closes the
 -- `most`-th trace of the call
-pub record Takes (fed piece : List ℕ) (most : ℕ) (reader : TraceReader) (old new : List Trace) (n : ℕ) : Type 0 where
+pub record Takes (fed piece : List ℕ) (most : ℕ) (reader : TraceReader) (old new : List Trace)
+    (n : ℕ) : Type 0 where
   pub within : n ≤ length piece
   pub stands : StandsFor reader (fed ++ take n piece)
   pub closes : Closes fed (take n piece) old new
@@ -56,9 +61,11 @@ pub record Takes (fed piece : List ℕ) (most : ℕ) (reader : TraceReader) (old
   pub before : (k : ℕ) → k < n → length (closed (fed ++ take k piece)) < length (closed fed) + most
 
 -- what `feed_some` leaves of a reader that stands for these bytes
-abbrev pub FeedsSome : List ℕ → List ℕ → ℕ → TraceReader → List Trace → List Trace → Result ℕ TraceFault → Type 0
+abbrev pub FeedsSome : List ℕ → List ℕ → ℕ → TraceReader → List Trace → List Trace
+    → Result ℕ TraceFault → Type 0
 FeedsSome fed piece most reader old new (Ok n) = Takes fed piece most reader old new n
-FeedsSome fed piece most reader old new (Err fault) = Fails fed piece old new fault × (length new < length old + most)
+FeedsSome fed piece most reader old new (Err fault) =
+    Fails fed piece old new fault × (length new < length old + most)
 
 -- what `finish` leaves of a reader that stands for the bytes of a whole file: its other traces were
 -- appended, and the reader stands for no bytes
@@ -77,6 +84,7 @@ pub record EndsFaulty (fed : List ℕ) (old new : List Trace) (fault : TraceFaul
   pub due : file_traces fed ≡ closed fed ++ (more ++ rest)
   pub known : fault ≢ Memory → (rest ≡ []) × (file_fault fed ≡ Some fault)
 
-abbrev pub Finishes : List ℕ → TraceReader → List Trace → List Trace → Result (Unit {0}) TraceFault → Type 0
+abbrev pub Finishes : List ℕ → TraceReader → List Trace → List Trace → Result (Unit {0}) TraceFault
+    → Type 0
 Finishes fed reader old new (Ok done) = Ends fed reader old new
 Finishes fed reader old new (Err fault) = EndsFaulty fed old new fault

@@ -29,18 +29,21 @@ pub data Reading : Type 0 where
 
 -- a line ends: a fault of its content is known at its LF
 abbrev pub end_line : Progress → Result Content TraceFault → Reading
-end_line p (Ok content) = reads (record { bytes = p.bytes + 1; lines = p.lines + 1; line = []; content = content })
+end_line p (Ok content) =
+    reads (record { bytes = p.bytes + 1; lines = p.lines + 1; line = []; content = content })
 end_line p (Err fault) = refused p.content.closed fault
 
--- one more byte: the first above the limit of the file is a fault in any case, and else the first of
--- a line above the limit of lines
+-- one more byte: the first above the limit of the file is a fault in any case, and else the first
+-- of a line above the limit of lines
 unfoldable pub read_byte : Reading → ℕ → Reading
 read_byte (refused closed fault) byte = refused closed fault
 read_byte (reads p) byte =
     if nat_le file_limit p.bytes then refused p.content.closed FileTooLong
     else if byte == 10 then end_line p (read_line (p.lines + 1) p.content p.line)
-    else if nat_le line_limit (length p.line) then refused p.content.closed (LineTooLong (p.lines + 1))
-    else reads (record { bytes = p.bytes + 1; lines = p.lines; line = p.line ++ byte ∷ []; content = p.content })
+    else if nat_le line_limit (length p.line)
+    then refused p.content.closed (LineTooLong (p.lines + 1))
+    else reads (record
+    { bytes = p.bytes + 1; lines = p.lines; line = p.line ++ byte ∷ []; content = p.content })
 
 abbrev pub nothing_read : Progress
 nothing_read = record { bytes = 0; lines = 0; line = []; content = no_content }
@@ -76,7 +79,8 @@ pub record Outcome : Type 0 where
 -- the faultless end closes the open trace
 abbrev pub end_content : Content → Option Header → Outcome
 end_content content None = record { traces = content.closed; fault = Some BadHeader }
-end_content content (Some header) = record { traces = content.closed ++ option_to_list content.open_trace; fault = None }
+end_content content (Some header) =
+    record { traces = content.closed ++ option_to_list content.open_trace; fault = None }
 
 abbrev pub end_read : Content → Result Content TraceFault → Outcome
 end_read before (Ok content) = end_content content content.header

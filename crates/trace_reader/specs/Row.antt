@@ -50,12 +50,17 @@ fault_at line None faulty = OutOfRange line (unwrap_or faulty 0 + 1)
 abbrev pub row_fault : ℕ → List (Option NumberFault) → TraceFault
 row_fault line faults = fault_at line (position is_misspelt faults) (position is_some faults)
 
-abbrev pub numbers_of : ℕ → Result ℕ NumberFault → Result ℤ NumberFault → Result ℤ NumberFault → Result ℕ NumberFault → Result Row TraceFault
-numbers_of line (Ok id) (Ok x) (Ok y) (Ok time) = Ok (record { id = id; fix = record { x = x; y = y; time = time } })
-numbers_of line id x y time = Err (row_fault line (result_err id ∷ result_err x ∷ result_err y ∷ result_err time ∷ []))
+abbrev pub numbers_of : ℕ → Result ℕ NumberFault → Result ℤ NumberFault → Result ℤ NumberFault
+    → Result ℕ NumberFault → Result Row TraceFault
+numbers_of line (Ok id) (Ok x) (Ok y) (Ok time) =
+    Ok (record { id = id; fix = record { x = x; y = y; time = time } })
+numbers_of line id x y time =
+    Err (row_fault line (result_err id ∷ result_err x ∷ result_err y ∷ result_err time ∷ []))
 
 -- the row of these fields, in a line of this number
 unfoldable pub row_of : Header → ℕ → List (List ℕ) → Result Row TraceFault
-row_of Untimed line (id ∷ x ∷ y ∷ []) = numbers_of line (u32_of id) (coordinate_of x) (coordinate_of y) (time_of None)
-row_of Timed line (id ∷ x ∷ y ∷ time ∷ []) = numbers_of line (u32_of id) (coordinate_of x) (coordinate_of y) (time_of (Some time))
+row_of Untimed line (id ∷ x ∷ y ∷ []) =
+    numbers_of line (u32_of id) (coordinate_of x) (coordinate_of y) (time_of None)
+row_of Timed line (id ∷ x ∷ y ∷ time ∷ []) =
+    numbers_of line (u32_of id) (coordinate_of x) (coordinate_of y) (time_of (Some time))
 row_of header line fields = Err (FieldCount line)

@@ -12,11 +12,16 @@ use Rattle.trace_reader.specs.declared.fault.TraceFault.TheVariants.{FileTooLong
 abbrev pub start_of : TraceReader → List Trace → Reading
 start_of reader given = reads (progress_of reader given)
 
--- so many bytes more of the line that has begun pass a limit, first that of the file or first its own
+-- so many bytes more of the line that has begun pass a limit, first that of the file or
+-- first its own
 abbrev pub Exceeds : TraceReader → ℕ → TraceFault → Type 0
 Exceeds reader more fault =
-    ((fault ≡ FileTooLong) × (file_limit < reader.bytes + more) × (file_limit + length reader.line ≤ reader.bytes + line_limit))
-    ⊎ ((fault ≡ LineTooLong (reader.lines + 1)) × (line_limit < length reader.line + more) × (reader.bytes + line_limit < file_limit + length reader.line))
+    ((fault ≡ FileTooLong)
+    × (file_limit < reader.bytes + more)
+    × (file_limit + length reader.line ≤ reader.bytes + line_limit))
+    ⊎ ((fault ≡ LineTooLong (reader.lines + 1))
+    × (line_limit < length reader.line + more)
+    × (reader.bytes + line_limit < file_limit + length reader.line))
 
 -- so many bytes more pass no limit
 pub record HasRoom (reader : TraceReader) (more : ℕ) : Type 0 where
@@ -29,10 +34,12 @@ Reaches before bytes old after new = read_bytes (start_of before old) bytes ≡ 
 
 -- these bytes have this fault, unless memory ran out
 abbrev pub Refuses : TraceReader → List ℕ → List Trace → TraceFault → Type 0
-Refuses before bytes old fault = fault ≢ Memory → read_bytes (start_of before old) bytes ≡ refused old fault
+Refuses before bytes old fault =
+    fault ≢ Memory → read_bytes (start_of before old) bytes ≡ refused old fault
 
 -- the first n bytes were taken, of which only the last may close a trace
-pub record TakesLine (before : TraceReader) (bytes : List ℕ) (old : List Trace) (n : ℕ) (after : TraceReader) (new : List Trace) : Type 0 where
+pub record TakesLine (before : TraceReader) (bytes : List ℕ) (old : List Trace) (n : ℕ)
+    (after : TraceReader) (new : List Trace) : Type 0 where
   pub some : 0 < n
   pub within : n ≤ length bytes
   pub reached : Reaches before (take n bytes) old after new
@@ -40,15 +47,20 @@ pub record TakesLine (before : TraceReader) (bytes : List ℕ) (old : List Trace
   pub one : length new ≤ length old + 1
 
 -- the first n bytes of a piece were taken
-pub record TakesLines (before : TraceReader) (piece : List ℕ) (most : Option ℕ) (old : List Trace) (n : ℕ) (after : TraceReader) (new : List Trace) : Type 0 where
+pub record TakesLines (before : TraceReader) (piece : List ℕ) (most : Option ℕ) (old : List Trace)
+    (n : ℕ) (after : TraceReader) (new : List Trace) : Type 0 where
   pub within : n ≤ length piece
   pub reached : Reaches before (take n piece) old after new
   pub whole : is_reached most (length new - length old) ≡ false → n ≡ length piece
   pub no_more : (m : ℕ) → most ≡ Some m → length new ≤ length old + m
-  pub fewer : (k : ℕ) → k < n → is_reached most (length (closed_of (read_bytes (start_of before old) (take k piece))) - length old) ≡ false
+  pub fewer : (k : ℕ) → k < n
+      → is_reached most
+      (length (closed_of (read_bytes (start_of before old) (take k piece))) - length old)
+      ≡ false
 
 -- a piece has a fault, or memory ran out; what was appended is closed before
-pub record FailsLines (before : TraceReader) (piece : List ℕ) (most : Option ℕ) (old : List Trace) (fault : TraceFault) (new : List Trace) : Type 0 where
+pub record FailsLines (before : TraceReader) (piece : List ℕ) (most : Option ℕ) (old : List Trace)
+    (fault : TraceFault) (new : List Trace) : Type 0 where
   pub known : fault ≢ Memory → read_bytes (start_of before old) piece ≡ refused new fault
   pub more : List Trace
   pub grown : new ≡ old ++ more
@@ -57,22 +69,29 @@ pub record FailsLines (before : TraceReader) (piece : List ℕ) (most : Option �
   pub fewer : is_reached most (length new - length old) ≡ false
 
 -- the first bytes of a piece were taken, and more may follow
-pub record IsUnderway (before : TraceReader) (piece : List ℕ) (most : Option ℕ) (old : List Trace) (taken : ℕ) (reader : TraceReader) (into : List Trace) : Type 0 where
+pub record IsUnderway (before : TraceReader) (piece : List ℕ) (most : Option ℕ) (old : List Trace)
+    (taken : ℕ) (reader : TraceReader) (into : List Trace) : Type 0 where
   pub within : taken ≤ length piece
   pub reached : Reaches before (take taken piece) old reader into
   pub longer : length old ≤ length into
   pub no_more : (m : ℕ) → most ≡ Some m → length into ≤ length old + m
-  pub fewer : (k : ℕ) → k < taken → is_reached most (length (closed_of (read_bytes (start_of before old) (take k piece))) - length old) ≡ false
+  pub fewer : (k : ℕ) → k < taken
+      → is_reached most
+      (length (closed_of (read_bytes (start_of before old) (take k piece))) - length old)
+      ≡ false
 
 -- the reader was at the end of the file: the other traces were appended, and it begins anew
-pub record EndsFile (before : TraceReader) (old : List Trace) (after : TraceReader) (new : List Trace) : Type 0 where
+pub record EndsFile (before : TraceReader) (old : List Trace) (after : TraceReader)
+    (new : List Trace) : Type 0 where
   pub outcome : end_reading (start_of before old) ≡ record { traces = new; fault = None }
   pub anew : progress_of after [] ≡ nothing_read
 
 -- the file has a fault at its end, or memory ran out
-pub record FailsEnd (before : TraceReader) (old : List Trace) (fault : TraceFault) (new : List Trace) : Type 0 where
+pub record FailsEnd (before : TraceReader) (old : List Trace) (fault : TraceFault)
+    (new : List Trace) : Type 0 where
   pub more : List Trace
   pub grown : new ≡ old ++ more
   pub rest : List Trace
   pub due : (end_reading (start_of before old)).traces ≡ new ++ rest
-  pub known : fault ≢ Memory → end_reading (start_of before old) ≡ record { traces = new; fault = Some fault }
+  pub known : fault ≢ Memory
+      → end_reading (start_of before old) ≡ record { traces = new; fault = Some fault }

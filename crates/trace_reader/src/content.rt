@@ -43,8 +43,8 @@ impl ContentReader {
         line: &[u8],
         into: &mut List<Trace>,
     ) -> Result<(), TraceFault>
-        ensures ok { OnOk result
-            (read_line number (content_of self.old into.old) line.now ≡ Ok (content_of self.new into.new)) }
+        ensures ok { OnOk result (read_line number (content_of self.old into.old) line.now
+            ≡ Ok (content_of self.new into.new)) }
         ensures err { IfErr result (λ fault. fault ≢ TraceFault.Memory
             → read_line number (content_of self.old into.old) line.now ≡ Err fault) }
         ensures same { OnErr result (into.new ≡ into.old) }
@@ -70,8 +70,8 @@ impl ContentReader {
     }
 
     fn add_row(&mut self, number: u64, row: Row, into: &mut List<Trace>) -> Result<(), TraceFault>
-        ensures ok { OnOk result
-            (add_row number (content_of self.old into.old) row ≡ Ok (content_of self.new into.new)) }
+        ensures ok { OnOk result (add_row number (content_of self.old into.old) row
+            ≡ Ok (content_of self.new into.new)) }
         ensures err { IfErr result (λ fault. fault ≢ TraceFault.Memory
             → add_row number (content_of self.old into.old) row ≡ Err fault) }
         ensures same { OnErr result (into.new ≡ into.old) }
@@ -96,11 +96,12 @@ impl ContentReader {
 
     /// Appends the trace that is open at the end of the file, and begins anew.
     pub fn end(&mut self, into: &mut List<Trace>) -> Result<(), TraceFault>
-        ensures ok { OnOk result
-            (end_content (content_of self.old into.old) self.old.header ≡ record { traces = into.new; fault = None }) }
+        ensures ok { OnOk result (end_content (content_of self.old into.old) self.old.header
+            ≡ record { traces = into.new; fault = None }) }
         ensures anew { OnOk result (content_of self.new [] ≡ no_content) }
         ensures err { IfErr result (λ fault. fault ≢ TraceFault.Memory
-            → end_content (content_of self.old into.old) self.old.header ≡ record { traces = into.old; fault = Some fault }) }
+            → end_content (content_of self.old into.old) self.old.header
+            ≡ record { traces = into.old; fault = Some fault }) }
         ensures same { OnErr result (into.new ≡ into.old) }
     {
         match self.header {

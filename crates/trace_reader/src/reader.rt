@@ -13,8 +13,8 @@ const FILE_LIMIT: u64 = 1_099_511_627_776;
 
 const LINE_LIMIT: usize = 4_096;
 
-/// Reads a trace file that is fed in pieces. It keeps the open trace and the line that has begun, of
-/// at most 4,096 bytes.
+/// Reads a trace file that is fed in pieces. It keeps the open trace and the line that has begun,
+/// of at most 4,096 bytes.
 ///
 /// After a fault every later call answers the same fault and appends nothing.
 #[derive(Drop)]
@@ -49,9 +49,11 @@ impl TraceReader {
 
     /// Appends the traces that this piece closes; where it holds a fault, those closed before it.
     pub fn feed(&mut self, piece: &[u8], into: &mut List<Trace>) -> Result<(), TraceFault>
-        ensures fed { (fed : ListOf ℕ) → StandsFor self.old fed → Feeds fed piece.now self.new into.old into.new result }
+        ensures fed { (fed : ListOf ℕ) → StandsFor self.old fed
+            → Feeds fed piece.now self.new into.old into.new result }
         ensures fails { IfErr result (HasFailed self.new) }
-        ensures again { (fault : TraceFault) → HasFailed self.old fault → (result ≡ Err fault) × (into.new ≡ into.old) }
+        ensures again { (fault : TraceFault) → HasFailed self.old fault
+            → (result ≡ Err fault) × (into.new ≡ into.old) }
     {
         match self.take(piece, None, into) {
             Ok(_) => Ok(()),
@@ -59,8 +61,8 @@ impl TraceReader {
         }
     }
 
-    /// Takes the whole piece, or its bytes up to the one that closes the `most`-th trace of this call,
-    /// and answers how many.
+    /// Takes the whole piece, or its bytes up to the one that closes the `most`-th trace of this
+    /// call, and answers how many.
     pub fn feed_some(
         &mut self,
         piece: &[u8],
@@ -69,9 +71,11 @@ impl TraceReader {
     ) -> Result<u32, TraceFault>
         requires some { 1 ≤ most }
         requires short { length piece.now < 2 ^ 32 }
-        ensures fed { (fed : ListOf ℕ) → StandsFor self.old fed → FeedsSome fed piece.now most self.new into.old into.new result }
+        ensures fed { (fed : ListOf ℕ) → StandsFor self.old fed
+            → FeedsSome fed piece.now most self.new into.old into.new result }
         ensures fails { IfErr result (HasFailed self.new) }
-        ensures again { (fault : TraceFault) → HasFailed self.old fault → (result ≡ Err fault) × (into.new ≡ into.old) }
+        ensures again { (fault : TraceFault) → HasFailed self.old fault
+            → (result ≡ Err fault) × (into.new ≡ into.old) }
     {
         match self.take(piece, Some(most), into) {
             Ok(taken) => Ok(taken as u32),
@@ -81,9 +85,11 @@ impl TraceReader {
 
     /// Reads the end of the file and appends the last trace; the reader is then as newly opened.
     pub fn finish(&mut self, into: &mut List<Trace>) -> Result<(), TraceFault>
-        ensures fed { (fed : ListOf ℕ) → StandsFor self.old fed → Finishes fed self.new into.old into.new result }
+        ensures fed { (fed : ListOf ℕ) → StandsFor self.old fed
+            → Finishes fed self.new into.old into.new result }
         ensures fails { IfErr result (HasFailed self.new) }
-        ensures again { (fault : TraceFault) → HasFailed self.old fault → (result ≡ Err fault) × (into.new ≡ into.old) }
+        ensures again { (fault : TraceFault) → HasFailed self.old fault
+            → (result ≡ Err fault) × (into.new ≡ into.old) }
     {
         if let Some(fault) = self.fault {
             return Err(fault);
@@ -109,7 +115,8 @@ impl TraceReader {
         ensures err { IfErr result (λ fault. self.old.fault ≡ None
             → FailsLines self.old piece.now most into.old fault into.new) }
         ensures fails { IfErr result (HasFailed self.new) }
-        ensures again { (fault : TraceFault) → HasFailed self.old fault → (result ≡ Err fault) × (into.new ≡ into.old) }
+        ensures again { (fault : TraceFault) → HasFailed self.old fault
+            → (result ≡ Err fault) × (into.new ≡ into.old) }
     {
         if let Some(known) = self.fault {
             return Err(known);
@@ -130,8 +137,10 @@ impl TraceReader {
         most: Option<u32>,
         into: &mut List<Trace>,
     ) -> Result<usize, TraceFault>
-        ensures ok { IfOk result (λ n. TakesLines self.old piece.now most into.old n self.new into.new) }
-        ensures err { IfErr result (λ fault. FailsLines self.old piece.now most into.old fault into.new) }
+        ensures ok { IfOk result
+            (λ n. TakesLines self.old piece.now most into.old n self.new into.new) }
+        ensures err { IfErr result
+            (λ fault. FailsLines self.old piece.now most into.old fault into.new) }
         ensures fault { self.new.fault ≡ self.old.fault }
     {
         let before = into.len();
@@ -165,7 +174,8 @@ impl TraceReader {
     // Takes the last bytes of a line, and its LF.
     fn end_line(&mut self, part: &[u8], into: &mut List<Trace>) -> Result<(), TraceFault>
         requires { HasNoEnd part.now }
-        ensures ok { OnOk result (Reaches self.old (part.now ++ 10 ∷ []) into.old self.new into.new) }
+        ensures ok { OnOk result
+            (Reaches self.old (part.now ++ 10 ∷ []) into.old self.new into.new) }
         ensures err { IfErr result (Refuses self.old (part.now ++ 10 ∷ []) into.old) }
         ensures same { OnErr result (into.new ≡ into.old) }
         ensures one { length into.new ≤ length into.old + 1 }
@@ -186,11 +196,14 @@ impl TraceReader {
     // not copied.
     fn read_line(&mut self, part: &[u8], into: &mut List<Trace>) -> Result<(), TraceFault>
         requires { HasRoom self.old (length part.now) }
-        ensures ok { OnOk result (read_line (self.old.lines + 1) (content_of self.old.content into.old) (self.old.line ++ part.now)
+        ensures ok { OnOk result (read_line (self.old.lines + 1)
+            (content_of self.old.content into.old) (self.old.line ++ part.now)
             ≡ Ok (content_of self.new.content into.new)) }
         ensures line { OnOk result (self.new.line ≡ []) }
         ensures err { IfErr result (λ fault. fault ≢ TraceFault.Memory
-            → read_line (self.old.lines + 1) (content_of self.old.content into.old) (self.old.line ++ part.now) ≡ Err fault) }
+            → read_line (self.old.lines + 1) (content_of self.old.content into.old)
+            (self.old.line ++ part.now)
+            ≡ Err fault) }
         ensures same { OnErr result (into.new ≡ into.old) }
         ensures one { length into.new ≤ length into.old + 1 }
         ensures lines { self.new.lines ≡ self.old.lines }
@@ -210,8 +223,10 @@ impl TraceReader {
     // Keeps bytes of a line that does not end yet.
     fn keep(&mut self, part: &[u8]) -> Result<(), TraceFault>
         requires { HasNoEnd part.now }
-        ensures ok { OnOk result ((given : ListOf Trace) → Reaches self.old part.now given self.new given) }
-        ensures err { IfErr result (λ fault. (given : ListOf Trace) → Refuses self.old part.now given fault) }
+        ensures ok { OnOk result
+            ((given : ListOf Trace) → Reaches self.old part.now given self.new given) }
+        ensures err { IfErr result
+            (λ fault. (given : ListOf Trace) → Refuses self.old part.now given fault) }
         ensures fault { self.new.fault ≡ self.old.fault }
     {
         self.check_limits(part.len())?;

@@ -18,7 +18,8 @@ is_at_most (Some b) c = nat_le b c
 -- the cell, or the way by rank a where that costs less
 abbrev pub offered : Cell → ℕ → Option ℕ → Cell
 offered cell a None = cell
-offered cell a (Some c) = if is_at_most (cell.cost) c then cell else record { cost = Some c; «from» = Some a }
+offered cell a (Some c) =
+    if is_at_most (cell.cost) c then cell else record { cost = Some c; «from» = Some a }
 
 -- the cell with e added to its cost
 abbrev pub raised : Cell → ℕ → Cell

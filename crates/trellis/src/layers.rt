@@ -25,7 +25,8 @@ use std::alloc::{AllocError, Global};
 /// The cells of the first point of a piece: what each candidate costs, without pointer.
 pub fn first_layer(alloc: Global, p: &Params, layer: &Layer) -> Result<Potentials, AllocError>
     requires options { IsAccepted p.now }
-    requires within { (j : ℕ) → j < length layer.now.candidates → (candidate_at layer.now j).d2 ≤ p.now.radius * p.now.radius }
+    requires within { (j : ℕ) → j < length layer.now.candidates
+        → (candidate_at layer.now j).d2 ≤ p.now.radius * p.now.radius }
     ensures { (net : Net) → IfOk result (λ cells. AreFirst (trellis net p.now) layer.now cells) }
 {
     let mut cells = Vec::with_capacity(alloc, layer.candidates.len())?;
@@ -46,7 +47,8 @@ fn ask<R: Rows>(
     from: &Origin,
     cells: &mut [Cell],
 ) -> Result<(), AllocError>
-    requires step { IsStep step.now.net.now step.now.params.now step.now.before.now step.now.layer.now step.now.apart }
+    requires step { IsStep step.now.net.now step.now.params.now step.now.before.now
+        step.now.layer.now step.now.apart }
     requires network { R.network rows.old ≡ step.now.net.now }
     requires bound { R.bound rows.old ≡ step.now.params.now.bound }
     requires has { HasNode step.now.net.now node.0 }
@@ -56,9 +58,11 @@ fn ask<R: Rows>(
     requires fits { from.now.cost ≤ 2 ^ 64 - 2 ^ 43 }
     requires count { length cells.old ≡ length step.now.layer.now.candidates }
     ensures count { length cells.new ≡ length cells.old }
-    ensures each { OnOk result ((j : ℕ) → j < length cells.old →
-        cell_at cells.new j ≡ offered (cell_at cells.old j) from.now.rank
-        (added (Some from.now.cost) ((trellis step.now.net.now step.now.params.now).transition step.now.before.now from.now.rank step.now.layer.now j) 0)) }
+    ensures each { OnOk result ((j : ℕ) → j < length cells.old
+        → cell_at cells.new j ≡ offered (cell_at cells.old j) from.now.rank
+        (added (Some from.now.cost)
+        ((trellis step.now.net.now step.now.params.now).transition
+        step.now.before.now from.now.rank step.now.layer.now j) 0)) }
     ensures network { R.network rows.new ≡ R.network rows.old }
     ensures bound { R.bound rows.new ≡ R.bound rows.old }
     ensures source { R.source rows.new ≡ R.source rows.old }
@@ -78,7 +82,8 @@ fn turn<R: Rows>(
     rank: usize,
     cells: &mut [Cell],
 ) -> Result<(), AllocError>
-    requires step { IsStep step.now.net.now step.now.params.now step.now.before.now step.now.layer.now step.now.apart }
+    requires step { IsStep step.now.net.now step.now.params.now step.now.before.now
+        step.now.layer.now step.now.apart }
     requires network { R.network rows.old ≡ step.now.net.now }
     requires bound { R.bound rows.old ≡ step.now.params.now.bound }
     requires rank { rank < length costs.now }
@@ -87,15 +92,18 @@ fn turn<R: Rows>(
     requires small { CostAtMost (2 ^ 64 - 2 ^ 43) costs.now }
     requires count { length cells.old ≡ length step.now.layer.now.candidates }
     ensures count { length cells.new ≡ length cells.old }
-    ensures each { OnOk result ((j : ℕ) → j < length cells.old →
-        cell_at cells.new j ≡ offered (cell_at cells.old j) rank
-        (arrival_by step.now.net.now step.now.params.now step.now.before.now costs.now step.now.layer.now rank j)) }
+    ensures each { OnOk result ((j : ℕ) → j < length cells.old
+        → cell_at cells.new j ≡ offered (cell_at cells.old j) rank
+        (arrival_by step.now.net.now step.now.params.now step.now.before.now costs.now
+        step.now.layer.now rank j)) }
     ensures network { R.network rows.new ≡ R.network rows.old }
     ensures bound { R.bound rows.new ≡ R.bound rows.old }
     ensures source { R.source rows.new ≡ R.source rows.old }
     ensures held { Extends (R.held rows.old) (R.held rows.new) }
-    ensures learned { LearnsOnly (R.known rows.old) (R.known rows.new) (Asks step.now.net.now step.now.before.now costs.now rank) }
-    ensures known { OnOk result (KnowsAll (R.known rows.new) (Asks step.now.net.now step.now.before.now costs.now rank)) }
+    ensures learned { LearnsOnly (R.known rows.old) (R.known rows.new)
+        (Asks step.now.net.now step.now.before.now costs.now rank) }
+    ensures known { OnOk result
+        (KnowsAll (R.known rows.new) (Asks step.now.net.now step.now.before.now costs.now rank)) }
 {
     match costs[rank].cost {
         Some(cost) => {
@@ -119,7 +127,8 @@ fn offer_ways<R: Rows>(
     costs: &[Cell],
     cells: &mut [Cell],
 ) -> Result<(), AllocError>
-    requires step { IsStep step.now.net.now step.now.params.now step.now.before.now step.now.layer.now step.now.apart }
+    requires step { IsStep step.now.net.now step.now.params.now step.now.before.now
+        step.now.layer.now step.now.apart }
     requires network { R.network rows.old ≡ step.now.net.now }
     requires bound { R.bound rows.old ≡ step.now.params.now.bound }
     requires costs_count { length costs.now ≡ length step.now.before.now.candidates }
@@ -128,14 +137,19 @@ fn offer_ways<R: Rows>(
     requires count { length cells.old ≡ length step.now.layer.now.candidates }
     requires empty { (j : ℕ) → j < length cells.old → cell_at cells.old j ≡ empty_cell }
     ensures count { length cells.new ≡ length cells.old }
-    ensures each { OnOk result ((j : ℕ) → j < length cells.old →
-        IsLeastWay (λ a. arrival_by step.now.net.now step.now.params.now step.now.before.now costs.now step.now.layer.now a j) (length costs.now) (cell_at cells.new j)) }
+    ensures each { OnOk result ((j : ℕ) → j < length cells.old
+        → IsLeastWay
+        (λ a. arrival_by step.now.net.now step.now.params.now step.now.before.now costs.now
+        step.now.layer.now a j)
+        (length costs.now) (cell_at cells.new j)) }
     ensures network { R.network rows.new ≡ R.network rows.old }
     ensures bound { R.bound rows.new ≡ R.bound rows.old }
     ensures source { R.source rows.new ≡ R.source rows.old }
     ensures held { Extends (R.held rows.old) (R.held rows.new) }
-    ensures learned { LearnsOnly (R.known rows.old) (R.known rows.new) (AsksBelow step.now.net.now step.now.before.now costs.now (length costs.now)) }
-    ensures known { OnOk result (KnowsAll (R.known rows.new) (AsksBelow step.now.net.now step.now.before.now costs.now (length costs.now))) }
+    ensures learned { LearnsOnly (R.known rows.old) (R.known rows.new)
+        (AsksBelow step.now.net.now step.now.before.now costs.now (length costs.now)) }
+    ensures known { OnOk result (KnowsAll (R.known rows.new)
+        (AsksBelow step.now.net.now step.now.before.now costs.now (length costs.now))) }
 {
     for rank in 0..costs.len() {
         turn(rows, step, costs, rank, cells)?;
@@ -150,7 +164,8 @@ fn fill<R: Rows>(
     costs: &[Cell],
     cells: &mut [Cell],
 ) -> Result<(), AllocError>
-    requires step { IsStep step.now.net.now step.now.params.now step.now.before.now step.now.layer.now step.now.apart }
+    requires step { IsStep step.now.net.now step.now.params.now step.now.before.now
+        step.now.layer.now step.now.apart }
     requires network { R.network rows.old ≡ step.now.net.now }
     requires bound { R.bound rows.old ≡ step.now.params.now.bound }
     requires costs_count { length costs.now ≡ length step.now.before.now.candidates }
@@ -159,14 +174,19 @@ fn fill<R: Rows>(
     requires count { length cells.old ≡ length step.now.layer.now.candidates }
     requires empty { (j : ℕ) → j < length cells.old → cell_at cells.old j ≡ empty_cell }
     ensures count { length cells.new ≡ length cells.old }
-    ensures each { OnOk result ((j : ℕ) → j < length cells.old →
-        IsLeastWay (λ a. by_way_of (trellis step.now.net.now step.now.params.now) step.now.before.now costs.now step.now.layer.now a j) (length costs.now) (cell_at cells.new j)) }
+    ensures each { OnOk result ((j : ℕ) → j < length cells.old
+        → IsLeastWay
+        (λ a. by_way_of (trellis step.now.net.now step.now.params.now) step.now.before.now
+        costs.now step.now.layer.now a j)
+        (length costs.now) (cell_at cells.new j)) }
     ensures network { R.network rows.new ≡ R.network rows.old }
     ensures bound { R.bound rows.new ≡ R.bound rows.old }
     ensures source { R.source rows.new ≡ R.source rows.old }
     ensures held { Extends (R.held rows.old) (R.held rows.new) }
-    ensures learned { LearnsOnly (R.known rows.old) (R.known rows.new) (AsksBelow step.now.net.now step.now.before.now costs.now (length costs.now)) }
-    ensures known { OnOk result (KnowsAll (R.known rows.new) (AsksBelow step.now.net.now step.now.before.now costs.now (length costs.now))) }
+    ensures learned { LearnsOnly (R.known rows.old) (R.known rows.new)
+        (AsksBelow step.now.net.now step.now.before.now costs.now (length costs.now)) }
+    ensures known { OnOk result (KnowsAll (R.known rows.new)
+        (AsksBelow step.now.net.now step.now.before.now costs.now (length costs.now))) }
 {
     step.net.known();
     offer_ways(rows, step, costs, cells)?;
@@ -194,13 +214,16 @@ pub fn next_layer<R: Rows>(
     requires count { length costs.now ≡ length before.now.candidates }
     requires few { length before.now.candidates ≤ 2 ^ 32 }
     requires small { CostAtMost (2 ^ 64 - 2 ^ 43) costs.now }
-    ensures cells { IfOk result (λ cells. AreNext (trellis net.now p.now) before.now costs.now layer.now cells) }
+    ensures cells { IfOk result
+        (λ cells. AreNext (trellis net.now p.now) before.now costs.now layer.now cells) }
     ensures network { R.network rows.new ≡ R.network rows.old }
     ensures bound { R.bound rows.new ≡ R.bound rows.old }
     ensures source { R.source rows.new ≡ R.source rows.old }
     ensures held { Extends (R.held rows.old) (R.held rows.new) }
-    ensures learned { LearnsOnly (R.known rows.old) (R.known rows.new) (AsksBelow net.now before.now costs.now (length costs.now)) }
-    ensures known { OnOk result (KnowsAll (R.known rows.new) (AsksBelow net.now before.now costs.now (length costs.now))) }
+    ensures learned { LearnsOnly (R.known rows.old) (R.known rows.new)
+        (AsksBelow net.now before.now costs.now (length costs.now)) }
+    ensures known { OnOk result
+        (KnowsAll (R.known rows.new) (AsksBelow net.now before.now costs.now (length costs.now))) }
 {
     let step = Step {
         net,

@@ -27,7 +27,8 @@ pub struct Step<'a> {
     pub apart: u32,
 }
 
-/// A candidate of the layer before, with its rank, and the cost of the best sequence that ends there.
+/// A candidate of the layer before, with its rank, and the cost of the best sequence
+/// that ends there.
 #[derive(Clone, Copy)]
 pub struct Origin {
     pub rank: u32,
@@ -61,13 +62,17 @@ pub fn candidate(layer: &Layer, rank: usize) -> Candidate
 
 /// What it costs to come to candidate j, without what j itself costs, if there is a route.
 fn way(step: &Step, row: &Row, from: &Origin, j: usize) -> Option<u64>
-    requires step { IsStep step.now.net.now step.now.params.now step.now.before.now step.now.layer.now step.now.apart }
-    requires row { IsRow step.now.net.now step.now.params.now.bound (target step.now.net.now from.now.candidate.edge.0) row.now }
+    requires step { IsStep step.now.net.now step.now.params.now step.now.before.now
+        step.now.layer.now step.now.apart }
+    requires row { IsRow step.now.net.now step.now.params.now.bound
+        (target step.now.net.now from.now.candidate.edge.0) row.now }
     requires rank { from.now.rank < length step.now.before.now.candidates }
     requires candidate { from.now.candidate ≡ candidate_at step.now.before.now from.now.rank }
     requires fits { from.now.cost ≤ 2 ^ 64 - 2 ^ 43 }
     requires in_layer { j < length step.now.layer.now.candidates }
-    ensures { result ≡ added (Some from.now.cost) ((trellis step.now.net.now step.now.params.now).transition step.now.before.now from.now.rank step.now.layer.now j) 0 }
+    ensures { result ≡ added (Some from.now.cost)
+        ((trellis step.now.net.now step.now.params.now).transition
+        step.now.before.now from.now.rank step.now.layer.now j) 0 }
 {
     step.net.known();
     let to = candidate(step.layer, j);
@@ -79,16 +84,20 @@ fn way(step: &Step, row: &Row, from: &Origin, j: usize) -> Option<u64>
 
 /// Offers each cell its way from a candidate of the layer before.
 pub fn offer_all(step: &Step, row: &Row, from: &Origin, cells: &mut [Cell])
-    requires step { IsStep step.now.net.now step.now.params.now step.now.before.now step.now.layer.now step.now.apart }
-    requires row { IsRow step.now.net.now step.now.params.now.bound (target step.now.net.now from.now.candidate.edge.0) row.now }
+    requires step { IsStep step.now.net.now step.now.params.now step.now.before.now
+        step.now.layer.now step.now.apart }
+    requires row { IsRow step.now.net.now step.now.params.now.bound
+        (target step.now.net.now from.now.candidate.edge.0) row.now }
     requires rank { from.now.rank < length step.now.before.now.candidates }
     requires candidate { from.now.candidate ≡ candidate_at step.now.before.now from.now.rank }
     requires fits { from.now.cost ≤ 2 ^ 64 - 2 ^ 43 }
     requires count { length cells.old ≡ length step.now.layer.now.candidates }
     ensures count { length cells.new ≡ length cells.old }
-    ensures each { (j : ℕ) → j < length cells.old →
-        cell_at cells.new j ≡ offered (cell_at cells.old j) from.now.rank
-        (added (Some from.now.cost) ((trellis step.now.net.now step.now.params.now).transition step.now.before.now from.now.rank step.now.layer.now j) 0) }
+    ensures each { (j : ℕ) → j < length cells.old
+        → cell_at cells.new j ≡ offered (cell_at cells.old j) from.now.rank
+        (added (Some from.now.cost)
+        ((trellis step.now.net.now step.now.params.now).transition
+        step.now.before.now from.now.rank step.now.layer.now j) 0) }
 {
     for j in 0..cells.len() {
         cells[j] = offer(cells[j], from.rank, way(step, row, from, j));
@@ -112,11 +121,14 @@ fn raise(cell: Cell, e: u64) -> Cell
 /// Adds to each cell what its candidate costs.
 pub fn add_emissions(p: &Params, layer: &Layer, cells: &mut [Cell])
     requires options { IsAccepted p.now }
-    requires within { (j : ℕ) → j < length layer.now.candidates → (candidate_at layer.now j).d2 ≤ p.now.radius * p.now.radius }
+    requires within { (j : ℕ) → j < length layer.now.candidates
+        → (candidate_at layer.now j).d2 ≤ p.now.radius * p.now.radius }
     requires count { length cells.old ≡ length layer.now.candidates }
     requires small { CostAtMost (2 ^ 64 - 2 ^ 43 + 2_828_427_124_000) cells.old }
     ensures count { length cells.new ≡ length cells.old }
-    ensures each { (j : ℕ) → j < length cells.old → cell_at cells.new j ≡ raised (cell_at cells.old j) (emission p.now (candidate_at layer.now j).d2) }
+    ensures each { (j : ℕ) → j < length cells.old
+        → cell_at cells.new j
+        ≡ raised (cell_at cells.old j) (emission p.now (candidate_at layer.now j).d2) }
 {
     let candidates = layer.candidates.as_slice();
     for j in 0..cells.len() {

@@ -12,26 +12,32 @@ use Rattle.matching.specs.Places.{IsAt}
 use Rattle.trellis.specs.Asking.{AsksBelow}
 
 -- a piece goes on from layer m to layer l with these cells
-pub record GoesOn {L : Type 0} (t : Trellis L) (m : L) (before : List Cell) (l : L) (cells : List Cell) : Type 0 where
+pub record GoesOn {L : Type 0} (t : Trellis L) (m : L) (before : List Cell) (l : L)
+    (cells : List Cell) : Type 0 where
   pub near : IsTrue (t.near m l)
   pub next : AreNext t m before l cells
   pub rank : ℕ
   pub live : IsLive cells rank
 
--- a piece ends before layer l: it has no candidates, is not near in time, or none of its candidates is live
+-- a piece ends before layer l: it has no candidates, is not near in time, or none of its
+-- candidates is live
 abbrev pub EndsBefore : {L : Type 0} → Trellis L → L → List Cell → L → Type 0
 EndsBefore t m before l =
-    (t.width l ≡ 0) ⊎ (IsTrue (t.near m l) → ⊥)
-    ⊎ ((cells : List Cell) × AreNext t m before l cells × ((j c : ℕ) → (cell_at cells j).cost ≡ Some c → ⊥))
+    (t.width l ≡ 0)
+    ⊎ (IsTrue (t.near m l) → ⊥)
+    ⊎ ((cells : List Cell) × AreNext t m before l cells
+    × ((j c : ℕ) → (cell_at cells j).cost ≡ Some c → ⊥))
 
 -- node v is asked for from layer m, with these cells, where layer l is next
-pub record AsksNext (n : Net) (p : Params) (m : Layer) (cells : List Cell) (l : Layer) (v : ℕ) : Type 0 where
+pub record AsksNext (n : Net) (p : Params) (m : Layer) (cells : List Cell) (l : Layer)
+    (v : ℕ) : Type 0 where
   pub some : 0 < length l.candidates
   pub near : IsTrue ((trellis n p).near m l)
   pub asks : AsksBelow n m cells (length cells) v
 
 -- node v is asked for at point i of a run of layers with these tables
-pub record AsksAt (n : Net) (p : Params) (layers : List Layer) (tables : List (List Cell)) (i v : ℕ) : Type 0 where
+pub record AsksAt (n : Net) (p : Params) (layers : List Layer) (tables : List (List Cell))
+    (i v : ℕ) : Type 0 where
   pub here : Layer
   pub next : Layer
   pub cells : List Cell
@@ -45,4 +51,5 @@ abbrev pub AsksIn : Net → Params → List Layer → List (List Cell) → ℕ �
 AsksIn n p layers tables v = (i : ℕ) × AsksAt n p layers tables i v
 
 abbrev pub AsksBeforeLast : Net → Params → List Layer → List (List Cell) → ℕ → Type 0
-AsksBeforeLast n p layers tables v = (i : ℕ) × (i + 1 < length tables) × AsksAt n p layers tables i v
+AsksBeforeLast n p layers tables v =
+    (i : ℕ) × (i + 1 < length tables) × AsksAt n p layers tables i v

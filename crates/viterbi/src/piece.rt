@@ -60,8 +60,10 @@ fn next_table<R: Rows>(
     ensures source { R.source rows.new ≡ R.source rows.old }
     ensures held { Extends (R.held rows.old) (R.held rows.new) }
     ensures stays { (v : ℕ) → Contains (R.known rows.old) v → Contains (R.known rows.new) v }
-    ensures learned { OnOk result (LearnsOnly (R.known rows.old) (R.known rows.new) (AsksNext net.now p.now before.now costs.now layer.now)) }
-    ensures known { OnOk result (KnowsAll (R.known rows.new) (AsksNext net.now p.now before.now costs.now layer.now)) }
+    ensures learned { OnOk result (LearnsOnly (R.known rows.old) (R.known rows.new)
+        (AsksNext net.now p.now before.now costs.now layer.now)) }
+    ensures known { OnOk result
+        (KnowsAll (R.known rows.new) (AsksNext net.now p.now before.now costs.now layer.now)) }
 {
     if layer.candidates.len() == 0 {
         return Ok(None);
@@ -91,14 +93,17 @@ fn piece_tables<R: Rows>(
     requires some { 0 < length layers.now }
     requires candidate { (l : Layer) → l ≡ slice_index_or layers.now 0 l → 0 < length l.candidates }
     ensures run { IfOk result (λ tables. IsRun (trellis net.now p.now) layers.now tables) }
-    ensures piece { IfOk result (λ tables. IsPiece (trellis net.now p.now) layers.now (length tables)) }
+    ensures piece { IfOk result
+        (λ tables. IsPiece (trellis net.now p.now) layers.now (length tables)) }
     ensures network { R.network rows.new ≡ R.network rows.old }
     ensures bound { R.bound rows.new ≡ R.bound rows.old }
     ensures source { R.source rows.new ≡ R.source rows.old }
     ensures held { Extends (R.held rows.old) (R.held rows.new) }
     ensures stays { (v : ℕ) → Contains (R.known rows.old) v → Contains (R.known rows.new) v }
-    ensures learned { IfOk result (λ tables. LearnsOnly (R.known rows.old) (R.known rows.new) (AsksIn net.now p.now layers.now tables)) }
-    ensures known { IfOk result (λ tables. KnowsAll (R.known rows.new) (AsksIn net.now p.now layers.now tables)) }
+    ensures learned { IfOk result (λ tables. LearnsOnly (R.known rows.old) (R.known rows.new)
+        (AsksIn net.now p.now layers.now tables)) }
+    ensures known { IfOk result
+        (λ tables. KnowsAll (R.known rows.new) (AsksIn net.now p.now layers.now tables)) }
 {
     net.known();
     let first = first_layer(alloc, p, &layers[0])?;
@@ -118,8 +123,10 @@ fn piece_tables<R: Rows>(
 /// The cell after the last point: the least cost there, and the least rank that has it.
 fn last_cell(tables: &[Potentials]) -> Cell
     requires some { 0 < length tables.now }
-    requires narrow { (cells : ListOf Cell) → IsAt tables.now (length tables.now - 1) cells → length cells ≤ 2 ^ 32 }
-    ensures { (cells : ListOf Cell) → IsAt tables.now (length tables.now - 1) cells → IsLeastCell cells result }
+    requires narrow { (cells : ListOf Cell) → IsAt tables.now (length tables.now - 1) cells
+        → length cells ≤ 2 ^ 32 }
+    ensures { (cells : ListOf Cell) → IsAt tables.now (length tables.now - 1) cells
+        → IsLeastCell cells result }
 {
     least_cell(tables[tables.len() - 1].as_slice())
 }
@@ -146,15 +153,19 @@ pub fn match_piece<R: Rows>(
     requires bound { R.bound rows.old ≡ p.now.bound }
     requires layers { AreLayers net.now p.now layers.now }
     requires first { first < length layers.now }
-    requires candidate { (l : Layer) → l ≡ slice_index_or layers.now first l → 0 < length l.candidates }
-    ensures piece { IfOk result (λ one. IsPieceFrom (trellis net.now p.now) layers.now first one.piece one.ranks one.tables) }
+    requires candidate { (l : Layer) → l ≡ slice_index_or layers.now first l
+        → 0 < length l.candidates }
+    ensures piece { IfOk result (λ one. IsPieceFrom (trellis net.now p.now) layers.now first
+        one.piece one.ranks one.tables) }
     ensures network { R.network rows.new ≡ R.network rows.old }
     ensures bound { R.bound rows.new ≡ R.bound rows.old }
     ensures source { R.source rows.new ≡ R.source rows.old }
     ensures held { Extends (R.held rows.old) (R.held rows.new) }
     ensures stays { (v : ℕ) → Contains (R.known rows.old) v → Contains (R.known rows.new) v }
-    ensures learned { IfOk result (λ one. LearnsOnly (R.known rows.old) (R.known rows.new) (IsAskedIn (trellis net.now p.now) (end_of net.now) layers.now one.piece)) }
-    ensures known { IfOk result (λ one. KnowsAll (R.known rows.new) (IsAskedIn (trellis net.now p.now) (end_of net.now) layers.now one.piece)) }
+    ensures learned { IfOk result (λ one. LearnsOnly (R.known rows.old) (R.known rows.new)
+        (IsAskedIn (trellis net.now p.now) (end_of net.now) layers.now one.piece)) }
+    ensures known { IfOk result (λ one. KnowsAll (R.known rows.new)
+        (IsAskedIn (trellis net.now p.now) (end_of net.now) layers.now one.piece)) }
 {
     let here = from_point(layers, first as usize);
     let tables = piece_tables(alloc, net, p, rows, here)?;

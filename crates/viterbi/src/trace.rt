@@ -50,7 +50,8 @@ fn add_missing(alloc: Global, solved: &mut Solved) -> Result<(), AllocError>
 
 /// Appends a piece.
 fn add_piece(solved: &mut Solved, one: OnePiece) -> Result<(), AllocError>
-    ensures ranks { OnOk result (solved.new.ranks ≡ solved.old.ranks ++ map (λ r. Some r) one.ranks) }
+    ensures ranks { OnOk result
+        (solved.new.ranks ≡ solved.old.ranks ++ map (λ r. Some r) one.ranks) }
     ensures pieces { OnOk result (solved.new.pieces ≡ solved.old.pieces ++ one.piece ∷ []) }
     ensures tables { OnOk result (solved.new.tables ≡ solved.old.tables ++ one.tables) }
 {
@@ -64,8 +65,8 @@ fn add_piece(solved: &mut Solved, one: OnePiece) -> Result<(), AllocError>
     append_tables(&mut solved.tables, tables)
 }
 
-/// Matches the point at place `at`, and the piece that it begins where it has a candidate. Gives the
-/// place of the next point.
+/// Matches the point at place `at`, and the piece that it begins where it has a candidate. Gives
+/// the place of the next point.
 fn go_on<R: Rows>(
     alloc: Global,
     net: &Network,
@@ -80,8 +81,10 @@ fn go_on<R: Rows>(
     requires bound { R.bound rows.old ≡ p.now.bound }
     requires layers { AreLayers net.now p.now layers.now }
     requires at { at < length layers.now }
-    requires so_far { IsMatchBefore (trellis net.now p.now) layers.now at solved.old.ranks solved.old.pieces solved.old.tables }
-    ensures so_far { IfOk result (λ next. IsMatchBefore (trellis net.now p.now) layers.now next solved.new.ranks solved.new.pieces solved.new.tables) }
+    requires so_far { IsMatchBefore (trellis net.now p.now) layers.now at solved.old.ranks
+        solved.old.pieces solved.old.tables }
+    ensures so_far { IfOk result (λ next. IsMatchBefore (trellis net.now p.now) layers.now next
+        solved.new.ranks solved.new.pieces solved.new.tables) }
     ensures nearer { IfOk result (λ next. at < next) }
     ensures network { R.network rows.new ≡ R.network rows.old }
     ensures bound { R.bound rows.new ≡ R.bound rows.old }
@@ -89,8 +92,10 @@ fn go_on<R: Rows>(
     ensures held { Extends (R.held rows.old) (R.held rows.new) }
     ensures stays { (v : ℕ) → Contains (R.known rows.old) v → Contains (R.known rows.new) v }
     ensures asked { OnOk result ((before : ListOf ℕ)
-        → HasAsked (trellis net.now p.now) (end_of net.now) layers.now solved.old.pieces before (R.known rows.old)
-        → HasAsked (trellis net.now p.now) (end_of net.now) layers.now solved.new.pieces before (R.known rows.new)) }
+        → HasAsked (trellis net.now p.now) (end_of net.now) layers.now solved.old.pieces before
+        (R.known rows.old)
+        → HasAsked (trellis net.now p.now) (end_of net.now) layers.now solved.new.pieces before
+        (R.known rows.new)) }
 {
     if layers[at].candidates.len() == 0 {
         add_missing(alloc, solved)?;
@@ -114,14 +119,17 @@ pub fn match_trace<R: Rows>(
     requires network { R.network rows.old ≡ net.now }
     requires bound { R.bound rows.old ≡ p.now.bound }
     requires layers { AreLayers net.now p.now layers.now }
-    ensures matched { IfOk result (λ solved. IsMatch (trellis net.now p.now) layers.now solved.ranks solved.pieces solved.tables) }
+    ensures matched { IfOk result (λ solved. IsMatch (trellis net.now p.now) layers.now solved.ranks
+        solved.pieces solved.tables) }
     ensures network { R.network rows.new ≡ R.network rows.old }
     ensures bound { R.bound rows.new ≡ R.bound rows.old }
     ensures source { R.source rows.new ≡ R.source rows.old }
     ensures held { Extends (R.held rows.old) (R.held rows.new) }
     ensures stays { (v : ℕ) → Contains (R.known rows.old) v → Contains (R.known rows.new) v }
-    ensures learned { IfOk result (λ solved. LearnsOnly (R.known rows.old) (R.known rows.new) (IsAsked (trellis net.now p.now) (end_of net.now) layers.now solved.pieces)) }
-    ensures known { IfOk result (λ solved. KnowsAll (R.known rows.new) (IsAsked (trellis net.now p.now) (end_of net.now) layers.now solved.pieces)) }
+    ensures learned { IfOk result (λ solved. LearnsOnly (R.known rows.old) (R.known rows.new)
+        (IsAsked (trellis net.now p.now) (end_of net.now) layers.now solved.pieces)) }
+    ensures known { IfOk result (λ solved. KnowsAll (R.known rows.new)
+        (IsAsked (trellis net.now p.now) (end_of net.now) layers.now solved.pieces)) }
 {
     let mut solved = Solved {
         ranks: List::new(alloc),
