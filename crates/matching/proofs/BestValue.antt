@@ -26,7 +26,7 @@ both true P Q x y e h = inr (e, h)
 both false P Q x y e h = inr (sym e, h)
 
 -- numbers first, and then what a test r says: one of the two always comes first
-in_order : (x y : ℕ) (r b : Bool) (P Q : Type 0) → cond r P Q → (ltb x y || (eqb x y && r)) ≡ b → cond b ((x < y) ⊎ ((x ≡ y) × P)) ((y < x) ⊎ ((y ≡ x) × Q))
+pub in_order : (x y : ℕ) (r b : Bool) (P Q : Type 0) → cond r P Q → (ltb x y || (eqb x y && r)) ≡ b → cond b ((x < y) ⊎ ((x ≡ y) × P)) ((y < x) ⊎ ((y ≡ x) × Q))
 in_order x y r b P Q h e =
     ⊎_elim
     (λ lt. let v : (ltb x y || (eqb x y && r)) ≡ true = grind (arith, nat_tests) in
@@ -40,7 +40,7 @@ in_order x y r b P Q h e =
     (cases_lt y x))
     (cases_lt x y)
 
-not_after-means : (xs ys : List ℕ) (b : Bool) → not_after xs ys ≡ b → cond b (NotAfter xs ys) (NotAfter ys xs)
+pub not_after-means : (xs ys : List ℕ) (b : Bool) → not_after xs ys ≡ b → cond b (NotAfter xs ys) (NotAfter ys xs)
 not_after-means [] ys true h = tt
 not_after-means [] ys false h = absurd (cc)
 not_after-means (x ∷ xs) [] true h = absurd (cc)
@@ -91,7 +91,7 @@ least-found : (price : List ℕ → Option ℕ) (lists : List (List ℕ)) → Is
 least-found price [] = λ c r k q. k
 least-found price (ranks ∷ lists) = lesser-found price lists ranks (price ranks) (least price lists) refl (least-found price lists)
 
-abbrev IsBestOrNone : {L : Type 0} → Trellis L → List L → Option Priced → Type 0
+abbrev pub IsBestOrNone : {L : Type 0} → Trellis L → List L → Option Priced → Type 0
 IsBestOrNone t layers None = (c : ℕ) (ranks : List ℕ) → cost t layers ranks ≡ Some c → ⊥
 IsBestOrNone t layers (Some p) = IsBest t layers p.cost p.ranks
 

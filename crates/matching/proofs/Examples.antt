@@ -3,6 +3,7 @@ use Rattle.std.proofs.Common.{◌≡◌, ℕ, zero, suc, true, [], ◌∷◌, Op
 use Rattle.matching.specs.Sequences.{Trellis}
 use Rattle.matching.specs.Best.{best}
 use Rattle.matching.specs.Committed.{IsCommitted}
+use Rattle.matching.specs.Value.{solution}
 use Rattle.matching.proofs.BestValue.{best_to-is}
 use Rattle.matching.proofs.Committing.{committed_all, committed_none_yet}
 
@@ -57,6 +58,14 @@ point_bare = record { width = 0; emissions = costs_5_45; moves = same_road; time
 
 bare : best listed (point_2 ∷ point_bare ∷ point_0 ∷ []) ≡ None
 bare = refl
+
+-- so a piece ends before it, and the next one begins after it
+two_pieces : solution listed (point_0 ∷ point_1 ∷ point_bare ∷ point_0 ∷ []) ≡ record {
+  ranks = Some 1 ∷ Some 0 ∷ None ∷ Some 0 ∷ [];
+  pieces = record { first = 0; last = 1; cost = 69 } ∷ record { first = 3; last = 3; cost = 5 } ∷ [];
+}
+unfolding solution
+two_pieces = refl
 
 -- while the roads run side by side nothing is committed
 side_by_side : IsCommitted listed (point_1 ∷ point_0 ∷ []) 0

@@ -17,6 +17,10 @@ pub mod Commits
 pub mod BestValue
 pub mod Routes
 pub mod RouteLengths
+pub mod RouteBetweens
+pub mod Greatest
+pub mod Values
+pub mod Asking
 pub mod Growth
 pub mod Committing
 mod Examples

@@ -10,6 +10,9 @@ pub mod Best
 pub mod Meeting
 pub mod Routes
 pub mod RouteLength
+pub mod RouteBetween
+pub mod Value
+pub mod AskedValue
 pub mod Layers
 pub mod Growth
 pub mod SoFar

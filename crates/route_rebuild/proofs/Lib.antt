@@ -3,3 +3,4 @@ pub mod Learned
 pub mod RouteSoFar
 pub mod ChosenRun
 pub mod Joining
+pub mod RouteValue

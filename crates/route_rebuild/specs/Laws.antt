@@ -5,10 +5,10 @@ use Rattle.matching.specs.declared.parts.Layer.{Layer}
 use Rattle.matching.specs.declared.parts.Piece.{Piece}
 use Rattle.matching.specs.Layers.{IsCandidate}
 use Rattle.matching.specs.Routes.{Route, Direct, Over, IsTheRoute, route_length}
-use Rattle.road_network.specs.Net.{Net, source, span, target}
+use Rattle.road_network.specs.Net.{Net, IsLawful, source, span, target}
 use Rattle.road_network.specs.Walk.{Leads}
 use Rattle.road_network.specs.declared.Candidate.{Candidate}
-use Rattle.route_rebuild.specs.Routes.{IsRouteOf, chosen_at}
+use Rattle.route_rebuild.specs.Routes.{IsRouteOf, chosen_at, route_of}
 
 -- the chosen candidates of a piece are candidates of this network
 abbrev pub AreCandidates : Net → Params → (ℕ → Candidate) → Piece → Type 0
@@ -49,3 +49,9 @@ LengthsAddUp =
     × AddUp n p.bound p.back (chosen_at layers ranks) piece.first (piece.last - piece.first) lengths moves
     × (lengths + (chosen_at layers ranks piece.first).offset + (span n (chosen_at layers ranks piece.last).edge.0 - (chosen_at layers ranks piece.last).offset)
     ≡ edges_length n es + moves)
+
+-- whatever is the route of a piece is the value
+abbrev pub RoutesAreTheValue : Type 0
+RoutesAreTheValue =
+    (n : Net) (p : Params) (layers : List Layer) (ranks : List (Option ℕ)) (piece : Piece) (es : List ℕ)
+    → IsLawful n → IsRouteOf n p layers ranks piece es → es ≡ route_of n p layers ranks piece

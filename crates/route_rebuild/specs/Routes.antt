@@ -1,10 +1,11 @@
 -- The route of a piece: over its chosen candidates, in order of travel.
-use Rattle.std.specs.Prelude.{ℕ, zero, suc, ◌≡◌, ◌+◌, ◌-◌, ◌<◌, ◌≤◌, List, [], ◌∷◌, ◌++◌, Option, None, pos, reverse, slice_index_or, unwrap_or}
+use Rattle.std.specs.Prelude.{ℕ, zero, suc, ◌≡◌, ◌+◌, ◌-◌, ◌<◌, ◌≤◌, List, [], ◌∷◌, ◌++◌, Option, Some, None, pos, reverse, slice_index_or, unwrap_or}
 use Rattle.cost_model.specs.declared.params.Params.{Params}
 use Rattle.matching.specs.declared.parts.Layer.{Layer}
 use Rattle.matching.specs.declared.parts.Piece.{Piece}
 use Rattle.matching.specs.Layers.{candidate_at}
 use Rattle.matching.specs.Routes.{Route, Direct, Over, IsTheRoute}
+use Rattle.matching.specs.RouteBetween.{route_between}
 use Rattle.road_network.specs.Net.{Net, target}
 use Rattle.road_network.specs.declared.Candidate.{Candidate}
 
@@ -33,6 +34,22 @@ pub record IsRouteOf (n : Net) (p : Params) (layers : List Layer) (ranks : List 
   pub rest : List ℕ
   pub begins : es ≡ (chosen_at layers ranks piece.first).edge.0 ∷ rest
   pub goes_on : GoesOn n p.bound p.back (chosen_at layers ranks) piece.first (piece.last - piece.first) rest
+
+-- the same as a value: the edges that the way to candidate b adds, and those over the next k points after point i
+abbrev pub edges_to : Candidate → Option Route → List ℕ
+edges_to b None = []
+edges_to b (Some r) = edges_of b r
+
+abbrev pub legs : Net → ℕ → ℕ → (ℕ → Candidate) → ℕ → ℕ → List ℕ
+legs n bound back chosen i zero = []
+legs n bound back chosen i (suc k) =
+    edges_to (chosen (i + 1)) (route_between n bound back (chosen i) (chosen (i + 1))) ++ legs n bound back chosen (i + 1) k
+
+-- the route of the piece
+unfoldable pub route_of : Net → Params → List Layer → List (Option ℕ) → Piece → List ℕ
+route_of n p layers ranks piece =
+    (chosen_at layers ranks piece.first).edge.0
+    ∷ legs n p.bound p.back (chosen_at layers ranks) piece.first (piece.last - piece.first)
 
 -- v is the node at the end of the edge of a chosen candidate before the piece's last point
 abbrev pub IsChosenEnd : Net → List Layer → List (Option ℕ) → Piece → ℕ → Type 0

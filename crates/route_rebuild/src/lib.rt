@@ -5,7 +5,8 @@
 //!   each neighbouring pair nothing where its route is direct, and else its walk and the next point's
 //!   edge.
 //!
-//! [`laws`] has that the edges of a route join, and what their lengths add up to.
+//! [`laws`] has that the edges of a route join, what their lengths add up to, and that the route is the
+//! value `route_of` in `specs/Routes.antt`.
 //!
 //! Both hand out edges from the first to the last; the definitions keep walks from the last edge to
 //! the first, so the clauses say `reverse`. The clause to read first is `route` of [`route`]:
