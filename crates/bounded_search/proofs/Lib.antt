@@ -3,6 +3,7 @@ pub mod RowChecks
 pub mod OneRow
 pub mod LabelSetting
 pub mod RowOfLabels
+pub mod WaitingWords
 pub mod WaitingNodes
 pub mod TouchedNodes
 pub mod KnownNodes
