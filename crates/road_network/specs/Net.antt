@@ -3,6 +3,7 @@ use Rattle.std.specs.Prelude.{ℕ, zero, suc, ◌≡◌, ◌<◌, ◌≤◌, ◌
 use Rattle.std.specs.List.{sum_by}
 use Rattle.polyline_geometry.specs.declared.plane.Point.{Point}
 use Rattle.polyline_geometry.specs.Plane.{IsLine, line_length}
+use Rattle.road_network.specs.declared.Arc.{Arc}
 use Rattle.road_network.specs.declared.EdgeId.{EdgeId}
 
 -- a directed edge: its name in the file, the numbers of its two nodes, and its line
@@ -78,3 +79,7 @@ leaving_below n v (suc e) = if source n e == v then leaving_below n v e ++ (reco
 -- the edges that begin at node v, by rising number
 abbrev pub leaving : Net → ℕ → List EdgeId
 leaving n v = leaving_below n v (length n.edges)
+
+-- an edge with the node where it ends and its length
+abbrev pub arc_of : Net → EdgeId → Arc
+arc_of n e = record { edge = e; to = record { 0 = target n e.0 }; length = span n e.0 }

@@ -6,7 +6,7 @@ use Rattle.polyline_geometry.specs.Plane.{line_length}
 use Rattle.road_network.specs.declared.EdgeId.{EdgeId}
 use Rattle.road_network.specs.declared.StoredEdge.{StoredEdge}
 use Rattle.road_network.specs.declared.Network.TheInside.{Inside}
-use Rattle.road_network.specs.Net.{Edge, Net, IsLawful, leaving}
+use Rattle.road_network.specs.Net.{Edge, Net, IsLawful, arc_of, leaving}
 
 -- an edge whose line is a part of the list of all points
 abbrev pub edge_of : List Point → StoredEdge → Edge
@@ -39,3 +39,4 @@ pub record IsKept (a : Inside) : Type 0 where
   pub stored : All (IsStored a.points.items) a.edges.items
   pub starts : length a.starts.items ≡ length a.nodes.items + 1
   pub lists : (v : ℕ) → v < length a.nodes.items → IsLeavingList (shown a) a.starts.items a.leaving.items v
+  pub arcs : a.arcs.items ≡ map (arc_of (shown a)) a.leaving.items

@@ -6,7 +6,7 @@ ghost use Rattle.road_network.specs.NetworkFile.{add_row, first_fault, limit_fau
 ghost use Rattle.road_network.specs.Drafted.{drafted, IsDraft};
 ghost use Rattle.road_network.specs.Rows.{row_with};
 
-use crate::counting::{place_edges, starts_of};
+use crate::counting::{arcs_of, place_edges, starts_of};
 use crate::fault::NetworkFault;
 use crate::{EdgeId, Network, NodeId, StoredEdge};
 use indexmap::IndexSet;
@@ -182,6 +182,7 @@ impl Draft {
         } = self;
         let starts = starts_of(alloc, nodes.len(), edges.as_slice())?;
         let leaving = place_edges(alloc, starts.as_slice(), edges.as_slice())?;
+        let arcs = arcs_of(alloc, edges.as_slice(), leaving.as_slice())?;
         let nodes = nodes.as_slice().to_vec(alloc)?;
         Ok(Network {
             nodes,
@@ -189,6 +190,7 @@ impl Draft {
             points: points.into_vec(),
             starts,
             leaving,
+            arcs,
         })
     }
 }

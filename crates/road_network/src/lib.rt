@@ -3,7 +3,8 @@
 //! - [`read_network`] reads a network file; [`NetworkFault`] says what is wrong with one, and
 //!   writes the line that says it.
 //! - [`Network`] hands out nodes and edges by their numbers, [`NodeId`] and [`EdgeId`]; an edge
-//!   has an id, two nodes, a line and a length in cm.
+//!   has an id, two nodes, a line and a length in cm. [`Arc`] is an edge seen from the node where
+//!   it begins.
 //! - [`Candidate`] is an edge with the snap of a point to it.
 //!
 //! Contracts see a network as the record `Net` of `specs/Net.antt`. Walks and their order are in
@@ -11,9 +12,9 @@
 //! `specs/NetworkFile.antt`. The clauses to read first are those of [`read_network`].
 #![tactic(auto)]
 
-ghost use Rattle.std.specs.Prelude.{◌≡◌, ◌<◌, ◌≤◌, ℕ, length};
+ghost use Rattle.std.specs.Prelude.{◌≡◌, ◌<◌, ◌≤◌, ℕ, length, map};
 ghost use Rattle.std.specs.List.{All, Contains};
-ghost use Rattle.road_network.specs.Net.{Net, HasEdge, HasNode, IsLawful, edge_line, edge_name, leaving, node_name, source, span, target};
+ghost use Rattle.road_network.specs.Net.{Net, HasEdge, HasNode, IsLawful, arc_of, edge_line, edge_name, leaving, node_name, source, span, target};
 
 mod counting;
 mod draft;
@@ -35,6 +36,14 @@ pub struct NodeId(pub u32);
 /// The number of an edge of a network, from 0: its place in the file.
 #[derive(Clone, Copy, Debug, PartialEq, Eq, PartialOrd, Ord)]
 pub struct EdgeId(pub u32);
+
+/// An edge out of a node, with the node where it ends and its length in cm.
+#[derive(Clone, Copy, Debug, PartialEq, Eq)]
+pub struct Arc {
+    pub edge: EdgeId,
+    pub to: NodeId,
+    pub length: u32,
+}
 
 /// An edge with the snap of a point to it.
 #[derive(Clone, Copy, Debug, PartialEq, Eq)]
@@ -58,7 +67,8 @@ struct StoredEdge {
 }
 
 /// A network: nodes and directed edges with lines. All points lie in one list, and so do the
-/// leaving edges of all nodes: those of node v are `leaving[starts[v]..starts[v + 1]]`.
+/// leaving edges of all nodes: those of node v are `leaving[starts[v]..starts[v + 1]]`. Their arcs
+/// lie in the same order.
 #[derive(Drop)]
 pub struct Network {
     nodes: Vec<u64>,
@@ -66,6 +76,7 @@ pub struct Network {
     points: Vec<Point>,
     starts: Vec<u32>,
     leaving: Vec<EdgeId>,
+    arcs: Vec<Arc>,
 }
 
 impl Model for Network {
@@ -165,5 +176,16 @@ impl Network {
         let first = self.starts[n.0 as usize] as usize;
         let end = self.starts[n.0 as usize + 1] as usize;
         &self.leaving[first..end]
+    }
+
+    /// The edges that begin at a node, by rising number, each with where it ends and its length.
+    /// They lie side by side, so that a search reads no edge by its number.
+    pub fn arcs(&self, n: NodeId) -> &[Arc]
+        requires { HasNode self.now n.0 }
+        ensures { result.now ≡ map (arc_of self.now) (leaving self.now n.0) }
+    {
+        let first = self.starts[n.0 as usize] as usize;
+        let end = self.starts[n.0 as usize + 1] as usize;
+        &self.arcs[first..end]
     }
 }

@@ -1,4 +1,4 @@
-use crate::{EdgeId, NetworkFault, NodeId, read_network};
+use crate::{Arc, EdgeId, NetworkFault, NodeId, read_network};
 use polyline_geometry::{List, Point};
 use std::alloc::Global;
 use std::test::Fail;
@@ -29,6 +29,12 @@ fn a_network_has_its_nodes(rt: HostRuntime) -> Result<(), Fail> {
     assert_eq!(rt; net.node_name(NodeId(2)), 3);
     assert_eq!(rt; net.out(NodeId(1)), [EdgeId(1)].as_slice());
     assert_eq!(rt; net.out(NodeId(2)), [].as_slice());
+    let arc = Arc {
+        edge: EdgeId(1),
+        to: NodeId(2),
+        length: 10_000,
+    };
+    assert_eq!(rt; net.arcs(NodeId(1)), [arc].as_slice());
     Ok(())
 }
 

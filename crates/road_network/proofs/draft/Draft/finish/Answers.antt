@@ -24,9 +24,11 @@ invariant_of-result c =
     let count : length c.as_slice-2.result.now - 1 ≡ length d.nodes.keys = omega (arith, ap (λ k. length k) c.as_slice-2.ensures.value, starts.count) in
     let whole = rw c.as_slice-3.ensures at c.in_ok-leaving.ensures.count in
     let placed = rw (c.as_slice-3.ensures, count) at c.in_ok-leaving.ensures.placed in
+    let arcs = rw (c.as_slice-4.ensures, c.as_slice-5.ensures.value) at c.in_ok-arcs.ensures in
     record {
       lawful = rw (nodes, edges, points) c.requires.lawful;
       stored = rw (edges, points) c.requires.stored;
       starts = rw nodes starts.count;
       lists = rw (nodes, edges, points) (finished d.nodes.keys d.edges d.points c.in_ok-starts.starts.items c.in_ok-leaving.leaving.items starts whole placed);
+      arcs = rw (nodes, edges, points) (arcs d.points c.requires.stored);
     }
