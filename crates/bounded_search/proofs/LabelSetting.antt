@@ -7,10 +7,11 @@ use Rattle.std.proofs.lemmas.Option.{same_Some}
 use Rattle.std.proofs.lemmas.Bool.{cases_eq, cases_lt, cases_Bool, or_cases, or_parts, and_parts, and_cases, ltb-true, ltb-false, eqb-true, eqb-false, leb-true, leb-false, le-ltb, ne_eqb, false≢true}
 use Rattle.std.specs.List.{AllByRecursion, Contains}
 use Rattle.std.specs.Option.{IsSome}
-use Rattle.road_network.specs.Net.{Net, HasEdge, IsLawful, source, target, span, leaving}
+use Rattle.road_network.specs.Net.{Net, HasEdge, IsLawful, arc_of, source, target, span, leaving}
 use Rattle.road_network.specs.declared.EdgeId.{EdgeId}
 use Rattle.bounded_search.specs.declared.table_row.Label.{Label}
 use Rattle.bounded_search.specs.Closed.{IsClosed, IsReached, IsRelaxed, IsNoWorse, origin_label}
+use Rattle.bounded_search.proofs.Arcs.{relaxed_by_length}
 use Rattle.bounded_search.specs.Labels.{improves, is_earlier, label_at, is_settled, relaxed, relaxed_all}
 use Rattle.bounded_search.proofs.ClosedTables.{Found, found, some_there}
 
@@ -249,11 +250,7 @@ relaxed_keeps n bound s labels done from Seen lawful count u e tried =
     ]
 
 pub relaxed_length : (n : Net) (bound d : ℕ) (e : EdgeId) (labels : List (Option Label)) → length (relaxed n bound d e labels) ≡ length labels
-relaxed_length n bound d e labels =
-    elim (cases_Bool (leb (d + span n e.0) bound && improves (label_at labels (target n e.0)) (d + span n e.0) e.0)) [
-      | inl passed ↦ rw passed (length-set labels (target n e.0) (Some (record { distance = d + span n e.0; last = Some e })))
-      | inr other ↦ rw other refl
-    ]
+relaxed_length n bound d e = relaxed_by_length bound d (arc_of n e)
 
 -- a try leaves the labels of settled nodes
 relaxed_done : (n : Net) (bound s : ℕ) (labels : List (Option Label)) (done : ℕ → Bool) (from : Label) (Seen : ℕ → Type 0) → IsLawful n → SearchInvariant n bound s (label_at labels) done from.distance Seen → (e : EdgeId) → HasEdge n e.0 → (w : ℕ) → done w ≡ true → label_at (relaxed n bound from.distance e labels) w ≡ label_at labels w

@@ -1,8 +1,10 @@
 pub mod ClosedTables
 pub mod RowChecks
 pub mod OneRow
+pub mod Arcs
 pub mod LabelSetting
 pub mod RowOfLabels
+pub mod WaitingWords
 pub mod WaitingNodes
 pub mod TouchedNodes
 pub mod KnownNodes

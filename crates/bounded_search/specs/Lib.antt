@@ -6,6 +6,7 @@ pub mod RowInside
 pub mod Finding
 pub mod Labels
 pub mod Touched
+pub mod Words
 pub mod QueueInside
 pub mod Waiting
 pub mod SearcherInside

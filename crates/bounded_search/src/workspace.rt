@@ -2,16 +2,16 @@
 ghost use Rattle.std.specs.Prelude.{◌≡◌, ◌<◌, ◌≤◌, ◌∷◌, ◌++◌, ℕ, Bool, true, length, Some, None, IfOk, IfSome, IfNone, OnOk, slice_set};
 ghost use Rattle.std.specs.List.{All, Contains};
 ghost use Rattle.std.specs.List.Sorted.{IsPermutation};
-ghost use Rattle.road_network.specs.Net.{HasNode, HasEdge, leaving};
+ghost use Rattle.road_network.specs.Net.{HasNode, leaving};
 ghost use Rattle.bounded_search.specs.Closed.{IsClosed};
-ghost use Rattle.bounded_search.specs.Labels.{improves, relaxed, relaxed_all, entry_of, label_at, is_settled};
+ghost use Rattle.bounded_search.specs.Labels.{improves, relaxed_by, relaxed_all, entry_of, label_at, is_settled};
 ghost use Rattle.bounded_search.specs.Table.{label_in, RisesFrom, IsRow};
 ghost use Rattle.bounded_search.specs.Touched.{IsClean, IsTouched};
 ghost use Rattle.bounded_search.specs.Waiting.{IsQueued, IsNextOpen, IsTaken};
 
 use crate::queue::{Queue, Waiting};
 use crate::table_row::{Entry, Label};
-use road_network::{EdgeId, Network, NodeId};
+use road_network::{Arc, EdgeId, Network, NodeId};
 use std::alloc::{AllocError, Global};
 
 /// Labels, settled nodes and waiting nodes of one search, by node number.
@@ -92,36 +92,28 @@ impl Workspace {
         Ok(())
     }
 
-    /// Tries an edge from a distance: where it improves the label of its end, that label is replaced.
-    fn relax(
-        &mut self,
-        net: &Network,
-        bound: u32,
-        distance: u32,
-        e: EdgeId,
-    ) -> Result<(), AllocError>
-        requires edge { HasEdge net.now e.0 }
+    /// Tries an arc from a distance: where it improves the label of its end, that label is replaced.
+    fn relax(&mut self, bound: u32, distance: u32, arc: Arc) -> Result<(), AllocError>
+        requires end { arc.to.0 < length self.old.labels.items }
+        requires length { arc.length ≤ 100_000_000 }
         requires distance { distance ≤ 10_000_000 }
-        requires labels { length self.old.labels.items ≡ length net.now.nodes }
         ensures labels { OnOk result
-            (self.new.labels.items ≡ relaxed net.now bound distance e self.old.labels.items) }
+            (self.new.labels.items ≡ relaxed_by bound distance arc self.old.labels.items) }
         ensures settled { self.new.settled.items ≡ self.old.settled.items }
         ensures queue { OnOk result ((done : ℕ → Bool)
             → IsQueued self.old.labels.items done self.old.queue
             → IsQueued self.new.labels.items done self.new.queue) }
         ensures touched { (count : ℕ) → IsTouched count self.old → IsTouched count self.new }
     {
-        net.known();
-        let next = distance + net.length(e);
-        let target = net.to(e);
-        if next > bound || !improves(self.labels[target.0 as usize], next, e) {
+        let next = distance + arc.length;
+        if next > bound || !improves(self.labels[arc.to.0 as usize], next, arc.edge) {
             return Ok(());
         }
         self.improve(
-            target,
+            arc.to,
             Label {
                 distance: next,
-                last: Some(e),
+                last: Some(arc.edge),
             },
         )
     }
@@ -145,8 +137,9 @@ impl Workspace {
             → IsQueued self.new.labels.items done self.new.queue) }
         ensures touched { (count : ℕ) → IsTouched count self.old → IsTouched count self.new }
     {
-        for e in net.out(u) {
-            self.relax(net, bound, distance, *e)?;
+        net.known();
+        for arc in net.arcs(u) {
+            self.relax(bound, distance, *arc)?;
         }
         Ok(())
     }

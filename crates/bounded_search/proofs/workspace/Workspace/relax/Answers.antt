@@ -14,9 +14,8 @@ pub returns-clause-queue : goal.returns-clause-queue
 returns-clause-queue c =
     let w = c.args.self.now in
     let labels : List (Option Label) = w.labels.items in
-    let v = c.to-target.result.0 in
-    let new : Label = record { distance = c.args.distance + c.length.result; last = Some c.args.e } in
-    let lt : v < length labels = omega (arith, c.known.ensures.targets c.args.e.0 c.requires.edge) in
-    let at : c.index.result.now ≡ label_at labels v = get_or_read labels v c.index.result.now lt c.index.ensures None in
-    let better : improves (label_at labels v) new.distance c.args.e.0 ≡ true = ap (λ (o : Option Label). improves o new.distance c.args.e.0) (sym at) ∙ (sym c.improves.ensures ∙ c.if-not-improves.false) in
-    on_both c.improve.result c.improve.ensures.labels c.improve.ensures.queue (λ is perm done q. subst (λ k. IsQueued k done c.improve.new.self.queue) (sym is) (queued_push labels done w.queue c.improve.new.self.queue v new c.args.e.0 lt better perm q))
+    let v = c.args.arc.to.0 in
+    let new : Label = record { distance = c.args.distance + c.args.arc.length; last = Some c.args.arc.edge } in
+    let at : c.index.result.now ≡ label_at labels v = get_or_read labels v c.index.result.now c.requires.end c.index.ensures None in
+    let better : improves (label_at labels v) new.distance c.args.arc.edge.0 ≡ true = ap (λ (o : Option Label). improves o new.distance c.args.arc.edge.0) (sym at) ∙ (sym c.improves.ensures ∙ c.if-not-improves.false) in
+    on_both c.improve.result c.improve.ensures.labels c.improve.ensures.queue (λ is perm done q. subst (λ k. IsQueued k done c.improve.new.self.queue) (sym is) (queued_push labels done w.queue c.improve.new.self.queue v new c.args.arc.edge.0 c.requires.end better perm q))
