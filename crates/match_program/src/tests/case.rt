@@ -1,6 +1,7 @@
 // A run of the program, and the files that several runs read.
 
-// A run, with the numbers of the calls that fail on the shelf, on out and on err, and what it must give.
+// A run, with the numbers of the calls that fail on the shelf, on out and on err, and what it
+// must give.
 pub struct Case {
     pub shows: &'static str,
     pub words: &'static [&'static str],
