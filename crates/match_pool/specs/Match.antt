@@ -1,4 +1,5 @@
--- The match of a trace: its fixes with their candidates, the longest pieces, the best sequence of each piece, and its route.
+-- The match of a trace: its fixes with their candidates, the longest pieces, the best sequence of
+-- each piece, and its route.
 use Rattle.std.specs.Prelude.{ℕ, Bool, List, [], ◌∷◌, map, Option, Some, None}
 use Rattle.polyline_geometry.specs.declared.plane.Point.{Point}
 use Rattle.cost_model.specs.declared.params.Params.{Params}
@@ -76,4 +77,5 @@ match_of n p trace = matched_of n p trace.id (layers_of n p trace) (solution_of 
 
 -- whether the trace asks for the row of node v
 unfoldable pub asks : Net → Params → Trace → ℕ → Bool
-asks n p trace v = is_asked (trellis n p) (end_of n) (layers_of n p trace) (solution_of n p trace).pieces v
+asks n p trace v =
+    is_asked (trellis n p) (end_of n) (layers_of n p trace) (solution_of n p trace).pieces v

@@ -5,7 +5,8 @@ use Rattle.road_network.specs.Net.{Net, HasEdge}
 use Rattle.matching.specs.declared.parts.Layer.{Layer}
 use Rattle.matching.specs.Places.{IsAt}
 
--- the rank, if there is one, is that of a candidate, and the candidates lie on edges of this network
+-- the rank, if there is one, is that of a candidate, and the candidates lie on edges
+-- of this network
 pub record IsRanked (n : Net) (l : Layer) (rank : Option ℕ) : Type 0 where
   pub edges : All (λ c. HasEdge n c.edge.0) l.candidates
   pub among : IfSome rank (λ r. r < length l.candidates)

@@ -71,7 +71,8 @@ fn in_ids<R: Rows>(
 /// The match of a trace. Exactly the rows that it asks for become known.
 ///
 /// `grid` is of this network, with cells of at least the radius, and `rows` are of this network and
-/// the bound of these options. Err says that memory was refused; what was known is still known then.
+/// the bound of these options. Err says that memory was refused; what was known is still known
+/// then.
 pub fn match_one<R: Rows>(
     alloc: Global,
     net: &Network,
@@ -102,7 +103,8 @@ pub fn match_one<R: Rows>(
     ensures held { Extends (R.held rows.old) (R.held rows.new) }
     ensures stays { (v : ℕ) → Contains (R.known rows.old) v → Contains (R.known rows.new) v }
     ensures learned { IfOk result (λ _.
-        LearnsOnly (R.known rows.old) (R.known rows.new) (λ v. asks net.now p.now trace.now v ≡ true)) }
+        LearnsOnly (R.known rows.old) (R.known rows.new)
+        (λ v. asks net.now p.now trace.now v ≡ true)) }
     ensures known { IfOk result (λ _.
         KnowsAll (R.known rows.new) (λ v. asks net.now p.now trace.now v ≡ true)) }
 {

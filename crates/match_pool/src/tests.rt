@@ -82,8 +82,8 @@ fn match_fixes<R: Rows>(
     Ok(Some(match_one(alloc, net, &grid, p, rows, &trace)?))
 }
 
-/// What a trace is matched to: its labels, its pieces by first and last point and cost, each with the
-/// route 10, and the cells of its last point.
+/// What a trace is matched to: its labels, its pieces by first and last point and cost, each with
+/// the route 10, and the cells of its last point.
 #[derive(Clone, Copy)]
 struct Wanted<'a> {
     labels: &'a [Label],

@@ -11,7 +11,8 @@ pub record AreRowsOf (on : Setting) (rows : KnownRows) : Type 0 where
 
 -- known is what was known before, and what these traces ask for
 abbrev pub LearnsAsked : Setting → List Trace → List ℕ → List ℕ → Type 0
-LearnsAsked on traces before after = (v : ℕ) → Contains after v ↔ (Contains before v ⊎ (is_asked_by on traces v ≡ true))
+LearnsAsked on traces before after =
+    (v : ℕ) → Contains after v ↔ (Contains before v ⊎ (is_asked_by on traces v ≡ true))
 
 -- known is what these traces ask for
 abbrev pub KnowsAsked : Setting → List Trace → List ℕ → Type 0

@@ -32,7 +32,8 @@ pub record IsBounded (traces : List Trace) : Type 0 where
   pub lawful : All IsLawfulTrace traces
 
 -- of these traces some are matched, counted and written, and the others wait
-pub record Holds (on : Setting) (base out : Option (List ℕ)) (traces : List Trace) (batches : Batches) : Type 0 where
+pub record Holds (on : Setting) (base out : Option (List ℕ)) (traces : List Trace)
+    (batches : Batches) : Type 0 where
   pub matched : List Trace
   pub are : traces ≡ matched ++ batches.waiting
   pub written : Appends base out (texts_of on matched)
@@ -42,7 +43,8 @@ pub record Holds (on : Setting) (base out : Option (List ℕ)) (traces : List Tr
   pub bounded : IsBounded traces
 
 -- between two pieces: the bytes so far stand in the reader, and fewer traces wait than make a batch
-pub record IsBetween (on : Setting) (base out : Option (List ℕ)) (fed : List ℕ) (batches : Batches) : Type 0 where
+pub record IsBetween (on : Setting) (base out : Option (List ℕ)) (fed : List ℕ)
+    (batches : Batches) : Type 0 where
   pub stands : StandsFor batches.reader fed
   pub holds : Holds on base out (closed fed) batches
   pub room : length batches.waiting < 256
@@ -59,17 +61,29 @@ pub record IsBegun (on : Setting) (batches : Batches) : Type 0 where
 
 -- some traces are held so, and the work stands between two pieces
 abbrev pub IsHeld : Setting → Option (List ℕ) → Batches → Type 0
-IsHeld on out batches = (base : Option (List ℕ)) × (traces : List Trace) × Holds on base out traces batches
+IsHeld on out batches =
+    (base : Option (List ℕ)) × (traces : List Trace) × Holds on base out traces batches
 
 abbrev pub IsReady : Setting → Option (List ℕ) → Batches → Type 0
-IsReady on out batches = (base : Option (List ℕ)) × (fed : List ℕ) × IsBetween on base out fed batches
+IsReady on out batches =
+    (base : Option (List ℕ)) × (fed : List ℕ) × IsBetween on base out fed batches
 
--- how the work stops, whatever x is: what is expected of it has this line, and out has its text or a part of it
-abbrev pub StopsAs : (X : Type 0) → (X → Outcome) → Option (List ℕ) → Option (List ℕ) → ℕ → ℕ → Stop → Type 0
-StopsAs X expected base out count count' (Refused refusal line) = (text : List ℕ) × ((x : X) → expected x ≡ record { out = text; err = line; status = 6 }) × Appends base out text × (count' ≡ count) × (refusal ≡ refusals.Traces) × IsRefusalLine refusals.Traces line
-StopsAs X expected base out count count' NoMemory = (x : X) → AppendsPrefix base out (expected x).out
+-- how the work stops, whatever x is: what is expected of it has this line, and out has its text or
+-- a part of it
+abbrev pub StopsAs : (X : Type 0) → (X → Outcome) → Option (List ℕ) → Option (List ℕ) → ℕ → ℕ
+    → Stop → Type 0
+StopsAs X expected base out count count' (Refused refusal line) =
+    (text : List ℕ)
+    × ((x : X) → expected x ≡ record { out = text; err = line; status = 6 })
+    × Appends base out text
+    × (count' ≡ count)
+    × (refusal ≡ refusals.Traces)
+    × IsRefusalLine refusals.Traces line
+StopsAs X expected base out count count' NoMemory =
+    (x : X) → AppendsPrefix base out (expected x).out
 StopsAs X expected base out count count' (Unread file) = ⊥
-StopsAs X expected base out count count' Unwritten = ((x : X) → AppendsPrefix base out (expected x).out) × Rose count count'
+StopsAs X expected base out count count' Unwritten =
+    ((x : X) → AppendsPrefix base out (expected x).out) × Rose count count'
 
 -- what may still come behind these traces
 pub record Later : Type 0 where
@@ -80,35 +94,61 @@ abbrev pub with_later : Setting → List Trace → Later → Outcome
 with_later on traces later = matched_all on (traces ++ later.more) later.fault
 
 -- all that waited is written, or the work stops
-abbrev pub WritesBatch : Setting → Option (List ℕ) → Option (List ℕ) → ℕ → ℕ → List Trace → Batches → Batches → Result (Unit {0}) Stop → Type 0
-WritesBatch on base out count count' traces before after (Ok done) = Holds on base out traces after × (after.waiting ≡ []) × (after.reader ≡ before.reader) × (count' ≡ count)
-WritesBatch on base out count count' traces before after (Err stop) = StopsAs Later (with_later on traces) base out count count' stop
+abbrev pub WritesBatch : Setting → Option (List ℕ) → Option (List ℕ) → ℕ → ℕ
+    → List Trace → Batches → Batches → Result (Unit {0}) Stop → Type 0
+WritesBatch on base out count count' traces before after (Ok done) =
+    Holds on base out traces after
+    × (after.waiting ≡ [])
+    × (after.reader ≡ before.reader)
+    × (count' ≡ count)
+WritesBatch on base out count count' traces before after (Err stop) =
+    StopsAs Later (with_later on traces) base out count count' stop
 
 -- no more traces wait than make a batch, or the work stops
-abbrev pub WritesFull : Setting → Option (List ℕ) → Option (List ℕ) → ℕ → ℕ → List Trace → Batches → Batches → Result (Unit {0}) Stop → Type 0
-WritesFull on base out count count' traces before after (Ok done) = Holds on base out traces after × (length after.waiting < 256) × (after.reader ≡ before.reader) × (count' ≡ count)
-WritesFull on base out count count' traces before after (Err stop) = StopsAs Later (with_later on traces) base out count count' stop
+abbrev pub WritesFull : Setting → Option (List ℕ) → Option (List ℕ) → ℕ → ℕ
+    → List Trace → Batches → Batches → Result (Unit {0}) Stop → Type 0
+WritesFull on base out count count' traces before after (Ok done) =
+    Holds on base out traces after
+    × (length after.waiting < 256)
+    × (after.reader ≡ before.reader)
+    × (count' ≡ count)
+WritesFull on base out count count' traces before after (Err stop) =
+    StopsAs Later (with_later on traces) base out count count' stop
 
 -- what comes behind these bytes of a file
 abbrev pub with_rest : Setting → List ℕ → List ℕ → Outcome
 with_rest on fed rest = matches_of on (fed ++ rest)
 
 -- so many bytes of a piece were taken, or the work stops
-abbrev pub TakesSome : Setting → Option (List ℕ) → Option (List ℕ) → ℕ → ℕ → List ℕ → List ℕ → Batches → Result ℕ Stop → Type 0
-TakesSome on base out count count' fed piece after (Ok taken) = IsBetween on base out (fed ++ take taken piece) after × (count' ≡ count)
-TakesSome on base out count count' fed piece after (Err stop) = StopsAs (List ℕ) (with_rest on (fed ++ piece)) base out count count' stop
+abbrev pub TakesSome : Setting → Option (List ℕ) → Option (List ℕ) → ℕ → ℕ
+    → List ℕ → List ℕ → Batches → Result ℕ Stop → Type 0
+TakesSome on base out count count' fed piece after (Ok taken) =
+    IsBetween on base out (fed ++ take taken piece) after × (count' ≡ count)
+TakesSome on base out count count' fed piece after (Err stop) =
+    StopsAs (List ℕ) (with_rest on (fed ++ piece)) base out count count' stop
 
 -- a piece was taken, or the work stops
-abbrev pub TakesPiece : Setting → Option (List ℕ) → Option (List ℕ) → ℕ → ℕ → List ℕ → Batches → Result (Unit {0}) Stop → Type 0
-TakesPiece on base out count count' fed after (Ok done) = IsBetween on base out fed after × (count' ≡ count)
-TakesPiece on base out count count' fed after (Err stop) = StopsAs (List ℕ) (with_rest on fed) base out count count' stop
+abbrev pub TakesPiece : Setting → Option (List ℕ) → Option (List ℕ) → ℕ → ℕ
+    → List ℕ → Batches → Result (Unit {0}) Stop → Type 0
+TakesPiece on base out count count' fed after (Ok done) =
+    IsBetween on base out fed after × (count' ≡ count)
+TakesPiece on base out count count' fed after (Err stop) =
+    StopsAs (List ℕ) (with_rest on fed) base out count count' stop
 
 -- the file has this fault behind these traces, or memory ran out
-pub record RefusesAt (on : Setting) (base out out' : Option (List ℕ)) (count count' : ℕ) (traces : List Trace) (fault : TraceFault) (stop : Stop) : Type 0 where
+pub record RefusesAt (on : Setting) (base out out' : Option (List ℕ)) (count count' : ℕ)
+    (traces : List Trace) (fault : TraceFault) (stop : Stop) : Type 0 where
   pub memory : fault ≡ Memory → (stop ≡ NoMemory) × (out' ≡ out)
-  pub known : fault ≢ Memory → StopsAs (Unit {0}) (λ _. matched_all on traces (Some fault)) base out' count count' stop
+  pub known : fault ≢ Memory
+      → StopsAs (Unit {0}) (λ _. matched_all on traces (Some fault)) base out' count count' stop
 
 -- the end of a file of these bytes was taken, or the work stops
-abbrev pub Finishes : Setting → Option (List ℕ) → Option (List ℕ) → ℕ → ℕ → List ℕ → Result (Unit {0}) Stop → Type 0
-Finishes on base out count count' bytes (Ok done) = (text : List ℕ) × (matches_of on bytes ≡ record { out = text; err = []; status = 0 }) × Appends base out text × (count' ≡ count)
-Finishes on base out count count' bytes (Err stop) = StopsAs (Unit {0}) (λ _. matches_of on bytes) base out count count' stop
+abbrev pub Finishes : Setting → Option (List ℕ) → Option (List ℕ) → ℕ → ℕ
+    → List ℕ → Result (Unit {0}) Stop → Type 0
+Finishes on base out count count' bytes (Ok done) =
+    (text : List ℕ)
+    × (matches_of on bytes ≡ record { out = text; err = []; status = 0 })
+    × Appends base out text
+    × (count' ≡ count)
+Finishes on base out count count' bytes (Err stop) =
+    StopsAs (Unit {0}) (λ _. matches_of on bytes) base out count count' stop

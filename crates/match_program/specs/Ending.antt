@@ -33,9 +33,12 @@ refusal_status refusals.Traces = 6
 
 -- a line of this refusal
 abbrev pub IsRefusalLine : Refusal → List ℕ → Type 0
-IsRefusalLine refusals.Words line = (fault : WordsFault) × (fault ≢ words_faults.Memory) × (line ≡ words_fault_line fault)
-IsRefusalLine refusals.Network line = (fault : NetworkFault) × (fault ≢ network_faults.Memory) × (line ≡ network_fault_line fault)
-IsRefusalLine refusals.Traces line = (fault : TraceFault) × (fault ≢ trace_faults.Memory) × (line ≡ trace_fault_line fault)
+IsRefusalLine refusals.Words line =
+    (fault : WordsFault) × (fault ≢ words_faults.Memory) × (line ≡ words_fault_line fault)
+IsRefusalLine refusals.Network line =
+    (fault : NetworkFault) × (fault ≢ network_faults.Memory) × (line ≡ network_fault_line fault)
+IsRefusalLine refusals.Traces line =
+    (fault : TraceFault) × (fault ≢ trace_faults.Memory) × (line ≡ trace_fault_line fault)
 
 abbrev pub stop_line : Stop → List ℕ
 stop_line (Refused refusal line) = line
@@ -76,7 +79,8 @@ IsRefusalOr refusal line Unwritten = ⊥
 
 -- the ending where the words have this fault, or memory ran out
 abbrev pub RefusesWords : WordsFault → Stop → Type 0
-RefusesWords fault (Refused refusal line) = (fault ≢ words_faults.Memory) × (refusal ≡ refusals.Words) × (line ≡ words_fault_line fault)
+RefusesWords fault (Refused refusal line) =
+    (fault ≢ words_faults.Memory) × (refusal ≡ refusals.Words) × (line ≡ words_fault_line fault)
 RefusesWords fault NoMemory = Unit {0}
 RefusesWords fault (Unread file) = ⊥
 RefusesWords fault Unwritten = ⊥
@@ -88,21 +92,30 @@ unready read_errors.NoMemory file = NoMemory
 
 -- the ending where the network has this fault, or memory ran out
 abbrev pub RefusesNetwork : NetworkFault → Stop → Type 0
-RefusesNetwork fault (Refused refusal line) = (fault ≢ network_faults.Memory) × (refusal ≡ refusals.Network) × (line ≡ network_fault_line fault)
+RefusesNetwork fault (Refused refusal line) =
+    (fault ≢ network_faults.Memory)
+    × (refusal ≡ refusals.Network)
+    × (line ≡ network_fault_line fault)
 RefusesNetwork fault NoMemory = Unit {0}
 RefusesNetwork fault (Unread file) = ⊥
 RefusesNetwork fault Unwritten = ⊥
 
 -- the ending where these bytes are no network, or memory ran out
 abbrev pub RefusesBytes : List ℕ → Stop → Type 0
-RefusesBytes bytes (Refused refusal line) = (fault : NetworkFault) × (fault ≢ network_faults.Memory) × (network_of bytes ≡ Err fault) × (refusal ≡ refusals.Network) × (line ≡ network_fault_line fault)
+RefusesBytes bytes (Refused refusal line) =
+    (fault : NetworkFault)
+    × (fault ≢ network_faults.Memory)
+    × (network_of bytes ≡ Err fault)
+    × (refusal ≡ refusals.Network)
+    × (line ≡ network_fault_line fault)
 RefusesBytes bytes NoMemory = Unit {0}
 RefusesBytes bytes (Unread file) = ⊥
 RefusesBytes bytes Unwritten = ⊥
 
 -- the ending where the traces have this fault, or memory ran out
 abbrev pub RefusesTraces : TraceFault → Stop → Type 0
-RefusesTraces fault (Refused refusal line) = (refusal ≡ refusals.Traces) × (line ≡ trace_fault_line fault)
+RefusesTraces fault (Refused refusal line) =
+    (refusal ≡ refusals.Traces) × (line ≡ trace_fault_line fault)
 RefusesTraces fault NoMemory = Unit {0}
 RefusesTraces fault (Unread file) = ⊥
 RefusesTraces fault Unwritten = ⊥

@@ -19,4 +19,9 @@ abbrev pub worded : List ℕ → ℕ → List ℕ
 worded word n = word ++ decimal n
 
 abbrev pub total_line : (traces points pieces rows : ℕ) → List ℕ
-total_line traces points pieces rows = worded (codes "total traces ") traces ++ worded (codes " points ") points ++ worded (codes " pieces ") pieces ++ worded (codes " rows ") rows ++ 10 ∷ []
+total_line traces points pieces rows =
+    worded (codes "total traces ") traces
+    ++ worded (codes " points ") points
+    ++ worded (codes " pieces ") pieces
+    ++ worded (codes " rows ") rows
+    ++ 10 ∷ []

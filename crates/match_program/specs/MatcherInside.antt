@@ -7,7 +7,8 @@ use Rattle.match_program.specs.declared.matcher.Matcher.TheInside.{Inside}
 abbrev pub setting_of : Inside → Setting
 setting_of a = record { network = a.network.now; params = a.params }
 
--- the options are in their ranges, and the grid is that of the network, of cells as wide as the radius or 100 m
+-- the options are in their ranges, and the grid is that of the network, of cells as wide as the
+-- radius or 100 m
 pub record IsLaidOut (a : Inside) : Type 0 where
   pub accepted : IsAccepted a.params
   pub grid_of : a.grid.net ≡ a.network.now

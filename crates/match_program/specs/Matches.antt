@@ -41,7 +41,8 @@ abbrev pub rows_of : Setting → List Trace → ℕ
 rows_of on traces = count_by (is_asked_by on traces) (range_with_len 0 (length on.network.nodes))
 
 abbrev pub total_of : Setting → List Trace → List ℕ
-total_of on traces = total_line (length traces) (points_of traces) (pieces_of on traces) (rows_of on traces)
+total_of on traces =
+    total_line (length traces) (points_of traces) (pieces_of on traces) (rows_of on traces)
 
 abbrev pub refused_after : List ℕ → List ℕ → Outcome
 refused_after text line = record { out = text; err = line; status = 6 }
@@ -49,7 +50,8 @@ refused_after text line = record { out = text; err = line; status = 6 }
 -- what these traces give, with this fault behind them or none
 abbrev pub matched_all : Setting → List Trace → Option TraceFault → Outcome
 matched_all on traces (Some fault) = refused_after (texts_of on traces) (fault_line fault)
-matched_all on traces None = record { out = texts_of on traces ++ total_of on traces; err = []; status = 0 }
+matched_all on traces None =
+    record { out = texts_of on traces ++ total_of on traces; err = []; status = 0 }
 
 -- what a trace file of these bytes gives
 abbrev pub matches_of : Setting → List ℕ → Outcome

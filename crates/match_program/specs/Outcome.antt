@@ -34,14 +34,17 @@ said (Err fault) = Err (fault_line fault)
 
 -- the network of a file, or the line of its first fault
 abbrev pub network_stage : (List ℕ → Option (List ℕ)) → List ℕ → Option (Result Net (List ℕ))
-network_stage files name = option_map (λ bytes. said (network_of bytes)) (seen network_limit (files name))
+network_stage files name =
+    option_map (λ bytes. said (network_of bytes)) (seen network_limit (files name))
 
 -- what the traces of a file give, matched so
 abbrev pub matches_stage : Setting → (List ℕ → Option (List ℕ)) → List ℕ → Option Outcome
 matches_stage on files name = option_map (matches_of on) (seen trace_limit (files name))
 
--- a file that is not held gives no outcome, a fault the status and line of a refusal, and a content goes on
-abbrev pub after_stage : {A : Type 0} → ℕ → Option (Result A (List ℕ)) → (A → Option Outcome) → Option Outcome
+-- a file that is not held gives no outcome, a fault the status and line of a refusal, and a
+-- content goes on
+abbrev pub after_stage : {A : Type 0} → ℕ → Option (Result A (List ℕ))
+    → (A → Option Outcome) → Option Outcome
 after_stage status None next = None
 after_stage status (Some (Err line)) next = Some (record { out = []; err = line; status = status })
 after_stage status (Some (Ok value)) next = next value
@@ -49,7 +52,9 @@ after_stage status (Some (Ok value)) next = next value
 -- the outcome of accepted words, or of refused ones
 abbrev pub outcome_of : Result PlainCommand (List ℕ) → (List ℕ → Option (List ℕ)) → Option Outcome
 outcome_of (Err line) files = Some (record { out = []; err = line; status = 2 })
-outcome_of (Ok (match_files network traces params)) files = after_stage 5 (network_stage files network) (λ net. matches_stage (record { network = net; params = params }) files traces)
+outcome_of (Ok (match_files network traces params)) files =
+    after_stage 5 (network_stage files network)
+    (λ net. matches_stage (record { network = net; params = params }) files traces)
 
 abbrev pub outcome : List (List ℕ) → (List ℕ → Option (List ℕ)) → Option Outcome
 outcome words files = outcome_of (command_or_line words) files
@@ -66,7 +71,9 @@ IsAccepted (Some (Err line)) = ⊥
 IsAccepted (Some (Ok value)) = Unit {0}
 
 -- each file before this one is accepted
-abbrev pub AreAcceptedBefore : Result PlainCommand (List ℕ) → (List ℕ → Option (List ℕ)) → File → Type 0
+abbrev pub AreAcceptedBefore : Result PlainCommand (List ℕ) → (List ℕ → Option (List ℕ))
+    → File → Type 0
 AreAcceptedBefore (Err line) files file = ⊥
 AreAcceptedBefore (Ok (match_files network traces params)) files Network = Unit {0}
-AreAcceptedBefore (Ok (match_files network traces params)) files Traces = IsAccepted (network_stage files network)
+AreAcceptedBefore (Ok (match_files network traces params)) files Traces =
+    IsAccepted (network_stage files network)

@@ -4,7 +4,8 @@ use Rattle.trace_reader.specs.declared.trace.Trace.{Trace}
 use Rattle.match_program.specs.Matches.{Setting, points_of, pieces_of}
 use Rattle.match_program.specs.declared.tally.Tally.{Tally}
 
--- the counts with those of these traces are no larger than a file's, and no more pieces than points were counted
+-- the counts with those of these traces are no larger than a file's, and no more pieces than
+-- points were counted
 pub record Fits (traces : List Trace) (tally : Tally) : Type 0 where
   pub few : tally.traces + length traces < 2 ^ 63
   pub few_points : tally.points + points_of traces < 2 ^ 63

@@ -24,8 +24,8 @@ use trace_reader::{Trace, TraceFault, TraceReader};
 // How many traces are matched together.
 const BATCH: usize = 256;
 
-/// The traces of a file that is read in pieces: those that are closed and wait, and of those that were
-/// written the counts and the rows that they asked for.
+/// The traces of a file that is read in pieces: those that are closed and wait, and of those that
+/// were written the counts and the rows that they asked for.
 #[derive(Drop)]
 pub struct Batches<'n> {
     reader: TraceReader,
@@ -46,10 +46,13 @@ fn write_traces<'n, K: Sink>(
     requires rows { AreRowsOf matcher.now rows.old }
     requires lawful { All IsLawfulTrace traces.now }
     requires fits { Fits traces.now tally.old }
-    ensures puts { PutsText (K.written out.old) (K.written out.new) (K.faults out.old) (K.faults out.new) (texts_of matcher.now traces.now) result }
+    ensures puts { PutsText
+        (K.written out.old) (K.written out.new) (K.faults out.old) (K.faults out.new)
+        (texts_of matcher.now traces.now) result }
     ensures adds { OnOk result (Adds matcher.now traces.now tally.old tally.new) }
     ensures rows { AreRowsOf matcher.now rows.new }
-    ensures learns { OnOk result (LearnsAsked matcher.now traces.now rows.old.known rows.new.known) }
+    ensures learns { OnOk result
+        (LearnsAsked matcher.now traces.now rows.old.known rows.new.known) }
 {
     let Ok(matched) = match_traces(alloc, matcher, rows, traces) else {
         return Err(Stop::NoMemory);
@@ -71,7 +74,9 @@ fn behind(piece: &[u8], taken: usize) -> &[u8]
 
 // Writes the total line of traces that asked for so many rows.
 fn put_total<K: Sink>(alloc: Global, tally: Tally, rows: u64, out: &mut K) -> Result<(), Stop>
-    ensures { PutsText (K.written out.old) (K.written out.new) (K.faults out.old) (K.faults out.new) (total_line tally.traces tally.points tally.pieces rows) result }
+    ensures { PutsText
+        (K.written out.old) (K.written out.new) (K.faults out.old) (K.faults out.new)
+        (total_line tally.traces tally.points tally.pieces rows) result }
 {
     let mut line = List::new(alloc);
     match append_total(&mut line, tally, rows) {
@@ -104,8 +109,11 @@ impl<'n> Batches<'n> {
         out: &mut K,
     ) -> Result<(), Stop>
         requires { IsHeld matcher.now (K.written out.old) self.old }
-        ensures { (base : Option (ListOf ℕ)) (traces : ListOf Trace) → Holds matcher.now base (K.written out.old) traces self.old
-            → WritesBatch matcher.now base (K.written out.new) (K.faults out.old) (K.faults out.new) traces self.old self.new result }
+        ensures { (base : Option (ListOf ℕ)) (traces : ListOf Trace)
+            → Holds matcher.now base (K.written out.old) traces self.old
+            → WritesBatch matcher.now base
+            (K.written out.new) (K.faults out.old) (K.faults out.new)
+            traces self.old self.new result }
     {
         if self.waiting.as_slice().is_empty() {
             return Ok(());
@@ -132,8 +140,11 @@ impl<'n> Batches<'n> {
         out: &mut K,
     ) -> Stop
         requires { IsHeld matcher.now (K.written out.old) self.old }
-        ensures { (base : Option (ListOf ℕ)) (traces : ListOf Trace) → Holds matcher.now base (K.written out.old) traces self.old
-            → RefusesAt matcher.now base (K.written out.old) (K.written out.new) (K.faults out.old) (K.faults out.new) traces fault result }
+        ensures { (base : Option (ListOf ℕ)) (traces : ListOf Trace)
+            → Holds matcher.now base (K.written out.old) traces self.old
+            → RefusesAt matcher.now base
+            (K.written out.old) (K.written out.new) (K.faults out.old) (K.faults out.new)
+            traces fault result }
     {
         if let TraceFault::Memory = fault {
             return Stop::NoMemory;
@@ -152,8 +163,11 @@ impl<'n> Batches<'n> {
         out: &mut K,
     ) -> Result<(), Stop>
         requires { IsHeld matcher.now (K.written out.old) self.old }
-        ensures { (base : Option (ListOf ℕ)) (traces : ListOf Trace) → Holds matcher.now base (K.written out.old) traces self.old
-            → WritesFull matcher.now base (K.written out.new) (K.faults out.old) (K.faults out.new) traces self.old self.new result }
+        ensures { (base : Option (ListOf ℕ)) (traces : ListOf Trace)
+            → Holds matcher.now base (K.written out.old) traces self.old
+            → WritesFull matcher.now base
+            (K.written out.new) (K.faults out.old) (K.faults out.new)
+            traces self.old self.new result }
     {
         if self.waiting.len() < BATCH {
             return Ok(());
@@ -161,7 +175,8 @@ impl<'n> Batches<'n> {
         self.write(alloc, matcher, out)
     }
 
-    // Takes bytes of a piece until a batch of traces waits, writes it, and says how many bytes were taken.
+    // Takes bytes of a piece until a batch of traces waits, writes it, and says how many
+    // bytes were taken.
     fn take_some<K: Sink>(
         &mut self,
         alloc: Global,
@@ -173,8 +188,11 @@ impl<'n> Batches<'n> {
         requires some { 1 ≤ length piece.now }
         requires short { length piece.now ≤ 65_536 }
         ensures some { IfOk result (λ taken. (1 ≤ taken) × (taken ≤ length piece.now)) }
-        ensures takes { (base : Option (ListOf ℕ)) (fed : ListOf ℕ) → IsBetween matcher.now base (K.written out.old) fed self.old
-            → TakesSome matcher.now base (K.written out.new) (K.faults out.old) (K.faults out.new) fed piece.now self.new result }
+        ensures takes { (base : Option (ListOf ℕ)) (fed : ListOf ℕ)
+            → IsBetween matcher.now base (K.written out.old) fed self.old
+            → TakesSome matcher.now base
+            (K.written out.new) (K.faults out.old) (K.faults out.new)
+            fed piece.now self.new result }
     {
         let room = (BATCH - self.waiting.len()) as u32;
         match self.reader.feed_some(piece, room, &mut self.waiting) {
@@ -196,8 +214,11 @@ impl<'n> Batches<'n> {
     ) -> Result<(), Stop>
         requires ready { IsReady matcher.now (K.written out.old) self.old }
         requires short { length piece.now ≤ 65_536 }
-        ensures { (base : Option (ListOf ℕ)) (fed : ListOf ℕ) → IsBetween matcher.now base (K.written out.old) fed self.old
-            → TakesPiece matcher.now base (K.written out.new) (K.faults out.old) (K.faults out.new) (fed ++ piece.now) self.new result }
+        ensures { (base : Option (ListOf ℕ)) (fed : ListOf ℕ)
+            → IsBetween matcher.now base (K.written out.old) fed self.old
+            → TakesPiece matcher.now base
+            (K.written out.new) (K.faults out.old) (K.faults out.new)
+            (fed ++ piece.now) self.new result }
     {
         let mut rest = piece;
         while !rest.is_empty() {
@@ -215,8 +236,11 @@ impl<'n> Batches<'n> {
         out: &mut K,
     ) -> Result<(), Stop>
         requires { IsReady matcher.now (K.written out.old) self.old }
-        ensures { (base : Option (ListOf ℕ)) (fed : ListOf ℕ) → IsBetween matcher.now base (K.written out.old) fed self.old
-            → Finishes matcher.now base (K.written out.new) (K.faults out.old) (K.faults out.new) fed result }
+        ensures { (base : Option (ListOf ℕ)) (fed : ListOf ℕ)
+            → IsBetween matcher.now base (K.written out.old) fed self.old
+            → Finishes matcher.now base
+            (K.written out.new) (K.faults out.old) (K.faults out.new)
+            fed result }
     {
         if let Err(fault) = self.reader.finish(&mut self.waiting) {
             return Err(self.refuse(alloc, matcher, fault, out));

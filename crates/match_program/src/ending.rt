@@ -72,7 +72,9 @@ impl Stop {
 
 /// Puts the line of an early end on err.
 pub fn say<E: Sink>(ended: &Result<(), Stop>, err: &mut E) -> Put
-    ensures put { Puts (E.written err.old) (E.written err.new) (E.faults err.old) (E.faults err.new) (line_of ended.now) result }
+    ensures put { Puts
+        (E.written err.old) (E.written err.new) (E.faults err.old) (E.faults err.new)
+        (line_of ended.now) result }
     ensures quiet { IsOk ended.now → result ≡ Put.All }
 {
     match ended {

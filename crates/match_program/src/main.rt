@@ -1,16 +1,17 @@
 //! The program `fmm`: it matches position traces to a network of road edges.
 //!
-//! `run` is the whole program over a shelf of files and two sinks, and carries the promise: what it writes
-//! is a function of the words and the files. `main` hands it the real files and streams.
+//! `run` is the whole program over a shelf of files and two sinks, and carries the promise: what it
+//! writes is a function of the words and the files. `main` hands it the real files and streams.
 //!
-//! - The crate `command_line` reads the words, `stages` loads the network, and `stream` reads the trace file
-//!   piece by piece.
+//! - The crate `command_line` reads the words, `stages` loads the network, and `stream` reads the
+//!   trace file piece by piece.
 //! - `batches` holds the traces that wait, and matches and writes them 256 at a time, by `texts`.
-//! - `matcher` has the network, the grid of its edges and the options, and matches a trace by the crate
-//!   `match_pool`.
+//! - `matcher` has the network, the grid of its edges and the options, and matches a trace by
+//!   the crate `match_pool`.
 //! - `ending` has why the work ended early, and what is then said on err.
 //!
-//! Read the clause `outcome` of `run` first, and then `specs/Outcome.antt` and `specs/Matches.antt`.
+//! Read the clause `outcome` of `run` first, and then `specs/Outcome.antt` and
+//! `specs/Matches.antt`.
 #![tactic(auto)]
 
 mod batches;

@@ -47,7 +47,8 @@ impl<'n> Matcher<'n> {
         params: Params,
     ) -> Result<Matcher<'n>, AllocError>
         requires { IsAccepted params }
-        ensures { IfOk result (λ matcher. matcher ≡ record { network = network.now; params = params }) }
+        ensures { IfOk result
+            (λ matcher. matcher ≡ record { network = network.now; params = params }) }
     {
         let grid = Grid::build(alloc, network, params.radius.max(LEAST_SIDE))?;
         Ok(Matcher {
@@ -74,11 +75,13 @@ impl<'n> Matcher<'n> {
     ) -> Result<MatchedTrace, AllocError>
         requires rows { AreRowsOf self.now rows.old }
         requires trace { IsLawfulTrace trace.now }
-        ensures value { IfOk result (λ matched. matched ≡ match_of self.now.network self.now.params trace.now) }
+        ensures value { IfOk result
+            (λ matched. matched ≡ match_of self.now.network self.now.params trace.now) }
         ensures lawful { IfOk result IsLawful }
         ensures few { IfOk result (λ matched. length matched.pieces ≤ length trace.now.fixes) }
         ensures rows { AreRowsOf self.now rows.new }
-        ensures learns { OnOk result (LearnsAsked self.now (trace.now ∷ []) rows.old.known rows.new.known) }
+        ensures learns { OnOk result
+            (LearnsAsked self.now (trace.now ∷ []) rows.old.known rows.new.known) }
     {
         let answer = match_one(alloc, self.network, &self.grid, &self.params, rows, trace)?;
         Ok(answer.matched)

@@ -27,7 +27,10 @@ fn match_traces<S: Shelf, K: Sink>(
     out: &mut K,
 ) -> Result<(), Stop>
     requires { IsAccepted params }
-    ensures { Performs (Ok (match_files network.now traces.now params)) (S.holds shelf.old) (S.failed shelf.old) (S.failed shelf.new) (K.written out.old) (K.written out.new) (K.faults out.old) (K.faults out.new) result }
+    ensures { Performs (Ok (match_files network.now traces.now params))
+        (S.holds shelf.old) (S.failed shelf.old) (S.failed shelf.new)
+        (K.written out.old) (K.written out.new) (K.faults out.old) (K.faults out.new)
+        result }
 {
     let roads = load_network(alloc, shelf, network)?;
     let Ok(matcher) = Matcher::open(alloc, &roads, params) else {
@@ -43,7 +46,10 @@ fn perform<S: Shelf, K: Sink>(
     shelf: &mut S,
     out: &mut K,
 ) -> Result<(), Stop>
-    ensures { Performs (command_or_line (map string_bytes words.now)) (S.holds shelf.old) (S.failed shelf.old) (S.failed shelf.new) (K.written out.old) (K.written out.new) (K.faults out.old) (K.faults out.new) result }
+    ensures { Performs (command_or_line (map string_bytes words.now))
+        (S.holds shelf.old) (S.failed shelf.old) (S.failed shelf.new)
+        (K.written out.old) (K.written out.new) (K.faults out.old) (K.faults out.new)
+        result }
 {
     let command = match read_command(alloc, words) {
         Ok(command) => command,
@@ -57,8 +63,8 @@ fn perform<S: Shelf, K: Sink>(
     match_traces(alloc, network, traces, params, shelf, out)
 }
 
-/// Runs the command that the words spell, and says on err why it ended early. The status says how it
-/// ended: 0 done, 1 want of memory, 2 words refused, 3 a file was not read, 4 a write failed,
+/// Runs the command that the words spell, and says on err why it ended early. The status says how
+/// it ended: 0 done, 1 want of memory, 2 words refused, 3 a file was not read, 4 a write failed,
 /// 5 network refused, 6 traces refused.
 pub fn run<R: Threads, S: Shelf, K: Sink, E: Sink>(
     _rt: &R,
@@ -69,19 +75,33 @@ pub fn run<R: Threads, S: Shelf, K: Sink, E: Sink>(
     err: &mut E,
 ) -> u8
     // What is written is a function of the words and the files.
-    ensures outcome { IsSettled result → IsOutcome (map string_bytes words.now) (S.holds shelf.old) (K.written out.old) (K.written out.new) (E.written err.old) (E.written err.new) result }
-    ensures prefix { IsPrefixOfOutcome (map string_bytes words.now) (S.holds shelf.old) (K.written out.old) (K.written out.new) }
+    ensures outcome { IsSettled result
+        → IsOutcome (map string_bytes words.now) (S.holds shelf.old)
+        (K.written out.old) (K.written out.new)
+        (E.written err.old) (E.written err.new)
+        result }
+    ensures prefix { IsPrefixOfOutcome (map string_bytes words.now) (S.holds shelf.old)
+        (K.written out.old) (K.written out.new) }
 
     // Why it may end early, and what err then has.
     ensures memory { result ≡ 1 → SaysAtMost memory_line (E.written err.old) (E.written err.new) }
-    ensures unread { result ≡ 3 → IsReadFault (map string_bytes words.now) (S.holds shelf.old) (S.failed shelf.old) (S.failed shelf.new) (K.written out.old) (K.written out.new) (E.written err.old) (E.written err.new) }
-    ensures unwritten { result ≡ 4 → Rose (K.faults out.old) (K.faults out.new) ⊎ Rose (E.faults err.old) (E.faults err.new) }
-    ensures write_line { result ≡ 4 → (Rose (E.faults err.old) (E.faults err.new) → ⊥) → SaysAtMost write_line (E.written err.old) (E.written err.new) }
+    ensures unread { result ≡ 3
+        → IsReadFault (map string_bytes words.now)
+        (S.holds shelf.old) (S.failed shelf.old) (S.failed shelf.new)
+        (K.written out.old) (K.written out.new)
+        (E.written err.old) (E.written err.new) }
+    ensures unwritten { result ≡ 4
+        → Rose (K.faults out.old) (K.faults out.new)
+        ⊎ Rose (E.faults err.old) (E.faults err.new) }
+    ensures write_line { result ≡ 4
+        → (Rose (E.faults err.old) (E.faults err.new) → ⊥)
+        → SaysAtMost write_line (E.written err.old) (E.written err.new) }
     ensures cut_line { result ≡ 4 → SaysPartOfLine (E.written err.old) (E.written err.new) }
 
     // Refused words are refused as such, whatever the shelf tells.
     ensures words { result ≡ 2 → IsErr (command_or_line (map string_bytes words.now)) }
-    ensures refused_words { IsErr (command_or_line (map string_bytes words.now)) → (result ≡ 2) ⊎ (result ≡ 1) ⊎ (result ≡ 4) }
+    ensures refused_words { IsErr (command_or_line (map string_bytes words.now))
+        → (result ≡ 2) ⊎ (result ≡ 1) ⊎ (result ≡ 4) }
 
     // Any other status comes only where no read or put failed.
     ensures quiet_shelf { IsSettled result → S.failed shelf.new ≡ S.failed shelf.old }
@@ -89,7 +109,11 @@ pub fn run<R: Threads, S: Shelf, K: Sink, E: Sink>(
     ensures quiet_err { IsSettled result → E.faults err.new ≡ E.faults err.old }
 
     // Where nothing failed, the answer is the outcome's, or want of memory.
-    ensures complete { IsFaultless (map string_bytes words.now) (S.failed shelf.old) (S.failed shelf.new) (K.faults out.old) (K.faults out.new) (E.faults err.old) (E.faults err.new) → IsAnswered (map string_bytes words.now) (S.holds shelf.old) result }
+    ensures complete { IsFaultless (map string_bytes words.now)
+        (S.failed shelf.old) (S.failed shelf.new)
+        (K.faults out.old) (K.faults out.new)
+        (E.faults err.old) (E.faults err.new)
+        → IsAnswered (map string_bytes words.now) (S.holds shelf.old) result }
 {
     let ended = perform(alloc, words, shelf, out);
     let put = say(&ended, err);

@@ -84,9 +84,13 @@ pub fn refuse_traces(alloc: Global, fault: TraceFault) -> Stop
 
 /// Reads the network, and accepts or refuses it.
 pub fn load_network<S: Shelf>(alloc: Global, shelf: &mut S, name: &str) -> Result<Network, Stop>
-    ensures ok { IfOk result (λ net. IsStage (S.holds shelf.old) (λ files. network_stage files name.now) (Ok net)) }
+    ensures ok { IfOk result
+        (λ net. IsStage (S.holds shelf.old) (λ files. network_stage files name.now) (Ok net)) }
     ensures same { OnOk result (S.failed shelf.new ≡ S.failed shelf.old) }
-    ensures err { IfErr result (FailsToLoad (S.holds shelf.old) (λ files. network_stage files name.now) Refusal.Network File.Network name.now (S.failed shelf.old) (S.failed shelf.new)) }
+    ensures err { IfErr result (FailsToLoad
+        (S.holds shelf.old) (λ files. network_stage files name.now)
+        Refusal.Network File.Network name.now
+        (S.failed shelf.old) (S.failed shelf.new)) }
     ensures holds { S.holds shelf.new ≡ S.holds shelf.old }
 {
     let bytes = match read_file(alloc, shelf, name, NETWORK_LIMIT) {
@@ -98,7 +102,9 @@ pub fn load_network<S: Shelf>(alloc: Global, shelf: &mut S, name: &str) -> Resul
 
 /// Puts a text on out.
 pub fn put_text<K: Sink>(out: &mut K, text: &[u8]) -> Result<(), Stop>
-    ensures { PutsText (K.written out.old) (K.written out.new) (K.faults out.old) (K.faults out.new) text.now result }
+    ensures { PutsText
+        (K.written out.old) (K.written out.new) (K.faults out.old) (K.faults out.new)
+        text.now result }
 {
     match out.put(text) {
         Put::All => Ok(()),

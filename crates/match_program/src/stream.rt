@@ -23,7 +23,10 @@ fn take_file<'n, S: Shelf, K: Sink>(
     out: &mut K,
 ) -> Result<(), Stop>
     requires { IsBetween matcher.now (K.written out.old) (K.written out.old) [] batches.old }
-    ensures { TakesFile matcher.now (S.holds shelf.old) name.now (S.failed shelf.old) (S.failed shelf.new) (K.written out.old) (K.written out.new) (K.faults out.old) (K.faults out.new) batches.new result }
+    ensures { TakesFile matcher.now
+        (S.holds shelf.old) name.now (S.failed shelf.old) (S.failed shelf.new)
+        (K.written out.old) (K.written out.new) (K.faults out.old) (K.faults out.new)
+        batches.new result }
 {
     let mut piece = Vec::new(alloc);
     let mut at: u64 = 0;
@@ -43,8 +46,8 @@ fn take_file<'n, S: Shelf, K: Sink>(
     Ok(())
 }
 
-/// Reads the traces of a file and writes the text of each and the total line. No more of the file is held
-/// than a piece and a batch of traces.
+/// Reads the traces of a file and writes the text of each and the total line. No more of the file
+/// is held than a piece and a batch of traces.
 pub fn match_file<S: Shelf, K: Sink>(
     alloc: Global,
     matcher: &Matcher,
@@ -52,7 +55,10 @@ pub fn match_file<S: Shelf, K: Sink>(
     name: &str,
     out: &mut K,
 ) -> Result<(), Stop>
-    ensures { MatchesTraces matcher.now (S.holds shelf.old) name.now (S.failed shelf.old) (S.failed shelf.new) (K.written out.old) (K.written out.new) (K.faults out.old) (K.faults out.new) result }
+    ensures { MatchesTraces matcher.now
+        (S.holds shelf.old) name.now (S.failed shelf.old) (S.failed shelf.new)
+        (K.written out.old) (K.written out.new) (K.faults out.old) (K.faults out.new)
+        result }
 {
     let Ok(mut batches) = Batches::open(alloc, matcher) else {
         return Err(Stop::NoMemory);

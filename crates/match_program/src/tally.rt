@@ -34,7 +34,8 @@ pub fn count_points(traces: &[Trace]) -> u64
 
 /// Appends the total line of a run that asked for rows of so many nodes.
 pub fn append_total(into: &mut List<u8>, tally: Tally, rows: u64) -> Result<(), AllocError>
-    ensures { OnOk result (into.new ≡ into.old ++ total_line tally.traces tally.points tally.pieces rows) }
+    ensures { OnOk result
+        (into.new ≡ into.old ++ total_line tally.traces tally.points tally.pieces rows) }
 {
     append_worded(into, b"total traces ", tally.traces)?;
     append_worded(into, b" points ", tally.points)?;

@@ -32,7 +32,8 @@ pub fn match_traces<'n>(
     ensures pieces { IfOk result (λ matched. matched.pieces ≡ pieces_of matcher.now traces.now) }
     ensures few { IfOk result (λ matched. matched.pieces ≤ points_of traces.now) }
     ensures rows { AreRowsOf matcher.now rows.new }
-    ensures learns { OnOk result (LearnsAsked matcher.now traces.now rows.old.known rows.new.known) }
+    ensures learns { OnOk result
+        (LearnsAsked matcher.now traces.now rows.old.known rows.new.known) }
 {
     let mut text = List::new(alloc);
     let mut pieces = 0;

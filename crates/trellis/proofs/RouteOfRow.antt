@@ -5,14 +5,18 @@ use Rattle.road_network.specs.declared.Candidate.{Candidate}
 use Rattle.road_network.specs.Net.{Net, IsLawful, source, target}
 use Rattle.road_network.specs.Walk.{walk_length}
 use Rattle.bounded_search.specs.declared.table_row.Entry.{Entry}
-use Rattle.bounded_search.specs.Table.{TableRow, IsRow, IsLabelOf, entry_in, label_of}
-use Rattle.bounded_search.proofs.RowChecks.{listed_by}
+use Rattle.bounded_search.specs.Table.{TableRow, IsRow, IsLabelOf, entry_in, label_in, label_of}
 use Rattle.matching.specs.Routes.{Direct, Over, IsRoute, IsTheRoute, HasNoRoute}
 use Rattle.matching.specs.RouteLength.{length_of_route}
 use Rattle.matching.proofs.Routes.{over_route}
 use Rattle.matching.proofs.RouteLengths.{length_of_route-none, length_of_route-is}
 use Rattle.trellis.specs.declared.parts.Link.{Link}
 use Rattle.trellis.specs.Links.{IsLinkOf}
+
+-- what a look into a row gives of a label
+listed_by : (row : List Entry) (v w : ℕ) (x : Entry) → Some x ≡ entry_in row v → v ≡ w
+    → label_in row w ≡ Some (label_of x)
+listed_by row v w x e same = ap (label_in row) (sym same) ∙ sym (ap (option_map label_of) e)
 
 -- where no route is direct, an entry for the start of the other edge gives the route
 pub record IsOverWalk (n : Net) (bound back : ℕ) (a b : Candidate) (distance : ℕ) : Type 0 where
