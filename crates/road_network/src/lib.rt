@@ -184,8 +184,9 @@ impl Network {
         requires { HasNode self.now n.0 }
         ensures { result.now ≡ map (arc_of self.now) (leaving self.now n.0) }
     {
-        let first = self.starts[n.0 as usize] as usize;
-        let end = self.starts[n.0 as usize + 1] as usize;
+        let place = n.0 as usize;
+        let first = self.starts[place] as usize;
+        let end = self.starts[place + 1] as usize;
         &self.arcs[first..end]
     }
 }
