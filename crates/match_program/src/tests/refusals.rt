@@ -13,8 +13,18 @@ pub const FAULTY: Case = Case {
     err: b"traces line 5 field 2: bad number\n",
 };
 
-pub const REFUSALS: [Case; 19] = [
+pub const REFUSALS: [Case; 20] = [
     FAULTY,
+    Case {
+        shows: "the traces are read no further than the piece with the fault",
+        words: MATCH,
+        network: STRAIGHT,
+        traces: b"trace,x,y\n1,1000,0\n2,1000,0\n7,2000,0\n7,12x,0\n",
+        fail: [&[4], &[], &[]],
+        status: 6,
+        out: TWO_TEXTS,
+        err: b"traces line 5 field 2: bad number\n",
+    },
     Case {
         shows: "a value out of its range",
         words: &["match", "net", "tra", "--k", "33"],
