@@ -2,6 +2,7 @@ pub mod ClosedTables
 pub mod RowChecks
 pub mod OneRow
 pub mod Arcs
+pub mod MarkedNumbers
 pub mod LabelSetting
 pub mod RowOfLabels
 pub mod WaitingWords

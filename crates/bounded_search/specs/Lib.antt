@@ -7,6 +7,7 @@ pub mod Finding
 pub mod Labels
 pub mod Touched
 pub mod Words
+pub mod Marked
 pub mod QueueInside
 pub mod Waiting
 pub mod SearcherInside

@@ -15,6 +15,7 @@ mod check;
 mod finder;
 mod label_setting;
 pub mod laws;
+mod marks;
 mod own;
 mod queue;
 mod refusing;
