@@ -2,14 +2,14 @@
 //! among them are counted.
 ghost use Rattle.std.specs.Prelude.{◌≡◌, ◌<◌, ◌≤◌, ◌+◌, ◌↔◌, ℕ, false, length, Some, IfSome, IsSome, IsTrue};
 ghost use Rattle.std.specs.List.{count_by};
-ghost use Rattle.road_network.specs.Net.{HasNode, HasEdge, leaving, target};
-ghost use Rattle.bounded_search.specs.Closed.{IsNoWorse, IsRelaxedWithin};
-ghost use Rattle.bounded_search.specs.Given.{IsGiven, IsRelaxedAt, LeavesRelaxedOrBack, given_by, gives, is_label_by, is_node, start_of};
+ghost use Rattle.road_network.specs.Net.{HasNode, leaving};
+ghost use Rattle.bounded_search.specs.Closed.{IsNoWorse};
+ghost use Rattle.bounded_search.specs.Given.{IsGiven, IsRelaxedAt, IsRelaxedOrBack, LeavesRelaxedOrBack, arc_gives, given_by, gives, is_label_by, start_of};
 ghost use Rattle.bounded_search.specs.Table.{IsRow, RisesFrom, label_in, label_of};
 
 use crate::finder::Fingers;
 use crate::table_row::{Entry, Row};
-use road_network::{EdgeId, Network, NodeId};
+use road_network::{Arc, EdgeId, Network, NodeId};
 
 /// Whether a row is the row of `origin` in the table of this network and bound.
 ///
@@ -98,45 +98,40 @@ fn count_given(
         ≡ count_by (λ e. gives net.now bound (label_in entries.now) before x.now.distance e.0) (leaving net.now x.now.node.0)) }
 {
     let mut count = 0;
-    for e in net.out(x.node) {
-        if try_edge(net, bound, entries, place, *e, x.distance, before, fingers)? {
+    for arc in net.arcs(x.node) {
+        if try_arc(bound, entries, place, *arc, x.distance, before, fingers)? {
             count += 1;
         }
     }
     Some(count)
 }
 
-/// Whether an edge gives the label where it ends, if it is relaxed, or leads back or beyond the bound.
-fn try_edge(
-    net: &Network,
+/// Whether an arc gives the label where it ends, if it is relaxed, or leads back or beyond the bound.
+fn try_arc(
     bound: u32,
     entries: &[Entry],
     place: usize,
-    e: EdgeId,
+    arc: Arc,
     distance: u32,
     before: Option<NodeId>,
     fingers: &mut Fingers,
 ) -> Option<bool>
-    requires edge { HasEdge net.now e.0 }
     requires rising { RisesFrom 0 entries.now }
     requires place { place < length entries.now }
-    ensures some { IsSome result
-        ↔ (is_node before (target net.now e.0) ≡ false
-        → IsRelaxedWithin net.now bound (label_in entries.now) e.0 distance) }
-    ensures given { IfSome result (λ given. given ≡ gives net.now bound (label_in entries.now) before distance e.0) }
+    ensures some { IsSome result ↔ IsRelaxedOrBack bound (label_in entries.now) before distance arc }
+    ensures given { IfSome result (λ given. given ≡ arc_gives bound (label_in entries.now) before distance arc) }
 {
-    let end = net.to(e);
     if let Some(node) = before
-        && node == end
+        && node == arc.to
     {
         return Some(false);
     }
-    let at = u64::from(distance) + u64::from(net.length(e));
+    let at = u64::from(distance) + u64::from(arc.length);
     if at > u64::from(bound) {
         return Some(false);
     }
-    let found = fingers.find(entries, place, end)?;
-    compare(found, e, at)
+    let found = fingers.find(entries, place, arc.to)?;
+    compare(found, arc.edge, at)
 }
 
 /// Whether an entry has just the label that an edge gives at a distance, if it is no worse.
