@@ -7,4 +7,3 @@ pub mod RouteNames
 pub mod Asked
 pub mod Lawful
 pub mod Matched
-pub mod MatchFacts
