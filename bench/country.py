@@ -56,8 +56,8 @@ class Roads:
 
 # ---- the network
 
-def village(roads, middle, radius):
-    """A bent grid of streets, some of them one-way, some with a path beside them; the nodes."""
+def village(roads, middle, radius, paths):
+    """A bent grid of streets, some of them one-way, some, if `paths`, with a path beside them; the nodes."""
     rng = roads.rng
     gap, turn = rng.uniform(65, 110), rng.uniform(0, math.pi)
     reach = int(radius / gap)
@@ -75,7 +75,7 @@ def village(roads, middle, radius):
             line = roads.winding(a, b, 17, 0.08)
             one_way = rng.random() < 0.1
             roads.add(a, b, line, STREET, not one_way)
-            if rng.random() < 0.15:
+            if rng.random() < 0.15 and paths:
                 roads.add(a, b, roads.beside(line, 5), STREET)
     return list(places.values())
 
@@ -128,14 +128,14 @@ def motorway(roads, nodes, middle):
             before = back, enter
 
 
-def build(rng):
+def build(rng, paths=True):
     roads = Roads(rng)
     middles = []
     while len(middles) < 150:
         place = rng.uniform(3000, SIDE - 3000), rng.uniform(3000, SIDE - 3000)
         if all(math.dist(place, other) > 2200 for other in middles):
             middles.append(place)
-    villages = [village(roads, m, rng.uniform(800, 1400) if i < 24 else rng.uniform(180, 420))
+    villages = [village(roads, m, rng.uniform(800, 1400) if i < 24 else rng.uniform(180, 420), paths)
                 for i, m in enumerate(middles)]
     for i, a in enumerate(middles):
         for j, b in enumerate(middles[:i]):
@@ -181,7 +181,7 @@ class Drivers:
         return ways
 
     def drive(self, seconds):
-        """The place of the vehicle at each second."""
+        """The place of the vehicle at each second, and the edge on which it is."""
         rng = self.rng
         node, (goal, ways) = rng.choice(self.starts), rng.choice(self.goals)
         along = total = stand = 0.0
@@ -199,7 +199,7 @@ class Drivers:
             segment = min(bisect.bisect_right(so_far, along), len(so_far) - 1)
             share = (along - so_far[segment - 1]) / (so_far[segment] - so_far[segment - 1])
             (ax, ay), (bx, by) = line[segment - 1], line[segment]
-            yield ax + (bx - ax) * share, ay + (by - ay) * share
+            yield ax + (bx - ax) * share, ay + (by - ay) * share, edge
             if stand > 0:
                 stand -= 1
             else:
@@ -209,7 +209,7 @@ class Drivers:
         """Rows of `count` points, one each `step` seconds, with an error that wanders and one that jumps."""
         rng = self.rng
         wide, x_error, y_error = rng.uniform(2, 6), 0.0, 0.0
-        for second, (x, y) in enumerate(self.drive(count * step)):
+        for second, (x, y, _) in enumerate(self.drive(count * step)):
             x_error = 0.95 * x_error + rng.gauss(0, 0.31 * wide)
             y_error = 0.95 * y_error + rng.gauss(0, 0.31 * wide)
             if second % step == 0:
