@@ -45,7 +45,7 @@ def main():
     print("trace,x,y,time" if timed else "trace,x,y")
     for trace, x, y, now in rows:
         print(f"{trace},{x},{y},{now}" if timed else f"{trace},{x},{y}")
-    ids.write(args.ids, ["file", "track", "name", "segment"])
+    ids.write(args.ids, ["file", "track", "track_name", "segment"])
     print(f"traces: {len(ids.numbers)}, points: {len(rows)}", file=sys.stderr)
 
 

@@ -101,7 +101,7 @@ def main():
     middle = [sorted(streets.nodes[ref][i] for ref in uses)[len(uses) // 2] for i in (0, 1)]
     zone = args.zone or Zone.of(*middle)
     print(f"zone: {zone.name} (EPSG:{zone.epsg})", file=sys.stderr)
-    file = NetworkFile(args.network, args.lookup, ["way", "class", "name"])
+    file = NetworkFile(args.network, args.lookup, ["way", "class", "street"])
     for way, refs, tags in streets.ways:
         known = [ref in streets.nodes for ref in refs] + [False]
         # a way also ends where the next node is unknown

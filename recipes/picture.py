@@ -22,11 +22,10 @@ class Picture:
     def shows(self, line):
         return any(0 <= x <= self.width and 0 <= y <= self.height for x, y in map(self.at, line))
 
-    def line(self, line, colour, width, title="", opacity=1):
+    def line(self, line, colour, width, title="", more=""):
         points = " ".join(f"{x:.1f},{y:.1f}" for x, y in map(self.at, line))
-        self.parts.append(f'<polyline points="{points}" fill="none" stroke="{colour}" stroke-width="{width}" '
-                          f'stroke-opacity="{opacity}" stroke-linejoin="round" stroke-linecap="round">'
-                          f"<title>{title}</title></polyline>")
+        self.parts.append(f'<polyline points="{points}" fill="none" stroke="{colour}" stroke-width="{width:.1f}" '
+                          f'stroke-linejoin="round" stroke-linecap="round"{more}><title>{title}</title></polyline>')
 
     def dot(self, place, colour, title, hollow=False):
         x, y = self.at(place)
@@ -34,8 +33,12 @@ class Picture:
         self.parts.append(f'<circle cx="{x:.1f}" cy="{y:.1f}" r="4.5" {fill}><title>{title}</title></circle>')
 
     def text(self, x, y, words, colour="#444"):
-        self.parts.append(f'<text x="{x:.1f}" y="{y:.1f}" fill="{colour}" font-family="sans-serif" '
-                          f'font-size="14">{words}</text>')
+        self.parts.append(f'<text x="{x:.1f}" y="{y:.1f}" fill="{colour}" font-family="sans-serif" font-size="14" '
+                          f'paint-order="stroke" stroke="white" stroke-width="4">{words}</text>')
+
+    def arrow(self, number, colour):
+        self.parts.append(f'<marker id="arrow{number}" orient="auto" markerWidth="3" markerHeight="3" refX="1" refY="1.5">'
+                          f'<path d="M0,0 L3,1.5 L0,3 z" fill="{colour}"/></marker>')
 
     def scale_bar(self):
         metres = next(m for m in (10000, 5000, 2000, 1000, 500, 200, 100, 50, 20, 10, 5)
@@ -59,18 +62,21 @@ def draw(path, network, drives):
     road = min(10, max(1.5, 900 * picture.scale))
     for edge, line in network.items():
         if picture.shows(line):
-            picture.line(line, "#d9d9d9", f"{road:.1f}", f"edge {edge}")
+            picture.line(line, "#d9d9d9", road, f"edge {edge}")
+    colours = [COLOURS[place % len(COLOURS)] for place in range(len(drives))]
     for place, (trace, points, labels, pieces) in enumerate(drives):
-        colour = COLOURS[place % len(COLOURS)]
+        picture.arrow(place, colours[place])
         for piece in pieces:
-            line = route_line(network, labels, piece)
-            picture.line(line, colour, f"{max(2.5, 0.5 * road):.1f}", f"trace {trace}, points {piece[0]} to {piece[1]}", 0.7)
+            picture.line(route_line(network, labels, piece), colours[place], max(2.5, 0.5 * road),
+                         f"trace {trace}, points {piece[0]} to {piece[1]}",
+                         f' stroke-opacity="0.7" marker-end="url(#arrow{place})"')
+    for colour, (trace, points, labels, pieces) in zip(colours, drives):
         for number, ((x, y, time), label) in enumerate(zip(points, labels)):
             if label:
                 picture.line([(x, y), place_on(network[label[0]], label[1])], colour, 1)
             says = f"trace {trace}, point {number}" + (f", edge {label[0]}" if label else ", no edge near")
             picture.dot((x, y), colour, says + (f", time {time}" if time != "" else ""), not label)
         x, y = picture.at(points[0][:2])
-        picture.text(min(x + 8, picture.width - 80), y - 8, f"trace {trace}", colour)
+        picture.text(min(x + 8, picture.width - 80), y - 12, f"trace {trace}", colour)
     picture.scale_bar()
     picture.write(path)
