@@ -31,7 +31,7 @@ def main():
     for path in args.files:
         try:
             tree = xml.etree.ElementTree.parse(path)
-        except (OSError, xml.etree.ElementTree.ParseError) as fault:
+        except xml.etree.ElementTree.ParseError as fault:
             sys.exit(f"{path}: {fault}")
         for place, track in enumerate((t for t in tree.getroot() if tag(t) == "trk"), 1):
             for number, segment in enumerate((s for s in track if tag(s) == "trkseg"), 1):
@@ -50,4 +50,7 @@ def main():
 
 
 if __name__ == "__main__":
-    main()
+    try:
+        main()
+    except OSError as fault:
+        sys.exit(str(fault))

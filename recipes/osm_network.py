@@ -86,9 +86,8 @@ def parts(refs, nodes, crossings):
 
 def main():
     parser = argparse.ArgumentParser()
-    parser.add_argument("map")
-    parser.add_argument("network")
-    parser.add_argument("lookup")
+    for name in ("map", "network", "lookup"):
+        parser.add_argument(name)
     parser.add_argument("--roads", choices=("main", "cars", "all"), default="cars")
     parser.add_argument("--both-ways", action="store_true", help="for people on foot: every street is open both ways")
     parser.add_argument("--zone", type=Zone)
@@ -115,4 +114,7 @@ def main():
 
 
 if __name__ == "__main__":
-    main()
+    try:
+        main()
+    except OSError as fault:
+        sys.exit(str(fault))
