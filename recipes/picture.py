@@ -2,7 +2,7 @@
 from match_file import place_on, route_line
 
 COLOURS = ("#0b6fb8", "#c8501e", "#2f8f3e", "#8a3fa0", "#b58900", "#c0316b", "#107d80", "#5c5c8a")
-WIDTH, MARGIN = 720, 40
+WIDTH, LEAST, MARGIN = 720, 480, 40
 
 
 class Picture:
@@ -12,7 +12,9 @@ class Picture:
         xs, ys = [x for x, _ in places], [y for _, y in places]
         self.scale = (WIDTH - 2 * MARGIN) / max(max(xs) - min(xs), max(ys) - min(ys), 5000)
         self.left, self.top = min(xs), max(ys)
-        self.width = round((max(xs) - min(xs)) * self.scale) + 2 * MARGIN
+        wide = round((max(xs) - min(xs)) * self.scale) + 2 * MARGIN
+        self.width = max(LEAST, wide)
+        self.left -= (self.width - wide) / 2 / self.scale
         self.height = round((max(ys) - min(ys)) * self.scale) + 2 * MARGIN + 30
         self.parts = []
 
@@ -27,10 +29,12 @@ class Picture:
         self.parts.append(f'<polyline points="{points}" fill="none" stroke="{colour}" stroke-width="{width:.1f}" '
                           f'stroke-linejoin="round" stroke-linecap="round"{more}><title>{title}</title></polyline>')
 
-    def dot(self, place, colour, title, hollow=False):
+    def dot(self, place, colour, title, radius, hollow):
         x, y = self.at(place)
-        fill = f'fill="white" stroke="{colour}" stroke-width="2"' if hollow else f'fill="{colour}" stroke="white"'
-        self.parts.append(f'<circle cx="{x:.1f}" cy="{y:.1f}" r="4.5" {fill}><title>{title}</title></circle>')
+        edge = f'fill="white" stroke="{colour}" stroke-width="2"' if hollow else f'fill="{colour}"'
+        if radius > 2 and not hollow:
+            edge += ' stroke="white"'
+        self.parts.append(f'<circle cx="{x:.1f}" cy="{y:.1f}" r="{radius}" {edge}><title>{title}</title></circle>')
 
     def text(self, x, y, words, colour="#444"):
         self.parts.append(f'<text x="{x:.1f}" y="{y:.1f}" fill="{colour}" font-family="sans-serif" font-size="14" '
@@ -75,7 +79,8 @@ def draw(path, network, drives):
             if label:
                 picture.line([(x, y), place_on(network[label[0]], label[1])], colour, 1)
             says = f"trace {trace}, point {number}" + (f", edge {label[0]}" if label else ", no edge near")
-            picture.dot((x, y), colour, says + (f", time {time}" if time != "" else ""), not label)
+            says += f", time {time}" if time != "" else ""
+            picture.dot((x, y), colour, says, 4.5 if road > 5 else 1.2, not label)
         x, y = picture.at(points[0][:2])
         picture.text(min(x + 8, picture.width - 80), y - 12, f"trace {trace}", colour)
     picture.scale_bar()
