@@ -1,4 +1,4 @@
-"""spark-submit recipes/spark_match.py NETWORK [OPTION ..]: matches the parts parts/*.csv and writes their texts to the folder matched."""
+"""spark-submit recipes/spark_match.py NETWORK [OPTION ..]: matches the parts parts/*.csv into the folder matched."""
 import glob
 import os
 import shlex

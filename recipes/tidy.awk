@@ -13,9 +13,10 @@ NR == 1 { timed = NF == 4; print; next }
 NF == 0 { next }
 !kept || $1 != trace { keep(); next }
 {
-    away = sqrt(($2 - x) * ($2 - x) + ($3 - y) * ($3 - y))
-    if (away < step || away == 0) { near++; next }
-    if (timed && away > speed * ($4 - time) && jumps < 3) { jumps++; dropped++; next }
+    away = ($2 - x) * ($2 - x) + ($3 - y) * ($3 - y)  # squared
+    if (away < step * step || away == 0) { near++; next }
+    reach = $4 > time ? speed * ($4 - time) : 0
+    if (timed && away > reach * reach && jumps < 3) { jumps++; dropped++; next }
     keep()
 }
 function keep() {
