@@ -33,9 +33,8 @@ class Map:
             parser.ParseFile(file)
 
     def begin(self, name, attributes):
-        if name == "node":
-            if "lat" in attributes:
-                self.nodes[attributes["id"]] = float(attributes["lon"]), float(attributes["lat"])
+        if name == "node" and "lat" in attributes:
+            self.nodes[attributes["id"]] = float(attributes["lon"]), float(attributes["lat"])
         elif name == "way":
             self.way = attributes["id"], [], {}
         elif self.way and name == "nd":
