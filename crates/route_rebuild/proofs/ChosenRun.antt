@@ -9,7 +9,7 @@ use Rattle.road_network.specs.declared.Candidate.{Candidate}
 use Rattle.road_network.specs.Net.{Net, IsLawful}
 use Rattle.matching.specs.declared.parts.Layer.{Layer}
 use Rattle.matching.specs.declared.parts.Piece.{Piece}
-use Rattle.matching.specs.Layers.{candidate_at, no_candidate, trellis}
+use Rattle.matching.specs.Layers.{candidate_of_rank, no_candidate, trellis}
 use Rattle.matching.specs.Match.{IsMatchedPiece, from_to}
 use Rattle.matching.specs.Pieces.{ArePieces}
 use Rattle.matching.specs.RouteLength.{IsShortest, length_of_route}
@@ -124,10 +124,10 @@ some_of f (Some x) w h = (x, refl)
 
 -- where the trellis moves from candidate to candidate, there is a route
 route_there : (n : Net) (p : Params) (m l : Layer) (a b w : ℕ) → IsLawful n → (trellis n p).transition m a l b ≡ Some w
-    → (r : Route) × IsRoute n p.bound p.back (candidate_at m a) (candidate_at l b) r
+    → (r : Route) × IsRoute n p.bound p.back (candidate_of_rank m a) (candidate_of_rank l b) r
 route_there n p m l a b w lawful moves =
-    let from : Candidate = candidate_at m a in
-    let to : Candidate = candidate_at l b in
+    let from : Candidate = candidate_of_rank m a in
+    let to : Candidate = candidate_of_rank l b in
     let len = some_of (λ (route : ℕ). transition p route (straight m.point l.point)) (length_of_route n p.bound p.back from to) w moves in
     let short : IsShortest n p.bound p.back from to len.0 = at_some ((r : Route) → IsRoute n p.bound p.back from to r → ⊥) (IsShortest n p.bound p.back from to) (length_of_route n p.bound p.back from to) len.0 len.1 (route_lengths_least n p.bound p.back from to lawful) in
     (short.route, short.is)
@@ -196,10 +196,10 @@ chosen_run n p layers s k lawful is lt =
     let count = is.matched.ranks-count in
     let b = piece_back n p layers s piece within count (is.matched.each k none lt) in
     record {
-      options = is.options;
+      options = is.trace.options;
       some = within.some;
       points = λ j ge le. record { layer = omega (arith, le, below); rank = omega (arith, le, below, count); among = among n p layers s piece j b ge le };
-      candidates = λ j ge le. (is.layers-are.each j no_layer (omega (arith, le, below))).candidates (unwrap_or (get_or s.ranks j None) 0) no_candidate (among n p layers s piece j b ge le);
+      candidates = λ j ge le. (is.trace.are.each j no_layer (omega (arith, le, below))).candidates (unwrap_or (get_or s.ranks j None) 0) no_candidate (among n p layers s piece j b ge le);
       routes = λ j ge less.
           let move = moved n p layers s piece j b ge less in
           let there = route_there n p (get_or layers j no_layer) (get_or layers (j + 1) no_layer) (unwrap_or (get_or s.ranks j None) 0) (unwrap_or (get_or s.ranks (j + 1) None) 0) move.0 lawful move.1 in

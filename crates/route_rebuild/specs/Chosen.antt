@@ -4,7 +4,7 @@ use Rattle.cost_model.specs.declared.params.Params.{Params}
 use Rattle.cost_model.specs.Options.{IsAccepted}
 use Rattle.matching.specs.declared.parts.Layer.{Layer}
 use Rattle.matching.specs.declared.parts.Piece.{Piece}
-use Rattle.matching.specs.Layers.{AreLayers, IsCandidate, trellis}
+use Rattle.matching.specs.Layers.{IsCandidate, IsMatchable, trellis}
 use Rattle.matching.specs.Match.{IsMatch}
 use Rattle.matching.specs.Routes.{HasNoRoute}
 use Rattle.road_network.specs.Net.{Net}
@@ -13,8 +13,7 @@ use Rattle.trellis.specs.declared.parts.Solved.{Solved}
 
 -- it is the match of these layers, which are layers of this network, with accepted options
 pub record IsSolved (n : Net) (p : Params) (layers : List Layer) (solved : Solved) : Type 0 where
-  pub options : IsAccepted p
-  pub layers-are : AreLayers n p layers
+  pub trace : IsMatchable n p layers
   pub matched : IsMatch (trellis n p) layers solved.ranks solved.pieces solved.tables
 
 -- point i has a chosen candidate

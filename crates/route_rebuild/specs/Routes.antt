@@ -3,7 +3,7 @@ use Rattle.std.specs.Prelude.{ℕ, zero, suc, ◌≡◌, ◌+◌, ◌-◌, ◌<�
 use Rattle.cost_model.specs.declared.params.Params.{Params}
 use Rattle.matching.specs.declared.parts.Layer.{Layer}
 use Rattle.matching.specs.declared.parts.Piece.{Piece}
-use Rattle.matching.specs.Layers.{candidate_at}
+use Rattle.matching.specs.Layers.{candidate_of_rank}
 use Rattle.matching.specs.Routes.{Route, Direct, Over, IsTheRoute}
 use Rattle.matching.specs.RouteBetween.{route_between}
 use Rattle.road_network.specs.Net.{Net, target}
@@ -30,7 +30,7 @@ no_layer = record { point = record { x = pos 0; y = pos 0 }; candidates = []; ti
 -- the chosen candidate of point i
 abbrev pub chosen_at : List Layer → List (Option ℕ) → ℕ → Candidate
 chosen_at layers ranks i =
-    candidate_at (slice_index_or layers i no_layer) (unwrap_or (slice_index_or ranks i None) 0)
+    candidate_of_rank (slice_index_or layers i no_layer) (unwrap_or (slice_index_or ranks i None) 0)
 
 -- es is the route of the piece: the edge of its first chosen candidate, and the legs to the others
 pub record IsRouteOf (n : Net) (p : Params) (layers : List Layer) (ranks : List (Option ℕ))
