@@ -69,4 +69,4 @@ asks_found {s0 = s0} {s2 = s2} n p trace layers s same is one two =
     (λ v true_is. (is_asked_node-tells (trellis n p) (end_of n) layers s.pieces v).1 (sym (asks-is n p trace layers s v same is) ∙ true_is))
 
 pub asks_value : {A E : Type 0} {s0 s1 : RowsState} {asked : A → ℕ → Type 0} {result : Result A E} {x : A} → AsksAs s0 asked result s1 → result ≡ Ok x → AsksAll s0 s1 (asked x)
-asks_value {s0 = s0} {s1 = s1} {asked = asked} as is = subst (λ r. IfOk r (λ y. AsksAll s0 s1 (asked y))) is as.asks
+asks_value {s0 = s0} {s1 = s1} {asked = asked} h is = subst (λ r. IfOk r (λ y. AsksAll s0 s1 (asked y))) is h.asks
