@@ -7,7 +7,5 @@
 
 mod answer;
 mod routes;
-#[cfg(test)]
-mod tests;
 
 pub use answer::{Answer, match_one};
