@@ -1,6 +1,6 @@
 // The files of a runtime. Nothing is known of their bytes.
-ghost use Rattle.std.specs.Prelude.{◌≡◌, [], ◌≤◌, ◌+◌, None, vec_len, length, IfOk};
-ghost use Rattle.edge_io.specs.Shelf.{Grows, IsNotRead};
+ghost use Rattle.std.specs.Prelude.{◌≡◌, ◌≤◌, None, length, IfOk};
+ghost use Rattle.edge_io.specs.State.{new_shelf};
 
 use crate::noting::fail_read;
 use crate::{Shelf, Taken};
@@ -21,7 +21,7 @@ pub struct FileShelf<R: Files + Drop> {
 impl<R: Files + Drop> FileShelf<R> {
     /// The files that the runtime reaches.
     pub fn new(alloc: Global, rt: R) -> Self
-        ensures { ⟦<FileShelf<R> as Shelf>⟧.failed result ≡ [] }
+        ensures { ⟦<FileShelf<R> as Shelf>⟧.state result ≡ new_shelf None }
     {
         FileShelf {
             alloc,
@@ -41,9 +41,7 @@ fn read_at<R: Files>(rt: &R, name: &str, at: u64, buffer: &mut [u8]) -> io::Resu
 }
 
 impl<R: Files + Drop> Shelf for FileShelf<R> {
-    ghost holds = { λ _. None };
-
-    ghost failed = { λ s. s.failed };
+    ghost state = { λ s. record { holds = None; failed = s.failed } };
 
     fn read(&mut self, name: &str, at: u64, into: &mut Vec<u8>, most: u32) -> Taken {
         let before = into.len();

@@ -4,6 +4,7 @@ ghost use Rattle.std.specs.List.{list_any};
 ghost use Rattle.edge_io.specs.Files.{lookup};
 ghost use Rattle.edge_io.specs.Memory.{ServesFile, Serves, next_call};
 ghost use Rattle.edge_io.specs.Shelf.{Grows, IsNotRead, Reads, ReadsFile, failed_after};
+ghost use Rattle.edge_io.specs.State.{new_shelf};
 
 use crate::noting::fail_read;
 use crate::{Shelf, Taken};
@@ -28,8 +29,7 @@ impl MemoryShelf {
     /// A shelf of these files, by name and bytes, whose calls of the numbers `fail` fail, counted
     /// from 1. Where a name stands twice, its first file is the one that is held.
     pub fn new(alloc: Global, files: List<(List<u8>, List<u8>)>, fail: List<u64>) -> Self
-        ensures holds { ⟦<MemoryShelf as Shelf>⟧.holds result ≡ Some (lookup files) }
-        ensures failed { ⟦<MemoryShelf as Shelf>⟧.failed result ≡ [] }
+        ensures state { ⟦<MemoryShelf as Shelf>⟧.state result ≡ new_shelf (Some (lookup files)) }
         ensures fail { result.fail ≡ fail }
         ensures calls { result.calls ≡ 0 }
         ensures drip { result.drip ≡ 2 ^ 32 - 1 }
@@ -45,8 +45,7 @@ impl MemoryShelf {
         most: u32,
     ) -> Self
         requires { 1 ≤ most }
-        ensures holds { ⟦<MemoryShelf as Shelf>⟧.holds result ≡ Some (lookup files) }
-        ensures failed { ⟦<MemoryShelf as Shelf>⟧.failed result ≡ [] }
+        ensures state { ⟦<MemoryShelf as Shelf>⟧.state result ≡ new_shelf (Some (lookup files)) }
         ensures fail { result.fail ≡ fail }
         ensures calls { result.calls ≡ 0 }
         ensures drip { result.drip ≡ most }
@@ -77,9 +76,7 @@ fn find<'a>(files: &'a [(List<u8>, List<u8>)], name: &[u8]) -> Option<&'a List<u
 }
 
 impl Shelf for MemoryShelf {
-    ghost holds = { λ s. Some (lookup s.files) };
-
-    ghost failed = { λ s. s.failed };
+    ghost state = { λ s. record { holds = Some (lookup s.files); failed = s.failed } };
 
     /// Fails where this call's number is among those that fail, or the name is not held; else gives
     /// what the file has from the place on, as much as one call may give.

@@ -3,6 +3,7 @@ ghost use Rattle.std.specs.Prelude.{◌≡◌, ◌+◌, ◌-◌, ◌^◌, ◌==�
 ghost use Rattle.std.specs.List.{list_any};
 ghost use Rattle.edge_io.specs.Memory.{Takes, next_call};
 ghost use Rattle.edge_io.specs.Sink.{Puts};
+ghost use Rattle.edge_io.specs.State.{new_sink};
 
 use crate::{Put, Sink};
 use polyline_geometry::List;
@@ -21,8 +22,7 @@ pub struct MemorySink {
 impl MemorySink {
     /// An empty sink, whose puts of the numbers `fail` fail, counted from 1.
     pub fn new(alloc: Global, fail: List<u64>) -> Self
-        ensures written { ⟦<MemorySink as Sink>⟧.written result ≡ Some [] }
-        ensures faults { ⟦<MemorySink as Sink>⟧.faults result ≡ 0 }
+        ensures state { ⟦<MemorySink as Sink>⟧.state result ≡ new_sink (Some []) }
         ensures fail { result.fail ≡ fail }
         ensures calls { result.calls ≡ 0 }
     {
@@ -36,22 +36,19 @@ impl MemorySink {
 
     /// What was written.
     pub fn bytes(&self) -> &[u8]
-        ensures { ⟦<MemorySink as Sink>⟧.written self.now ≡ Some result.now }
+        ensures { (⟦<MemorySink as Sink>⟧.state self.now).written ≡ Some result.now }
     {
         self.bytes.as_slice()
     }
 }
 
 impl Sink for MemorySink {
-    ghost written = { λ s. Some s.bytes.items };
-
-    ghost faults = { λ s. s.faults };
+    ghost state = { λ s. record { written = Some s.bytes.items; faults = s.faults } };
 
     /// Fails where this put's number is among those that fail, and then writes the first half
     /// of the piece.
     fn put(&mut self, piece: &[u8]) -> Put
-        ensures puts { Puts (Some self.old.bytes.items) (Some self.new.bytes.items) self.old.faults
-            self.new.faults piece.now result }
+        ensures puts { Puts (⟦<MemorySink as Sink>⟧.state self.old) (⟦<MemorySink as Sink>⟧.state self.new) piece.now result }
         ensures takes { Takes (list_any (λ n. n == self.new.calls) self.old.fail)
             self.old.bytes.items self.new.bytes.items piece.now result }
         ensures calls { self.new.calls ≡ next_call self.old.calls }

@@ -1,5 +1,6 @@
 // A stream that is written to. Nothing is known of what it took.
 ghost use Rattle.std.specs.Prelude.{◌≡◌, None};
+ghost use Rattle.edge_io.specs.State.{new_sink};
 
 use crate::{Put, Sink};
 use std::io;
@@ -15,7 +16,7 @@ pub struct StreamSink<W: Write + Drop> {
 impl<W: Write + Drop> StreamSink<W> {
     /// A sink over the stream.
     pub fn new(stream: W) -> Self
-        ensures { ⟦<StreamSink<W> as Sink>⟧.faults result ≡ 0 }
+        ensures { ⟦<StreamSink<W> as Sink>⟧.state result ≡ new_sink None }
     {
         StreamSink { stream, faults: 0 }
     }
@@ -28,9 +29,7 @@ fn write_flushed<W: Write>(stream: &mut W, piece: &[u8]) -> io::Result<()> {
 }
 
 impl<W: Write + Drop> Sink for StreamSink<W> {
-    ghost written = { λ _. None };
-
-    ghost faults = { λ s. s.faults };
+    ghost state = { λ s. record { written = None; faults = s.faults } };
 
     fn put(&mut self, piece: &[u8]) -> Put {
         match write_flushed(&mut self.stream, piece) {
