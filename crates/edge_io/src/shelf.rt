@@ -1,4 +1,4 @@
-// A shelf of named files.
+// A shelf of named files. Serves every program that reads; decided by `Reads` and `shelf_after`.
 ghost use Rattle.std.specs.Prelude.{◌≡◌, ◌≤◌, ◌^◌};
 ghost use Rattle.edge_io.specs.Shelf.{Grows, Reads, shelf_after};
 ghost use Rattle.edge_io.specs.State.{ShelfState};
@@ -28,6 +28,7 @@ pub trait Shelf {
         requires some { 1 ≤ most }
         requires place { at ≤ 2 ^ 40 }
         ensures grows { Grows most into.old.items into.new.items result }
-        ensures bytes { Reads (state self.old).holds name.now at into.old.items into.new.items result }
+        ensures bytes { Reads (state self.old).holds name.now at
+            into.old.items into.new.items result }
         ensures state { state self.new ≡ shelf_after result name.now (state self.old) };
 }

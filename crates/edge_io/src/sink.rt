@@ -1,13 +1,13 @@
-// A place that bytes are written to.
+// A place that bytes are written to. Serves every program that writes; decided by `Puts`.
 ghost use Rattle.edge_io.specs.Sink.{Puts};
 ghost use Rattle.edge_io.specs.State.{SinkState};
 
 /// What a put answers.
 #[derive(Clone, Copy, Debug, PartialEq, Eq)]
 pub enum Put {
-    /// The whole piece was written.
+    /// The whole text was written.
     All,
-    /// A prefix of the piece was written, and the fault was counted.
+    /// A prefix of the text was written, and the fault was counted.
     Failed,
     /// There was no memory, and nothing was written.
     NoMemory,

@@ -1,4 +1,5 @@
-// A stream that is written to. Nothing is known of what it took.
+// A stream that is written to. Serves the program's `main`; decided by the clause of `Sink::put`, which
+// says nothing of what a stream took.
 ghost use Rattle.std.specs.Prelude.{◌≡◌, None};
 ghost use Rattle.edge_io.specs.State.{new_sink};
 
@@ -6,7 +7,7 @@ use crate::{Put, Sink};
 use std::io;
 use std::io::Write;
 
-/// A stream that is written to, and flushed after each piece.
+/// A stream that is written to, and flushed after each text.
 #[derive(Drop)]
 pub struct StreamSink<W: Write + Drop> {
     stream: W,
@@ -22,17 +23,17 @@ impl<W: Write + Drop> StreamSink<W> {
     }
 }
 
-// Writes a piece and flushes.
-fn write_flushed<W: Write>(stream: &mut W, piece: &[u8]) -> io::Result<()> {
-    stream.write_all(piece)?;
+// Writes a text and flushes.
+fn write_flushed<W: Write>(stream: &mut W, text: &[u8]) -> io::Result<()> {
+    stream.write_all(text)?;
     stream.flush()
 }
 
 impl<W: Write + Drop> Sink for StreamSink<W> {
     ghost state = { λ s. record { written = None; faults = s.faults } };
 
-    fn put(&mut self, piece: &[u8]) -> Put {
-        match write_flushed(&mut self.stream, piece) {
+    fn put(&mut self, text: &[u8]) -> Put {
+        match write_flushed(&mut self.stream, text) {
             Ok(()) => Put::All,
             Err(_) => {
                 self.faults = self.faults.saturating_add(1);
