@@ -19,6 +19,7 @@ ghost use Rattle.road_network.specs.Net.{Net, HasEdge, HasNode, IsLawful, arc_of
 
 mod counting;
 mod draft;
+mod edge_names;
 mod fault;
 mod fields;
 mod file;
