@@ -1,4 +1,7 @@
-use crate::{List, Point, line_length, root, snap_line, snap_line_below, snap_segment, straight};
+use crate::{
+    List, Point, extend_offsets, line_length, root, snap_line, snap_line_below, snap_segment,
+    straight,
+};
 use std::test::Fail;
 
 const CORNER: [Point; 3] = [
@@ -70,6 +73,19 @@ fn snap_to_a_corner(rt: HostRuntime) {
     assert_eq!(rt; second.offset, 14);
     assert!(rt; snap_line_below(corner, Point { x: 13, y: 4 }, 10).is_some());
     assert!(rt; snap_line_below(corner, Point { x: 13, y: 4 }, 9).is_none());
+}
+
+#[test]
+fn offsets_of_a_corner(rt: HostRuntime) -> Result<(), Fail> {
+    let mut offsets = List::new(rt.alloc());
+    offsets.push(7_u32)?;
+    assert_eq!(rt; extend_offsets(CORNER.as_slice(), 19, &mut offsets)?, None);
+    assert_eq!(rt;
+        extend_offsets(CORNER.as_slice(), 20, &mut offsets)?,
+        Some(20)
+    );
+    assert_eq!(rt; offsets.as_slice(), [7, 0, 10, 20].as_slice());
+    Ok(())
 }
 
 #[test]
