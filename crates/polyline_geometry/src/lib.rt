@@ -1,7 +1,8 @@
 //! The plane in whole centimetres, and the list that every other crate uses.
 //!
 //! - [`Point`] is a place; [`straight`] is the straight distance of two places, rounded down.
-//! - A line is a slice of points; [`line_length`] adds up its segments.
+//! - A line is a slice of points; [`line_length`] adds up its segments, and [`extend_offsets`] keeps
+//!   how far along the line each point lies.
 //! - [`snap_segment`] and [`snap_line`] bring a point onto a segment or a line, and answer a
 //!   [`Snap`]: the squared distance to the snapped point, and how far along the line that lies.
 //! - [`nearest_segment`] and [`snap_on`] are the two halves of a snap to a line, for callers that
@@ -17,6 +18,7 @@ mod laws;
 mod line;
 mod list;
 mod nearest_place;
+mod offsets;
 mod plane;
 mod segment;
 mod square_root;
@@ -27,6 +29,7 @@ pub use laws::snap_is_the_nearest;
 pub use line::{NearSegment, line_length, nearest_segment, snap_line, snap_on};
 pub use list::List;
 pub use nearest_place::nearest_in_box;
+pub use offsets::extend_offsets;
 pub use plane::{Point, Snap, distance2, straight};
 pub use segment::snap_segment;
 pub use square_root::root;

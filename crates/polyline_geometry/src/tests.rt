@@ -1,6 +1,6 @@
 use crate::{
-    List, Point, line_length, nearest_in_box, nearest_segment, root, snap_line, snap_segment,
-    straight,
+    List, Point, extend_offsets, line_length, nearest_in_box, nearest_segment, root, snap_line,
+    snap_segment, straight,
 };
 use std::test::Fail;
 
@@ -81,6 +81,19 @@ fn snap_to_a_corner(rt: HostRuntime) {
         ),
         Point { x: 10, y: 4 }
     );
+}
+
+#[test]
+fn offsets_of_a_corner(rt: HostRuntime) -> Result<(), Fail> {
+    let mut offsets = List::new(rt.alloc());
+    offsets.push(7_u32)?;
+    assert_eq!(rt; extend_offsets(CORNER.as_slice(), 19, &mut offsets)?, None);
+    assert_eq!(rt;
+        extend_offsets(CORNER.as_slice(), 20, &mut offsets)?,
+        Some(20)
+    );
+    assert_eq!(rt; offsets.as_slice(), [7, 0, 10, 20].as_slice());
+    Ok(())
 }
 
 #[test]
