@@ -1,6 +1,6 @@
 -- What was found is the match of the trace, and the rows that became known are those that it asks for.
-use Rattle.std.proofs.Common.{◌≡◌, ℕ, ◌≤◌, true, List, sym, ap, ◌∙◌, subst, length, inl, inr, ⊎_elim}
-use Rattle.std.specs.Prelude.{Result, Ok, Err, IfOk}
+use Rattle.std.proofs.Common.{◌≡◌, ℕ, ◌≤◌, true, List, sym, ap, ◌∙◌, subst, length, ⊎_elim}
+use Rattle.std.specs.Prelude.{Result, Ok, IfOk}
 use Rattle.bounded_search.specs.Rows.{RowsState, AsksAll, AsksAs, AsksOnly}
 use Rattle.bounded_search.proofs.Asking.{all_by, only_then}
 use Rattle.cost_model.specs.declared.params.Params.{Params}

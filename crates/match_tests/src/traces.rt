@@ -91,7 +91,10 @@ fn on_first(offset: u32, d2: u64) -> Label {
 }
 
 fn is_along_first(piece: &Routed) -> bool {
-    piece.first == 0 && piece.last == 1 && piece.cost == 112 && piece.route.as_slice() == [10].as_slice()
+    piece.first == 0
+        && piece.last == 1
+        && piece.cost == 112
+        && piece.route.as_slice() == [10].as_slice()
 }
 
 /// Whether the match is that of two fixes along the first edge.
@@ -100,7 +103,12 @@ fn is_wanted(answer: &Answer) -> bool {
     answer.matched.id == 7
         && answer.matched.labels.as_slice() == labels.as_slice()
         && answer.matched.pieces.len() == 1
-        && answer.matched.pieces.as_slice().iter().all(|piece| is_along_first(piece))
+        && answer
+            .matched
+            .pieces
+            .as_slice()
+            .iter()
+            .all(|piece| is_along_first(piece))
 }
 
 /// Two places beside the first edge, one after the other.

@@ -1,5 +1,5 @@
 -- The candidates of a point lie on different edges, so its labels agree exactly where its ranks do.
-use Rattle.std.proofs.Common.{◌≡◌, ℕ, zero, suc, ◌+◌, ◌*◌, ◌<◌, ◌≤◌, Bool, true, false, cond, leb, List, [], ◌∷◌, Option, Some, None, IfSome, map, refl, sym, ap, ◌∙◌, arith, length, take, get_or}
+use Rattle.std.proofs.Common.{◌≡◌, ℕ, zero, suc, ◌+◌, ◌*◌, ◌<◌, Bool, true, false, cond, leb, List, [], ◌∷◌, Option, Some, None, IfSome, map, refl, sym, ap, arith, length, take, get_or}
 use Rattle.std.specs.List.{range_with_len}
 use Rattle.polyline_geometry.specs.declared.plane.Point.{Point}
 use Rattle.cost_model.specs.declared.params.Params.{Params}

@@ -1,12 +1,11 @@
 -- The first labels of a trace, and those that are committed while its fixes still come.
-use Rattle.std.proofs.Common.{◌≡◌, ℕ, zero, suc, ◌≤◌, List, [], ◌∷◌, ◌++◌, Option, map, refl, sym, ap, ◌∙◌, subst, take, drop}
+use Rattle.std.proofs.Common.{◌≡◌, ℕ, zero, suc, List, [], ◌∷◌, ◌++◌, map, refl, sym, ap, ◌∙◌, subst, take, drop}
 use Rattle.std.proofs.lemmas.List.{map-append, take-append-drop, take-append-le, take-take}
 use Rattle.cost_model.specs.declared.params.Params.{Params}
 use Rattle.match_text.specs.declared.matched.Label.{Label}
 use Rattle.matching.specs.declared.parts.Layer.{Layer}
 use Rattle.matching.specs.CommittedValue.{IsCommittedFor, committed_of}
 use Rattle.matching.specs.Layers.{trellis}
-use Rattle.matching.specs.Sequences.{Trellis}
 use Rattle.matching.specs.Value.{solution}
 use Rattle.matching.proofs.CommittedValues.{committed_stays}
 use Rattle.road_network.specs.Net.{Net}

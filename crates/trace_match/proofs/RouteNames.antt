@@ -1,9 +1,9 @@
 -- The edges of a route are edges of the network.
-use Rattle.std.proofs.Common.{◌≡◌, ℕ, ◌<◌, List, [], ◌∷◌, Option, All, map, ap, ◌∙◌, length}
+use Rattle.std.proofs.Common.{ℕ, List, [], ◌∷◌, Option, All}
 use Rattle.std.proofs.lemmas.List.Elements.{All-cons, All-nil}
 use Rattle.cost_model.specs.declared.params.Params.{Params}
 use Rattle.road_network.specs.declared.EdgeId.{EdgeId}
-use Rattle.road_network.specs.Net.{Net, HasEdge, IsLawful, edge_name, source, target}
+use Rattle.road_network.specs.Net.{Net, HasEdge, source, target}
 use Rattle.road_network.specs.Walk.{Leads}
 use Rattle.matching.specs.declared.parts.Layer.{Layer}
 use Rattle.matching.specs.declared.parts.Piece.{Piece}

@@ -5,7 +5,7 @@ use Rattle.matching.specs.Layers.{IsMatchable, trellis}
 use Rattle.matching.specs.Match.{IsMatch}
 use Rattle.matching.specs.PieceSteps.{AsksTrace}
 use Rattle.route_rebuild.specs.Chosen.{IsSolved}
-use Rattle.trace_match.specs.Match.{as_solution, layer_of, layers_of, matched_of}
+use Rattle.trace_match.specs.Match.{as_solution, layer_of, matched_of}
 use Rattle.trace_match.proofs.TraceLayers.{matchable}
 use Rattle.match_pool.proofs.Found.{answered, asks_found, asks_value}
 use Rattle.match_pool.proofs.answer.match_one.Goals as goal
