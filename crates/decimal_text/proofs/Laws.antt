@@ -1,11 +1,15 @@
 -- What readers of texts need of the digits that are written.
-use Rattle.std.proofs.Common.{◌≡◌, ℕ, ◌^◌, ◌<◌, ◌≤◌, true, List, length, get_or, ℤ, pos, negsuc, nat_abs, suc, ◌∷◌, false, Ok, refl, sym, arith, rules}
+use Rattle.std.proofs.Common.{zero, [], ◌∙◌, inl, inr, neg_ℤ, ◌==◌, Result, Err, ap, ◌≡◌, ℕ, ◌^◌, ◌<◌, ◌≤◌, true, List, length, get_or, ℤ, pos, negsuc, nat_abs, suc, ◌∷◌, false, Ok, refl, sym, arith, rules}
 use Rattle.std.specs.List.{list_all}
+use Rattle.std.specs.Result.{result_map_both}
+use Rattle.std.proofs.lemmas.Bool.{cases_Bool}
+use Rattle.decimal_text.specs.declared.number.NumberFault.{NumberFault}
+use Rattle.decimal_text.specs.Spellings.{IsPlainSigned, SignedHasOneSpelling, SignedReadsBack, UnsignedHasOneSpelling, UnsignedReadsBack}
 use Rattle.std.specs.Char.{is_ascii_digit}
 use Rattle.std.specs.Int.{IsInRange}
 use Rattle.std.specs.Str.Parse.{digits_value, starts_with_minus}
 use Rattle.std.proofs.lemmas.Str.Parse.{IsNumeralModel, IsDigitsTest, numerals_by_value, digit_at}
-use Rattle.std.proofs.lemmas.Fmt.{digits_decimal, digits_value-decimal, length-decimal-le, decimal_nonempty, decimal_injective, decimal_is_IsNumeral, decimal-digits_value, first_decimal}
+use Rattle.std.proofs.lemmas.Fmt.{digits_decimal, digits_value-decimal, length-decimal-le, decimal_nonempty, decimal_injective, decimal_is_IsNumeral, decimal-digits_value, decimal_digit, first_decimal}
 use Rattle.std.proofs.lemmas.Bool.{ne_eqb}
 use Rattle.std.proofs.lemmas.Grind.{common_steps}
 use Rattle.decimal_text.specs.Number.{decimal, signed_decimal, is_unsigned, unsigned_within, signed_within}
@@ -76,3 +80,47 @@ signed_within-signed_decimal most (pos n) small fits =
     sym (signed_plain_ok most n (decimal n) (decimal n) (plain-decimal n (omega arith)) (rw (plain-decimal n (omega arith))) (sym (unsigned_within-decimal most n small (omega arith))))
 signed_within-signed_decimal most (negsuc n) small fits =
     sym (signed_minus_ok most (suc n) (45 ∷ decimal (suc n)) (decimal (suc n)) refl refl (sym (unsigned_within-decimal most (suc n) small (omega arith))))
+
+-- a signed number with no leading zero is what is written of it
+spelt-plain : (most : ℕ) (z : ℤ) (text : List ℕ) → most < 2 ^ 31 → (read : Result ℕ NumberFault) → unsigned_within most text ≡ read
+    → result_map_both pos (λ fault. fault) read ≡ Ok z → (get_or text 0 0 ≡ 48 → length text ≡ 1) → signed_decimal z ≡ text
+spelt-plain most z text fits (Err fault) is h leading = cc
+spelt-plain most z text fits (Ok n) is h leading =
+    let e : pos n ≡ z = cc in
+    rw (← e) (decimal-unsigned_within most n text (omega arith) is leading)
+
+spelt-minus : (most : ℕ) (z : ℤ) (digits : List ℕ) → most < 2 ^ 31 → (read : Result ℕ NumberFault) → unsigned_within most digits ≡ read
+    → result_map_both (λ n. neg_ℤ (pos n)) (λ fault. fault) read ≡ Ok z → (get_or digits 0 0 ≡ 48 → ⊥) → signed_decimal z ≡ 45 ∷ digits
+spelt-minus most z digits fits (Err fault) is h leading = cc
+spelt-minus most z digits fits (Ok zero) is h leading =
+    let zero-is : decimal 0 ≡ digits = decimal-unsigned_within most 0 digits (omega arith) is (λ e. absurd (leading e)) in
+    absurd (leading (ap (λ k. get_or k 0 0) (sym zero-is ∙ decimal_digit 0 (omega arith))))
+spelt-minus most z digits fits (Ok (suc n)) is h leading =
+    let e : negsuc n ≡ z = cc in
+    rw (← e) (ap (λ k. 45 ∷ k) (decimal-unsigned_within most (suc n) digits (omega arith) is (λ e. absurd (leading e))))
+
+signed-spelt : (most : ℕ) (z : ℤ) (text : List ℕ) → most < 2 ^ 31 → signed_within most text ≡ Ok z → IsPlainSigned text → signed_decimal z ≡ text
+unfolding signed_within
+signed-spelt most z [] fits read plain = spelt-plain most z [] fits (unsigned_within most []) refl read (plain.without refl)
+signed-spelt most z (c ∷ digits) fits read plain =
+    elim (cases_Bool (c == 45)) [
+      | inl minus ↦
+          let sign : c ≡ 45 = grind arith in
+          let h : result_map_both (λ n. neg_ℤ (pos n)) (λ fault. fault) (unsigned_within most digits) ≡ Ok z = rw minus at read in
+          rw sign (spelt-minus most z digits fits (unsigned_within most digits) refl h (plain.signed minus))
+      | inr other ↦
+          let h : result_map_both pos (λ fault. fault) (unsigned_within most (c ∷ digits)) ≡ Ok z = rw other at read in
+          spelt-plain most z (c ∷ digits) fits (unsigned_within most (c ∷ digits)) refl h (plain.without other)
+    ]
+
+pub unsigned_reads_back : UnsignedReadsBack
+unsigned_reads_back most n small fits = unsigned_within-decimal most n small fits
+
+pub signed_reads_back : SignedReadsBack
+signed_reads_back most z small fits = signed_within-signed_decimal most z small fits
+
+pub unsigned_has_one_spelling : UnsignedHasOneSpelling
+unsigned_has_one_spelling most n text fits read leading = decimal-unsigned_within most n text fits read leading
+
+pub signed_has_one_spelling : SignedHasOneSpelling
+signed_has_one_spelling most z text fits read plain = signed-spelt most z text fits read plain

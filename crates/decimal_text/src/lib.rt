@@ -11,7 +11,11 @@
 #![tactic(auto)]
 
 mod blank;
+mod laws_of_numbers;
 mod number;
 
 pub use blank::{is_blank, trim};
+pub use laws_of_numbers::{
+    signed_has_one_spelling, signed_reads_back, unsigned_has_one_spelling, unsigned_reads_back,
+};
 pub use number::{NumberFault, parse_signed, parse_unsigned, write_signed, write_unsigned};

@@ -13,6 +13,7 @@ use Rattle.polyline_geometry.specs.declared.plane.Point.{Point}
 use Rattle.polyline_geometry.specs.Plane.{line_length}
 use Rattle.road_network.specs.declared.fault.NetworkFault.{NetworkFault}
 use Rattle.road_network.specs.declared.fault.NetworkFault.TheVariants as fault
+use Rattle.road_network.specs.declared.limits.TheConstants.{COORDINATE_LIMIT, EDGE_LIMIT, FILE_LIMIT, LENGTH_LIMIT, NODE_LIMIT, POINT_LIMIT}
 use Rattle.road_network.specs.Net.{Edge, Net, point_count}
 
 -- The fields of a record
@@ -34,8 +35,8 @@ abbrev pub point_of : List ℕ → Result Point NumberFault
 point_of part =
     let text : List ℕ = trim part in
     both make_point
-    (signed_within 1_000_000_000 (before_first is_blank text))
-    (signed_within 1_000_000_000 (trim (after_first is_blank text)))
+    (signed_within COORDINATE_LIMIT (before_first is_blank text))
+    (signed_within COORDINATE_LIMIT (trim (after_first is_blank text)))
 
 -- the points of the parts of a line
 abbrev pub points_of : List (List ℕ) → Result (List Point) NumberFault
@@ -158,16 +159,16 @@ abbrev pub line_faults : ℕ → List Point → List (Option NetworkFault)
 line_faults rec line =
     when (nat_lt (length line) 2) (fault.ShortLine rec)
     ∷ option_map (λ place. fault.RepeatedPoint rec place) (repeated_point line)
-    ∷ when (nat_lt 100_000_000 (line_length line)) (fault.EdgeTooLong rec)
+    ∷ when (nat_lt LENGTH_LIMIT (line_length line)) (fault.EdgeTooLong rec)
     ∷ []
 
 -- the limits that a network of so many edges, nodes and points of all lines has passed with
 -- record number rec
 abbrev pub limit_faults : ℕ → ℕ → ℕ → ℕ → List (Option NetworkFault)
 limit_faults rec edges nodes points =
-    when (nat_lt 150_000 edges) (fault.TooManyEdges rec)
-    ∷ when (nat_lt 60_000 nodes) (fault.TooManyNodes rec)
-    ∷ when (nat_lt 1_000_000 points) (fault.TooManyPoints rec)
+    when (nat_lt EDGE_LIMIT edges) (fault.TooManyEdges rec)
+    ∷ when (nat_lt NODE_LIMIT nodes) (fault.TooManyNodes rec)
+    ∷ when (nat_lt POINT_LIMIT points) (fault.TooManyPoints rec)
     ∷ []
 
 -- an earlier edge of the network has this name
@@ -220,5 +221,5 @@ network_of_records (names ∷ records) =
 -- with nothing trimmed
 unfoldable pub network_of : List ℕ → Result Net NetworkFault
 network_of bytes =
-    if nat_lt 134_217_728 (length bytes) then Err fault.FileTooLong
+    if nat_lt FILE_LIMIT (length bytes) then Err fault.FileTooLong
     else network_of_records (records default_config (strip_bom bytes))

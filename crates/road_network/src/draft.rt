@@ -10,19 +10,11 @@ ghost use Rattle.road_network.specs.Rows.{row_with};
 use crate::counting::{arcs_of, place_edges, starts_of};
 use crate::edge_names::note_name;
 use crate::fault::NetworkFault;
+use crate::limits::{EDGE_LIMIT, LENGTH_LIMIT, NODE_LIMIT, POINT_LIMIT};
 use crate::{EdgeId, Network, NodeId, StoredEdge};
 use indexmap::IndexSet;
 use polyline_geometry::{List, Point, extend_offsets};
 use std::alloc::{AllocError, Global};
-
-/// The most nodes, edges, points of all lines, and centimetres of one edge.
-const MOST_NODES: usize = 60_000;
-
-const MOST_EDGES: usize = 150_000;
-
-const MOST_POINTS: usize = 1_000_000;
-
-const LONGEST_EDGE: u32 = 100_000_000;
 
 /// The first three fields of a record: an edge's id, and those of the nodes that it joins.
 #[derive(Clone, Copy)]
@@ -72,7 +64,7 @@ fn check_line(rec: u32, line: &[Point], offsets: &mut List<u32>) -> Result<u32, 
     if let Some(place) = repeated_point(line) {
         return Err(NetworkFault::RepeatedPoint(rec, place));
     }
-    let Some(length) = extend_offsets(line, LONGEST_EDGE, offsets)? else {
+    let Some(length) = extend_offsets(line, LENGTH_LIMIT, offsets)? else {
         return Err(NetworkFault::EdgeTooLong(rec));
     };
     Ok(length)
@@ -94,13 +86,13 @@ fn check_limits(rec: u32, edges: usize, nodes: usize, points: usize) -> Result<(
     ensures ok { OnOk result (first_fault (limit_faults rec edges nodes points) ≡ None) }
     ensures fault { IfErr result (λ e. first_fault (limit_faults rec edges nodes points) ≡ Some e) }
 {
-    if edges > MOST_EDGES {
+    if edges > EDGE_LIMIT {
         return Err(NetworkFault::TooManyEdges(rec));
     }
-    if nodes > MOST_NODES {
+    if nodes > NODE_LIMIT {
         return Err(NetworkFault::TooManyNodes(rec));
     }
-    if points > MOST_POINTS {
+    if points > POINT_LIMIT {
         return Err(NetworkFault::TooManyPoints(rec));
     }
     Ok(())
@@ -142,7 +134,12 @@ impl Draft {
             → add_row (drafted self.old) (row_with head.now line.now) ≡ Err e) }
     {
         let rec = self.next_record();
-        let is_new = note_name(self.alloc, &mut self.names, self.edges.as_slice(), head.name)?;
+        let is_new = note_name(
+            self.alloc,
+            &mut self.names,
+            self.edges.as_slice(),
+            head.name,
+        )?;
         if !is_new {
             return Err(NetworkFault::DuplicateEdge(rec));
         }

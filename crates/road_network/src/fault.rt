@@ -9,47 +9,47 @@ use std::alloc::{AllocError, AllocFailed, Global};
 use thiserror::Error;
 
 /// The first fault of a network file. A record, a field and a place are numbered from 1, and the
-/// header is no record.
+/// header is no record. `write_line` has the texts; the error trait's are one word each.
 #[derive(Clone, Copy, Debug, PartialEq, Eq, Error)]
 pub enum NetworkFault {
     /// The first record is missing or is not the four names.
-    #[error("bad header")]
+    #[error("header")]
     BadHeader,
     /// The record has not four fields.
-    #[error("record {0}: wrong number of fields")]
+    #[error("fields")]
     FieldCount(u32),
     /// A field of the record is misspelt.
-    #[error("record {0} field {1}: bad number")]
+    #[error("number")]
     BadNumber(u32, u32),
     /// A value of the record is out of range.
-    #[error("record {0} field {1}: out of range")]
+    #[error("range")]
     OutOfRange(u32, u32),
     /// An earlier record has this edge id.
-    #[error("record {0}: edge id repeated")]
+    #[error("edge")]
     DuplicateEdge(u32),
     /// The line has one point.
-    #[error("record {0}: line too short")]
+    #[error("line")]
     ShortLine(u32),
     /// The point at this place of the line equals the one before it.
-    #[error("record {0} point {1}: point repeated")]
+    #[error("point")]
     RepeatedPoint(u32, u32),
     /// The edge is longer than 100,000,000 cm.
-    #[error("record {0}: edge too long")]
+    #[error("length")]
     EdgeTooLong(u32),
     /// The file has more than 150,000 edges.
-    #[error("record {0}: too many edges")]
+    #[error("edges")]
     TooManyEdges(u32),
     /// The file has more than 60,000 nodes.
-    #[error("record {0}: too many nodes")]
+    #[error("nodes")]
     TooManyNodes(u32),
     /// The lines have more than 1,000,000 points together.
-    #[error("record {0}: too many points")]
+    #[error("points")]
     TooManyPoints(u32),
     /// The file has more than 134,217,728 bytes.
-    #[error("file too long")]
+    #[error("bytes")]
     FileTooLong,
-    /// Memory is wanting.
-    #[error("out of memory")]
+    /// Out of memory.
+    #[error("memory")]
     Memory,
 }
 

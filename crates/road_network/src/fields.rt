@@ -10,13 +10,11 @@ ghost use Rattle.decimal_text.specs.Number.{unsigned_within};
 
 use crate::draft::RowHead;
 use crate::fault::NetworkFault;
+use crate::limits::COORDINATE_LIMIT;
 use csv::ByteRecord;
 use decimal_text::{NumberFault, is_blank, parse_signed, parse_unsigned, trim};
 use polyline_geometry::{List, Point};
 use std::alloc::AllocError;
-
-/// The greatest coordinate, in cm.
-const GREATEST_COORDINATE: u32 = 1_000_000_000;
 
 /// The fault of two readings: a misspelling stands before a value out of range.
 fn worse(earlier: Option<NumberFault>, later: NumberFault) -> NumberFault
@@ -65,8 +63,8 @@ fn read_point(part: &[u8]) -> Result<Point, NumberFault>
     let blank = first_blank(text);
     let rest = trim(&text[text.len().min(blank + 1)..]);
     make_point(
-        parse_signed(&text[..blank], GREATEST_COORDINATE),
-        parse_signed(rest, GREATEST_COORDINATE),
+        parse_signed(&text[..blank], COORDINATE_LIMIT),
+        parse_signed(rest, COORDINATE_LIMIT),
     )
 }
 

@@ -1,21 +1,20 @@
 //! Reads a network file, record by record.
-ghost use Rattle.std.specs.Prelude.{◌≡◌, ◌≢◌, ◌≤◌, [], true, false, IfOk, IfErr, OnOk, length};
+ghost use Rattle.std.specs.Prelude.{◌≡◌, ◌≢◌, ◌<◌, ◌≤◌, [], true, false, IfOk, IfErr, OnOk, length};
 ghost use Rattle.std.specs.List.{sum_by};
 ghost use Rattle.csv.specs.Records.{fields_of};
 ghost use Rattle.road_network.specs.Between.{IsBetween, IsNext, records_left, text_left};
 ghost use Rattle.road_network.specs.Drafted.{drafted, IsDraft};
+ghost use Rattle.road_network.specs.declared.limits.TheConstants.{FILE_LIMIT};
 ghost use Rattle.road_network.specs.NetworkFile.{add_record, add_records, is_header, network_of, no_net};
 
 use crate::Network;
 use crate::draft::Draft;
 use crate::fault::NetworkFault;
 use crate::fields::{field_at, read_row};
+use crate::limits::FILE_LIMIT;
 use csv::{ByteRecord, Reader, ReaderBuilder};
 use polyline_geometry::{List, Point};
 use std::alloc::Global;
-
-/// The most bytes of a network file.
-const MOST_BYTES: usize = 134_217_728;
 
 /// Reads the next record into `row`, and says whether there was one.
 fn read_next(reader: &mut Reader<&[u8]>, row: &mut ByteRecord) -> Result<bool, NetworkFault>
@@ -38,7 +37,7 @@ fn add_record(
     line: &mut List<Point>,
 ) -> Result<(), NetworkFault>
     requires draft { IsDraft draft.old }
-    requires small { sum_by length (fields_of fields.now) ≤ 134_217_728 }
+    requires small { sum_by length (fields_of fields.now) ≤ FILE_LIMIT }
     ensures draft { OnOk result (IsDraft draft.new) }
     ensures network { OnOk result
         (add_record (drafted draft.old) (fields_of fields.now) ≡ Ok (drafted draft.new)) }
@@ -56,7 +55,7 @@ fn read_edges(
     row: &mut ByteRecord,
 ) -> Result<Network, NetworkFault>
     requires between { IsBetween reader.old }
-    requires small { length (text_left reader.old) ≤ 134_217_728 }
+    requires small { length (text_left reader.old) ≤ FILE_LIMIT }
     ensures network { IfOk result (λ n. add_records no_net (records_left reader.old) ≡ Ok n) }
     ensures fault { IfErr result
         (λ e. e ≢ NetworkFault.Memory → add_records no_net (records_left reader.old) ≡ Err e) }
@@ -84,12 +83,14 @@ fn is_header(row: &ByteRecord) -> bool
 }
 
 /// The network of a file, or its first fault, or `Memory` where memory is wanting. The file is read
-/// once, a record at a time; nothing of it is kept but the ids and the points.
+/// once, a record at a time; nothing of it is kept but the ids and the points. A file above the
+/// limit takes no memory.
 pub fn read_network(alloc: Global, bytes: &[u8]) -> Result<Network, NetworkFault>
     ensures network { IfOk result (λ n. network_of bytes.now ≡ Ok n) }
     ensures fault { IfErr result (λ e. e ≢ NetworkFault.Memory → network_of bytes.now ≡ Err e) }
+    ensures long { FILE_LIMIT < length bytes.now → result ≡ Err NetworkFault.FileTooLong }
 {
-    if bytes.len() > MOST_BYTES {
+    if bytes.len() > FILE_LIMIT {
         return Err(NetworkFault::FileTooLong);
     }
     let mut reader = ReaderBuilder::new()

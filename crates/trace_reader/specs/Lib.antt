@@ -6,3 +6,4 @@ pub mod Reading
 pub mod Row
 pub mod Steps
 pub mod Trace
+pub mod ReadingLaws

@@ -14,10 +14,12 @@
 mod content;
 mod fault;
 mod reader;
+mod laws_of_reading;
 mod row;
 mod trace;
 
 pub use fault::TraceFault;
+pub use laws_of_reading::{closed_traces_stay, known_faults_stay, traces_are_lawful};
 pub use reader::TraceReader;
 pub use trace::{Fix, Trace};
 

@@ -1,7 +1,4 @@
-use Rattle.std.proofs.Common.{◌≡◌, ◌+◌, ◌-◌, true, take, length, get_or, arith, sym, ◌∙◌, ap}
-use Rattle.std.specs.List.{list_all}
-use Rattle.std.specs.Char.{is_ascii_digit}
-use Rattle.std.proofs.lemmas.Grind.{common_steps}
+use Rattle.std.proofs.Common.{arith, sym, ◌∙◌}
 use Rattle.decimal_text.proofs.Spelling.{twenty_digits}
 use Rattle.decimal_text.proofs.number.value_of.Goals as goal
 
