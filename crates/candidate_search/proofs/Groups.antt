@@ -1,16 +1,16 @@
 -- The runs near a point, edge by edge.
-use Rattle.std.proofs.Common.{◌≡◌, ℕ, zero, suc, ◌+◌, ◌-◌, ◌*◌, ◌<◌, ◌≤◌, List, [], length, get_or, take, drop, map, All, refl, sym, ap, ◌∙◌, subst, arith, ⊎_elim, inl, ℤ, ◌-ℤ◌, pos, mul-le-mul, length-take, length-drop}
+use Rattle.std.proofs.Common.{◌≡◌, ℕ, zero, suc, ◌+◌, ◌-◌, ◌*◌, ◌<◌, ◌≤◌, List, length, get_or, drop, map, All, sym, ap, ◌∙◌, subst, arith, ⊎_elim, inl, ◌-ℤ◌, pos, mul-le-mul, length-take, length-drop}
 use Rattle.std.specs.Prelude.{slice_range}
-use Rattle.std.specs.List.{Contains, range_with_len}
+use Rattle.std.specs.List.{range_with_len}
 use Rattle.std.specs.Int.RustNames.{unsigned_abs}
 use Rattle.std.proofs.lemmas.Bool.{cases_lt}
-use Rattle.std.proofs.lemmas.List.{get_or-drop, get_or-take, get_or_default}
+use Rattle.std.proofs.lemmas.List.{get_or-drop, get_or-take}
 use Rattle.std.proofs.lemmas.List.Sums.{get_or-le-sum_by}
 use Rattle.polyline_geometry.specs.declared.plane.Point.{Point}
 use Rattle.polyline_geometry.specs.declared.plane.Snap.{Snap}
-use Rattle.polyline_geometry.specs.Boxes.{InBox, InSquare}
+use Rattle.polyline_geometry.specs.Boxes.{InSquare}
 use Rattle.polyline_geometry.specs.Nearest.{segment_snap}
-use Rattle.polyline_geometry.specs.Plane.{IsLine, distance2, point_at, share, snap_line, snap_segment, snapped}
+use Rattle.polyline_geometry.specs.Plane.{distance2, point_at, share, snap_line, snap_segment, snapped}
 use Rattle.polyline_geometry.proofs.Boxes.{snapped_in_box}
 use Rattle.polyline_geometry.proofs.Nearest.{snap_nearest}
 use Rattle.road_network.specs.declared.Candidate.{Candidate}
@@ -19,7 +19,7 @@ use Rattle.road_network.specs.Net.{Edge, Net, HasEdge, IsLawful, edge_line, no_e
 use Rattle.road_network.specs.Near.{candidate_at}
 use Rattle.grid_index.specs.declared.runs.Run.{Run}
 use Rattle.grid_index.specs.GridOf.{AreHits, GridOf}
-use Rattle.grid_index.specs.Runs.{AreInOrder, HasRunFor, IsRun, IsRunOf}
+use Rattle.grid_index.specs.Runs.{AreInOrder, IsRun, IsRunOf}
 use Rattle.candidate_search.specs.NearRuns.{AreNearRuns, AreRunsFor, IsGroup}
 use Rattle.candidate_search.specs.Nearest.{IsFound, nearest}
 use Rattle.candidate_search.proofs.Found.{far_same}
@@ -192,8 +192,7 @@ taken_up net at k radius runs place e found lawful h t le few behind =
     (λ under. let b = t.before j d under in absurd (omega (arith, b, is, low)))
     (λ ge. let b = behind j d ge lt in absurd (omega (arith, b, is, high, back)))
     (cases_lt j place))
-    in
-    (
+    in (
       subst (λ v. found ≡ nearest k radius (map (candidate_at net at) (range_with_len 0 v))) back (skipped net at k radius t.number (e - t.number) found t.list t.found_is far),
       found_later k t.number e found le t.found_is,
     )

@@ -1,19 +1,11 @@
 -- The candidates of the edges that were taken, by rising number.
-use Rattle.std.proofs.Common.{◌≡◌, ℕ, zero, suc, ◌+◌, ◌*◌, ◌<◌, ◌≤◌, Bool, true, false, cond, leb, List, [], ◌∷◌, ◌++◌, length, get_or, take, map, All, refl, sym, ap, ◌∙◌, subst, arith, ⊎_elim, length-take}
-use Rattle.std.specs.List.Sorted.{IsNonDecreasingBy}
-use Rattle.std.specs.List.{AllPairs, Contains, filter, range_with_len}
-use Rattle.std.proofs.lemmas.Bool.{cases_lt}
-use Rattle.std.proofs.lemmas.List.{get_or-take, get_or_default, map-append, take_more}
-use Rattle.std.proofs.lemmas.List.Elements.{All-map}
+use Rattle.std.proofs.Common.{◌≡◌, ℕ, zero, suc, ◌+◌, ◌<◌, List, [], take, map, All, refl, sym, ap, ◌∙◌, subst, arith}
+use Rattle.std.specs.List.{range_with_len}
 use Rattle.std.proofs.lemmas.List.FromFn.{get_or-map-range_with_len, length-map-range_with_len, map-range_with_len_more}
 use Rattle.road_network.specs.declared.Candidate.{Candidate}
-use Rattle.std.proofs.lemmas.Bool.Decides.{nat_tests}
 use Rattle.polyline_geometry.specs.declared.plane.Point.{Point}
-use Rattle.polyline_geometry.specs.Boxes.{LineMeetsSquare}
-use Rattle.polyline_geometry.proofs.Nearest.{snap_line-meets}
-use Rattle.road_network.specs.declared.EdgeId.{EdgeId}
-use Rattle.road_network.specs.Net.{Net, HasEdge, IsLawful, edge_line}
-use Rattle.road_network.specs.Near.{candidate_at, candidates, in_order}
+use Rattle.road_network.specs.Net.{Net}
+use Rattle.road_network.specs.Near.{candidate_at}
 use Rattle.candidate_search.specs.Nearest.{IsFound, nearest, with_one}
 use Rattle.candidate_search.proofs.Order.{nearest_push}
 

@@ -1,5 +1,5 @@
 -- What a look gathers.
-use Rattle.std.proofs.Common.{◌≡◌, ℕ, ◌+◌, ◌*◌, ◌<◌, ◌≤◌, ◌⊎◌, List, [], ◌∷◌, ◌++◌, get_or, length, map, All, ℤ, ◌-ℤ◌, sym, ap, ◌∙◌, subst, arith, ⊎_elim, mul-le-mul}
+use Rattle.std.proofs.Common.{◌≡◌, ℕ, ◌+◌, ◌*◌, ◌<◌, ◌≤◌, ◌⊎◌, List, [], ◌∷◌, ◌++◌, get_or, length, map, All, ◌-ℤ◌, sym, ap, ◌∙◌, subst, arith, ⊎_elim, mul-le-mul}
 use Rattle.std.specs.List.{Contains}
 use Rattle.std.specs.Int.RustNames.{unsigned_abs}
 use Rattle.std.proofs.lemmas.Bool.{cases_lt}
@@ -10,12 +10,12 @@ use Rattle.polyline_geometry.specs.Boxes.{InBox, InSquare, LineMeetsSquare}
 use Rattle.std.specs.List.Sorted.{IsPermutation}
 use Rattle.std.proofs.lemmas.List.Sorted.{All-permutation, Contains-permutation}
 use Rattle.road_network.specs.declared.EdgeId.{EdgeId}
-use Rattle.polyline_geometry.specs.Plane.{distance2, point_at}
+use Rattle.polyline_geometry.specs.Plane.{distance2}
 use Rattle.road_network.specs.Net.{Net, HasEdge, edge_line}
 use Rattle.grid_index.specs.declared.cells.Cells.{Cells}
 use Rattle.grid_index.specs.declared.runs.Run.{Run}
 use Rattle.grid_index.specs.Cells.{HasCell, cell}
-use Rattle.grid_index.specs.Runs.{HasRunFor, IsNearRun, IsRun}
+use Rattle.grid_index.specs.Runs.{IsNearRun, IsRun}
 use Rattle.grid_index.specs.GridOf.{AreHits, GridOf, IsGrid, runs_at}
 use Rattle.grid_index.specs.Table.{Appends, AppendsOne, Gathers}
 use Rattle.grid_index.proofs.RunBoxes.{box_within}

@@ -84,8 +84,7 @@ table_of net side width s sorted starts members some all same h is =
     in
     let runs : All (IsRun net) members = subst (λ ms. All (IsRun net) ms) (sym is)
     (All-map (IsRun net) (λ (x : Entry). x.run) sorted (All-permutation (λ (x : Entry). IsRun net x.run) s.at_slots.items sorted same all.runs.at_slots))
-    in
-    (
+    in (
       record {
         count = h.count_is;
         order = λ v lt. starts_rise sorted starts (width * width + 1) v none h (omega (arith, lt));

@@ -1,5 +1,5 @@
 -- Boxes of runs.
-use Rattle.std.proofs.Common.{◌≡◌, ℕ, ◌+◌, ◌<◌, ◌≤◌, List, length, ap, subst, sym, inl, arith, ℤ, pos, negsuc, ◌≤ℤ◌, ⊎_elim}
+use Rattle.std.proofs.Common.{◌≡◌, ℕ, ◌+◌, ◌<◌, ◌≤◌, List, subst, sym, inl, arith, ℤ, pos, negsuc, ◌≤ℤ◌, ⊎_elim}
 use Rattle.std.proofs.lemmas.Int.{ints}
 use Rattle.std.proofs.lemmas.Bool.{cases_lt}
 use Rattle.polyline_geometry.specs.declared.plane.Point.{Point}
@@ -7,8 +7,8 @@ use Rattle.polyline_geometry.specs.Boxes.{InBox, IsBetween}
 use Rattle.polyline_geometry.specs.Plane.{point_at}
 use Rattle.road_network.specs.Net.{edge_line}
 use Rattle.grid_index.specs.declared.runs.Run.{Run}
-use Rattle.grid_index.specs.GridOf.{GridOf, IsGrid, StandsFor}
-use Rattle.grid_index.specs.Runs.{HasSegment, IsBelow, IsRun, IsRunOf}
+use Rattle.grid_index.specs.GridOf.{GridOf, StandsFor}
+use Rattle.grid_index.specs.Runs.{IsBelow, IsRunOf}
 
 ≤ℤ_twice : (a b c : ℤ) → a ≤ℤ b → b ≤ℤ c → a ≤ℤ c
 ≤ℤ_twice (pos a) (pos b) (pos c) h k = omega (arith, ints, h, k)

@@ -105,13 +105,7 @@ impl<'n> Grid<'n> {
 
     /// Runs near a point: one at least for each segment with a place of its box in the square of half
     /// side `reach` and no farther than `far2` says, and no run with a box that is farther.
-    fn hits(
-        &self,
-        alloc: Global,
-        p: Point,
-        reach: u32,
-        far2: u64,
-    ) -> Result<Vec<Run>, AllocError>
+    fn hits(&self, alloc: Global, p: Point, reach: u32, far2: u64) -> Result<Vec<Run>, AllocError>
         requires p_in { InRange p }
         requires reach { reach ≤ self.now.side }
         ensures { IfOk result (λ runs. AreHits self.now p reach far2 runs.items) }
@@ -125,12 +119,7 @@ impl<'n> Grid<'n> {
 
     /// The runs with a place of their box within `reach` of a point, in the order of their edges and
     /// then of their segments, some of them several times.
-    pub fn runs_near(
-        &self,
-        alloc: Global,
-        p: Point,
-        reach: u32,
-    ) -> Result<Vec<Run>, AllocError>
+    pub fn runs_near(&self, alloc: Global, p: Point, reach: u32) -> Result<Vec<Run>, AllocError>
         requires p_in { InRange p }
         requires reach { reach ≤ self.now.side }
         ensures runs { IfOk result (λ runs. AreHits self.now p reach (reach * reach) runs.items) }

@@ -46,12 +46,7 @@ fn append_one(found: &mut Vec<Run>, run: Run, p: Point, far2: u64) -> Result<(),
 }
 
 /// Appends the near ones among runs.
-fn append_near(
-    found: &mut Vec<Run>,
-    runs: &[Run],
-    p: Point,
-    far2: u64,
-) -> Result<(), AllocError>
+fn append_near(found: &mut Vec<Run>, runs: &[Run], p: Point, far2: u64) -> Result<(), AllocError>
     requires p_in { InRange p }
     requires corners { All HasCorners runs.now }
     ensures { OnOk result

@@ -1,4 +1,4 @@
-use Rattle.std.proofs.Common.{◌≡◌, ◌<◌, ◌≤◌, max, arith, subst}
+use Rattle.std.proofs.Common.{arith, subst}
 use Rattle.polyline_geometry.specs.Nearest.{AreFar, IsNearest}
 use Rattle.candidate_search.proofs.Telling.{tells_none, tells_nothing, tells_some}
 use Rattle.candidate_search.proofs.near_runs.told_by.Goals as goal

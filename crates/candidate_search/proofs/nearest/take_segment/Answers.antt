@@ -1,4 +1,4 @@
-use Rattle.std.proofs.Common.{◌≡◌, ◌+◌, ◌-◌, ◌*◌, ◌≤◌, ◌<◌, ◌⊎◌, suc, List, length, take, get_or, All, Option, ap, ◌∙◌, subst, sym, arith}
+use Rattle.std.proofs.Common.{◌≡◌, ◌+◌, ◌*◌, ◌<◌, suc, length, take, get_or, Option, ap, ◌∙◌, subst, sym, arith}
 use Rattle.std.proofs.lemmas.Result.{on_ok_weaker}
 use Rattle.polyline_geometry.specs.declared.line.NearSegment.{NearSegment}
 use Rattle.polyline_geometry.specs.declared.plane.Snap.{Snap}
@@ -10,7 +10,7 @@ use Rattle.polyline_geometry.proofs.OffsetLists.{get_or-line_offsets, length-lin
 use Rattle.road_network.specs.Net.{edge_line}
 use Rattle.road_network.specs.Near.{candidate, candidate_at}
 use Rattle.road_network.specs.declared.Candidate.{Candidate}
-use Rattle.candidate_search.specs.Nearest.{AllAreFar, IsNearestOf, with_one}
+use Rattle.candidate_search.specs.Nearest.{IsNearestOf, with_one}
 use Rattle.candidate_search.proofs.Found.{far_same, near_one}
 use Rattle.candidate_search.proofs.nearest.take_segment.Goals as goal
 

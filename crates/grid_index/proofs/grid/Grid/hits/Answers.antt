@@ -1,7 +1,5 @@
-use Rattle.std.proofs.Common.{◌≡◌, ap, length, subst}
-use Rattle.grid_index.specs.declared.runs.Run.{Run}
+use Rattle.std.proofs.Common.{subst}
 use Rattle.grid_index.specs.GridOf.{AreHits, GridOf}
-use Rattle.grid_index.specs.Runs.{HasCorners}
 use Rattle.grid_index.specs.Table.{grid_of}
 use Rattle.grid_index.proofs.Gathering.{gathers_hits}
 use Rattle.grid_index.proofs.grid.Grid.hits.Goals as goal

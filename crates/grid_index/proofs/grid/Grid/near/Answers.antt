@@ -1,9 +1,8 @@
-use Rattle.std.proofs.Common.{◌≡◌, ◌<◌, ◌*◌, ℕ, length, map, All, ap, ◌∙◌, subst, sym}
+use Rattle.std.proofs.Common.{map, All, ap, ◌∙◌, subst, sym}
 use Rattle.std.specs.List.{Contains}
 use Rattle.std.proofs.lemmas.List.Elements.{All-map}
 use Rattle.road_network.specs.Net.{Net, HasEdge}
 use Rattle.road_network.specs.declared.EdgeId.{EdgeId}
-use Rattle.grid_index.specs.declared.runs.Run.{Run}
 use Rattle.grid_index.specs.GridOf.{AreHits}
 use Rattle.grid_index.proofs.Gathering.{all_within, edge_of, hits_edge}
 use Rattle.grid_index.proofs.grid.Grid.near.Goals as goal

@@ -1,4 +1,4 @@
-use Rattle.std.proofs.Common.{◌*◌, ◌≤◌, ap, subst, arith}
+use Rattle.std.proofs.Common.{◌*◌, subst}
 use Rattle.grid_index.specs.GridOf.{AreHits}
 use Rattle.grid_index.proofs.Gathering.{hits_permuted}
 use Rattle.grid_index.proofs.grid.Grid.runs_near.Goals as goal

@@ -7,8 +7,7 @@ use Rattle.grid_index.proofs.runs.Run.with.Goals as goal
 pub returns : goal.returns
 returns c =
     let line = c.args.line.now in
-    let r = c.args.self in
-    (
+    let r = c.args.self in (
       record {
         run = record {
           some = omega (arith, c.requires.run.some);

@@ -1,8 +1,6 @@
-use Rattle.std.proofs.Common.{◌+◌, [], length, All, subst, sym}
+use Rattle.std.proofs.Common.{◌+◌, [], All, subst, sym}
 use Rattle.road_network.specs.Net.{Net}
-use Rattle.polyline_geometry.specs.declared.plane.Point.{Point}
 use Rattle.grid_index.specs.Cells.{slot}
-use Rattle.grid_index.specs.GridOf.{runs_at}
 use Rattle.grid_index.specs.Runs.{HasCorners}
 use Rattle.grid_index.specs.Table.{grid_of}
 use Rattle.grid_index.proofs.Gathering.{gathers_cell, gathers_more}
