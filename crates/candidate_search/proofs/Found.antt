@@ -1,5 +1,5 @@
 -- One more candidate among those that were found.
-use Rattle.std.proofs.Common.{◌≡◌, ℕ, zero, suc, ◌+◌, ◌-◌, ◌*◌, ◌<◌, ◌≤◌, ◌⊎◌, Bool, true, false, cond, leb, ltb, nat_lt, if◌then◌else◌, List, [], ◌∷◌, ◌++◌, length, get_or, take, drop, All, Option, None, Some, refl, sym, ap, ◌∙◌, subst, arith, ⊎_elim, length-take}
+use Rattle.std.proofs.Common.{◌≡◌, ℕ, zero, suc, ◌+◌, ◌-◌, ◌*◌, ◌<◌, ◌≤◌, ◌⊎◌, Bool, true, false, cond, leb, List, [], ◌∷◌, ◌++◌, length, get_or, take, drop, All, Option, None, Some, refl, sym, ap, ◌∙◌, subst, arith, ⊎_elim, length-take}
 use Rattle.std.specs.List.{insert}
 use Rattle.std.specs.List.Sorted.{IsNonDecreasingBy, IsPartitionPoint}
 use Rattle.std.proofs.lemmas.Bool.{cases_lt, true≢false}
@@ -10,11 +10,14 @@ use Rattle.std.proofs.lemmas.List.Sorted.{IsNonDecreasingBy-insert, IsNonDecreas
 use Rattle.polyline_geometry.specs.declared.plane.Point.{Point}
 use Rattle.polyline_geometry.specs.declared.plane.Snap.{Snap}
 use Rattle.polyline_geometry.specs.Plane.{IsLine, snap_line}
-use Rattle.polyline_geometry.specs.Nearest.{AreFar}
+use Rattle.polyline_geometry.specs.Nearest.{AreFar, IsNearest}
+use Rattle.polyline_geometry.specs.declared.line.NearSegment.{NearSegment}
+use Rattle.std.specs.Prelude.{MatchOption}
+use Rattle.candidate_search.specs.declared.wanted.Search.{Search}
 use Rattle.polyline_geometry.proofs.Nearest.{snap_nearest}
 use Rattle.road_network.specs.declared.Candidate.{Candidate}
 use Rattle.road_network.specs.Near.{is_before, placed}
-use Rattle.candidate_search.specs.Nearest.{IsFound, IsPlace, with_one}
+use Rattle.candidate_search.specs.Nearest.{AllAreFar, IsFound, IsNearestOf, IsPlace, with_one}
 use Rattle.candidate_search.proofs.Order.{before_false, before_later, before_true, placed_after, placed_first}
 
 not_before : (c d : Candidate) → d.d2 ≤ c.d2 → d.edge.0 < c.edge.0 → is_before c d ≡ false
@@ -94,6 +97,14 @@ line_far line p limit lawful far =
     let near = snap_nearest line p lawful in
     let h = far near.0.segment (omega arith) near.1.before_end in
     omega (arith, h, ap (λ (s : Snap). s.d2) near.2)
+
+-- what the nearest segment under a limit says of the line
+pub nearest_taken : (line : List Point) (search : Search) (found : List Candidate) (limit : ℕ) (r : Option NearSegment) → IsLine line
+    → limit ≤ search.radius * search.radius + 1 → ((d2 : ℕ) → limit ≤ d2 → AllAreFar search found d2)
+    → MatchOption r (AreFar line search.at limit 0 (length line - 1)) (λ s. IsNearest line search.at 0 (length line - 1) s × (s.d2 < limit))
+    → IsNearestOf line search found r
+nearest_taken line search found limit None lawful low beyond far = beyond (snap_line line search.at).d2 (line_far line search.at limit lawful far)
+nearest_taken line search found limit (Some s) lawful low beyond near = (near.0, omega (arith, near.1, low))
 
 passes : (a b : ℕ) → leb a b ≡ true → a ≤ b
 passes a b h = grind (arith, nat_tests)

@@ -1,3 +1,5 @@
 pub mod Order
 pub mod Found
 pub mod Taken
+pub mod Telling
+pub mod Groups

@@ -1,8 +1,13 @@
 -- The nearest candidates so far.
-use Rattle.std.specs.Prelude.{ℕ, ◌*◌, ◌<◌, ◌≤◌, nat_le, if◌then◌else◌, List, length, slice_index_or, take}
+use Rattle.std.specs.Prelude.{ℕ, ◌≡◌, ◌-◌, ◌*◌, ◌<◌, ◌≤◌, ◌⊎◌, Option, MatchOption, nat_le, if◌then◌else◌, List, length, slice_index_or, take}
 use Rattle.std.specs.List.{All}
 use Rattle.std.specs.List.Sorted.{IsNonDecreasingBy}
+use Rattle.polyline_geometry.specs.declared.line.NearSegment.{NearSegment}
+use Rattle.polyline_geometry.specs.declared.plane.Point.{Point}
+use Rattle.polyline_geometry.specs.Nearest.{IsNearest}
+use Rattle.polyline_geometry.specs.Plane.{snap_line}
 use Rattle.road_network.specs.declared.Candidate.{Candidate}
+use Rattle.candidate_search.specs.declared.wanted.Search.{Search}
 use Rattle.road_network.specs.Near.{in_order, placed, within}
 
 -- the first k within the radius, in order
@@ -25,3 +30,17 @@ pub record IsPlace (found : List Candidate) (d2 place : ℕ) : Type 0 where
   pub before : (i : ℕ) (d : Candidate) → i < place → (slice_index_or found i d).d2 ≤ d2
   pub after : (i : ℕ) (d : Candidate) → place ≤ i → i < length found
       → d2 < (slice_index_or found i d).d2
+
+-- an edge at this squared distance is no candidate: it is beyond the radius, or k are found that
+-- are no farther
+abbrev pub AllAreFar : Search → List Candidate → ℕ → Type 0
+AllAreFar search found d2 =
+    (search.radius * search.radius < d2)
+    ⊎ ((length found ≡ search.k) × All (λ c. c.d2 ≤ d2) found)
+
+-- the first of the nearest segments of a line, within the radius; None where the line is no candidate
+abbrev pub IsNearestOf : List Point → Search → List Candidate → Option NearSegment → Type 0
+IsNearestOf line search found near =
+    MatchOption near (AllAreFar search found (snap_line line search.at).d2)
+    (λ s. IsNearest line search.at 0 (length line - 1) s
+    × (s.d2 ≤ search.radius * search.radius))

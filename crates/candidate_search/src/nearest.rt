@@ -1,27 +1,16 @@
-//! The nearest candidates so far, kept in order while edges are taken by rising number.
+//! The nearest candidates so far, kept in order while edges are taken by rising number. Serves
+//! `candidates` and `candidates_plain`; decided by `with_one`.
 ghost use Rattle.std.specs.Prelude.{◌≡◌, ℕ, ◌+◌, ◌*◌, ◌≤◌, ◌<◌, ◌⊎◌, length, take, OnOk};
 ghost use Rattle.std.specs.List.{All};
 ghost use Rattle.std.specs.List.Sorted.{IsNonDecreasingBy};
-ghost use Rattle.polyline_geometry.specs.Plane.{InRange};
-ghost use Rattle.road_network.specs.Net.{HasEdge};
+ghost use Rattle.road_network.specs.Net.{HasEdge, edge_line};
 ghost use Rattle.road_network.specs.Near.{candidate_at, placed};
-ghost use Rattle.candidate_search.specs.Nearest.{IsFound, IsPlace, with_one};
+ghost use Rattle.candidate_search.specs.Nearest.{AllAreFar, IsFound, IsNearestOf, IsPlace, with_one};
 
-use polyline_geometry::{Point, nearest_segment, snap_on};
+use crate::wanted::Search;
+use polyline_geometry::{NearSegment, nearest_segment, snap_on};
 use road_network::{Candidate, EdgeId, Network};
 use std::alloc::AllocError;
-
-/// Whose candidates are wanted, and which.
-#[derive(Clone, Copy)]
-pub(crate) struct Search {
-    pub(crate) at: Point,
-    pub(crate) k: usize,
-    /// In cm.
-    pub(crate) radius: u64,
-    ghost at_in: { InRange at },
-    ghost k_some: { 1 ≤ k },
-    ghost radius_small: { radius ≤ 100_000 },
-}
 
 /// The place of the first candidate that is farther.
 fn place_of(found: &[Candidate], d2: u64) -> usize
@@ -32,13 +21,11 @@ fn place_of(found: &[Candidate], d2: u64) -> usize
 }
 
 /// The squared distance from which on a later edge is no candidate.
-fn limit_of(found: &[Candidate], search: Search) -> u64
+pub(crate) fn limit_of(found: &[Candidate], search: Search) -> u64
     requires few { length found.now ≤ search.k }
     requires sorted { IsNonDecreasingBy (λ c. c.d2) found.now }
     ensures within { result ≤ search.radius * search.radius + 1 }
-    ensures far { (d2 : ℕ) → result ≤ d2
-        → (search.radius * search.radius < d2)
-        ⊎ ((length found.now ≡ search.k) × All (λ c. c.d2 ≤ d2) found.now) }
+    ensures far { (d2 : ℕ) → result ≤ d2 → AllAreFar search found.now d2 }
 {
     let beyond = search.radius * search.radius + 1;
     if found.len() < search.k {
@@ -60,6 +47,38 @@ fn insert(found: &mut Vec<Candidate>, k: usize, candidate: Candidate) -> Result<
     Ok(())
 }
 
+/// Takes one more edge, by rising number, whose nearest segment is known: None says that it has none
+/// that is near enough.
+pub(crate) fn take_segment(
+    net: &Network,
+    found: &mut Vec<Candidate>,
+    search: Search,
+    edge: EdgeId,
+    near: Option<NearSegment>,
+) -> Result<(), AllocError>
+    requires edge { HasEdge net.now edge.0 }
+    requires found { IsFound search.k edge.0 found.old.items }
+    requires near { IsNearestOf (edge_line net.now edge.0) search found.old.items near }
+    ensures list { OnOk result (found.new.items
+        ≡ with_one search.k search.radius found.old.items (candidate_at net.now search.at edge.0)) }
+    ensures found { OnOk result (IsFound search.k (edge.0 + 1) found.new.items) }
+{
+    net.known();
+    match near {
+        None => Ok(()),
+        Some(near) => {
+            let before = net.offsets(edge)[near.segment];
+            let snap = snap_on(net.line(edge), before, search.at, near.segment);
+            let candidate = Candidate {
+                edge,
+                d2: snap.d2,
+                offset: snap.offset,
+            };
+            insert(found, search.k, candidate)
+        }
+    }
+}
+
 /// Takes one more edge, by rising number.
 pub(crate) fn consider(
     net: &Network,
@@ -76,17 +95,6 @@ pub(crate) fn consider(
     net.known();
     let line = net.line(edge);
     let limit = limit_of(found.as_slice(), search);
-    match nearest_segment(line, 0, line.len() - 1, search.at, limit) {
-        None => Ok(()),
-        Some(near) => {
-            let before = net.offsets(edge)[near.segment];
-            let snap = snap_on(line, before, search.at, near.segment);
-            let candidate = Candidate {
-                edge,
-                d2: snap.d2,
-                offset: snap.offset,
-            };
-            insert(found, search.k, candidate)
-        }
-    }
+    let near = nearest_segment(line, 0, line.len() - 1, search.at, limit);
+    take_segment(net, found, search, edge, near)
 }

@@ -1,10 +1,12 @@
-//! The candidates of a point.
+//! The candidates of a point. Decided by road_network's `candidates`.
 ghost use Rattle.std.specs.Prelude.{◌≡◌, ℕ, ◌≤◌, IfOk};
 ghost use Rattle.polyline_geometry.specs.Plane.{InRange};
 ghost use Rattle.cost_model.specs.Options.{IsAccepted};
 ghost use Rattle.road_network.specs.Near.{candidates};
 
-use crate::nearest::{Search, consider};
+use crate::near_runs::{consider_runs, end_of_edge};
+use crate::nearest::consider;
+use crate::wanted::Search;
 use cost_model::Params;
 use grid_index::Grid;
 use polyline_geometry::{List, Point};
@@ -26,7 +28,7 @@ fn search_for(p: &Params, at: Point) -> Search
     }
 }
 
-/// The candidates of a point, among the edges that the grid gives.
+/// The candidates of a point, among the runs that the grid gives.
 pub fn candidates(
     alloc: Global,
     net: &Network,
@@ -42,10 +44,14 @@ pub fn candidates(
 {
     net.known();
     let search = search_for(p, at);
-    let edges = grid.near(alloc, at, p.radius)?;
+    let runs = grid.runs_near(alloc, at, p.radius)?;
+    let runs = runs.as_slice();
     let mut found = Vec::with_capacity(alloc, search.k + 1)?;
-    for edge in edges.as_slice() {
-        consider(net, &mut found, search, *edge)?;
+    let mut place = 0;
+    while place < runs.len() {
+        let end = end_of_edge(runs, place);
+        consider_runs(net, &mut found, search, runs[place].edge, &runs[place..end])?;
+        place = end;
     }
     Ok(List::from_vec(found))
 }

@@ -1,19 +1,22 @@
 -- Entries laid out by slot are the table of a grid.
-use Rattle.std.proofs.Common.{◌≡◌, ℕ, ◌+◌, ◌-◌, ◌*◌, ◌<◌, ◌≤◌, List, length, get_or, take, drop, map, All, refl, sym, ap, ◌∙◌, subst, inl, inr, arith, ⊎_elim, length-drop, length-take}
+use Rattle.std.proofs.Common.{◌≡◌, ℕ, ◌+◌, ◌-◌, ◌*◌, ◌<◌, ◌≤◌, List, length, get_or, take, drop, map, All, pos, refl, sym, ap, ◌∙◌, subst, inl, inr, arith, ⊎_elim, length-drop, length-take}
 use Rattle.std.specs.List.{Contains}
 use Rattle.std.specs.List.Sorted.{IsPermutation}
 use Rattle.std.proofs.lemmas.Bool.{cases_lt}
 use Rattle.std.proofs.lemmas.List.{get_or-drop, get_or-map, get_or-take, length-map}
-use Rattle.std.proofs.lemmas.List.Elements.{All-map}
+use Rattle.std.proofs.lemmas.List.Elements.{All-drop, All-map, All-take}
 use Rattle.std.proofs.lemmas.List.Sorted.{All-permutation, Contains-permutation}
-use Rattle.road_network.specs.declared.EdgeId.{EdgeId}
+use Rattle.polyline_geometry.specs.declared.plane.Point.{Point}
 use Rattle.road_network.specs.Net.{Net}
 use Rattle.grid_index.specs.declared.entries.Entry.{Entry}
 use Rattle.grid_index.specs.declared.entries.Entries.{Entries}
+use Rattle.grid_index.specs.declared.runs.Run.{Run}
 use Rattle.grid_index.specs.Cells.{cell, slot}
+use Rattle.grid_index.specs.Runs.{IsRun}
+use Rattle.grid_index.specs.GridOf.{IsGrid, members_at}
 use Rattle.grid_index.specs.Entries.{HasAll}
 use Rattle.grid_index.specs.Starts.{AreStarts}
-use Rattle.grid_index.specs.Table.{IsLaidOut}
+use Rattle.grid_index.specs.Table.{HasSlots}
 use Rattle.grid_index.proofs.Slots.{slot_within}
 
 abbrev starts_at : List ℕ → ℕ → ℕ
@@ -44,44 +47,60 @@ entry_between sorted starts count k s x h lt is at small =
     )
 
 -- an element between two places is in that part of the list
-contains_between : (members : List EdgeId) (e : EdgeId) (a b k : ℕ) → a ≤ k → k < b → b ≤ length members → get_or members k e ≡ e → Contains (take (b - a) (drop a members)) e
-contains_between members e a b k low high within is =
+contains_between : (members : List Run) (r : Run) (a b k : ℕ) → a ≤ k → k < b → b ≤ length members → get_or members k r ≡ r → Contains (take (b - a) (drop a members)) r
+contains_between members r a b k low high within is =
     let n = length-take (b - a) (drop a members) in
     let m = length-drop a members in (
       k - a,
       omega (arith, n, m, low, high, within),
-      get_or-take (b - a) (drop a members) (k - a) e (omega (arith, low, high)) ∙ get_or-drop a members (k - a) e ∙ ap (λ i. get_or members i e) (omega (arith, low)) ∙ is,
+      get_or-take (b - a) (drop a members) (k - a) r (omega (arith, low, high)) ∙ get_or-drop a members (k - a) r ∙ ap (λ i. get_or members i r) (omega (arith, low)) ∙ is,
     )
 
-pub table_of : (net : Net) (side width : ℕ) (s : Entries) (sorted : List Entry) (starts : List ℕ) (members : List EdgeId)
+-- the runs at a slot are among all
+pub all_at : (P : Run → Type 0) (starts : List ℕ) (members : List Run) (s : ℕ) → All P members → All P (members_at starts members s)
+all_at P starts members s h =
+    let a = get_or starts s 0 in
+    let b = get_or starts (s + 1) 0 in
+    All-take P (b - a) (drop a members) (All-drop P a members h)
+
+pub table_of : (net : Net) (side width : ℕ) (s : Entries) (sorted : List Entry) (starts : List ℕ) (members : List Run)
     → 1 ≤ width → HasAll net side width (length net.edges) s → IsPermutation s.at_slots.items sorted
-    → AreStarts sorted starts (width * width + 1) → members ≡ map (λ (x : Entry). x.edge) sorted
-    → IsLaidOut net side width starts members s.wide.items
+    → AreStarts sorted starts (width * width + 1) → members ≡ map (λ (x : Entry). x.run) sorted
+    → HasSlots width starts members × IsGrid (record { net = net; side = side; width = width; starts = starts; members = members; wide = s.wide.items })
 table_of net side width s sorted starts members some all same h is =
-    let none : Entry = record { slot = 0; edge = record { 0 = 0 } } in
-    let n : length members ≡ length sorted = ap length is ∙ length-map sorted (λ (x : Entry). x.edge) in
-    let in_members = λ (e : EdgeId) (c r : ℕ) (there : Contains s.at_slots.items (record { slot = slot width c r; edge = e })).
-    let x : Entry = record { slot = slot width c r; edge = e } in
+    let here : Point = record { x = pos 0; y = pos 0 } in
+    let none : Entry = record { slot = 0; run = record { edge = record { 0 = 0 }; first = 0; end = 0; low = here; high = here } } in
+    let n : length members ≡ length sorted = ap length is ∙ length-map sorted (λ (x : Entry). x.run) in
+    let in_members = λ (r : Run) (c w : ℕ) (there : Contains s.at_slots.items (record { slot = slot width c w; run = r })).
+    let x : Entry = record { slot = slot width c w; run = r } in
     let found = Contains-permutation s.at_slots.items sorted x same there in
-    let under = slot_within width c r some in
-    let between = entry_between sorted starts (width * width + 1) found.0 (slot width c r) x h found.1 found.2 refl (omega (arith, under)) in
-    let end = (h.each (slot width c r + 1) (omega (arith, under))).within in
-    let at : get_or members found.0 e ≡ e
-    = ap (λ ms. get_or ms found.0 e) is ∙ get_or-map (λ (y : Entry). y.edge) sorted found.0 x e found.1 ∙ ap (λ (y : Entry). y.edge) found.2
+    let under = slot_within width c w some in
+    let between = entry_between sorted starts (width * width + 1) found.0 (slot width c w) x h found.1 found.2 refl (omega (arith, under)) in
+    let end = (h.each (slot width c w + 1) (omega (arith, under))).within in
+    let at : get_or members found.0 r ≡ r
+    = ap (λ ms. get_or ms found.0 r) is ∙ get_or-map (λ (y : Entry). y.run) sorted found.0 x r found.1 ∙ ap (λ (y : Entry). y.run) found.2
     in
-    contains_between members e (starts_at starts (slot width c r)) (starts_at starts (slot width c r + 1)) found.0 between.0 between.1 (omega (arith, end, n)) at
+    contains_between members r (starts_at starts (slot width c w)) (starts_at starts (slot width c w + 1)) found.0 between.0 between.1 (omega (arith, end, n)) at
     in
-    record {
-      slots = record {
+    let runs : All (IsRun net) members = subst (λ ms. All (IsRun net) ms) (sym is)
+    (All-map (IsRun net) (λ (x : Entry). x.run) sorted (All-permutation (λ (x : Entry). IsRun net x.run) s.at_slots.items sorted same all.runs.at_slots))
+    in (
+      record {
         count = h.count_is;
         order = λ v lt. starts_rise sorted starts (width * width + 1) v none h (omega (arith, lt));
         within = λ v lt. let end = (h.each (v + 1) (omega (arith, lt))).within in omega (arith, end, n);
-      };
-      members_below = subst (λ ms. All (λ e. e.0 < length net.edges) ms) (sym is)
-          (All-map (λ (e : EdgeId). e.0 < length net.edges) (λ (x : Entry). x.edge) sorted (All-permutation (λ (x : Entry). x.edge.0 < length net.edges) s.at_slots.items sorted same all.below.at_slots));
-      wide_below = all.below.wide;
-      found = λ e has i lt.
-          ⊎_elim (λ l. inl l)
-          (λ r. inr (λ q inside. in_members (record { 0 = e }) (cell side q.x) (cell side q.y) (r q inside)))
-          (all.entered e has i lt);
-    }
+        corners = λ k d lt. (runs k d lt).run.corners;
+      },
+      record {
+        wide_runs = all.runs.wide;
+        cell_runs = λ c r. all_at (IsRun net) starts members (slot width c r) runs;
+        complete = λ e i has lt.
+            let at = all.entered e i has lt in
+            record {
+              run = at.run;
+              is_run = at.is_run;
+              segment = at.segment;
+              stands = ⊎_elim (λ l. inl l) (λ r. inr (λ q inside. in_members at.run (cell side q.x) (cell side q.y) (r q inside))) at.entered;
+            };
+      },
+    )

@@ -1,3 +1,4 @@
+pub mod RunBoxes
 pub mod Places
 pub mod Slots
 pub mod Entering

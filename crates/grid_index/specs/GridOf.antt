@@ -1,8 +1,57 @@
--- What a grid is to every contract.
-use Rattle.std.specs.Prelude.{ℕ}
-use Rattle.road_network.specs.Net.{Net}
+-- What a grid is to every contract: the runs at each cell, and those in the list of wide ones.
+use Rattle.std.specs.Prelude.{ℕ, ◌+◌, ◌<◌, ◌≤◌, ◌⊎◌, List, length, slice_index, slice_range}
+use Rattle.std.specs.List.{All, Contains}
+use Rattle.polyline_geometry.specs.declared.plane.Point.{Point}
+use Rattle.polyline_geometry.specs.Boxes.{InBox, InSquare}
+use Rattle.polyline_geometry.specs.Plane.{distance2, point_at}
+use Rattle.road_network.specs.Net.{Net, HasEdge, edge_line}
+use Rattle.grid_index.specs.declared.runs.Run.{Run}
+use Rattle.grid_index.specs.Cells.{cell, slot}
+use Rattle.grid_index.specs.Runs.{HasRunFor, HasSegment, IsRun}
 
--- a grid of this network with cells of this side
+-- a grid of this network with cells of this side: a table of `width` by `width` slots, which
+-- repeats over the plane, with the runs of all slots and where those of each begin, and the runs
+-- that every look includes
 pub record GridOf : Type 0 where
   pub net : Net
   pub side : ℕ
+  pub width : ℕ
+  pub starts : List ℕ
+  pub members : List Run
+  pub wide : List Run
+
+-- the runs at a slot
+abbrev pub members_at : List ℕ → List Run → ℕ → List Run
+members_at starts members s =
+    slice_range members (slice_index starts s) (slice_index starts (s + 1))
+
+-- the runs at the cell of a column and a row
+abbrev pub runs_at : GridOf → ℕ → ℕ → List Run
+runs_at g column row = members_at g.starts g.members (slot g.width column row)
+
+-- the run is among the wide ones, or stands at the cell of each place of its box
+abbrev pub Stands : GridOf → Run → Type 0
+Stands g r =
+    Contains g.wide r
+    ⊎ ((q : Point) → InBox r.low r.high q → Contains (runs_at g (cell g.side q.x) (cell g.side q.y)) r)
+
+-- a run with segment i of edge e stands in the grid
+pub record StandsFor (g : GridOf) (e i : ℕ) : Type 0 where
+  pub run : Run
+  pub is_run : IsRun g.net run
+  pub segment : HasSegment run e i
+  pub stands : Stands g run
+
+-- all runs are of the network, and each segment of each edge has one
+pub record IsGrid (g : GridOf) : Type 0 where
+  pub wide_runs : All (IsRun g.net) g.wide
+  pub cell_runs : (column row : ℕ) → All (IsRun g.net) (runs_at g column row)
+  pub complete : (e i : ℕ) → HasEdge g.net e → i + 1 < length (edge_line g.net e) → StandsFor g e i
+
+-- runs of the network, among them one for each segment whose box has a place in the square of half
+-- side `reach` round p with a squared distance of at most `far2`
+pub record AreHits (g : GridOf) (p : Point) (reach far2 : ℕ) (runs : List Run) : Type 0 where
+  pub are_runs : All (IsRun g.net) runs
+  pub complete : (e i : ℕ) → HasEdge g.net e → i + 1 < length (edge_line g.net e) → (q : Point)
+      → InBox (point_at (edge_line g.net e) i) (point_at (edge_line g.net e) (i + 1)) q
+      → InSquare p reach q → distance2 p q ≤ far2 → HasRunFor runs e i

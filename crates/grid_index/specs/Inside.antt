@@ -2,10 +2,10 @@
 use Rattle.std.specs.Prelude.{◌≤◌}
 use Rattle.grid_index.specs.declared.grid.Grid.TheInside.{Inside}
 use Rattle.grid_index.specs.GridOf.{GridOf}
-use Rattle.grid_index.specs.Table.{IsTableOf}
+use Rattle.grid_index.specs.Table.{IsTableOf, grid_of}
 
 abbrev pub shown : Inside → GridOf
-shown g = record { net = g.net.now; side = g.table.layout.side }
+shown g = grid_of g.net.now g.table
 
 pub record IsKept (g : Inside) : Type 0 where
   pub side_small : g.table.layout.side ≤ 1_000_000

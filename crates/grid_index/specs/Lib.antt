@@ -1,4 +1,5 @@
 pub mod Cells
+pub mod Runs
 pub mod Entries
 pub mod Starts
 pub mod GridOf

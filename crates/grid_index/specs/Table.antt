@@ -1,56 +1,58 @@
--- The table of a grid: which edges stand at which slots.
-use Rattle.std.specs.Prelude.{ℕ, ◌≡◌, ◌+◌, ◌*◌, ◌<◌, ◌≤◌, ◌⊎◌, List, length, slice_index, slice_range}
+-- The table of a grid: which runs stand at which slots.
+use Rattle.std.specs.Prelude.{ℕ, ◌≡◌, ◌+◌, ◌*◌, ◌<◌, ◌≤◌, List, length, slice_index, slice_index_or}
 use Rattle.std.specs.List.{All, Contains}
 use Rattle.polyline_geometry.specs.declared.plane.Point.{Point}
-use Rattle.polyline_geometry.specs.Plane.{point_at}
-use Rattle.polyline_geometry.specs.Boxes.{InBox}
-use Rattle.road_network.specs.declared.EdgeId.{EdgeId}
-use Rattle.road_network.specs.Net.{Net, HasEdge, edge_line}
+use Rattle.road_network.specs.Net.{Net}
+use Rattle.grid_index.specs.declared.runs.Run.{Run}
 use Rattle.grid_index.specs.declared.table.Table.{Table}
-use Rattle.grid_index.specs.Cells.{cell, slot}
-
--- the edges at a slot
-abbrev pub members_at : List ℕ → List EdgeId → ℕ → List EdgeId
-members_at starts members s =
-    slice_range members (slice_index starts s) (slice_index starts (s + 1))
+use Rattle.grid_index.specs.Runs.{HasCorners, IsNearRun, IsRun}
+use Rattle.grid_index.specs.GridOf.{GridOf, IsGrid, runs_at}
 
 -- each slot of a table of this width has a part of the members
-pub record HasSlots (width : ℕ) (starts : List ℕ) (members : List EdgeId) : Type 0 where
+pub record HasSlots (width : ℕ) (starts : List ℕ) (members : List Run) : Type 0 where
   pub count : length starts ≡ width * width + 1
   pub order : (s : ℕ) → s < width * width → slice_index starts s ≤ slice_index starts (s + 1)
   pub within : (s : ℕ) → s < width * width → slice_index starts (s + 1) ≤ length members
+  pub corners : All HasCorners members
 
--- the segment from a to b of the edge is found: the edge is in the list of wide ones, or stands at
--- the cell of each place of the box
-abbrev pub IsFound : List ℕ → List EdgeId → List EdgeId → EdgeId → ℕ → ℕ → Point → Point → Type 0
-IsFound starts members wide edge side width a b =
-    Contains wide edge
-    ⊎ ((q : Point) → InBox a b q
-    → Contains (members_at starts members (slot width (cell side q.x) (cell side q.y))) edge)
-
--- the edges at the slots of a table, and those in the list of wide ones, are those of the network
-pub record IsLaidOut (net : Net) (side width : ℕ) (starts : List ℕ)
-    (members wide : List EdgeId) : Type 0 where
-  pub slots : HasSlots width starts members
-  pub members_below : All (λ e. e.0 < length net.edges) members
-  pub wide_below : All (λ e. e.0 < length net.edges) wide
-  pub found : (e : ℕ) → HasEdge net e → (i : ℕ) → i + 1 < length (edge_line net e)
-      → IsFound starts members wide (record { 0 = e }) side width (point_at (edge_line net e) i)
-      (point_at (edge_line net e) (i + 1))
-
-abbrev pub IsTableOf : Net → Table → Type 0
-IsTableOf net t =
-    IsLaidOut net t.layout.side t.layout.width t.starts.items t.members.items t.wide.items
+-- the grid of a network that has the runs of a table
+abbrev pub grid_of : Net → Table → GridOf
+grid_of net t = record {
+  net = net;
+  side = t.layout.side;
+  width = t.layout.width;
+  starts = t.starts.items;
+  members = t.members.items;
+  wide = t.wide.items;
+}
 
 abbrev pub HasParts : Table → Type 0
 HasParts t = HasSlots t.layout.width t.starts.items t.members.items
 
--- the list has what it had, and the edges at the slots of the cells of these columns and rows;
--- `right` and `top` are one past the last
-pub record Gathers (t : Table) (old new : List EdgeId) (left right bottom top : ℕ) : Type 0 where
-  pub keeps : (e : EdgeId) → Contains old e → Contains new e
-  pub gathered : (c r : ℕ) → left ≤ c → c < right → bottom ≤ r → r < top → (e : EdgeId)
-      → Contains (members_at t.starts.items t.members.items (slot t.layout.width c r)) e
-      → Contains new e
-  pub below : (n : ℕ) → All (λ e. e.0 < n) t.members.items → All (λ e. e.0 < n) old
-      → All (λ e. e.0 < n) new
+-- the slots of the table have their parts, and what stands there is a grid of the network
+pub record IsTableOf (net : Net) (t : Table) : Type 0 where
+  pub parts : HasParts t
+  pub grid : IsGrid (grid_of net t)
+
+-- the list has what it had, and the run where it is near
+pub record AppendsOne (p : Point) (far2 : ℕ) (old new : List Run) (run : Run) : Type 0 where
+  pub keeps : (r : Run) → Contains old r → Contains new r
+  pub here : IsNearRun p far2 run → Contains new run
+  pub are_runs : (net : Net) → IsRun net run → All (IsRun net) old → All (IsRun net) new
+
+-- the list has what it had, and the near ones among the first `count` runs
+pub record Appends (p : Point) (far2 : ℕ) (old new runs : List Run) (count : ℕ) : Type 0 where
+  pub keeps : (r : Run) → Contains old r → Contains new r
+  pub appended : (i : ℕ) (d : Run) → i < count → IsNearRun p far2 (slice_index_or runs i d)
+      → Contains new (slice_index_or runs i d)
+  pub are_runs : (net : Net) → All (IsRun net) runs → All (IsRun net) old → All (IsRun net) new
+
+-- the list has what it had, and the near ones among the runs at the cells of these columns and
+-- rows; `right` and `top` are one past the last
+pub record Gathers (g : GridOf) (p : Point) (far2 : ℕ) (old new : List Run)
+    (left right bottom top : ℕ) : Type 0 where
+  pub keeps : (r : Run) → Contains old r → Contains new r
+  pub gathered : (c r : ℕ) → left ≤ c → c < right → bottom ≤ r → r < top → (run : Run)
+      → Contains (runs_at g c r) run → IsNearRun p far2 run → Contains new run
+  pub are_runs : ((c r : ℕ) → All (IsRun g.net) (runs_at g c r)) → All (IsRun g.net) old
+      → All (IsRun g.net) new

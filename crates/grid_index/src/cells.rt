@@ -1,5 +1,6 @@
-//! Cells of the plane, and their slots.
-ghost use Rattle.std.specs.Prelude.{◌≡◌, ℕ, ◌+◌, ◌*◌, ◌/◌, ◌%◌, ◌<◌, ◌≤◌};
+//! Cells of the plane, and their slots. Serves `Entries`, `Table` and looks; decided by `cell` and
+//! `slot`.
+ghost use Rattle.std.specs.Prelude.{◌≡◌, ℕ, ◌+◌, ◌-◌, ◌*◌, ◌/◌, ◌%◌, ◌<◌, ◌≤◌};
 ghost use Rattle.std.specs.Int.RustNames.{unsigned_abs};
 ghost use Rattle.polyline_geometry.specs.declared.plane.Point.{Point as Place};
 ghost use Rattle.polyline_geometry.specs.Plane.{InRange};
@@ -69,6 +70,7 @@ impl Cells {
     pub(crate) fn count(self) -> u64
         requires columns { self.left ≤ self.right }
         requires rows { self.bottom ≤ self.top }
+        ensures { result ≡ (self.right - self.left) * (self.top - self.bottom) }
     {
         u64::from(self.right - self.left) * u64::from(self.top - self.bottom)
     }

@@ -1,21 +1,26 @@
-//! The grid of a network.
-ghost use Rattle.std.specs.Prelude.{◌≡◌, ℕ, ◌≤◌, IfOk};
+//! The grid of a network. Serves searches of candidates; decided by `IsGrid`.
+ghost use Rattle.std.specs.Prelude.{◌≡◌, ℕ, ◌*◌, ◌≤◌, IfOk, map};
 ghost use Rattle.std.specs.List.{All, Contains};
+ghost use Rattle.std.specs.List.Sorted.{IsPermutation};
 ghost use Rattle.polyline_geometry.specs.Plane.{InRange};
 ghost use Rattle.polyline_geometry.specs.Boxes.{LineMeetsSquare};
 ghost use Rattle.road_network.specs.declared.EdgeId.{EdgeId as EdgeOf};
 ghost use Rattle.road_network.specs.Net.{HasEdge, edge_line};
+ghost use Rattle.grid_index.specs.GridOf.{AreHits, IsGrid};
+ghost use Rattle.grid_index.specs.Runs.{AreInOrder};
 ghost use Rattle.grid_index.specs.Rising.{AreRising};
 
 use crate::cells::Cells;
 use crate::entries::Layout;
+use crate::runs::Run;
 use crate::table::Table;
 use polyline_geometry::{List, Point};
 use road_network::{EdgeId, Network};
 use std::alloc::{AllocError, Global};
 use std::marker::Model;
 
-/// A grid of a network. Contracts see the network, and the side of a cell in cm.
+/// A grid of a network. Contracts see the network, the side of a cell in cm, the runs at each cell,
+/// and the wide runs.
 #[derive(Drop)]
 pub struct Grid<'n> {
     net: &'n Network,
@@ -53,6 +58,22 @@ fn in_order(mut edges: Vec<EdgeId>) -> Vec<EdgeId>
     edges
 }
 
+/// The edges of runs.
+fn edges_of(alloc: Global, runs: &[Run]) -> Result<Vec<EdgeId>, AllocError>
+    ensures { IfOk result (λ edges. edges.items ≡ map (λ r. r.edge) runs.now) }
+{
+    runs.iter().map(|run| run.edge).collect(alloc)
+}
+
+/// Brings runs into order.
+fn runs_in_order(mut runs: Vec<Run>) -> Vec<Run>
+    ensures same { IsPermutation runs.items result.items }
+    ensures order { AreInOrder result.items }
+{
+    runs.sort_unstable_by_key(|run| run.order());
+    runs
+}
+
 impl<'n> Grid<'n> {
     /// The grid of a network with cells of this side, in cm.
     pub fn build(alloc: Global, net: &'n Network, side: u32) -> Result<Grid<'n>, AllocError>
@@ -66,6 +87,48 @@ impl<'n> Grid<'n> {
         Ok(Grid { net, table })
     }
 
+    /// Takes no memory and does nothing: its clause tells what every grid meets.
+    pub fn known(&self)
+        ensures { IsGrid self.now }
+    {
+        let _ = &self.table;
+    }
+
+    /// The squared distance of a corner of the square of half side `reach` from its middle, in cm².
+    fn corner_distance2(&self, reach: u32) -> u64
+        requires { reach ≤ self.now.side }
+        ensures { result ≡ 2 * reach * reach }
+    {
+        let reach = u64::from(reach.min(self.table.layout.side));
+        2 * reach * reach
+    }
+
+    /// Runs near a point: one at least for each segment with a place of its box in the square of half
+    /// side `reach` and no farther than `far2` says, and no run with a box that is farther.
+    fn hits(&self, alloc: Global, p: Point, reach: u32, far2: u64) -> Result<Vec<Run>, AllocError>
+        requires p_in { InRange p }
+        requires reach { reach ≤ self.now.side }
+        ensures { IfOk result (λ runs. AreHits self.now p reach far2 runs.items) }
+    {
+        let cells = Cells::of_square(p, reach, self.table.layout.side);
+        let mut found = Vec::new(alloc);
+        self.table.gather_wide(&mut found, p, far2)?;
+        self.table.gather(&mut found, cells, p, far2)?;
+        Ok(found)
+    }
+
+    /// The runs with a place of their box within `reach` of a point, in the order of their edges and
+    /// then of their segments, some of them several times.
+    pub fn runs_near(&self, alloc: Global, p: Point, reach: u32) -> Result<Vec<Run>, AllocError>
+        requires p_in { InRange p }
+        requires reach { reach ≤ self.now.side }
+        ensures runs { IfOk result (λ runs. AreHits self.now p reach (reach * reach) runs.items) }
+        ensures order { IfOk result (λ runs. AreInOrder runs.items) }
+    {
+        let runs = self.hits(alloc, p, reach, u64::from(reach) * u64::from(reach))?;
+        Ok(runs_in_order(runs))
+    }
+
     /// Edges near a point, once each and by rising number: all with a segment whose box meets the
     /// square of half side `reach` round it, and maybe others.
     pub fn near(&self, alloc: Global, p: Point, reach: u32) -> Result<List<EdgeId>, AllocError>
@@ -77,9 +140,9 @@ impl<'n> Grid<'n> {
             → LineMeetsSquare (edge_line self.now.net e) p reach
             → Contains edges (record { 0 = e })) }
     {
-        let cells = Cells::of_square(p, reach, self.table.layout.side);
-        let mut found = Vec::from_slice(alloc, self.table.wide.as_slice())?;
-        self.table.gather(&mut found, cells)?;
-        Ok(List::from_vec(in_order(found)))
+        let far2 = self.corner_distance2(reach);
+        let runs = self.hits(alloc, p, reach, far2)?;
+        let edges = edges_of(alloc, runs.as_slice())?;
+        Ok(List::from_vec(in_order(edges)))
     }
 }

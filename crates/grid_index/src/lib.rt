@@ -1,22 +1,25 @@
 //! A grid over the segments of a network, by which the edges near a point are found without a
 //! scan of all edges.
 //!
-//! [`Grid::build`] lays the plane out in square cells and enters each edge at every cell that the
-//! box of one of its segments meets; edges with a box that meets more than 64 cells stand in one
-//! list instead. [`Grid::near`] gathers what stands at the cells round a point.
+//! [`Grid::build`] cuts each line into runs of at most 16 segments, lays the plane out in square cells
+//! and enters each run at every cell that its box meets; runs with a box that meets more than 64
+//! cells stand in one list instead. [`Grid::runs_near`] gives the runs near a point, and
+//! [`Grid::near`] their edges.
 //!
 //! Cells lie side by side in a table of `width` by `width` slots, which repeats over the plane:
 //! cell (column, row) has the slot of the remainders of both. Two far cells may share a slot, so a
-//! look may give further edges, and takes no search. The clause to read first is `complete` of
-//! [`Grid::near`]: no edge within reach is missed.
+//! look meets further runs, and takes no search. The clauses to read first are `complete` of
+//! [`Grid::near`], no edge within reach is missed, and `runs` of [`Grid::runs_near`].
 #![tactic(auto)]
 
 mod cells;
 mod entries;
 mod grid;
+mod runs;
 mod starts;
 mod table;
 #[cfg(test)]
 mod tests;
 
 pub use grid::Grid;
+pub use runs::Run;

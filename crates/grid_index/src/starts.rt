@@ -1,4 +1,5 @@
-//! Where the entries of each slot begin, among entries that are in the order of their slots.
+//! Where the entries of each slot begin, among entries that are in the order of their slots. Serves
+//! `Table`; decided by `AreStarts`.
 ghost use Rattle.std.specs.Prelude.{◌≡◌, ℕ, ◌+◌, ◌≤◌, ◌<◌, length, slice_index, IfOk};
 ghost use Rattle.std.specs.List.Sorted.{IsNonDecreasingBy};
 ghost use Rattle.grid_index.specs.Starts.{AreBefore, AreStarts, IsStart};

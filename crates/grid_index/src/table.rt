@@ -1,29 +1,61 @@
-//! The table of a grid: the edges at the slots of the cells that they meet.
-ghost use Rattle.std.specs.Prelude.{◌≡◌, ℕ, ◌+◌, ◌*◌, ◌≤◌, ◌<◌, length, map, OnOk, IfOk};
-ghost use Rattle.grid_index.specs.Table.{Gathers, HasParts, IsTableOf, members_at};
+//! The table of a grid: the runs at the slots of the cells that they meet. Serves `Grid`; decided by
+//! `IsTableOf`.
+ghost use Rattle.std.specs.Prelude.{◌≡◌, ◌+◌, All, length, map, OnOk, IfOk};
+ghost use Rattle.polyline_geometry.specs.Plane.{InRange};
+ghost use Rattle.road_network.specs.Net.{Net};
+ghost use Rattle.grid_index.specs.GridOf.{runs_at};
+ghost use Rattle.grid_index.specs.Runs.{HasCorners};
+ghost use Rattle.grid_index.specs.Table.{Appends, AppendsOne, Gathers, HasParts, IsTableOf, grid_of};
 
 use crate::cells::{Cells, slot};
 use crate::entries::{Entries, Entry, Layout};
+use crate::runs::Run;
 use crate::starts::starts_of;
-use road_network::{EdgeId, Network};
+use polyline_geometry::Point;
+use road_network::Network;
 use std::alloc::{AllocError, Global};
 
-/// The edges of a network by slot.
+/// The runs of a network by slot.
 #[derive(Drop)]
 pub(crate) struct Table {
     pub(crate) layout: Layout,
-    /// Where the edges of each slot begin in `members`, and the end of the last.
+    /// Where the runs of each slot begin in `members`, and the end of the last.
     starts: Vec<usize>,
-    members: Vec<EdgeId>,
-    /// The edges with a segment whose box meets too many cells.
-    pub(crate) wide: Vec<EdgeId>,
+    members: Vec<Run>,
+    /// The runs whose box meets too many cells.
+    pub(crate) wide: Vec<Run>,
 }
 
-/// The edges of entries.
-fn edges_of(alloc: Global, entries: &[Entry]) -> Result<Vec<EdgeId>, AllocError>
-    ensures { IfOk result (λ edges. edges.items ≡ map (λ x. x.edge) entries.now) }
+/// The runs of entries.
+fn runs_of(alloc: Global, entries: &[Entry]) -> Result<Vec<Run>, AllocError>
+    ensures { IfOk result (λ runs. runs.items ≡ map (λ x. x.run) entries.now) }
 {
-    entries.iter().map(|entry| entry.edge).collect(alloc)
+    entries.iter().map(|entry| entry.run).collect(alloc)
+}
+
+/// Appends a run where its box has a place with a squared distance from p of at most `far2`.
+fn append_one(found: &mut Vec<Run>, run: Run, p: Point, far2: u64) -> Result<(), AllocError>
+    requires p_in { InRange p }
+    requires corners { HasCorners run }
+    ensures { OnOk result (AppendsOne p far2 found.old.items found.new.items run) }
+{
+    if run.distance2(p) <= far2 {
+        found.push(run)?;
+    }
+    Ok(())
+}
+
+/// Appends the near ones among runs.
+fn append_near(found: &mut Vec<Run>, runs: &[Run], p: Point, far2: u64) -> Result<(), AllocError>
+    requires p_in { InRange p }
+    requires corners { All HasCorners runs.now }
+    ensures { OnOk result
+        (Appends p far2 found.old.items found.new.items runs.now (length runs.now)) }
+{
+    for run in runs {
+        append_one(found, *run, p, far2)?;
+    }
+    Ok(())
 }
 
 impl Table {
@@ -36,7 +68,7 @@ impl Table {
         entries.sort_by_slot();
         let slots = layout.width * layout.width;
         let starts = starts_of(alloc, entries.at_slots.as_slice(), slots)?;
-        let members = edges_of(alloc, entries.at_slots.as_slice())?;
+        let members = runs_of(alloc, entries.at_slots.as_slice())?;
         let Entries { at_slots: _, wide } = entries;
         Ok(Table {
             layout,
@@ -46,38 +78,65 @@ impl Table {
         })
     }
 
-    /// The edges at a slot.
-    fn edges_at(&self, slot: u32) -> &[EdgeId]
-        requires parts { HasParts self.now }
-        requires slot { slot < self.now.layout.width * self.now.layout.width }
-        ensures { result.now ≡ members_at self.now.starts.items self.now.members.items slot }
+    /// The runs at the cell of a column and a row.
+    pub(crate) fn runs_at(&self, column: u32, row: u32) -> &[Run]
+        requires { HasParts self.now }
+        ensures { (net : Net) → result.now ≡ runs_at (grid_of net self.now) column row }
     {
-        let start = self.starts[slot as usize];
-        let end = self.starts[slot as usize + 1];
-        &self.members[start..end]
+        let slot = slot(column, row, self.layout.width) as usize;
+        &self.members[self.starts[slot]..self.starts[slot + 1]]
     }
 
-    /// Appends the edges at the cells of some columns of a row.
-    fn gather_row(&self, found: &mut Vec<EdgeId>, cells: Cells, row: u32) -> Result<(), AllocError>
-        requires { HasParts self.now }
-        ensures { OnOk result (Gathers self.now found.old.items found.new.items cells.left
-            cells.right row (row + 1)) }
+    /// Appends the near ones among the wide runs.
+    pub(crate) fn gather_wide(
+        &self,
+        found: &mut Vec<Run>,
+        p: Point,
+        far2: u64,
+    ) -> Result<(), AllocError>
+        requires p_in { InRange p }
+        requires corners { All HasCorners self.now.wide.items }
+        ensures { OnOk result (Appends p far2 found.old.items found.new.items self.now.wide.items
+            (length self.now.wide.items)) }
+    {
+        append_near(found, self.wide.as_slice(), p, far2)
+    }
+
+    /// Appends the near ones among the runs at the cells of some columns of a row.
+    fn gather_row(
+        &self,
+        found: &mut Vec<Run>,
+        cells: Cells,
+        row: u32,
+        p: Point,
+        far2: u64,
+    ) -> Result<(), AllocError>
+        requires parts { HasParts self.now }
+        requires p_in { InRange p }
+        ensures { (net : Net) → OnOk result (Gathers (grid_of net self.now) p far2 found.old.items
+            found.new.items cells.left cells.right row (row + 1)) }
     {
         for column in cells.left..cells.right {
-            let slot = slot(column, row, self.layout.width);
-            found.extend_from_slice(self.edges_at(slot))?;
+            append_near(found, self.runs_at(column, row), p, far2)?;
         }
         Ok(())
     }
 
-    /// Appends the edges at cells.
-    pub(crate) fn gather(&self, found: &mut Vec<EdgeId>, cells: Cells) -> Result<(), AllocError>
-        requires { HasParts self.now }
-        ensures { OnOk result (Gathers self.now found.old.items found.new.items cells.left
-            cells.right cells.bottom cells.top) }
+    /// Appends the near ones among the runs at cells.
+    pub(crate) fn gather(
+        &self,
+        found: &mut Vec<Run>,
+        cells: Cells,
+        p: Point,
+        far2: u64,
+    ) -> Result<(), AllocError>
+        requires parts { HasParts self.now }
+        requires p_in { InRange p }
+        ensures { (net : Net) → OnOk result (Gathers (grid_of net self.now) p far2 found.old.items
+            found.new.items cells.left cells.right cells.bottom cells.top) }
     {
         for row in cells.bottom..cells.top {
-            self.gather_row(found, cells, row)?;
+            self.gather_row(found, cells, row, p, far2)?;
         }
         Ok(())
     }

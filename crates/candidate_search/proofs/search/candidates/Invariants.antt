@@ -1,12 +1,9 @@
-use Rattle.std.proofs.Common.{◌≡◌, map, take}
-use Rattle.road_network.specs.declared.EdgeId.{EdgeId}
-use Rattle.road_network.specs.Near.{candidate_at}
-use Rattle.candidate_search.specs.Nearest.{nearest}
-use Rattle.candidate_search.proofs.Taken.{AreFound}
+use Rattle.std.proofs.Common.{◌-◌, length}
+use Rattle.candidate_search.proofs.Groups.{IsTakenTo}
 use Rattle.candidate_search.proofs.search.candidates.Given as goal
 
-abbrev pub invariant-loop-edge : goal.invariant-loop-edge
-invariant-loop-edge l = record {
-  list : l.found.items ≡ nearest l.search.k l.search.radius (map (λ (e : EdgeId). candidate_at l.net l.search.at e.0) (take l.edge-index l.edge-items));
-  found : AreFound l.search.k l.edge-items l.edge-index l.found.items;
-}
+abbrev pub invariant-loop-place : goal.invariant-loop-place
+invariant-loop-place l = IsTakenTo l.net l.search.at l.search.k l.search.radius l.runs l.place l.found.items
+
+abbrev pub decreases-loop-place : goal.decreases-loop-place
+decreases-loop-place l = length l.runs - l.place

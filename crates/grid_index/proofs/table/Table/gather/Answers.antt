@@ -1,12 +1,13 @@
+use Rattle.grid_index.specs.Table.{grid_of}
 use Rattle.grid_index.proofs.Gathering.{gathers_higher, gathers_row}
 use Rattle.grid_index.proofs.table.Table.gather.Goals as goal
 
 pub loop-row-preserved : goal.loop-row-preserved
-loop-row-preserved c =
+loop-row-preserved c = λ net.
     let s = c.loop-row in
-    gathers_row c.args.self.now c.args.found.now.items s.found.items c.gather_row.new.found.items c.args.cells.left c.args.cells.right c.args.cells.bottom s.row s.invariant c.in_ok-gather_row.ensures
+    gathers_row (grid_of net c.args.self.now) c.args.p c.args.far2 c.args.found.now.items s.found.items c.gather_row.new.found.items c.args.cells.left c.args.cells.right c.args.cells.bottom s.row (s.invariant net) (c.in_ok-gather_row.ensures net)
 
 pub returns : goal.returns
-returns c =
+returns c = λ net.
     let s = c.loop-row in
-    gathers_higher c.args.self.now c.args.found.now.items s.found.items c.args.cells.left c.args.cells.right c.args.cells.bottom s.row c.args.cells.top s.invariant c.loop-row-test.false
+    gathers_higher (grid_of net c.args.self.now) c.args.p c.args.far2 c.args.found.now.items s.found.items c.args.cells.left c.args.cells.right c.args.cells.bottom s.row c.args.cells.top (s.invariant net) c.loop-row-test.false

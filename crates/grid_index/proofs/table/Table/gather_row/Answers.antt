@@ -1,13 +1,26 @@
-use Rattle.std.proofs.Common.{◌+◌}
+use Rattle.std.proofs.Common.{◌+◌, [], All, subst, sym}
+use Rattle.road_network.specs.Net.{Net}
+use Rattle.grid_index.specs.Cells.{slot}
+use Rattle.grid_index.specs.Runs.{HasCorners}
+use Rattle.grid_index.specs.Table.{grid_of}
 use Rattle.grid_index.proofs.Gathering.{gathers_cell, gathers_more}
+use Rattle.grid_index.proofs.LaidOut.{all_at}
 use Rattle.grid_index.proofs.table.Table.gather_row.Goals as goal
 
+abbrev nowhere : Net
+nowhere = record { nodes = []; edges = [] }
+
+pub append_near-requires-clause-corners : goal.append_near-requires-clause-corners
+append_near-requires-clause-corners c =
+    let t = c.args.self.now in
+    subst (All HasCorners) (sym (c.runs_at.ensures nowhere)) (all_at HasCorners t.starts.items t.members.items (slot t.layout.width c.loop-column.column c.args.row) c.requires.parts.corners)
+
 pub loop-column-preserved : goal.loop-column-preserved
-loop-column-preserved c =
+loop-column-preserved c = λ net.
     let s = c.loop-column in
-    gathers_cell c.args.self.now c.args.found.now.items s.found.items c.extend_from_slice.new.self.items c.edges_at.result.now c.args.cells.left s.column c.args.row c.slot-slot.result s.invariant c.slot-slot.ensures.value c.edges_at.ensures c.in_ok-extend_from_slice.ensures.items
+    gathers_cell (grid_of net c.args.self.now) c.args.p c.args.far2 c.args.found.now.items s.found.items c.append_near.new.found.items c.runs_at.result.now c.args.cells.left s.column c.args.row (s.invariant net) (c.runs_at.ensures net) c.in_ok-append_near.ensures
 
 pub returns : goal.returns
-returns c =
+returns c = λ net.
     let s = c.loop-column in
-    gathers_more c.args.self.now c.args.found.now.items s.found.items c.args.cells.left s.column c.args.cells.right c.args.row (c.args.row + 1) s.invariant c.loop-column-test.false
+    gathers_more (grid_of net c.args.self.now) c.args.p c.args.far2 c.args.found.now.items s.found.items c.args.cells.left s.column c.args.cells.right c.args.row (c.args.row + 1) (s.invariant net) c.loop-column-test.false

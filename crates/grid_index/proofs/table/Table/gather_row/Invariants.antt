@@ -1,6 +1,7 @@
 use Rattle.std.proofs.Common.{◌+◌}
-use Rattle.grid_index.specs.Table.{Gathers}
+use Rattle.road_network.specs.Net.{Net}
+use Rattle.grid_index.specs.Table.{Gathers, grid_of}
 use Rattle.grid_index.proofs.table.Table.gather_row.Given as goal
 
 abbrev pub invariant-loop-column : goal.invariant-loop-column
-invariant-loop-column l = Gathers l.self l.fn.found.items l.found.items l.fn.cells.left l.column l.fn.row (l.fn.row + 1)
+invariant-loop-column l = (net : Net) → Gathers (grid_of net l.self) l.fn.p l.fn.far2 l.fn.found.items l.found.items l.fn.cells.left l.column l.fn.row (l.fn.row + 1)

@@ -1,0 +1,67 @@
+-- Boxes of runs.
+use Rattle.std.proofs.Common.{◌≡◌, ℕ, ◌+◌, ◌<◌, ◌≤◌, List, subst, sym, inl, arith, ℤ, pos, negsuc, ◌≤ℤ◌, ⊎_elim}
+use Rattle.std.proofs.lemmas.Int.{ints}
+use Rattle.std.proofs.lemmas.Bool.{cases_lt}
+use Rattle.polyline_geometry.specs.declared.plane.Point.{Point}
+use Rattle.polyline_geometry.specs.Boxes.{InBox, IsBetween}
+use Rattle.polyline_geometry.specs.Plane.{point_at}
+use Rattle.road_network.specs.Net.{edge_line}
+use Rattle.grid_index.specs.declared.runs.Run.{Run}
+use Rattle.grid_index.specs.GridOf.{GridOf, StandsFor}
+use Rattle.grid_index.specs.Runs.{IsBelow, IsRunOf}
+
+≤ℤ_twice : (a b c : ℤ) → a ≤ℤ b → b ≤ℤ c → a ≤ℤ c
+≤ℤ_twice (pos a) (pos b) (pos c) h k = omega (arith, ints, h, k)
+≤ℤ_twice (pos a) (pos b) (negsuc c) h k = absurd (omega (arith, ints, k))
+≤ℤ_twice (pos a) (negsuc b) c h k = absurd (omega (arith, ints, h))
+≤ℤ_twice (negsuc a) b (pos c) h k = omega (arith, ints)
+≤ℤ_twice (negsuc a) (pos b) (negsuc c) h k = absurd (omega (arith, ints, k))
+≤ℤ_twice (negsuc a) (negsuc b) (negsuc c) h k = omega (arith, ints, h, k)
+
+pub below_twice : (a b c : Point) → IsBelow a b → IsBelow b c → IsBelow a c
+below_twice a b c h k = record { x = ≤ℤ_twice a.x b.x c.x h.x k.x; y = ≤ℤ_twice a.y b.y c.y h.y k.y }
+
+-- what lies between two coordinates lies between any that hold both
+between_within : (low high a b z : ℤ) → low ≤ℤ a → low ≤ℤ b → a ≤ℤ high → b ≤ℤ high → IsBetween a b z → IsBetween low high z
+between_within low high a b z la lb ah bh is =
+    ⊎_elim
+    (λ up. inl (≤ℤ_twice low a z la up.0, ≤ℤ_twice z b high up.1 bh))
+    (λ down. inl (≤ℤ_twice low b z lb down.0, ≤ℤ_twice z a high down.1 ah))
+    is
+
+-- the box of a segment of a run lies in the run's box
+pub segment_within : (line : List Point) (r : Run) (i : ℕ) (q : Point) → IsRunOf line r → r.first ≤ i → i < r.end
+    → InBox (point_at line i) (point_at line (i + 1)) q → InBox r.low r.high q
+segment_within line r i q h le lt inside =
+    let la = h.above_low i le (omega (arith, lt)) in
+    let lb = h.above_low (i + 1) (omega (arith, le)) (omega (arith, lt)) in
+    let ah = h.below_high i le (omega (arith, lt)) in
+    let bh = h.below_high (i + 1) (omega (arith, le)) (omega (arith, lt)) in
+    record {
+      x = between_within r.low.x r.high.x (point_at line i).x (point_at line (i + 1)).x q.x la.x lb.x ah.x bh.x inside.x;
+      y = between_within r.low.y r.high.y (point_at line i).y (point_at line (i + 1)).y q.y la.y lb.y ah.y bh.y inside.y;
+    }
+
+-- the box of a segment lies in that of a run that stands for it
+pub box_within : (g : GridOf) (e i : ℕ) (s : StandsFor g e i) (q : Point)
+    → InBox (point_at (edge_line g.net e) i) (point_at (edge_line g.net e) (i + 1)) q → InBox s.run.low s.run.high q
+box_within g e i s q inside =
+    segment_within (edge_line g.net s.run.edge.0) s.run i q s.is_run.run s.segment.from_first s.segment.before_end
+    (subst (λ v. InBox (point_at (edge_line g.net v) i) (point_at (edge_line g.net v) (i + 1)) q) (sym s.segment.edge_is) inside)
+
+-- what holds of both ends of a segment holds of the places from the first to the last
+pub of_both : (P : Point → Type 0) (line : List Point) (first i : ℕ) → P (point_at line first) → P (point_at line (first + 1)) → first ≤ i → i ≤ first + 1 → P (point_at line i)
+of_both P line first i h k le lt =
+    ⊎_elim
+    (λ low. let e : first ≡ i = omega (arith, le, low) in subst (λ v. P (point_at line v)) e h)
+    (λ high. let e : first + 1 ≡ i = omega (arith, lt, high) in subst (λ v. P (point_at line v)) e k)
+    (cases_lt i (first + 1))
+
+-- and with one more
+pub of_more : (P : Point → Type 0) (line : List Point) (first end i : ℕ) → ((k : ℕ) → first ≤ k → k ≤ end → P (point_at line k)) → P (point_at line (end + 1))
+    → first ≤ i → i ≤ end + 1 → P (point_at line i)
+of_more P line first end i h k le lt =
+    ⊎_elim
+    (λ low. h i le (omega (arith, low)))
+    (λ high. let e : end + 1 ≡ i = omega (arith, lt, high) in subst (λ v. P (point_at line v)) e k)
+    (cases_lt i (end + 1))
