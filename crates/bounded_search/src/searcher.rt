@@ -40,7 +40,7 @@ impl<'n> Searcher<'n> {
         requires { bound ≤ 10_000_000 }
         ensures { IfOk result (λ searcher. searcher ≡ record { network = network.now; bound = bound }) }
     {
-        let workspace = Workspace::new(alloc, network.node_count() as usize)?;
+        let workspace = Workspace::new(alloc, network, bound)?;
         Ok(Searcher {
             alloc,
             network,
