@@ -1,4 +1,4 @@
-use Rattle.std.proofs.Common.{◌≡◌, ◌∙◌, List, length-set, arith}
+use Rattle.std.proofs.Common.{◌∙◌, List, length-set, arith}
 use Rattle.bounded_search.specs.declared.queue.Waiting.{Waiting}
 use Rattle.bounded_search.proofs.Buckets.{empty_more, none_waits}
 use Rattle.bounded_search.proofs.queue.Queue.clear.Goals as goal
