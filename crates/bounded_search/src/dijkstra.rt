@@ -26,17 +26,18 @@ pub struct Workspace {
     queue: Queue,
 }
 
-/// How wide the buckets of the queue are: a tenth of the mean length of an edge. So few nodes become
-/// nearer after they were taken out, and few buckets are empty. There are at most some 4,096.
-fn bucket_width(net: &Network, bound: u32) -> u32
-    ensures { 1 ≤ result }
+/// How wide the buckets of the queue are, as a power of two: up to a tenth of the mean length of an edge. So few
+/// nodes become nearer after they were taken out, and few buckets are empty. There are at most some 8,192.
+fn bucket_shift(net: &Network, bound: u32) -> u32
+    ensures { result < 32 }
 {
     let mut total: u64 = 0;
     for e in 0..net.edge_count() {
         total = total.saturating_add(u64::from(net.length(EdgeId(e))));
     }
     let tenth = total / (u64::from(net.edge_count()) * 10 + 1);
-    tenth.max(u64::from(bound / 4096)).max(1).min(1_000_000) as u32
+    let width = tenth.max(u64::from(bound / 4096)).max(1);
+    63_u32.saturating_sub(width.leading_zeros()).min(31)
 }
 
 impl Workspace {
@@ -48,7 +49,7 @@ impl Workspace {
         Ok(Workspace {
             words: vec![in alloc; NO_LABEL; nodes]?,
             touched: Vec::new(alloc),
-            queue: Queue::new(alloc, bound, bucket_width(net, bound))?,
+            queue: Queue::new(alloc, bound, bucket_shift(net, bound))?,
         })
     }
 

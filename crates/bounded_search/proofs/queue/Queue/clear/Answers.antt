@@ -10,7 +10,7 @@ loop-place-preserved c =
     rw c.truncate.ensures (record {
       count = length-set buckets c.loop-place.place _ ∙ inv.count;
       some = inv.some;
-      wide = inv.wide;
+      shift_fits = inv.shift_fits;
       empty = empty_more buckets c.loop-place.place inv.empty;
     })
 

@@ -1,4 +1,4 @@
-use Rattle.std.proofs.Common.{◌≡◌, ◌≤◌, length}
+use Rattle.std.proofs.Common.{◌≡◌, ◌<◌, ◌≤◌, length}
 use Rattle.bounded_search.specs.QueueInside.{AreEmptyBetween}
 use Rattle.bounded_search.proofs.queue.Queue.clear.Given as goal
 
@@ -6,6 +6,6 @@ abbrev pub invariant-loop-place : goal.invariant-loop-place
 invariant-loop-place l = record {
   count : length l.self-inside.buckets.items ≡ l.place-end;
   some : 1 ≤ l.place-end;
-  wide : 1 ≤ l.self-inside.width;
+  shift_fits : l.self-inside.shift < 32;
   empty : AreEmptyBetween 0 l.place l.self-inside.buckets.items;
 }
