@@ -13,7 +13,7 @@ use crate::label_words::{NO_LABEL, ORIGIN, distance_in, label_in, word_by};
 use crate::marks::in_order;
 use crate::queue::{Queue, Waiting};
 use crate::table_row::Entry;
-use road_network::{Arc, Network, NodeId};
+use road_network::{Arc, EdgeId, Network, NodeId};
 use std::alloc::{AllocError, Global};
 
 /// The labels of one search as words by node number, and the nodes that wait.
@@ -26,15 +26,30 @@ pub struct Workspace {
     queue: Queue,
 }
 
+/// How wide the buckets of the queue are, as a power of two: up to a tenth of the mean length of an edge. So few
+/// nodes become nearer after they were taken out, and few buckets are empty. There are at most some 8,192.
+fn bucket_shift(net: &Network, bound: u32) -> u32
+    ensures { result < 32 }
+{
+    let mut total: u64 = 0;
+    for e in 0..net.edge_count() {
+        total = total.saturating_add(u64::from(net.length(EdgeId(e))));
+    }
+    let tenth = total / (u64::from(net.edge_count()) * 10 + 1);
+    let width = tenth.max(u64::from(bound / 4096)).max(1);
+    63_u32.saturating_sub(width.leading_zeros()).min(31)
+}
+
 impl Workspace {
-    /// Arrays for this many nodes, with nothing in them.
-    pub fn new(alloc: Global, nodes: usize) -> Result<Workspace, AllocError>
-        ensures { IfOk result (IsClean nodes) }
+    /// Arrays for the nodes of a network, with nothing in them.
+    pub fn new(alloc: Global, net: &Network, bound: u32) -> Result<Workspace, AllocError>
+        ensures { IfOk result (IsClean (length net.now.nodes)) }
     {
+        let nodes = net.node_count() as usize;
         Ok(Workspace {
             words: vec![in alloc; NO_LABEL; nodes]?,
             touched: Vec::new(alloc),
-            queue: Queue::new(alloc),
+            queue: Queue::new(alloc, bound, bucket_shift(net, bound))?,
         })
     }
 

@@ -1,4 +1,4 @@
-//! Rows that one owner finds and keeps.
+//! Rows that one owner finds and keeps. Serves all who ask for rows; decided by `Rows`.
 ghost use Rattle.std.specs.Prelude.{◌≡◌, ◌≤◌, ◌↔◌, length, Contains, IfOk, OnErr, IsTrue, IsOk};
 ghost use Rattle.road_network.specs.Net.{HasNode};
 ghost use Rattle.bounded_search.specs.Table.{IsRow};

@@ -1,4 +1,4 @@
-//! Rows that fail at chosen calls, to see what a caller does then.
+//! Rows that fail at chosen calls, to see what a caller does then. Serves tests; decided by `FollowsCall`.
 ghost use Rattle.std.specs.Prelude.{◌≡◌, ◌≤◌, ◌↔◌, Contains, IfOk, IsOk, IsErr};
 ghost use Rattle.std.specs.Borrow.{sem};
 ghost use Rattle.std.specs.Io.BufRead.{Rests};

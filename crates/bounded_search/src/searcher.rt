@@ -1,4 +1,4 @@
-//! The search for the rows of a table.
+//! Searches for many rows of one network. Serves `search` and `OwnRows`; decided by `IsRow`.
 ghost use Rattle.std.specs.Prelude.{◌≡◌, ◌≤◌, IfOk};
 ghost use Rattle.road_network.specs.Net.{HasNode};
 ghost use Rattle.bounded_search.specs.Table.{IsRow};
@@ -40,7 +40,7 @@ impl<'n> Searcher<'n> {
         requires { bound ≤ 10_000_000 }
         ensures { IfOk result (λ searcher. searcher ≡ record { network = network.now; bound = bound }) }
     {
-        let workspace = Workspace::new(alloc, network.node_count() as usize)?;
+        let workspace = Workspace::new(alloc, network, bound)?;
         Ok(Searcher {
             alloc,
             network,
@@ -81,7 +81,8 @@ impl<'n> Searcher<'n> {
 /// 4 at 24 by edge 4. Of several shortest walks the one whose edges, read from the last to the first,
 /// are earliest in the file gives the last edge.
 ///
-/// One row costs two arrays of the network's size. For many rows take a [`Searcher`].
+/// One row costs an array of the network's size, and a look at the length of every edge. For many rows take a
+/// [`Searcher`].
 pub fn search(alloc: Global, net: &Network, bound: u32, origin: NodeId) -> Result<Row, AllocError>
     requires origin { HasNode net.now origin.0 }
     requires bound { bound ≤ 10_000_000 }

@@ -1,0 +1,15 @@
+use Rattle.std.proofs.Common.{◌≡◌, ◌∙◌, ◌++◌, ◌∷◌, [], List, ap}
+use Rattle.bounded_search.specs.declared.queue.Waiting.{Waiting}
+use Rattle.bounded_search.specs.QueueInside.{joined}
+use Rattle.bounded_search.proofs.Buckets.{joined_more}
+use Rattle.bounded_search.proofs.queue.Queue.new.Goals as goal
+
+-- with one bucket more still nothing waits
+still_none : (before after : List (List Waiting)) (bucket : List Waiting) → after ≡ before ++ bucket ∷ [] → bucket ≡ [] → joined before ≡ [] → joined after ≡ []
+still_none before after bucket is empty none = ap joined is ∙ (ap (λ (k : List Waiting). joined (before ++ k ∷ [])) empty ∙ (joined_more before ∙ none))
+
+pub loop-preserved : goal.loop-preserved
+loop-preserved c = still_none c.loop.buckets.items c.push.new.self.items c.new.result c.in_ok-push.ensures.items c.new.ensures c.loop.invariant
+
+pub returns : goal.returns
+returns c = still_none c.loop.buckets.items c.push-2.new.self.items c.new-2.result c.in_ok-push-2.ensures.items c.new-2.ensures c.loop.invariant
