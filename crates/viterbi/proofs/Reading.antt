@@ -4,12 +4,13 @@ use Rattle.cost_model.specs.declared.params.Params.{Params}
 use Rattle.road_network.specs.Net.{Net}
 use Rattle.matching.specs.declared.parts.Cell.{Cell}
 use Rattle.matching.specs.declared.parts.Layer.{Layer}
-use Rattle.matching.specs.Layers.{IsLayer, trellis}
+use Rattle.matching.specs.Layers.{AreNeighbours, IsLayer, trellis}
 use Rattle.matching.specs.SoFar.{IsMatchBefore}
 use Rattle.matching.proofs.Lists.{all-at}
 use Rattle.trellis.specs.declared.parts.Solved.{Solved}
+use Rattle.trellis.specs.Offers.{AreCosts}
 use Rattle.matching.proofs.PieceSoFar.{IsGround, IsPieceSoFar, IsStepAt, so_far_count, so_far_small}
-use Rattle.viterbi.specs.Growing.{IsNextStep, IsSolvedFurther}
+use Rattle.viterbi.specs.Growing.{IsSolvedFurther}
 
 -- what is read at place i: the layers there and before, and the cells before
 pub record IsRead (layers : List Layer) (tables read : List (List Cell)) (i : ℕ) (m l : Layer) (costs : List Cell) : Type 0 where
@@ -37,7 +38,13 @@ step_read n p layers tables read i m l {costs} h =
       at = record { below = omega (arith, count, lt); is = subst (λ k. l ≡ get_or layers k l) (sym count) h.l-is };
     }
 
--- it may be a step of a piece so far
+-- a piece may go from layer m, with these cells, to layer l
+pub record IsNextStep (n : Net) (p : Params) (m : Layer) (costs : List Cell) (l : Layer) : Type 0 where
+  pub layers : AreNeighbours n p m l
+  pub cells : AreCosts m costs
+  pub narrow : length l.candidates ≤ 2 ^ 32
+
+-- so it may from a piece so far
 pub may_step : (n : Net) (p : Params) (layers : List Layer) (tables : List (List Cell)) (m l : Layer) (costs : List Cell)
     → IsGround n p layers → IsPieceSoFar n p layers tables → IsStepAt n p layers tables m l costs → IsNextStep n p m costs l
 may_step n p layers tables m l costs ground so_far step =

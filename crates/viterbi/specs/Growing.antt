@@ -1,28 +1,27 @@
 -- A piece while it grows, point by point, and a match while it grows, piece by piece.
-use Rattle.std.specs.Prelude.{ℕ, ◌<◌, ◌≤◌, ◌^◌, List, Option, Result, OnOk, MatchOption, length}
+use Rattle.std.specs.Prelude.{ℕ, ◌<◌, List, Option, Result, OnOk, MatchOption, length}
 use Rattle.cost_model.specs.declared.params.Params.{Params}
 use Rattle.road_network.specs.Net.{Net}
 use Rattle.bounded_search.specs.Rows.{RowsState, AsksAll, Keeps}
 use Rattle.matching.specs.declared.parts.Cell.{Cell}
 use Rattle.matching.specs.declared.parts.Layer.{Layer}
 use Rattle.matching.specs.declared.parts.Piece.{Piece}
-use Rattle.matching.specs.Layers.{AreNeighbours, trellis}
-use Rattle.matching.specs.PieceSteps.{PieceEndsBefore, PieceGoesOn}
+use Rattle.matching.specs.Layers.{trellis}
+use Rattle.matching.specs.PieceSteps.{AsksNext, PieceEndsBefore, PieceGoesOn}
 use Rattle.matching.specs.SoFar.{IsMatchBefore}
 use Rattle.trellis.specs.declared.parts.Solved.{Solved}
-use Rattle.trellis.specs.Offers.{AreCosts}
+use Rattle.trellis.specs.declared.steps.Step.{Step}
 
--- a piece may go from layer m, with these cells, to layer l
-pub record IsNextStep (n : Net) (p : Params) (m : Layer) (costs : List Cell)
-    (l : Layer) : Type 0 where
-  pub layers : AreNeighbours n p m l
-  pub cells : AreCosts m costs
-  pub narrow : length l.candidates ≤ 2 ^ 32
+-- the cells of the layer that a step leads to, or none where the piece ends before it
+abbrev pub TellsNext : Step → Option (List Cell) → Type 0
+TellsNext s next =
+    let t = trellis s.net.now s.params.now in
+    MatchOption next (PieceEndsBefore t s.before.now s.costs.now s.layer.now)
+    (PieceGoesOn t s.before.now s.costs.now s.layer.now)
 
--- the cells of layer l, or none where the piece ends before it
-abbrev pub TellsNext : Net → Params → Layer → List Cell → Layer → Option (List Cell) → Type 0
-TellsNext n p m costs l next =
-    MatchOption next (PieceEndsBefore (trellis n p) m costs l) (PieceGoesOn (trellis n p) m costs l)
+-- the nodes that the step asks for
+abbrev pub AsksOfStep : Step → ℕ → Type 0
+AsksOfStep s v = AsksNext s.net.now s.params.now s.before.now s.costs.now s.layer.now v
 
 -- the points that have a rank or none so far are matched
 abbrev pub IsSolvedSoFar : Net → Params → List Layer → Solved → Type 0

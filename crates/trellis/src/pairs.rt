@@ -1,0 +1,105 @@
+//! A memory of what rows say of pairs of nodes, so that a pair that comes again is not looked up
+//! again. Serves `link_by_pair`; decided by `distance_in`.
+ghost use Rattle.std.specs.Prelude.{◌≡◌, IfSome};
+ghost use Rattle.bounded_search.specs.Table.{IsRow};
+ghost use Rattle.trellis.specs.Pairs.{TellsPair, distance_in, pairs_of};
+
+use bounded_search::Row;
+use road_network::{Network, NodeId};
+use std::alloc::{AllocError, Global};
+use std::marker::Model;
+
+/// How many pairs are remembered. The last of those that share a place stays.
+const PLACES: usize = 2_048;
+
+/// What the row of one node says of another: its distance, or that it is not listed.
+#[derive(Clone, Copy)]
+struct Told {
+    origin: u32,
+    node: u32,
+    distance: Option<u32>,
+}
+
+/// Pairs of nodes of a network, as its rows within a bound list them.
+#[derive(Drop)]
+pub struct PairMemory<'n> {
+    network: &'n Network,
+    bound: u32,
+    places: Vec<Option<Told>>,
+}
+
+impl<'n> Model for PairMemory<'n> {
+    ghost use Rattle.bounded_search.specs.Table.{BoundedTable};
+    ghost use Rattle.trellis.specs.PairsInside.{shown_pairs, AreTold};
+
+    ghost Value = { BoundedTable };
+
+    ghost view = { shown_pairs };
+
+    ghost invariant = { AreTold };
+}
+
+impl<'n> PairMemory<'n> {
+    /// A memory without room, which remembers nothing. Takes no memory.
+    pub fn new(alloc: Global, network: &'n Network, bound: u32) -> PairMemory<'n>
+        ensures { result ≡ pairs_of network.now bound }
+    {
+        PairMemory {
+            network,
+            bound,
+            places: Vec::new(alloc),
+        }
+    }
+
+    /// Makes room, where there is none yet.
+    pub fn make_room(&mut self, alloc: Global) -> Result<(), AllocError>
+        ensures { self.new ≡ self.old }
+    {
+        if self.places.len() == 0 {
+            self.places = vec![in alloc; None; PLACES]?;
+        }
+        Ok(())
+    }
+
+    /// What this place remembers of a pair, if it is that pair.
+    fn remembered(&self, place: usize, origin: u32, node: u32) -> Option<Option<u32>>
+        ensures { IfSome result (TellsPair self.now origin node) }
+    {
+        match self.places.get(place) {
+            Some(Some(told)) if told.origin == origin && told.node == node => Some(told.distance),
+            _ => None,
+        }
+    }
+
+    /// The distance of a node in this row.
+    pub fn distance(&mut self, row: &Row, node: NodeId) -> Option<u32>
+        requires { IsRow self.old.network self.old.bound row.now.origin row.now }
+        ensures told { result ≡ distance_in row.now node.0 }
+        ensures same { self.new ≡ self.old }
+    {
+        let origin = row.origin().0;
+        let place = (origin as usize * 31 + node.0 as usize) % PLACES;
+        if let Some(distance) = self.remembered(place, origin, node.0) {
+            return distance;
+        }
+        let distance = look(row, node);
+        if place < self.places.len() {
+            self.places[place] = Some(Told {
+                origin,
+                node: node.0,
+                distance,
+            });
+        }
+        distance
+    }
+}
+
+/// The distance of a node in this row, by a look into it.
+fn look(row: &Row, node: NodeId) -> Option<u32>
+    ensures { result ≡ distance_in row.now node.0 }
+{
+    match row.find(node) {
+        Some(entry) => Some(entry.distance),
+        None => None,
+    }
+}
