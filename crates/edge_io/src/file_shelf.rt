@@ -1,5 +1,5 @@
-// The files of a runtime. Serves the program's `main`; decided by the clauses of `Shelf::read`, which
-// say nothing of a real file's bytes.
+// The files of a runtime. Serves the program's `main`; decided by the clauses of `Shelf::read`,
+// which say nothing of a real file's bytes.
 ghost use Rattle.std.specs.Prelude.{◌≡◌, ◌≤◌, ◌^◌, None, length, IfOk};
 ghost use Rattle.edge_io.specs.State.{new_shelf};
 
@@ -13,9 +13,9 @@ use std::{fs, io};
 
 /// The files of a runtime, by their paths. A missing file is a failed read.
 ///
-/// The file of the latest read stays open where that read ended, and a read from there on goes on in
-/// it, without a seek. So a pipe can be read from its start on, and a file that is exchanged while
-/// it is read is read as it was. Any other place or name is opened anew.
+/// The file of the latest read stays open where that read ended, and a read from there on goes on
+/// in it, without a seek. So a pipe can be read from its start on, and a file that is exchanged
+/// while it is read is read as it was. Any other place or name is opened anew.
 #[derive(Drop)]
 pub struct FileShelf<R: Files + Drop> {
     alloc: Global,

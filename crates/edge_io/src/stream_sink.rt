@@ -1,5 +1,5 @@
-// A stream that is written to. Serves the program's `main`; decided by the clause of `Sink::put`, which
-// says nothing of what a stream took.
+// A stream that is written to. Serves the program's `main`; decided by the clause of `Sink::put`,
+// which says nothing of what a stream took.
 ghost use Rattle.std.specs.Prelude.{◌≡◌, None};
 ghost use Rattle.edge_io.specs.State.{new_sink};
 

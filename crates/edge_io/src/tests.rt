@@ -46,6 +46,9 @@ fn a_shelf_in_memory_brings_a_file_in_parts(rt: HostRuntime) -> Result<(), Fail>
     }
     assert_eq!(rt; into.as_slice(), b"xyzyz".as_slice());
     assert_eq!(rt; shelf.failed.len(), 2);
+    for (noted, name) in shelf.failed.as_slice().iter().zip([b"b", b"a"]) {
+        assert_eq!(rt; noted.as_slice(), name.as_slice());
+    }
     Ok(())
 }
 
