@@ -1,4 +1,4 @@
-//! Why a text is no match text.
+//! Why a text is no match text. Serves `read_match`; decided by `IsFirstBadLine`.
 ghost use Rattle.std.specs.Prelude.{◌≡◌};
 ghost use Rattle.match_text.specs.declared.fault.TextFault.TheVariants.{Memory};
 

@@ -1,4 +1,5 @@
-//! What stands at the front of a text, and the rest of it.
+//! What stands at the front of a text, and the rest of it. Serves the readers of lines, of this text
+//! and of others; decided by `number_at` and `after_bytes`.
 ghost use Rattle.std.specs.Prelude.{◌≡◌, ◌-◌, ◌^◌, ◌≤◌, length, IfSome};
 ghost use Rattle.std.specs.Option.{option_copied};
 ghost use Rattle.std.specs.List.{prefix_len};

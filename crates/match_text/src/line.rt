@@ -1,4 +1,5 @@
-//! The lines of a match text, each written whole or not at all.
+//! The lines of a match text, each written whole or not at all. Serves `write_match`; decided by
+//! `trace_line`, `label_line`, `piece_line` and `end_line`.
 ghost use Rattle.std.specs.Prelude.{◌≡◌, ◌++◌, length, take, OnOk, OnErr};
 ghost use Rattle.std.specs.List.{flat_map};
 ghost use Rattle.match_text.specs.MatchText.{trace_line, label_line, piece_line, end_line};

@@ -1,4 +1,4 @@
-//! A trace with its match, in the ids of the network file.
+//! A trace with its match, in the ids of the network file. Serves all who write or read it.
 use polyline_geometry::List;
 
 /// What a point of a trace was matched to.

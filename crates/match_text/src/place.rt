@@ -1,4 +1,5 @@
-//! The lines of a match text after its first, and what decides which of them may come next.
+//! The lines of a match text after its first, and what decides which of them may come next. Serves
+//! `read_match`; decided by `IsAllowed`.
 ghost use Rattle.std.specs.Prelude.{◌≡◌};
 ghost use Rattle.match_text.specs.Grammar.{IsAllowed, place_after};
 

@@ -1,4 +1,5 @@
-//! The match text of a trace, read.
+//! The match text of a trace, read. Serves all who take such texts; decided by `text_of` and
+//! `IsLawful`.
 ghost use Rattle.std.specs.Prelude.{◌≡◌, ℕ, IfOk, IsErrOf, MatchResult};
 ghost use Rattle.match_text.specs.declared.matched.MatchedTrace.{MatchedTrace};
 ghost use Rattle.match_text.specs.MatchText.{text_of, IsLawful, Fits, IsFirstBadLine};

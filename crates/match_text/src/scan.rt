@@ -1,4 +1,4 @@
-//! The line at the front of a text.
+//! The line at the front of a text. Serves `read_match`; decided by `ReadsLine`.
 ghost use Rattle.std.specs.Prelude.{◌≡◌, ◌+◌, ◌^◌, ◌<◌, ◌↔◌, IfOk, IsTrue, slice_index};
 ghost use Rattle.std.specs.Option.{option_map, option_copied};
 ghost use Rattle.match_text.specs.Reading.{seen, trace_at, end_at, numbered_at, none_at, label_at};

@@ -1,4 +1,4 @@
-//! The match text of a trace, written.
+//! The match text of a trace, written. Serves the program; decided by `text_of`.
 ghost use Rattle.std.specs.Prelude.{◌≡◌, ◌++◌, length, take, OnOk, OnErr};
 ghost use Rattle.std.specs.List.{concat};
 ghost use Rattle.match_text.specs.MatchText.{text_of, point_lines, IsLawful};
