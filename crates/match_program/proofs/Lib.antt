@@ -1,13 +1,6 @@
+pub mod Asked
 pub mod Asking
-pub mod BatchEnds
-pub mod CommandEnds
 pub mod Counting
-pub mod FileEnds
-pub mod FinishEnds
-pub mod Matching
-pub mod NetworkStage
-pub mod PieceEnds
-pub mod PointCounts
-pub mod RunEnds
-pub mod StageEnds
-pub mod TextSteps
+pub mod Jobs
+pub mod Lines
+pub mod Texts

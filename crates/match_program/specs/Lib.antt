@@ -1,12 +1,5 @@
-pub mod Asked
-pub mod Batches
-pub mod Ending
-pub mod Headline
-pub mod Lines
+pub mod Matched
 pub mod MatcherInside
-pub mod Matches
-pub mod Outcome
-pub mod Performs
-pub mod Read
-pub mod Stream
-pub mod Tally
+pub mod Setting
+pub mod Words
+pub mod commands

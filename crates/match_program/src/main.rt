@@ -3,32 +3,26 @@
 //! `run` is the whole program over a shelf of files and two sinks, and carries the promise: what it
 //! writes is a function of the words and the files. `main` hands it the real files and streams.
 //!
-//! - The crate `command_line` reads the words, `stages` loads the network, and `stream` reads the
-//!   trace file piece by piece.
-//! - `batches` holds the traces that wait, and matches and writes them 256 at a time, by `texts`.
+//! - The crate `command_line` reads the words, and `run` hands the work that they ask for to its
+//!   command, in a file of its own under `commands`.
+//! - The crate `program_frame` has what every command stands on: the files and their refusals, the
+//!   traces taken batch by batch, what is said on err, and the promises of a run.
 //! - `matcher` has the network, the grid of its edges and the options, and matches a trace by
 //!   the crate `match_pool`.
-//! - `ending` has why the work ended early, and what is then said on err.
 //!
-//! Read the clause `outcome` of `run` first, and then `specs/Outcome.antt` and
-//! `specs/Matches.antt`.
+//! Read the clause of `run` first, and then `specs/Words.antt` and `specs/commands/Matches.antt`.
 #![tactic(auto)]
 
-mod batches;
-mod ending;
-mod files;
+mod commands;
 mod matcher;
 mod run;
-mod stages;
-mod stream;
-mod tally;
-mod texts;
-mod words_out;
 
 use edge_io::{FileShelf, StreamSink};
+use program_frame::end_without_memory;
 use std::alloc::Global;
+use std::env;
+use std::io::{self, ErrorKind};
 use std::process::ExitCode;
-use std::{env, io};
 
 // The words after the program's name.
 fn arguments(rt: &HostRuntime, alloc: Global) -> io::Result<Vec<String>> {
@@ -41,11 +35,17 @@ fn arguments(rt: &HostRuntime, alloc: Global) -> io::Result<Vec<String>> {
 
 fn main(rt: HostRuntime) -> ExitCode {
     let alloc = rt.alloc();
-    // Words that are no text are a faulty command line.
-    let words = arguments(&rt, alloc).unwrap_or_else(|_| Vec::new(alloc));
+    let mut err = StreamSink::new(rt.stderr());
+    let words = match arguments(&rt, alloc) {
+        Ok(words) => words,
+        Err(fault) if fault.kind() == ErrorKind::OutOfMemory => {
+            return ExitCode::from(end_without_memory(&mut err));
+        }
+        // Words that are not UTF-8 are a faulty command line.
+        Err(_) => Vec::new(alloc),
+    };
     let mut shelf = FileShelf::new(alloc, rt);
     let mut out = StreamSink::new(rt.stdout());
-    let mut err = StreamSink::new(rt.stderr());
     let status = run::run(&rt, alloc, &words, &mut shelf, &mut out, &mut err);
     ExitCode::from(status)
 }

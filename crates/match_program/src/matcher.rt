@@ -1,10 +1,11 @@
-// What traces are matched on: a network with the grid of its edges, and the options.
-ghost use Rattle.std.specs.Prelude.{◌≡◌, ◌≤◌, ◌∷◌, [], length, IfOk, OnOk};
+// What traces are matched on: a network with the grid of its edges, and the options. Serves the
+// commands; decided by `match_of`.
+ghost use Rattle.std.specs.Prelude.{◌≡◌, ◌≤◌, true, IfOk};
+ghost use Rattle.bounded_search.specs.Rows.{AreRowsOf, AsksAs, no_rows};
 ghost use Rattle.cost_model.specs.Options.{IsAccepted};
-ghost use Rattle.match_pool.specs.Match.{match_of};
-ghost use Rattle.match_text.specs.MatchText.{IsLawful};
+ghost use Rattle.trace_match.specs.Match.{asks};
 ghost use Rattle.trace_reader.specs.Trace.{IsLawfulTrace};
-ghost use Rattle.match_program.specs.Asked.{AreRowsOf, LearnsAsked};
+ghost use Rattle.match_program.specs.Matched.{IsMatchOf};
 
 use bounded_search::OwnRows;
 use cost_model::Params;
@@ -28,7 +29,7 @@ pub struct Matcher<'n> {
 }
 
 impl<'n> Model for Matcher<'n> {
-    ghost use Rattle.match_program.specs.Matches.{Setting};
+    ghost use Rattle.match_program.specs.Setting.{Setting};
 
     ghost Value = { Setting };
 
@@ -60,8 +61,8 @@ impl<'n> Matcher<'n> {
 
     /// Rows of the network within the bound of the options. No node is known.
     pub fn rows(&self, alloc: Global) -> Result<OwnRows<'n>, AllocError>
-        ensures network { IfOk result (AreRowsOf self.now) }
-        ensures known { IfOk result (λ rows. rows.known ≡ []) }
+        ensures { IfOk result
+            (λ rows. rows ≡ no_rows self.now.network self.now.params.bound) }
     {
         OwnRows::open(alloc, self.network, self.params.bound)
     }
@@ -73,15 +74,11 @@ impl<'n> Matcher<'n> {
         rows: &mut OwnRows<'n>,
         trace: &Trace,
     ) -> Result<MatchedTrace, AllocError>
-        requires rows { AreRowsOf self.now rows.old }
+        requires rows { AreRowsOf rows.old self.now.network self.now.params.bound }
         requires trace { IsLawfulTrace trace.now }
-        ensures value { IfOk result
-            (λ matched. matched ≡ match_of self.now.network self.now.params trace.now) }
-        ensures lawful { IfOk result IsLawful }
-        ensures few { IfOk result (λ matched. length matched.pieces ≤ length trace.now.fixes) }
-        ensures rows { AreRowsOf self.now rows.new }
-        ensures learns { OnOk result
-            (LearnsAsked self.now (trace.now ∷ []) rows.old.known rows.new.known) }
+        ensures matched { IfOk result (IsMatchOf self.now trace.now) }
+        ensures asks { AsksAs rows.old
+            (λ _ v. asks self.now.network self.now.params trace.now v ≡ true) result rows.new }
     {
         let answer = match_one(alloc, self.network, &self.grid, &self.params, rows, trace)?;
         Ok(answer.matched)

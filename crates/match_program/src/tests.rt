@@ -1,19 +1,99 @@
-ghost use Rattle.std.specs.Prelude.{◌≤◌};
-
-mod case;
-mod matches;
-mod refusals;
-
 use crate::run::run;
-use crate::tests::case::{Case, MATCH, STRAIGHT};
-use crate::tests::matches::{MATCHED, MATCHES};
-use crate::tests::refusals::{FAULTY, REFUSALS};
 use decimal_text::write_unsigned;
 use edge_io::{MemoryShelf, MemorySink};
 use polyline_geometry::List;
 use std::alloc::{AllocError, Global};
 use std::test::Fail;
 use std::thread::Threads;
+
+const MATCH: &[&str] = &["match", "net", "tra"];
+
+const STRAIGHT: &[u8] = b"edge,from,to,line\n10,1,2,0 0;10000 0\n11,2,3,10000 0;20000 0\n";
+
+const TWO_TRACES: &[u8] = b"trace,x,y\n1,1000,0\n2,1000,0\n";
+
+const FAULTY: &[u8] = b"trace,x,y\n1,1000,0\n2,1000,0\n7,2000,0\n7,12x,0\n";
+
+const TWO_TEXTS: &[u8] =
+    b"trace 1\nat 0 edge 10 offset 1000 d2 0\npiece 0 0 cost 0 route 10\nend 1\ntrace 2\nat 0 edge 10 offset 1000 d2 0\npiece 0 0 cost 0 route 10\nend 2\n";
+
+// A run, with the numbers of the calls that fail on the shelf, on out and on err, and what it
+// must give.
+struct Case {
+    shows: &'static str,
+    words: &'static [&'static str],
+    traces: &'static [u8],
+    fail: [&'static [u64]; 3],
+    status: u8,
+    out: &'static [u8],
+    err: &'static [u8],
+}
+
+const CASES: [Case; 7] = [
+    Case {
+        shows: "a refused word reads nothing",
+        words: &["match", "net", "tra", "--k", "33"],
+        traces: TWO_TRACES,
+        fail: [&[1], &[], &[]],
+        status: 2,
+        out: b"",
+        err: b"fmm: bad value k\n",
+    },
+    Case {
+        shows: "a refused command line reads nothing",
+        words: &["match", "net"],
+        traces: TWO_TRACES,
+        fail: [&[1], &[], &[]],
+        status: 2,
+        out: b"",
+        err: b"fmm: bad command line\n",
+    },
+    Case {
+        shows: "the first call for the network fails",
+        words: MATCH,
+        traces: TWO_TRACES,
+        fail: [&[1], &[], &[]],
+        status: 3,
+        out: b"",
+        err: b"fmm: cannot read network\n",
+    },
+    Case {
+        shows: "the first call for the traces fails",
+        words: MATCH,
+        traces: TWO_TRACES,
+        fail: [&[3], &[], &[]],
+        status: 3,
+        out: b"",
+        err: b"fmm: cannot read traces\n",
+    },
+    Case {
+        shows: "the traces are read no further than the chunk with the fault",
+        words: MATCH,
+        traces: FAULTY,
+        fail: [&[4], &[], &[]],
+        status: 6,
+        out: TWO_TEXTS,
+        err: b"traces line 5 field 2: bad number\n",
+    },
+    Case {
+        shows: "the put of a text fails",
+        words: MATCH,
+        traces: TWO_TRACES,
+        fail: [&[], &[1], &[]],
+        status: 4,
+        out: b"",
+        err: b"fmm: write failed\n",
+    },
+    Case {
+        shows: "the put of a refusal fails",
+        words: MATCH,
+        traces: FAULTY,
+        fail: [&[], &[], &[1]],
+        status: 4,
+        out: TWO_TEXTS,
+        err: b"",
+    },
+];
 
 fn bytes(alloc: Global, text: &[u8]) -> Result<List<u8>, AllocError> {
     let mut list = List::new(alloc);
@@ -27,16 +107,17 @@ fn numbers(alloc: Global, all: &[u64]) -> Result<List<u64>, AllocError> {
     Ok(list)
 }
 
-// The files `net` and `tra`.
-fn files(
+// A shelf with the files `net` and `tra`, on which these calls fail.
+fn shelf(
     alloc: Global,
     network: &[u8],
     traces: &[u8],
-) -> Result<List<(List<u8>, List<u8>)>, AllocError> {
+    fail: &[u64],
+) -> Result<MemoryShelf, AllocError> {
     let mut files = List::new(alloc);
     files.push((bytes(alloc, b"net")?, bytes(alloc, network)?))?;
     files.push((bytes(alloc, b"tra")?, bytes(alloc, traces)?))?;
-    Ok(files)
+    Ok(MemoryShelf::new(alloc, files, numbers(alloc, fail)?))
 }
 
 fn words(alloc: Global, all: &[&str]) -> Result<Vec<String>, AllocError> {
@@ -47,63 +128,22 @@ fn words(alloc: Global, all: &[&str]) -> Result<Vec<String>, AllocError> {
     Ok(words)
 }
 
-fn gives(case: &Case, status: u8, out: &[u8], err: &[u8]) -> bool {
-    status == case.status && out == case.out && err == case.err
-}
-
 // Whether a run gives what the case wants.
 fn is_as_wanted<R: Threads>(rt: &R, alloc: Global, case: &Case) -> Result<bool, AllocError> {
-    let files = files(alloc, case.network, case.traces)?;
-    let mut shelf = MemoryShelf::new(alloc, files, numbers(alloc, case.fail[0])?);
+    let mut shelf = shelf(alloc, STRAIGHT, case.traces, case.fail[0])?;
     let mut out = MemorySink::new(alloc, numbers(alloc, case.fail[1])?);
     let mut err = MemorySink::new(alloc, numbers(alloc, case.fail[2])?);
     let words = words(alloc, case.words)?;
     let status = run(rt, alloc, &words, &mut shelf, &mut out, &mut err);
-    Ok(gives(case, status, out.bytes(), err.bytes()))
+    Ok(status == case.status && out.bytes() == case.out && err.bytes() == case.err)
 }
 
 #[test]
-fn accepted_files_are_matched(rt: HostRuntime) -> Result<(), Fail> {
-    for case in &MATCHES {
+fn failed_calls_show_in_the_status(rt: HostRuntime) -> Result<(), Fail> {
+    for case in &CASES {
         let wanted = is_as_wanted(&rt, rt.alloc(), case)?;
         assert!(rt; wanted, "{}", case.shows);
     }
-    Ok(())
-}
-
-#[test]
-fn others_are_refused(rt: HostRuntime) -> Result<(), Fail> {
-    for case in &REFUSALS {
-        let wanted = is_as_wanted(&rt, rt.alloc(), case)?;
-        assert!(rt; wanted, "{}", case.shows);
-    }
-    Ok(())
-}
-
-// Whether it does where each read gives at most so many bytes.
-fn is_same_dripped<R: Threads>(
-    rt: &R,
-    alloc: Global,
-    case: &Case,
-    most: u32,
-) -> Result<bool, AllocError>
-    requires { 1 ≤ most }
-{
-    let files = files(alloc, case.network, case.traces)?;
-    let mut shelf = MemoryShelf::drip(alloc, files, List::new(alloc), most);
-    let mut out = MemorySink::new(alloc, List::new(alloc));
-    let mut err = MemorySink::new(alloc, List::new(alloc));
-    let words = words(alloc, case.words)?;
-    let status = run(rt, alloc, &words, &mut shelf, &mut out, &mut err);
-    Ok(gives(case, status, out.bytes(), err.bytes()))
-}
-
-#[test]
-fn a_cutting_of_the_reads_changes_nothing(rt: HostRuntime) -> Result<(), Fail> {
-    assert!(rt; is_same_dripped(&rt, rt.alloc(), &MATCHED, 1)?);
-    assert!(rt; is_same_dripped(&rt, rt.alloc(), &MATCHED, 7)?);
-    assert!(rt; is_same_dripped(&rt, rt.alloc(), &FAULTY, 1)?);
-    assert!(rt; is_same_dripped(&rt, rt.alloc(), &FAULTY, 2)?);
     Ok(())
 }
 
@@ -132,19 +172,70 @@ fn many_texts(alloc: Global, count: u64) -> Result<List<u8>, AllocError> {
     Ok(text)
 }
 
-// The fourth call is the one behind the 600 traces: two batches were written before it.
-#[test]
-fn traces_are_written_in_batches(rt: HostRuntime) -> Result<(), Fail> {
-    let alloc = rt.alloc();
-    let files = files(alloc, STRAIGHT, many_traces(alloc, 600)?.as_slice())?;
-    let mut shelf = MemoryShelf::new(alloc, files, numbers(alloc, &[4])?);
+// Whether a run of `match` with these failing calls of the shelf ends with this status, line and
+// text.
+fn ends_so<R: Threads>(
+    rt: &R,
+    alloc: Global,
+    mut shelf: MemoryShelf,
+    status: u8,
+    line: &[u8],
+    text: &[u8],
+) -> Result<bool, AllocError> {
     let mut out = MemorySink::new(alloc, List::new(alloc));
     let mut err = MemorySink::new(alloc, List::new(alloc));
     let words = words(alloc, MATCH)?;
-    let status = run(&rt, alloc, &words, &mut shelf, &mut out, &mut err);
-    let texts = many_texts(alloc, 512)?;
-    assert_eq!(rt; status, 3);
-    assert!(rt; out.bytes() == texts.as_slice());
-    assert_eq!(rt; err.bytes(), b"fmm: cannot read traces\n".as_slice());
+    let ended = run(rt, alloc, &words, &mut shelf, &mut out, &mut err);
+    Ok(ended == status && out.bytes() == text && err.bytes() == line)
+}
+
+// A network of more than 65,536 bytes comes with two calls, and its end with the third.
+#[test]
+fn a_long_network_is_read_in_chunks(rt: HostRuntime) -> Result<(), Fail> {
+    let alloc = rt.alloc();
+    let long = many_traces(alloc, 6_000)?;
+    let shelf = shelf(alloc, long.as_slice(), TWO_TRACES, &[3])?;
+    assert!(rt; ends_so(&rt, alloc, shelf, 3, b"fmm: cannot read network\n", b"")?);
+    Ok(())
+}
+
+// Of 6,000 traces, in two chunks, 23 batches are written before the fifth call, which is to tell
+// the end of the file.
+#[test]
+fn long_traces_are_read_in_chunks(rt: HostRuntime) -> Result<(), Fail> {
+    let alloc = rt.alloc();
+    let long = many_traces(alloc, 6_000)?;
+    let texts = many_texts(alloc, 5_888)?;
+    let shelf = shelf(alloc, STRAIGHT, long.as_slice(), &[5])?;
+    assert!(rt;
+        ends_so(
+            &rt,
+            alloc,
+            shelf,
+            3,
+            b"fmm: cannot read traces\n",
+            texts.as_slice()
+        )?
+    );
+    Ok(())
+}
+
+// The fault stands in the first chunk, so the second is not read.
+#[test]
+fn nothing_is_read_behind_a_fault(rt: HostRuntime) -> Result<(), Fail> {
+    let alloc = rt.alloc();
+    let mut long = bytes(alloc, FAULTY)?;
+    long.extend_from_slice(many_traces(alloc, 6_000)?.as_slice())?;
+    let shelf = shelf(alloc, STRAIGHT, long.as_slice(), &[4])?;
+    assert!(rt;
+        ends_so(
+            &rt,
+            alloc,
+            shelf,
+            6,
+            b"traces line 5 field 2: bad number\n",
+            TWO_TEXTS
+        )?
+    );
     Ok(())
 }

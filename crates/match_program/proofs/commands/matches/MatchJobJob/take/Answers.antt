@@ -1,0 +1,21 @@
+use Rattle.std.proofs.Common.{refl}
+use Rattle.match_program.proofs.Counting.{fits_more}
+use Rattle.match_program.proofs.Jobs.{bounded_back, matched_more, text_grows}
+use Rattle.match_program.proofs.commands.matches.MatchJobJob.take.Goals as goal
+
+pub write_matches-requires-clause-rows : goal.write_matches-requires-clause-rows
+write_matches-requires-clause-rows c = c.requires.1.rows_are
+
+pub write_matches-requires-clause-traces : goal.write_matches-requires-clause-traces
+write_matches-requires-clause-traces c = bounded_back c.requires.0 c.args.traces.now c.requires.2
+
+pub add-requires : goal.add-requires
+add-requires c =
+    fits_more c.args.self.now.matcher c.requires.0 c.args.traces.now c.args.self.now.tally c.in-Ok.pieces c.requires.2 c.requires.1.counts c.in-Ok.ensures.pieces
+
+pub returns-in-Ok-clause-takes : goal.returns-in-Ok-clause-takes
+returns-in-Ok-clause-takes c before has bounded = (
+  matched_more c.args.self.now.matcher before c.args.traces.now c.args.self.now.rows c.write_matches.new.rows c.args.self.now.tally c.add.new.self c.in-Ok.pieces has c.in-Ok.ensures.pieces c.in-Ok.ensures.asks c.add.ensures,
+  refl,
+  text_grows c.args.self.now.matcher before c.args.traces.now c.args.into.now c.write_matches.new.into c.in-Ok.ensures.text,
+)

@@ -1,0 +1,21 @@
+-- The plan that words ask for.
+use Rattle.std.specs.Prelude.{ℕ, List, Result}
+use Rattle.std.specs.Result.{result_map_both}
+use Rattle.command_line.specs.FaultLine.{fault_line}
+use Rattle.command_line.specs.Work.{PlainCommand, PlainWork}
+use Rattle.command_line.specs.Work.PlainWork.{match_files}
+use Rattle.command_line.specs.Words.{command_of}
+use Rattle.cost_model.specs.declared.params.Params.{Params}
+use Rattle.program_frame.specs.Plan.{Plan}
+use Rattle.match_program.specs.commands.Matches.{match_plan}
+
+-- the plan of a work with these options: a row for each command
+abbrev pub work_plan : PlainWork → Params → Plan
+work_plan (match_files network traces) options = match_plan network traces options
+
+abbrev pub command_plan : PlainCommand → Plan
+command_plan command = work_plan command.work command.options
+
+-- the plan that words ask for, or the line of their refusal
+abbrev pub asked_by : List (List ℕ) → Result Plan (List ℕ)
+asked_by words = result_map_both command_plan fault_line (command_of words)

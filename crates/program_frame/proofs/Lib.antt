@@ -1,0 +1,11 @@
+pub mod BatchEnds
+pub mod Bounds
+pub mod ChunkEnds
+pub mod FileEnds
+pub mod Giving
+pub mod NetworkLoad
+pub mod PointCounts
+pub mod Reading
+pub mod RunEnds
+pub mod Stages
+pub mod Streaming

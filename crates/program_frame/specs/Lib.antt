@@ -1,0 +1,14 @@
+pub mod Batches
+pub mod Jobs
+pub mod Lines
+pub mod Loads
+pub mod Outcome
+pub mod Performs
+pub mod Plan
+pub mod Promises
+pub mod Read
+pub mod Refusals
+pub mod Stops
+pub mod Stream
+pub mod Streams
+pub mod Total

@@ -1,0 +1,70 @@
+-- The lines by which words, a network and traces are refused.
+use Rattle.std.specs.Prelude.{◌≡◌, ◌≢◌, ◌⊎◌, ℕ, List, Result, Ok, Err, Some, option_map}
+use Rattle.std.specs.declared.option.Option.{Option}
+use Rattle.command_line.specs.Words.{command_or_line}
+use Rattle.command_line.specs.FaultLine.{fault_line as words_fault_line}
+use Rattle.command_line.specs.declared.fault.WordsFault.{WordsFault}
+use Rattle.command_line.specs.declared.fault.WordsFault.TheVariants as words_faults
+use Rattle.road_network.specs.FaultLine.{fault_line as network_fault_line}
+use Rattle.road_network.specs.Net.{Net}
+use Rattle.road_network.specs.NetworkFile.{network_of}
+use Rattle.road_network.specs.declared.fault.NetworkFault.{NetworkFault}
+use Rattle.road_network.specs.declared.fault.NetworkFault.TheVariants as network_faults
+use Rattle.trace_reader.specs.Fault.{fault_line as trace_fault_line}
+use Rattle.trace_reader.specs.Reading.{file_fault}
+use Rattle.trace_reader.specs.declared.fault.TraceFault.{TraceFault}
+use Rattle.program_frame.specs.declared.stop.Refusal.TheVariants as refusals
+use Rattle.program_frame.specs.declared.stop.Stop.{Stop}
+use Rattle.program_frame.specs.declared.stop.Stop.TheVariants.{Refused, NoMemory, Unread, Unwritten}
+
+-- the line of a fault in place of the fault
+abbrev pub said : Result Net NetworkFault → Result Net (List ℕ)
+said (Ok net) = Ok net
+said (Err fault) = Err (network_fault_line fault)
+
+-- the network of a file, or the line of its first fault
+abbrev pub network_said : List ℕ → Result Net (List ℕ)
+network_said bytes = said (network_of bytes)
+
+abbrev pub network_limit : ℕ
+network_limit = 134_217_728
+
+abbrev pub trace_limit : ℕ
+trace_limit = 1_099_511_627_776
+
+-- the line of the first fault of a trace file
+abbrev pub traces_line : List ℕ → Option (List ℕ)
+traces_line bytes = option_map trace_fault_line (file_fault bytes)
+
+-- the table of lines, a row for each status: what is said of words, of a network and of traces
+abbrev pub refusal_lines : ℕ → List ℕ → Type 0
+refusal_lines status line =
+    ((status ≡ 2) × ((words : List (List ℕ)) × (command_or_line words ≡ Err line)))
+    ⊎ ((status ≡ 5) × ((bytes : List ℕ) × (network_said bytes ≡ Err line)))
+    ⊎ ((status ≡ 6) × ((bytes : List ℕ) × (traces_line bytes ≡ Some line)))
+
+-- the ending where the words have this fault, or memory ran out
+abbrev pub RefusesWords : WordsFault → Stop → Type 0
+RefusesWords fault (Refused refusal line) =
+    (fault ≢ words_faults.Memory) × (refusal ≡ refusals.Words) × (line ≡ words_fault_line fault)
+RefusesWords fault NoMemory = Unit {0}
+RefusesWords fault (Unread file) = ⊥
+RefusesWords fault Unwritten = ⊥
+
+-- the ending where the network has this fault, or memory ran out
+abbrev pub RefusesNetwork : NetworkFault → Stop → Type 0
+RefusesNetwork fault (Refused refusal line) =
+    (fault ≢ network_faults.Memory)
+    × (refusal ≡ refusals.Network)
+    × (line ≡ network_fault_line fault)
+RefusesNetwork fault NoMemory = Unit {0}
+RefusesNetwork fault (Unread file) = ⊥
+RefusesNetwork fault Unwritten = ⊥
+
+-- the ending where the traces have this fault, or memory ran out
+abbrev pub RefusesTraces : TraceFault → Stop → Type 0
+RefusesTraces fault (Refused refusal line) =
+    (refusal ≡ refusals.Traces) × (line ≡ trace_fault_line fault)
+RefusesTraces fault NoMemory = Unit {0}
+RefusesTraces fault (Unread file) = ⊥
+RefusesTraces fault Unwritten = ⊥

@@ -1,0 +1,30 @@
+-- The total line of a run, and the counts in it.
+use Rattle.std.specs.Prelude.{◌≡◌, ℕ, ◌+◌, ◌<◌, ◌^◌, List, [], ◌∷◌, ◌++◌, codes, length}
+use Rattle.decimal_text.specs.Number.{decimal}
+use Rattle.trace_reader.specs.declared.trace.Trace.{Trace}
+use Rattle.program_frame.specs.Jobs.{points_of}
+use Rattle.program_frame.specs.declared.total.Tally.{Tally}
+
+-- a word and a number behind it
+abbrev pub worded : List ℕ → ℕ → List ℕ
+worded word n = word ++ decimal n
+
+abbrev pub total_line : (traces points pieces rows : ℕ) → List ℕ
+total_line traces points pieces rows =
+    worded (codes "total traces ") traces
+    ++ worded (codes " points ") points
+    ++ worded (codes " pieces ") pieces
+    ++ worded (codes " rows ") rows
+    ++ 10 ∷ []
+
+-- these counts and those of some traces fit 63 bits
+pub record Fits (traces : List Trace) (pieces : ℕ) (tally : Tally) : Type 0 where
+  pub few : tally.traces + length traces < 2 ^ 63
+  pub few_points : tally.points + points_of traces < 2 ^ 63
+  pub few_pieces : tally.pieces + pieces < 2 ^ 63
+
+-- the counts with those of some traces of so many pieces
+pub record Adds (traces : List Trace) (pieces : ℕ) (old new : Tally) : Type 0 where
+  pub more : new.traces ≡ old.traces + length traces
+  pub more_points : new.points ≡ old.points + points_of traces
+  pub more_pieces : new.pieces ≡ old.pieces + pieces

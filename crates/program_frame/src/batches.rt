@@ -1,0 +1,215 @@
+// Traces that are read from chunks of a file, and are handed to a job batch by batch. Serves
+// `work_traces`; decided by `bytes_give`.
+ghost use Rattle.std.specs.Prelude.{◌≡◌, ◌≢◌, ◌≤◌, ◌<◌, ◌++◌, ◌^◌, [], ℕ, List as ListOf, IfOk, length, drop};
+ghost use Rattle.edge_io.specs.State.{SinkState};
+ghost use Rattle.trace_reader.specs.Reader.{StandsFor};
+ghost use Rattle.trace_reader.specs.declared.trace.Trace.{Trace};
+ghost use Rattle.program_frame.specs.Batches.{PutsBefore};
+ghost use Rattle.program_frame.specs.Jobs.{HasTaken, JobText};
+ghost use Rattle.program_frame.specs.Performs.{PutsText};
+
+use crate::jobs::Job;
+use crate::load::refuse_traces;
+use crate::stop::Stop;
+use crate::texts::put_text;
+use edge_io::Sink;
+use polyline_geometry::List;
+use std::alloc::Global;
+use trace_reader::{Trace, TraceFault, TraceReader};
+
+// How many traces a job takes together.
+const BATCH: usize = 256;
+
+/// The traces of a file that is read in chunks: those that are closed and wait, behind those that
+/// the job has taken.
+#[derive(Drop)]
+pub struct Batches<J> {
+    reader: TraceReader,
+    waiting: List<Trace>,
+    job: J,
+}
+
+// Puts the text before a refusal of the job.
+fn put_before<K: Sink>(out: &mut K, text: &[u8], stop: Stop) -> Stop
+    ensures { PutsBefore (K.state out.old) (K.state out.new) text.now stop result }
+{
+    if let Stop::Refused(_, _) = &stop {
+        if let Err(unput) = put_text(out, text) {
+            return unput;
+        }
+    }
+    stop
+}
+
+// What is left of a chunk behind so many bytes.
+fn behind(chunk: &[u8], taken: usize) -> &[u8]
+    requires { taken ≤ length chunk.now }
+    ensures { result.now ≡ drop taken chunk.now }
+{
+    &chunk[taken..]
+}
+
+impl<J: Job + Drop> Batches<J> {
+    ghost use Rattle.program_frame.specs.Batches.{Holds, IsBetween, IsHeld, IsReady, RefusesAt, TakesChunk, TakesSome, WritesBatch, WritesFull};
+    ghost use Rattle.program_frame.specs.Jobs.{bytes_give};
+    ghost use Rattle.program_frame.specs.Streams.{EndsWith};
+
+    /// Nothing was read.
+    pub fn open(alloc: Global, job: J) -> Batches<J>
+        ensures stands { StandsFor result.reader [] }
+        ensures waiting { result.waiting ≡ [] }
+        ensures job { result.job ≡ job }
+    {
+        Batches {
+            reader: TraceReader::open(alloc),
+            waiting: List::new(alloc),
+            job,
+        }
+    }
+
+    // Hands all traces that wait to the job, and writes their text.
+    fn write<K: Sink>(&mut self, alloc: Global, out: &mut K) -> Result<(), Stop>
+        requires { IsHeld (J.text self.old.job) (J.has self.old.job) (K.state out.old)
+            self.old.waiting }
+        ensures text { J.text self.new.job ≡ J.text self.old.job }
+        ensures reader { self.new.reader ≡ self.old.reader }
+        ensures writes { (base : SinkState) (traces : ListOf Trace)
+            → Holds (J.text self.old.job) (J.has self.old.job) base (K.state out.old)
+            traces self.old.waiting
+            → WritesBatch (J.text self.old.job) (J.has self.new.job) base (K.state out.new)
+            traces self.new.waiting result }
+    {
+        if self.waiting.as_slice().is_empty() {
+            return Ok(());
+        }
+        let mut text = List::new(alloc);
+        match self.job.take(alloc, self.waiting.as_slice(), &mut text) {
+            Ok(()) => put_text(out, text.as_slice())?,
+            Err(stop) => return Err(put_before(out, text.as_slice(), stop)),
+        }
+        self.waiting.truncate(0);
+        Ok(())
+    }
+
+    // Writes the traces that wait, which were closed before a fault, and refuses the file for it.
+    fn refuse<K: Sink>(&mut self, alloc: Global, fault: TraceFault, out: &mut K) -> Stop
+        requires { IsHeld (J.text self.old.job) (J.has self.old.job) (K.state out.old)
+            self.old.waiting }
+        ensures text { J.text self.new.job ≡ J.text self.old.job }
+        ensures refuses { (base : SinkState) (traces : ListOf Trace)
+            → Holds (J.text self.old.job) (J.has self.old.job) base (K.state out.old)
+            traces self.old.waiting
+            → RefusesAt (J.text self.old.job) base (K.state out.old) (K.state out.new)
+            traces fault result }
+    {
+        if let TraceFault::Memory = fault {
+            return Stop::NoMemory;
+        }
+        match self.write(alloc, out) {
+            Ok(()) => refuse_traces(alloc, fault),
+            Err(stop) => stop,
+        }
+    }
+
+    // Writes the traces that wait where they make a batch.
+    fn write_full<K: Sink>(&mut self, alloc: Global, out: &mut K) -> Result<(), Stop>
+        requires { IsHeld (J.text self.old.job) (J.has self.old.job) (K.state out.old)
+            self.old.waiting }
+        ensures text { J.text self.new.job ≡ J.text self.old.job }
+        ensures reader { self.new.reader ≡ self.old.reader }
+        ensures writes { (base : SinkState) (traces : ListOf Trace)
+            → Holds (J.text self.old.job) (J.has self.old.job) base (K.state out.old)
+            traces self.old.waiting
+            → WritesFull (J.text self.old.job) (J.has self.new.job) base (K.state out.new)
+            traces self.new.waiting result }
+    {
+        if self.waiting.len() < BATCH {
+            return Ok(());
+        }
+        self.write(alloc, out)
+    }
+
+    // Takes bytes of a chunk until a batch of traces waits, writes it, and says how many bytes
+    // were taken.
+    fn take_some<K: Sink>(
+        &mut self,
+        alloc: Global,
+        chunk: &[u8],
+        out: &mut K,
+    ) -> Result<usize, Stop>
+        requires ready { IsReady (J.text self.old.job) (J.has self.old.job) (K.state out.old)
+            self.old.reader self.old.waiting }
+        requires sizes { (1 ≤ length chunk.now) × (length chunk.now < 2 ^ 32) }
+        ensures text { J.text self.new.job ≡ J.text self.old.job }
+        ensures some { IfOk result (λ taken. (1 ≤ taken) × (taken ≤ length chunk.now)) }
+        ensures takes { (base : SinkState) (fed : ListOf ℕ)
+            → IsBetween (J.text self.old.job) (J.has self.old.job) base (K.state out.old)
+            fed self.old.reader self.old.waiting
+            → TakesSome (J.text self.old.job) (J.has self.new.job) base (K.state out.new)
+            fed chunk.now self.new.reader self.new.waiting result }
+    {
+        let room = (BATCH - self.waiting.len()) as u32;
+        match self.reader.feed_some(chunk, room, &mut self.waiting) {
+            Ok(taken) => {
+                self.write_full(alloc, out)?;
+                Ok(taken as usize)
+            }
+            Err(fault) => Err(self.refuse(alloc, fault, out)),
+        }
+    }
+
+    /// Takes the next chunk of the file, and writes each batch of traces that it fills.
+    pub fn take_chunk<K: Sink>(
+        &mut self,
+        alloc: Global,
+        chunk: &[u8],
+        out: &mut K,
+    ) -> Result<(), Stop>
+        requires ready { IsReady (J.text self.old.job) (J.has self.old.job) (K.state out.old)
+            self.old.reader self.old.waiting }
+        requires short { length chunk.now < 2 ^ 32 }
+        ensures text { J.text self.new.job ≡ J.text self.old.job }
+        ensures takes { (base : SinkState) (fed : ListOf ℕ)
+            → IsBetween (J.text self.old.job) (J.has self.old.job) base (K.state out.old)
+            fed self.old.reader self.old.waiting
+            → TakesChunk (J.text self.old.job) (J.has self.new.job) base (K.state out.new)
+            (fed ++ chunk.now) self.new.reader self.new.waiting result }
+    {
+        let mut rest = chunk;
+        while !rest.is_empty() {
+            let taken = self.take_some(alloc, rest, out)?;
+            rest = behind(rest, taken);
+        }
+        Ok(())
+    }
+
+    // Writes what stands behind the text of all traces.
+    fn put_ending<K: Sink>(&mut self, alloc: Global, out: &mut K) -> Result<(), Stop>
+        requires { HasTaken (J.has self.old.job) }
+        ensures { (taken : ListOf Trace) → J.has self.old.job taken
+            → PutsText (K.state out.old) (K.state out.new)
+            ((J.text self.old.job).ending taken) result }
+    {
+        let mut text = List::new(alloc);
+        match self.job.finish(alloc, &mut text) {
+            Ok(()) => put_text(out, text.as_slice()),
+            Err(_) => Err(Stop::NoMemory),
+        }
+    }
+
+    /// Takes the end of the file, and writes the traces that wait and what stands behind all.
+    pub fn finish<K: Sink>(&mut self, alloc: Global, out: &mut K) -> Result<(), Stop>
+        requires { IsReady (J.text self.old.job) (J.has self.old.job) (K.state out.old)
+            self.old.reader self.old.waiting }
+        ensures { (base : SinkState) (fed : ListOf ℕ)
+            → IsBetween (J.text self.old.job) (J.has self.old.job) base (K.state out.old)
+            fed self.old.reader self.old.waiting
+            → EndsWith (bytes_give (J.text self.old.job) fed) base (K.state out.new) result }
+    {
+        if let Err(fault) = self.reader.finish(&mut self.waiting) {
+            return Err(self.refuse(alloc, fault, out));
+        }
+        self.write(alloc, out)?;
+        self.put_ending(alloc, out)
+    }
+}

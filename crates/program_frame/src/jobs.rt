@@ -1,0 +1,33 @@
+// What a job does with the traces of a file. Serves `work_traces`; decided by `traces_give`.
+ghost use Rattle.std.specs.Prelude.{◌≡◌, ◌++◌, List as ListOf, OnOk};
+ghost use Rattle.trace_reader.specs.declared.trace.Trace.{Trace};
+ghost use Rattle.program_frame.specs.Jobs.{CanTake, HasTaken, IsBounded, JobText, TakesTraces};
+
+use crate::stop::Stop;
+use polyline_geometry::List;
+use std::alloc::{AllocError, Global};
+use trace_reader::Trace;
+
+/// What is done with the traces of a file, which come batch by batch.
+pub trait Job {
+    /// The text that the job makes of traces.
+    ghost text: { Self → JobText };
+
+    /// The job has taken these traces.
+    ghost has: { Self → ListOf Trace → Type 0 };
+
+    /// Takes more traces, and appends their text. Where the job refuses one of them, it appends the
+    /// text up to it, and answers the refusal.
+    fn take(&mut self, alloc: Global, traces: &[Trace], into: &mut List<u8>) -> Result<(), Stop>
+        requires { CanTake (has self.old) traces.now }
+        ensures text { text self.new ≡ text self.old }
+        ensures takes { (before : ListOf Trace) → has self.old before → IsBounded (before ++ traces.now)
+            → TakesTraces (text self.old) (has self.new) before traces.now
+            into.old into.new result };
+
+    /// Appends what stands behind the text of all traces.
+    fn finish(&mut self, alloc: Global, into: &mut List<u8>) -> Result<(), AllocError>
+        requires { HasTaken (has self.old) }
+        ensures { (taken : ListOf Trace) → has self.old taken
+            → OnOk result (into.new ≡ into.old ++ (text self.old).ending taken) };
+}

@@ -1,0 +1,29 @@
+//! What every program of ours owes: plans of reads, how work ends, what is then said and the status,
+//! the network, the traces of a file by batches for a job, and what a run promises.
+//!
+//! - `stop` has why work ends early, what is then said on err, and the status.
+//! - `files` reads a file whole, `texts` puts a text, `load` reads the network and says what is
+//!   refused of words and files.
+//! - `jobs` has the trait of what is done with traces, `stream` reads their file in chunks, and
+//!   `batches` holds the traces that wait; `total` counts them.
+//!
+//! Read `specs/Plan.antt` first, then `specs/Performs.antt`, `specs/Jobs.antt` and
+//! `specs/Promises.antt`. The clause to read first is that of `work_traces`.
+#![tactic(auto)]
+
+mod batches;
+mod files;
+mod jobs;
+mod load;
+mod stop;
+mod stream;
+mod texts;
+mod total;
+
+pub use files::read_file;
+pub use jobs::Job;
+pub use load::{load_network, refuse_traces, refuse_words};
+pub use stop::{File, Refusal, Stop, end_without_memory, refuse, say, status_after};
+pub use stream::work_traces;
+pub use texts::put_text;
+pub use total::Tally;

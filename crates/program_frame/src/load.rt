@@ -1,0 +1,70 @@
+// The network, and what is refused of words and files. Serves the commands; decided by
+// `network_said` and `refusal_lines`.
+ghost use Rattle.std.specs.Prelude.{◌≢◌};
+ghost use Rattle.program_frame.specs.Loads.{Accepts, Loads};
+ghost use Rattle.program_frame.specs.Refusals.{RefusesNetwork, RefusesTraces, RefusesWords, network_limit, network_said};
+
+use crate::files::read_file;
+use crate::stop::{File, Refusal, Stop, refuse};
+use command_line::WordsFault;
+use edge_io::Shelf;
+use polyline_geometry::List;
+use road_network::{Network, NetworkFault, read_network};
+use std::alloc::Global;
+use trace_reader::TraceFault;
+
+const NETWORK_LIMIT: u64 = 134_217_728;
+
+/// The end of the work at a fault of the words.
+pub fn refuse_words(alloc: Global, fault: WordsFault) -> Stop
+    ensures { RefusesWords fault result }
+{
+    if let WordsFault::Memory = fault {
+        return Stop::NoMemory;
+    }
+    refuse(alloc, Refusal::Words, fault.line().as_bytes())
+}
+
+/// The end of the work at a fault of the traces.
+pub fn refuse_traces(alloc: Global, fault: TraceFault) -> Stop
+    requires { fault ≢ TraceFault.Memory }
+    ensures { RefusesTraces fault result }
+{
+    let mut line = List::new(alloc);
+    match fault.write_line(alloc, &mut line) {
+        Ok(()) => Stop::Refused(Refusal::Traces, line),
+        Err(_) => Stop::NoMemory,
+    }
+}
+
+fn refuse_network(alloc: Global, fault: NetworkFault) -> Stop
+    ensures { RefusesNetwork fault result }
+{
+    if let NetworkFault::Memory = fault {
+        return Stop::NoMemory;
+    }
+    let mut line = List::new(alloc);
+    match fault.write_line(alloc, &mut line) {
+        Ok(()) => Stop::Refused(Refusal::Network, line),
+        Err(_) => Stop::NoMemory,
+    }
+}
+
+// The network of these bytes, or their refusal.
+fn accept_network(alloc: Global, bytes: &[u8]) -> Result<Network, Stop>
+    ensures { Accepts Refusal.Network (network_said bytes.now) result }
+{
+    match read_network(alloc, bytes) {
+        Ok(network) => Ok(network),
+        Err(fault) => Err(refuse_network(alloc, fault)),
+    }
+}
+
+/// Reads the network, and accepts or refuses it.
+pub fn load_network<S: Shelf>(alloc: Global, shelf: &mut S, name: &str) -> Result<Network, Stop>
+    ensures { Loads Refusal.Network File.Network name.now network_limit network_said
+        (S.state shelf.old) (S.state shelf.new) result }
+{
+    let bytes = read_file(alloc, shelf, File::Network, name, NETWORK_LIMIT)?;
+    accept_network(alloc, &bytes)
+}

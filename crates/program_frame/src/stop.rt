@@ -1,0 +1,134 @@
+// How the work of a command ends, and what is then said on err. Serves `run`; decided by `Promises`.
+ghost use Rattle.std.specs.Prelude.{◌≡◌, IsOk};
+ghost use Rattle.edge_io.specs.Sink.{Puts};
+ghost use Rattle.program_frame.specs.Promises.{IsStarved};
+ghost use Rattle.program_frame.specs.Stops.{IsRefusalOr, line_of, refusal_status, status_after, stop_line, stop_status, stop_status_after};
+
+use edge_io::{Put, Sink};
+use polyline_geometry::List;
+use std::alloc::Global;
+
+/// A file that a command reads.
+#[derive(Clone, Copy)]
+pub enum File {
+    Network,
+    Table,
+    Traces,
+    Certificate,
+}
+
+/// What can be refused.
+#[derive(Clone, Copy)]
+pub enum Refusal {
+    Words,
+    Network,
+    Traces,
+    Certificate,
+    TooLong,
+    Table,
+}
+
+/// Why the work of a command ended early.
+#[derive(Drop)]
+pub enum Stop {
+    /// The words or a file were refused, with this line.
+    Refused(Refusal, List<u8>),
+    NoMemory,
+    /// A read of this file failed.
+    Unread(File),
+    /// A put on out failed.
+    Unwritten,
+}
+
+impl Refusal {
+    fn status(self) -> u8
+        ensures { result ≡ refusal_status self }
+    {
+        match self {
+            Refusal::Words => 2,
+            Refusal::Network => 5,
+            Refusal::Traces => 6,
+            Refusal::Certificate => 7,
+            Refusal::TooLong => 8,
+            Refusal::Table => 9,
+        }
+    }
+}
+
+impl Stop {
+    fn line(&self) -> &[u8]
+        ensures { result.now ≡ stop_line self.now }
+    {
+        match self {
+            Stop::Refused(_, line) => line.as_slice(),
+            Stop::NoMemory => b"fmm: out of memory\n",
+            Stop::Unread(File::Network) => b"fmm: cannot read network\n",
+            Stop::Unread(File::Table) => b"fmm: cannot read table\n",
+            Stop::Unread(File::Traces) => b"fmm: cannot read traces\n",
+            Stop::Unread(File::Certificate) => b"fmm: cannot read certificate\n",
+            Stop::Unwritten => b"fmm: write failed\n",
+        }
+    }
+
+    fn status(&self) -> u8
+        ensures { result ≡ stop_status self.now }
+    {
+        match self {
+            Stop::Refused(refusal, _) => refusal.status(),
+            Stop::NoMemory => 1,
+            Stop::Unread(_) => 3,
+            Stop::Unwritten => 4,
+        }
+    }
+}
+
+/// Puts the line of an early end on err.
+pub fn say<E: Sink>(ended: &Result<(), Stop>, err: &mut E) -> Put
+    ensures put { Puts (E.state err.old) (E.state err.new) (line_of ended.now) result }
+    ensures quiet { IsOk ended.now → result ≡ Put.All }
+{
+    match ended {
+        Ok(()) => Put::All,
+        Err(stop) => err.put(stop.line()),
+    }
+}
+
+/// The status of a run that ended so, after this put of its line.
+pub fn status_after(ended: &Result<(), Stop>, put: Put) -> u8
+    ensures { result ≡ status_after ended.now put }
+{
+    match ended {
+        Ok(()) => 0,
+        Err(stop) => stop_status_after(stop, put),
+    }
+}
+
+fn stop_status_after(stop: &Stop, put: Put) -> u8
+    ensures { result ≡ stop_status_after stop.now put }
+{
+    match (put, stop) {
+        (Put::All, _) => stop.status(),
+        (Put::Failed, _) | (Put::NoMemory, Stop::Unwritten) => 4,
+        (Put::NoMemory, _) => 1,
+    }
+}
+
+/// Says on err that no work was begun for want of memory, and gives the status.
+pub fn end_without_memory<E: Sink>(err: &mut E) -> u8
+    ensures { IsStarved (E.state err.old) (E.state err.new) result }
+{
+    let ended = Err(Stop::NoMemory);
+    let put = say(&ended, err);
+    status_after(&ended, put)
+}
+
+/// The end of the work at a refusal with this line.
+pub fn refuse(alloc: Global, refusal: Refusal, line: &[u8]) -> Stop
+    ensures { IsRefusalOr refusal line.now result }
+{
+    let mut copy = List::new(alloc);
+    match copy.extend_from_slice(line) {
+        Ok(()) => Stop::Refused(refusal, copy),
+        Err(_) => Stop::NoMemory,
+    }
+}

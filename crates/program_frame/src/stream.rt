@@ -1,0 +1,66 @@
+// The traces of a file, read chunk by chunk. Serves the commands; decided by `works_traces`.
+ghost use Rattle.std.specs.Prelude.{◌≡◌, ◌≤◌, ◌+◌, ◌-◌, [], Ok};
+ghost use Rattle.program_frame.specs.Batches.{IsBetween};
+ghost use Rattle.program_frame.specs.Performs.{Performs};
+ghost use Rattle.program_frame.specs.Stream.{TakesFile, works_traces};
+
+use crate::batches::Batches;
+use crate::jobs::Job;
+use crate::stop::{File, Stop};
+use edge_io::{Shelf, Sink, Taken};
+use std::alloc::Global;
+
+const TRACE_LIMIT: u64 = 1_099_511_627_776;
+
+const CHUNK: u64 = 65_536;
+
+// Reads a file to its end, to the first byte above the limit or to its first fault.
+fn take_file<J: Job + Drop, S: Shelf, K: Sink>(
+    alloc: Global,
+    shelf: &mut S,
+    name: &str,
+    batches: &mut Batches<J>,
+    out: &mut K,
+) -> Result<(), Stop>
+    requires { IsBetween (J.text batches.old.job) (J.has batches.old.job)
+        (K.state out.old) (K.state out.old) [] batches.old.reader batches.old.waiting }
+    ensures text { J.text batches.new.job ≡ J.text batches.old.job }
+    ensures takes { TakesFile (J.text batches.old.job) (J.has batches.new.job) name.now
+        (S.state shelf.old) (S.state shelf.new) (K.state out.old) (K.state out.new)
+        batches.new.reader batches.new.waiting result }
+{
+    let mut chunk = Vec::new(alloc);
+    let mut at: u64 = 0;
+    while at <= TRACE_LIMIT {
+        chunk.truncate(0);
+        let most = (TRACE_LIMIT + 1 - at).min(CHUNK) as u32;
+        match shelf.read(name, at, &mut chunk, most) {
+            Taken::Got(count) => {
+                batches.take_chunk(alloc, &chunk, out)?;
+                at += u64::from(count);
+            }
+            Taken::End => return Ok(()),
+            Taken::Failed => return Err(Stop::Unread(File::Traces)),
+            Taken::NoMemory => return Err(Stop::NoMemory),
+        }
+    }
+    Ok(())
+}
+
+/// Hands the traces of a file to a job, and writes their text. No more of the file is held than a
+/// chunk and a batch of traces, and none is read behind the chunk of its first fault.
+pub fn work_traces<J: Job + Drop, S: Shelf, K: Sink>(
+    alloc: Global,
+    job: J,
+    shelf: &mut S,
+    name: &str,
+    out: &mut K,
+) -> Result<(), Stop>
+    requires { J.has job [] }
+    ensures { Performs (Ok (works_traces name.now (J.text job)))
+        (S.state shelf.old) (S.state shelf.new) (K.state out.old) (K.state out.new) result }
+{
+    let mut batches = Batches::open(alloc, job);
+    take_file(alloc, shelf, name, &mut batches, out)?;
+    batches.finish(alloc, out)
+}

@@ -1,0 +1,64 @@
+// The counts of the total line. Serves the jobs; decided by `total_line`.
+ghost use Rattle.std.specs.Prelude.{◌≡◌, ◌+◌, ◌++◌, ◌<◌, ◌^◌, length, OnOk};
+ghost use Rattle.program_frame.specs.Jobs.{points_of};
+
+use decimal_text::write_unsigned;
+use polyline_geometry::List;
+use std::alloc::AllocError;
+use trace_reader::Trace;
+
+/// How many traces were taken, how many points they have, and how many pieces.
+#[derive(Clone, Copy)]
+pub struct Tally {
+    pub traces: u64,
+    pub points: u64,
+    pub pieces: u64,
+}
+
+// How many points the traces have.
+fn count_points(traces: &[Trace]) -> u64
+    requires { points_of traces.now < 2 ^ 63 }
+    ensures { result ≡ points_of traces.now }
+{
+    traces.iter().map(|trace| trace.fixes.len() as u64).sum()
+}
+
+impl Tally {
+    ghost use Rattle.program_frame.specs.Total.{Adds, Fits, total_line, worded};
+
+    pub const NONE: Tally = Tally {
+        traces: 0,
+        points: 0,
+        pieces: 0,
+    };
+
+    /// Counts some traces of so many pieces.
+    pub fn add(&mut self, traces: &[Trace], pieces: u64)
+        requires { Fits traces.now pieces self.old }
+        ensures { Adds traces.now pieces self.old self.new }
+    {
+        self.traces += traces.len() as u64;
+        self.points += count_points(traces);
+        self.pieces += pieces;
+    }
+
+    // Appends a word and a number.
+    fn append_worded(into: &mut List<u8>, word: &[u8], n: u64) -> Result<(), AllocError>
+        ensures { OnOk result (into.new ≡ into.old ++ worded word.now n) }
+    {
+        into.extend_from_slice(word)?;
+        write_unsigned(n, into)
+    }
+
+    /// Appends the total line of a run that asked for rows of so many nodes.
+    pub fn append_line(self, rows: u64, into: &mut List<u8>) -> Result<(), AllocError>
+        ensures { OnOk result
+            (into.new ≡ into.old ++ total_line self.traces self.points self.pieces rows) }
+    {
+        Tally::append_worded(into, b"total traces ", self.traces)?;
+        Tally::append_worded(into, b" points ", self.points)?;
+        Tally::append_worded(into, b" pieces ", self.pieces)?;
+        Tally::append_worded(into, b" rows ", rows)?;
+        into.extend_from_slice(b"\n")
+    }
+}
