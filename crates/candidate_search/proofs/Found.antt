@@ -7,7 +7,11 @@ use Rattle.std.proofs.lemmas.Bool.Decides.{nat_tests}
 use Rattle.std.proofs.lemmas.List.{get_or_default, take-append-le, take_all}
 use Rattle.std.proofs.lemmas.List.Elements.{All-append, All-cons, All-drop, All-take}
 use Rattle.std.proofs.lemmas.List.Sorted.{IsNonDecreasingBy-insert, IsNonDecreasingBy-take}
+use Rattle.polyline_geometry.specs.declared.plane.Point.{Point}
 use Rattle.polyline_geometry.specs.declared.plane.Snap.{Snap}
+use Rattle.polyline_geometry.specs.Plane.{IsLine, snap_line}
+use Rattle.polyline_geometry.specs.Nearest.{AreFar}
+use Rattle.polyline_geometry.proofs.Nearest.{snap_nearest}
 use Rattle.road_network.specs.declared.Candidate.{Candidate}
 use Rattle.road_network.specs.Near.{is_before, placed}
 use Rattle.candidate_search.specs.Nearest.{IsFound, IsPlace, with_one}
@@ -84,24 +88,12 @@ near_one k radius found c h =
     let b : leb c.d2 (radius * radius) ≡ true = grind (arith, nat_tests) in
     sym (ap (λ v. cond v (take k (placed c found)) found) b)
 
--- what a snap with a limit says
-pub none_far : (s : Snap) (limit : ℕ) (r : Option Snap) → r ≡ (if nat_lt s.d2 limit then Some s else None) → r ≡ None → limit ≤ s.d2
-none_far s limit r is none =
-    let both : (b : Bool) → ltb s.d2 limit ≡ b → limit ≤ s.d2 = λ b.
-    elim b as (λ v. ltb s.d2 limit ≡ v → limit ≤ s.d2) [
-      | true ↦ λ e. absurd (let k : r ≡ Some s = is ∙ ap (λ v. cond v (Some s) None) e in cc)
-      | false ↦ λ e. grind (arith, nat_tests)
-    ]
-    in both (ltb s.d2 limit) refl
-
-pub some_near : (s t : Snap) (limit : ℕ) (r : Option Snap) → r ≡ (if nat_lt s.d2 limit then Some s else None) → r ≡ Some t → (t ≡ s) × (s.d2 < limit)
-some_near s t limit r is some =
-    let both : (b : Bool) → ltb s.d2 limit ≡ b → (t ≡ s) × (s.d2 < limit) = λ b.
-    elim b as (λ v. ltb s.d2 limit ≡ v → (t ≡ s) × (s.d2 < limit)) [
-      | true ↦ λ e. let k : r ≡ Some s = is ∙ ap (λ v. cond v (Some s) None) e in (cc, grind (arith, nat_tests))
-      | false ↦ λ e. absurd (let k : r ≡ None = is ∙ ap (λ v. cond v (Some s) None) e in cc)
-    ]
-    in both (ltb s.d2 limit) refl
+-- where all segments are far, so is the line
+pub line_far : (line : List Point) (p : Point) (limit : ℕ) → IsLine line → AreFar line p limit 0 (length line - 1) → limit ≤ (snap_line line p).d2
+line_far line p limit lawful far =
+    let near = snap_nearest line p lawful in
+    let h = far near.0.segment (omega arith) near.1.before_end in
+    omega (arith, h, ap (λ (s : Snap). s.d2) near.2)
 
 passes : (a b : ℕ) → leb a b ≡ true → a ≤ b
 passes a b h = grind (arith, nat_tests)

@@ -7,7 +7,7 @@ ghost use Rattle.road_network.specs.Net.{HasEdge};
 ghost use Rattle.road_network.specs.Near.{candidate_at, placed};
 ghost use Rattle.candidate_search.specs.Nearest.{IsFound, IsPlace, with_one};
 
-use polyline_geometry::{Point, snap_line_below};
+use polyline_geometry::{Point, nearest_segment, snap_on};
 use road_network::{Candidate, EdgeId, Network};
 use std::alloc::AllocError;
 
@@ -74,10 +74,13 @@ pub(crate) fn consider(
     ensures found { OnOk result (IsFound search.k (edge.0 + 1) found.new.items) }
 {
     net.known();
+    let line = net.line(edge);
     let limit = limit_of(found.as_slice(), search);
-    match snap_line_below(net.line(edge), search.at, limit) {
+    match nearest_segment(line, 0, line.len() - 1, search.at, limit) {
         None => Ok(()),
-        Some(snap) => {
+        Some(near) => {
+            let before = net.offsets(edge)[near.segment];
+            let snap = snap_on(line, before, search.at, near.segment);
             let candidate = Candidate {
                 edge,
                 d2: snap.d2,

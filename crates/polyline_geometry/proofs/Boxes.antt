@@ -6,7 +6,7 @@ use Rattle.std.specs.Int.{int_div_euclid}
 use Rattle.std.specs.Int.RustNames.{unsigned_abs}
 use Rattle.polyline_geometry.specs.declared.plane.Point.{Point}
 use Rattle.polyline_geometry.specs.Plane.{InRange, along, brought_into, distance2, dot, share, snap_segment, snapped}
-use Rattle.polyline_geometry.specs.Parts.{IsPartOf}
+use Rattle.polyline_geometry.specs.Parts.{IsPartOf, IsShare}
 use Rattle.polyline_geometry.specs.Boxes.{BoxMeetsSquare, InBox, IsBetween}
 use Rattle.polyline_geometry.proofs.Distances.{differ_apart, distance2-le}
 use Rattle.polyline_geometry.proofs.Parts.{part_between}
@@ -17,6 +17,14 @@ brought_into-le n (negsuc k) = omega arith
 
 pub share-le : (a b p : Point) → share a b p ≤ distance2 b a
 share-le a b p = brought_into-le (distance2 b a) (dot a b p)
+
+-- the share of a point is one of the squared length
+pub is_share : (a b p : Point) → InRange a → InRange b → (a ≡ b → ⊥) → IsShare (share a b p) (distance2 b a)
+is_share a b p h k differ = record {
+  within = share-le a b p;
+  some = differ_apart a b differ;
+  in_range = distance2-le b a k h;
+}
 
 up : (a b : ℤ) (q : ℕ) → pos q ≤ℤ (b -ℤ a) → (a ≤ℤ (a +ℤ pos q)) × ((a +ℤ pos q) ≤ℤ b)
 up (pos a) (pos b) q h = (omega (arith, ints, h), omega (arith, ints, h))

@@ -31,6 +31,14 @@ straight-le a b h k =
     let r = root-below (distance2 a b) 2_828_427_125 (omega (arith, d)) in
     omega (arith, r)
 
+-- a place whose coordinates are no farther is no farther
+pub closer : (p q r : Point) → unsigned_abs (p.x -ℤ q.x) ≤ unsigned_abs (p.x -ℤ r.x) → unsigned_abs (p.y -ℤ q.y) ≤ unsigned_abs (p.y -ℤ r.y)
+    → distance2 p q ≤ distance2 p r
+closer p q r h k =
+    let xx : unsigned_abs (p.x -ℤ q.x) * unsigned_abs (p.x -ℤ q.x) ≤ unsigned_abs (p.x -ℤ r.x) * unsigned_abs (p.x -ℤ r.x) = mul-le-mul h h in
+    let yy : unsigned_abs (p.y -ℤ q.y) * unsigned_abs (p.y -ℤ q.y) ≤ unsigned_abs (p.y -ℤ r.y) * unsigned_abs (p.y -ℤ r.y) = mul-le-mul k k in
+    omega (arith, xx, yy)
+
 apart : (a b : ℤ) → unsigned_abs (a -ℤ b) ≡ 0 → a ≡ b
 apart (pos a) (pos b) h = omega (arith, ints)
 apart (pos a) (negsuc b) h = omega (arith, ints)

@@ -5,5 +5,6 @@ pub mod Parts
 pub mod Rows
 pub mod Ends
 pub mod Lengths
+pub mod OffsetLists
 pub mod Boxes
 pub mod Nearest

@@ -1,5 +1,5 @@
 -- The snap to a line is the one to its nearest segment.
-use Rattle.std.proofs.Common.{◌≡◌, ℕ, zero, suc, ◌+◌, ◌-◌, ◌*◌, ◌<◌, ◌≤◌, Bool, true, false, cond, leb, nat_lt, if◌then◌else◌, List, [], ◌∷◌, length, take, Option, None, Some, refl, sym, ap, ◌∙◌, subst, arith, ⊎_elim, pos}
+use Rattle.std.proofs.Common.{◌≡◌, ℕ, zero, suc, ◌+◌, ◌-◌, ◌*◌, ◌<◌, ◌≤◌, Bool, true, false, cond, leb, List, [], ◌∷◌, length, take, Option, None, Some, refl, sym, ap, ◌∙◌, subst, arith, ⊎_elim, pos}
 use Rattle.std.specs.Option.{IsSome}
 use Rattle.std.proofs.lemmas.Bool.{cases_lt}
 use Rattle.std.proofs.lemmas.Bool.Decides.{nat_tests}
@@ -7,7 +7,9 @@ use Rattle.polyline_geometry.specs.declared.plane.Point.{Point}
 use Rattle.polyline_geometry.specs.declared.plane.Snap.{Snap}
 use Rattle.polyline_geometry.specs.Plane.{InRange, IsLine, after, distance2, length_from, line_length, nearer, point_at, share, snap_from, snap_line, snap_segment, straight}
 use Rattle.polyline_geometry.specs.Boxes.{BoxMeetsSquare, LineMeetsSquare}
-use Rattle.polyline_geometry.specs.Nearest.{IsNearest, least_below, segment_snap}
+use Rattle.polyline_geometry.specs.Nearest.{AreFar, IsNearest, SnapIsTheNearest, segment_snap}
+use Rattle.polyline_geometry.specs.declared.line.NearSegment.{NearSegment}
+use Rattle.std.specs.Prelude.{MatchOption}
 use Rattle.polyline_geometry.proofs.Lengths.{line_length_front, line_length_take}
 use Rattle.polyline_geometry.proofs.Parts.{div_le}
 use Rattle.polyline_geometry.proofs.Boxes.{share-le, snap_meets, snap_small}
@@ -71,55 +73,90 @@ snap_line-offset [] p = omega arith
 snap_line-offset (a ∷ []) p = omega arith
 snap_line-offset (a ∷ b ∷ rest) p = snap_from-offset a b rest p
 
--- what holds below i - 1 and of i - 1 holds below i
-below_next : (P : ℕ → Type 0) (i : ℕ) → 1 ≤ i → ((k : ℕ) → k < i - 1 → P k) → P (i - 1) → (k : ℕ) → k < i + 1 - 1 → P k
-below_next P i some before here k lt =
-    ⊎_elim (λ h. before k h) (λ h. let e : i - 1 ≡ k = omega (arith, lt, h) in subst P e here) (cases_lt k (i - 1))
+-- what a search of these segments answers
+abbrev pub AreTold : List Point → Point → ℕ → ℕ → ℕ → Option NearSegment → Type 0
+AreTold line p limit first i None = AreFar line p limit first i
+AreTold line p limit first i (Some s) = IsNearest line p first i s × (s.d2 < limit)
+
+abbrev pub least_below : ℕ → Option NearSegment → ℕ
+least_below limit None = limit
+least_below limit (Some s) = s.d2
+
+-- what is known after the segments before number i: which is nearest, and how near it is
+pub record IsNearestSoFar (line : List Point) (p : Point) (limit first i : ℕ) (nearest : Option NearSegment) (below : ℕ) : Type 0 where
+  pub told : AreTold line p limit first i nearest
+  pub below_is : below ≡ least_below limit nearest
+
+-- one more segment is no nearer than a distance
+far_next : (line : List Point) (p : Point) (d2 first i : ℕ) → AreFar line p d2 first i → d2 ≤ (segment_snap line p i).d2 → AreFar line p d2 first (i + 1)
+far_next line p d2 first i far here = λ k le lt.
+    ⊎_elim (λ h. far k le h) (λ h. let e : i ≡ k = omega (arith, lt, h) in subst (λ v. d2 ≤ (segment_snap line p v).d2) e here) (cases_lt k i)
+
+segment_after : (line : List Point) (p : Point) (i : ℕ) → snap_segment (point_at line i) (point_at line (i + 1)) p ≡ segment_snap line p i
+segment_after line p i = let e : i + 1 ≡ suc i = omega arith in ap (λ k. snap_segment (point_at line i) (point_at line k) p) e
 
 -- one more segment that is no nearer
-pub nearest_same : (line : List Point) (p : Point) (limit i : ℕ) (nearest : Option ℕ) → 1 ≤ i → IsNearest line p limit (i - 1) nearest
-    → least_below line p limit nearest ≤ (segment_snap line p (i - 1)).d2 → IsNearest line p limit (i + 1 - 1) nearest
-nearest_same line p limit i None some is far = below_next (λ k. limit ≤ (segment_snap line p k).d2) i some is far
-nearest_same line p limit i (Some n) some is far =
-    (omega arith, is.1, is.2, below_next (λ k. (segment_snap line p n).d2 ≤ (segment_snap line p k).d2) i some is.3 far)
+told_same : (line : List Point) (p : Point) (limit first i : ℕ) (nearest : Option NearSegment) → AreTold line p limit first i nearest
+    → least_below limit nearest ≤ (segment_snap line p i).d2 → AreTold line p limit first (i + 1) nearest
+told_same line p limit first i None told far = far_next line p limit first i told far
+told_same line p limit first i (Some s) told far = (
+  record {
+    d2_is = told.0.d2_is;
+    from_first = told.0.from_first;
+    before_end = omega (arith, told.0.before_end);
+    earlier = told.0.earlier;
+    least = far_next line p s.d2 first i told.0.least far;
+  },
+  told.1,
+)
 
--- one more segment that is nearer
-pub nearest_next : (line : List Point) (p : Point) (limit i : ℕ) (nearest : Option ℕ) → 1 ≤ i → IsNearest line p limit (i - 1) nearest
-    → (segment_snap line p (i - 1)).d2 < least_below line p limit nearest → IsNearest line p limit (i + 1 - 1) (Some (i - 1))
-nearest_next line p limit i None some is near =
-    (omega arith, near, λ k lt. omega (arith, near, is k lt), below_next (λ k. (segment_snap line p (i - 1)).d2 ≤ (segment_snap line p k).d2) i some (λ k lt. omega (arith, near, is k lt)) (omega arith))
-nearest_next line p limit i (Some n) some is near =
-    (omega arith, omega (arith, near, is.1), λ k lt. omega (arith, near, is.3 k lt), below_next (λ k. (segment_snap line p (i - 1)).d2 ≤ (segment_snap line p k).d2) i some (λ k lt. omega (arith, near, is.3 k lt)) (omega arith))
-
--- the segment that ends at a point of the line
-segment_before : (line : List Point) (p : Point) (i : ℕ) → 1 ≤ i → snap_segment (point_at line (i - 1)) (point_at line i) p ≡ segment_snap line p (i - 1)
-segment_before line p i some = let e : i ≡ suc (i - 1) = omega arith in ap (λ k. snap_segment (point_at line (i - 1)) (point_at line k) p) e
-
--- what is known after the segments before place i: which is nearest, and how near it is
-pub record IsNearestSoFar (line : List Point) (p : Point) (limit i : ℕ) (nearest : Option ℕ) (below : ℕ) : Type 0 where
-  pub nearest_is : IsNearest line p limit (i - 1) nearest
-  pub below_is : below ≡ least_below line p limit nearest
-
-pub passed : (line : List Point) (p : Point) (limit i below below' : ℕ) (nearest nearest' : Option ℕ)
-    → 1 ≤ i → IsNearestSoFar line p limit i nearest below
-    → below ≤ (snap_segment (point_at line (i - 1)) (point_at line i) p).d2
-    → nearest' ≡ nearest → below' ≡ below → IsNearestSoFar line p limit (i + 1) nearest' below'
-passed line p limit i below below' nearest nearest' some is far n b =
-    subst (λ m. IsNearestSoFar line p limit (i + 1) m below') (sym n) (record {
-      nearest_is = nearest_same line p limit i nearest some is.nearest_is (omega (arith, far, is.below_is, ap (λ s. s.d2) (segment_before line p i some)));
+pub passed : (line : List Point) (p : Point) (limit first i below below' : ℕ) (nearest nearest' : Option NearSegment)
+    → IsNearestSoFar line p limit first i nearest below
+    → below ≤ (snap_segment (point_at line i) (point_at line (i + 1)) p).d2
+    → nearest' ≡ nearest → below' ≡ below → IsNearestSoFar line p limit first (i + 1) nearest' below'
+passed line p limit first i below below' nearest nearest' is far n b =
+    subst (λ m. IsNearestSoFar line p limit first (i + 1) m below') (sym n) (record {
+      told = told_same line p limit first i nearest is.told (omega (arith, far, is.below_is, ap (λ (s : Snap). s.d2) (segment_after line p i)));
       below_is = b ∙ is.below_is;
     })
 
-pub taken : (line : List Point) (p : Point) (limit i below below' d2 : ℕ) (nearest nearest' : Option ℕ)
-    → 1 ≤ i → IsNearestSoFar line p limit i nearest below
-    → d2 ≡ (snap_segment (point_at line (i - 1)) (point_at line i) p).d2 → d2 < below
-    → nearest' ≡ Some (i - 1) → below' ≡ d2 → IsNearestSoFar line p limit (i + 1) nearest' below'
-taken line p limit i below below' d2 nearest nearest' some is d2_is near n b =
-    let at : d2 ≡ (segment_snap line p (i - 1)).d2 = d2_is ∙ ap (λ s. s.d2) (segment_before line p i some) in
-    subst (λ m. IsNearestSoFar line p limit (i + 1) m below') (sym n) (record {
-      nearest_is = nearest_next line p limit i nearest some is.nearest_is (omega (arith, near, is.below_is, at));
-      below_is = b ∙ at;
+-- before a nearer segment all are farther than it
+all_farther : (line : List Point) (p : Point) (limit first i d2 : ℕ) (nearest : Option NearSegment) → AreTold line p limit first i nearest
+    → d2 < least_below limit nearest → (k : ℕ) → first ≤ k → k < i → d2 < (segment_snap line p k).d2
+all_farther line p limit first i d2 None told near k le lt = let h = told k le lt in omega (arith, near, h)
+all_farther line p limit first i d2 (Some s) told near k le lt = let h = told.0.least k le lt in omega (arith, near, h)
+
+least_within : (line : List Point) (p : Point) (limit first i : ℕ) (nearest : Option NearSegment) → AreTold line p limit first i nearest → least_below limit nearest ≤ limit
+least_within line p limit first i None told = omega arith
+least_within line p limit first i (Some s) told = omega (arith, told.1)
+
+pub taken : (line : List Point) (p : Point) (limit first i below below' d2 : ℕ) (nearest nearest' : Option NearSegment)
+    → first ≤ i → IsNearestSoFar line p limit first i nearest below
+    → d2 ≡ (snap_segment (point_at line i) (point_at line (i + 1)) p).d2 → d2 < below
+    → nearest' ≡ Some (record { segment = i; d2 = d2 }) → below' ≡ d2 → IsNearestSoFar line p limit first (i + 1) nearest' below'
+taken line p limit first i below below' d2 nearest nearest' from_first is d2_near near n b =
+    let at : d2 ≡ (segment_snap line p i).d2 = d2_near ∙ ap (λ (s : Snap). s.d2) (segment_after line p i) in
+    let nearer : d2 < least_below limit nearest = omega (arith, near, is.below_is) in
+    let farther = all_farther line p limit first i d2 nearest is.told nearer in
+    let small = least_within line p limit first i nearest is.told in
+    subst (λ m. IsNearestSoFar line p limit first (i + 1) m below') (sym n) (record {
+      told = (
+        record {
+          d2_is = at;
+          from_first = from_first;
+          before_end = omega arith;
+          earlier = farther;
+          least = far_next line p d2 first i (λ k le lt. let h = farther k le lt in omega (arith, h)) (omega (arith, at));
+        },
+        omega (arith, nearer, small),
+      );
+      below_is = b;
     })
+
+pub matched : (line : List Point) (p : Point) (limit first end : ℕ) (r : Option NearSegment) → AreTold line p limit first end r
+    → MatchOption r (AreFar line p limit first end) (λ s. IsNearest line p first end s × (s.d2 < limit))
+matched line p limit first end None told = told
+matched line p limit first end (Some s) told = told
 
 -- the snap to one segment, with the earlier ones before it, lies on the line
 pub segment_within : (line : List Point) (p : Point) (n : ℕ) → n + 1 < length line → line_length (take (n + 1) line) + (segment_snap line p n).offset ≤ line_length line
@@ -136,49 +173,76 @@ segment_within line p n lt =
     let front = line_length_front line (n + 1 + 1) in
     omega (arith, within, next, front)
 
--- what is known of a whole line: None says that it is no nearer than the limit
-pub whole_far : (line : List Point) (p : Point) (limit : ℕ) → IsLine line → IsNearest line p limit (length line - 1) None → limit ≤ (snap_line line p).d2
-whole_far [] p limit lawful h = absurd (omega (arith, lawful.two))
-whole_far (a ∷ []) p limit lawful h = absurd (omega (arith, lawful.two))
-whole_far (a ∷ b ∷ rest) p limit lawful h = snap_from-each (λ d2. limit ≤ d2) a b rest p (λ i lt. h i (omega (arith, lt)))
+-- the snap to a line is the one to its first nearest segment
+pub whole_near : (line : List Point) (p : Point) (s : NearSegment) → IsLine line → IsNearest line p 0 (length line - 1) s
+    → snap_line line p ≡ after (line_length (take (suc s.segment) line)) (segment_snap line p s.segment)
+whole_near [] p s lawful h = absurd (omega (arith, lawful.two))
+whole_near (a ∷ []) p s lawful h = absurd (omega (arith, lawful.two))
+whole_near (a ∷ b ∷ rest) p s lawful h =
+    snap_from-is a b rest p s.segment (omega (arith, h.before_end))
+    (λ i lt. let f = h.earlier i (omega arith) lt in omega (arith, f, h.d2_is))
+    (λ i lt. let f = h.least i (omega arith) (omega (arith, lt)) in omega (arith, f, h.d2_is))
 
-pub whole_near : (line : List Point) (p : Point) (limit n : ℕ) → IsLine line → IsNearest line p limit (length line - 1) (Some n)
-    → snap_line line p ≡ after (line_length (take (suc n) line)) (segment_snap line p n)
-whole_near [] p limit n lawful h = absurd (omega (arith, lawful.two))
-whole_near (a ∷ []) p limit n lawful h = absurd (omega (arith, lawful.two))
-whole_near (a ∷ b ∷ rest) p limit n lawful h = snap_from-is a b rest p n (omega (arith, h.0)) h.2 (λ i lt. h.3 i (omega (arith, lt)))
+-- some segment is the first of the nearest
+nearest_of : (line : List Point) (p : Point) (n : ℕ) → (s : NearSegment) × IsNearest line p 0 (suc n) s
+nearest_of line p zero =
+    let s : NearSegment = record { segment = 0; d2 = (segment_snap line p 0).d2 } in (
+      s,
+      record {
+        d2_is = refl;
+        from_first = omega arith;
+        before_end = omega arith;
+        earlier = λ i le lt. absurd (omega (arith, lt));
+        least = λ i le lt. let e : 0 ≡ i = omega (arith, lt) in subst (λ v. s.d2 ≤ (segment_snap line p v).d2) e (omega arith);
+      },
+    )
+nearest_of line p (suc n) =
+    let before = nearest_of line p n in
+    let s : NearSegment = before.0 in
+    let d2 : ℕ = (segment_snap line p (suc n)).d2 in
+    let e : suc n + 1 ≡ suc (suc n) = omega arith in
+    ⊎_elim
+    (λ nearer.
+    let t : NearSegment = record { segment = suc n; d2 = d2 } in
+    let farther = λ (i : ℕ) (le : 0 ≤ i) (lt : i < suc n). let f = before.1.least i le lt in let g : d2 < (segment_snap line p i).d2 = omega (arith, f, nearer) in g in (
+      t,
+      record {
+        d2_is = refl;
+        from_first = omega arith;
+        before_end = omega arith;
+        earlier = farther;
+        least = subst (λ v. AreFar line p d2 0 v) e (far_next line p d2 0 (suc n) (λ i le lt. let f = farther i le lt in omega (arith, f)) (omega arith));
+      },
+    ))
+    (λ same. (
+      s,
+      record {
+        d2_is = before.1.d2_is;
+        from_first = omega arith;
+        before_end = omega (arith, before.1.before_end);
+        earlier = before.1.earlier;
+        least = subst (λ v. AreFar line p s.d2 0 v) e (far_next line p s.d2 0 (suc n) before.1.least same);
+      },
+    ))
+    (cases_lt d2 s.d2)
 
-pub line_small : (line : List Point) (p : Point) → IsLine line → InRange p → (snap_line line p).d2 ≤ 8_000_000_000_000_000_000
-line_small [] p lawful h = absurd (omega (arith, lawful.two))
-line_small (a ∷ []) p lawful h = absurd (omega (arith, lawful.two))
-line_small (a ∷ b ∷ rest) p lawful h =
-    let line = a ∷ b ∷ rest in
-    snap_from-each (λ d2. d2 ≤ 8_000_000_000_000_000_000) a b rest p (λ i lt.
-    let e : i + 1 ≡ suc i = omega arith in
-    let differ = subst (λ k. point_at line i ≡ point_at line k → ⊥) e (lawful.differ i origin (omega (arith, lt))) in
-    snap_small (point_at line i) (point_at line (suc i)) p (lawful.in_range i origin (omega (arith, lt))) (lawful.in_range (suc i) origin (omega (arith, lt))) h differ)
+pub snap_nearest : SnapIsTheNearest
+snap_nearest line p lawful =
+    let e : suc (length line - 2) ≡ length line - 1 = omega (arith, lawful.two) in
+    let near = nearest_of line p (length line - 2) in
+    let is : IsNearest line p 0 (length line - 1) near.0 = subst (λ v. IsNearest line p 0 v near.0) e near.1 in
+    (near.0, is, whole_near line p near.0 lawful is)
 
--- the answer of a snap with a limit, by cases on the nearest segment
-pub none_below : (line : List Point) (p : Point) (limit : ℕ) → limit ≤ (snap_line line p).d2
-    → None ≡ (if nat_lt (snap_line line p).d2 limit then Some (snap_line line p) else None)
-none_below line p limit far = let b : nat_lt (snap_line line p).d2 limit ≡ false = grind (arith, nat_tests) in sym (ap (λ v. if v then Some (snap_line line p) else None) b)
-
-pub some_below : (line : List Point) (p : Point) (limit n : ℕ) (s : Snap) → IsLine line → IsNearest line p limit (length line - 1) (Some n)
-    → s ≡ after (line_length (take (suc n) line)) (segment_snap line p n)
-    → Some s ≡ (if nat_lt (snap_line line p).d2 limit then Some (snap_line line p) else None)
-some_below line p limit n s lawful h e =
-    let is : snap_line line p ≡ s = whole_near line p limit n lawful h ∙ sym e in
-    let d2 : s.d2 ≡ (segment_snap line p n).d2 = ap (λ v. v.d2) e in
-    let near : (snap_line line p).d2 < limit = omega (arith, ap (λ v. v.d2) is, d2, h.1) in
-    let b : nat_lt (snap_line line p).d2 limit ≡ true = grind (arith, nat_tests) in
-    ap Some (sym is) ∙ sym (ap (λ v. if v then Some (snap_line line p) else None) b)
-
-pub always_below : (line : List Point) (p : Point) (r : Option Snap) → IsLine line → InRange p
-    → r ≡ (if nat_lt (snap_line line p).d2 18_446_744_073_709_551_615 then Some (snap_line line p) else None) → IsSome r
-always_below line p r lawful h e =
-    let small = line_small line p lawful h in
-    let b : nat_lt (snap_line line p).d2 18_446_744_073_709_551_615 ≡ true = grind (arith, nat_tests) in
-    subst IsSome (sym (e ∙ ap (λ v. if v then Some (snap_line line p) else None) b)) refl
+-- no line is so far that it has no nearest segment
+pub always_below : (line : List Point) (p : Point) (r : Option NearSegment) → IsLine line → InRange p
+    → MatchOption r (AreFar line p 18_446_744_073_709_551_615 0 (length line - 1)) (λ s. IsNearest line p 0 (length line - 1) s × (s.d2 < 18_446_744_073_709_551_615)) → IsSome r
+always_below [] p r lawful h is = absurd (omega (arith, lawful.two))
+always_below (a ∷ []) p r lawful h is = absurd (omega (arith, lawful.two))
+always_below (a ∷ b ∷ rest) p None lawful h far =
+    let small = snap_small a b p (lawful.in_range 0 origin (omega arith)) (lawful.in_range 1 origin (omega arith)) h (lawful.differ 0 origin (omega arith)) in
+    let k = far 0 (omega arith) (omega arith) in
+    absurd (omega (arith, small, k))
+always_below (a ∷ b ∷ rest) p (Some s) lawful h is = refl
 
 -- a line that a point snaps to within a distance has a segment whose box meets the square of that half side round the point
 snap_from-meets : (a b : Point) (rest : List Point) (p : Point) (reach : ℕ)

@@ -1,25 +1,35 @@
 //! The plane in whole centimetres, and the list that every other crate uses.
 //!
 //! - [`Point`] is a place; [`straight`] is the straight distance of two places, rounded down.
-//! - A line is a slice of points; [`line_length`] adds up its segments.
+//! - A line is a slice of points; [`line_length`] adds up its segments, and [`extend_offsets`] keeps
+//!   how far along the line each point lies.
 //! - [`snap_segment`] and [`snap_line`] bring a point onto a segment or a line, and answer a
 //!   [`Snap`]: the squared distance to the snapped point, and how far along the line that lies.
+//! - [`nearest_segment`] and [`snap_on`] are the two halves of a snap to a line, for callers that
+//!   look at a part of a line or keep the lengths of its fronts.
+//! - [`nearest_in_box`] is the place of a box that is nearest to a point.
 //! - [`List`] is a vector that contracts see as the plain list of its items.
 //!
 //! Numbers never wrap, and only [`List`] takes memory. The definitions are in
 //! `specs/Plane.antt`; the clause to read first is that of [`snap_line`].
 #![tactic(auto)]
 
+mod laws;
 mod line;
 mod list;
+mod nearest_place;
+mod offsets;
 mod plane;
 mod segment;
 mod square_root;
 #[cfg(test)]
 mod tests;
 
-pub use line::{line_length, snap_line, snap_line_below};
+pub use laws::snap_is_the_nearest;
+pub use line::{NearSegment, line_length, nearest_segment, snap_line, snap_on};
 pub use list::List;
-pub use plane::{Point, Snap, straight};
+pub use nearest_place::nearest_in_box;
+pub use offsets::extend_offsets;
+pub use plane::{Point, Snap, distance2, straight};
 pub use segment::snap_segment;
 pub use square_root::root;

@@ -31,9 +31,9 @@ fn gap(a: i32, b: i32) -> u64
     u64::from(a.abs_diff(b))
 }
 
-/// The squared distance of two points.
+/// The squared distance of two points, in cm².
 #[tactic(auto, using(crate::proofs::Distances::squares_small))]
-pub(crate) fn distance2(a: Point, b: Point) -> u64
+pub fn distance2(a: Point, b: Point) -> u64
     requires a_in { InRange a }
     requires b_in { InRange b }
     ensures value { result ≡ distance2 a b }

@@ -1,9 +1,10 @@
-//! The snap of a point to a segment.
+//! The snap of a point to a segment. Serves `snap_segment` and `nearest_segment`; decided by
+//! `snap_segment`.
 ghost use Rattle.std.specs.Prelude.{◌≡◌, ℕ, ◌*◌, ◌/◌, ◌^◌, ◌<◌, ◌≤◌, pos, ◌+ℤ◌, ◌-ℤ◌, ◌*ℤ◌};
 ghost use Rattle.std.specs.Int.{int_div_euclid};
 ghost use Rattle.std.specs.Int.RustNames.{unsigned_abs};
-ghost use Rattle.polyline_geometry.specs.Plane.{InRange, along, distance2, dot, share, snap_segment, snapped, straight};
-ghost use Rattle.polyline_geometry.specs.Parts.{IsPartOf};
+ghost use Rattle.polyline_geometry.specs.Plane.{InRange, along, distance2, dot, share, snap_segment, snapped};
+ghost use Rattle.polyline_geometry.specs.Parts.{IsPartOf, IsShare};
 
 use crate::plane::{Point, Snap, distance2, straight};
 
@@ -58,8 +59,7 @@ fn share(a: Point, b: Point, p: Point) -> u64
     requires a_in { InRange a }
     requires b_in { InRange b }
     requires p_in { InRange p }
-    ensures value { result ≡ share a b p }
-    ensures small { result ≤ distance2 b a }
+    ensures { result ≡ share a b p }
 {
     let dot = dot(a, b, p);
     if dot <= 0 {
@@ -119,9 +119,7 @@ fn narrow(q: i128) -> i64
 #[tactic(auto, using(crate::proofs::Parts::part_between, crate::proofs::Parts::part_small))]
 fn part(z: i64, t: u64, n: u64) -> i64
     requires z_small { unsigned_abs z ≤ 2_000_000_000 }
-    requires t_in { t ≤ n }
-    requires n_some { 0 < n }
-    requires n_in { n ≤ 8_000_000_000_000_000_000 }
+    requires share { IsShare t n }
     ensures value { result ≡ int_div_euclid (z *ℤ pos t) (pos n) }
     ensures within { IsPartOf z result }
 {
@@ -135,7 +133,6 @@ fn part(z: i64, t: u64, n: u64) -> i64
 /// The coordinate that is a part of a difference after a.
 fn shifted(a: i32, z: i64, part: i64) -> i32
     requires a_in { unsigned_abs a ≤ 1_000_000_000 }
-    requires z_small { unsigned_abs z ≤ 2_000_000_000 }
     requires end_in { unsigned_abs (a +ℤ z) ≤ 1_000_000_000 }
     requires within { IsPartOf z part }
     ensures value { result ≡ a +ℤ part }
@@ -148,9 +145,7 @@ fn shifted(a: i32, z: i64, part: i64) -> i32
 fn along(a: i32, b: i32, t: u64, n: u64) -> i32
     requires a_in { unsigned_abs a ≤ 1_000_000_000 }
     requires b_in { unsigned_abs b ≤ 1_000_000_000 }
-    requires t_in { t ≤ n }
-    requires n_some { 0 < n }
-    requires n_in { n ≤ 8_000_000_000_000_000_000 }
+    requires share { IsShare t n }
     ensures value { result ≡ along a b t n }
     ensures small { unsigned_abs result ≤ 1_000_000_000 }
 {
@@ -163,9 +158,7 @@ fn along(a: i32, b: i32, t: u64, n: u64) -> i32
 fn snapped(a: Point, b: Point, t: u64, n: u64) -> Point
     requires a_in { InRange a }
     requires b_in { InRange b }
-    requires t_in { t ≤ n }
-    requires n_some { 0 < n }
-    requires n_in { n ≤ 8_000_000_000_000_000_000 }
+    requires share { IsShare t n }
     ensures value { result ≡ snapped a b t n }
     ensures in_range { InRange result }
 {
@@ -181,36 +174,22 @@ fn snapped(a: Point, b: Point, t: u64, n: u64) -> Point
     }
 }
 
-/// The squared length of a segment.
-#[tactic(auto, using(crate::proofs::Distances::differ_apart))]
-fn length2(a: Point, b: Point) -> u64
-    requires a_in { InRange a }
-    requires b_in { InRange b }
-    requires differ { a ≡ b → ⊥ }
-    ensures value { result ≡ distance2 b a }
-    ensures some { 0 < result }
-    ensures small { result ≤ 8_000_000_000_000_000_000 }
-{
-    distance2(b, a)
-}
-
 /// The squared distance of a point and the point that it snaps to.
+#[tactic(auto, using(crate::proofs::Boxes::is_share))]
 pub(crate) fn snap_distance2(a: Point, b: Point, p: Point) -> u64
     requires a_in { InRange a }
     requires b_in { InRange b }
     requires p_in { InRange p }
     requires differ { a ≡ b → ⊥ }
-    ensures value { result ≡ (snap_segment a b p).d2 }
-    ensures small { result ≤ 8_000_000_000_000_000_000 }
+    ensures { result ≡ (snap_segment a b p).d2 }
 {
-    distance2(p, snapped(a, b, share(a, b, p), length2(a, b)))
+    distance2(p, snapped(a, b, share(a, b, p), distance2(b, a)))
 }
 
 /// `t` of `n` of a length, rounded down.
 #[tactic(auto, using(crate::proofs::Parts::div_le))]
 fn part_of_length(length: u32, t: u64, n: u64) -> u32
-    requires t_in { t ≤ n }
-    requires n_some { 0 < n }
+    requires { IsShare t n }
     ensures value { result ≡ length * t / n }
     ensures within { result ≤ length }
 {
@@ -222,15 +201,15 @@ fn part_of_length(length: u32, t: u64, n: u64) -> u32
 }
 
 /// How far along the segment from a to b a point snaps to, in cm.
+#[tactic(auto, using(crate::proofs::Boxes::is_share))]
 pub(crate) fn snap_offset(a: Point, b: Point, p: Point) -> u32
     requires a_in { InRange a }
     requires b_in { InRange b }
     requires p_in { InRange p }
     requires differ { a ≡ b → ⊥ }
-    ensures value { result ≡ (snap_segment a b p).offset }
-    ensures within { result ≤ straight a b }
+    ensures { result ≡ (snap_segment a b p).offset }
 {
-    part_of_length(straight(a, b), share(a, b, p), length2(a, b))
+    part_of_length(straight(a, b), share(a, b, p), distance2(b, a))
 }
 
 /// The snap of a point to the segment from a to b.

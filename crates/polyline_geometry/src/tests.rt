@@ -1,4 +1,7 @@
-use crate::{List, Point, line_length, root, snap_line, snap_line_below, snap_segment, straight};
+use crate::{
+    List, Point, extend_offsets, line_length, nearest_in_box, nearest_segment, root, snap_line,
+    snap_segment, straight,
+};
 use std::test::Fail;
 
 const CORNER: [Point; 3] = [
@@ -68,8 +71,29 @@ fn snap_to_a_corner(rt: HostRuntime) {
     let second = snap_line(corner, Point { x: 13, y: 4 });
     assert_eq!(rt; second.d2, 9);
     assert_eq!(rt; second.offset, 14);
-    assert!(rt; snap_line_below(corner, Point { x: 13, y: 4 }, 10).is_some());
-    assert!(rt; snap_line_below(corner, Point { x: 13, y: 4 }, 9).is_none());
+    assert!(rt; nearest_segment(corner, 0, 2, Point { x: 13, y: 4 }, 10).is_some());
+    assert!(rt; nearest_segment(corner, 0, 2, Point { x: 13, y: 4 }, 9).is_none());
+    assert_eq!(rt;
+        nearest_in_box(
+            Point { x: 10, y: 10 },
+            Point { x: 0, y: 0 },
+            Point { x: 13, y: 4 }
+        ),
+        Point { x: 10, y: 4 }
+    );
+}
+
+#[test]
+fn offsets_of_a_corner(rt: HostRuntime) -> Result<(), Fail> {
+    let mut offsets = List::new(rt.alloc());
+    offsets.push(7_u32)?;
+    assert_eq!(rt; extend_offsets(CORNER.as_slice(), 19, &mut offsets)?, None);
+    assert_eq!(rt;
+        extend_offsets(CORNER.as_slice(), 20, &mut offsets)?,
+        Some(20)
+    );
+    assert_eq!(rt; offsets.as_slice(), [7, 0, 10, 20].as_slice());
+    Ok(())
 }
 
 #[test]

@@ -12,3 +12,4 @@ pub mod Records
 pub mod RowsRead
 pub mod Stored
 pub mod Travel
+mod KeptNames

@@ -1,5 +1,5 @@
 -- One more stored edge.
-use Rattle.std.proofs.Common.{◌≡◌, ℕ, suc, ◌+◌, ◌-◌, ◌≤◌, ◌++◌, ◌||◌, Bool, true, false, not, List, [], ◌∷◌, refl, sym, ap, ◌∙◌, subst, arith, length, map, drop, All, length-append, length-drop}
+use Rattle.std.proofs.Common.{◌≡◌, ℕ, suc, ◌+◌, ◌-◌, ◌≤◌, ◌++◌, ◌||◌, Bool, true, false, not, List, [], ◌∷◌, refl, sym, ap, ◌∙◌, subst, arith, length, map, drop, get_or, All, length-append, length-drop}
 use Rattle.std.proofs.lemmas.List.{map-append, take-append-le, drop-append-le}
 use Rattle.std.proofs.Math.Seq.{drop-append_seam, take-length}
 use Rattle.std.proofs.lemmas.List.Elements.{All-push, All-weaker}
@@ -8,21 +8,24 @@ use Rattle.std.specs.Prelude.{nat_eq, slice_range}
 use Rattle.std.specs.List.{list_any}
 use Rattle.polyline_geometry.specs.declared.plane.Point.{Point}
 use Rattle.polyline_geometry.specs.Plane.{line_length}
+use Rattle.polyline_geometry.specs.Offsets.{line_offsets}
+use Rattle.polyline_geometry.proofs.OffsetLists.{length-line_offsets}
 use Rattle.road_network.specs.declared.StoredEdge.{StoredEdge}
+use Rattle.road_network.specs.EdgeNames.{names_of}
 use Rattle.road_network.specs.Drafted.{BelongTogether}
 use Rattle.road_network.specs.Net.{Edge, Net, IsLawful, point_count}
 use Rattle.road_network.specs.NetworkFile.{Row, edge_with, has_name, limit_faults, nodes_with, place_of, with_row}
-use Rattle.road_network.specs.Stored.{IsStored, edge_of, net_of}
+use Rattle.road_network.specs.Stored.{AreOffsets, IsStored, edge_of, net_of}
 use Rattle.road_network.proofs.Growing.{IsFaultless, lawful-more, limits_with}
 
 -- a part of a list stays when the list grows
-range-kept : (points line : List Point) (first end : ℕ) → first ≤ end → end ≤ length points → slice_range (points ++ line) first end ≡ slice_range points first end
+range-kept : {X : Type 0} (points line : List X) (first end : ℕ) → first ≤ end → end ≤ length points → slice_range (points ++ line) first end ≡ slice_range points first end
 range-kept points line first end le within =
     let inside : end - first ≤ length (drop first points) = omega (arith, length-drop first points) in
     rw (drop-append-le first points line (omega arith)) (take-append-le (end - first) (drop first points) line inside)
 
 -- the new part is what was added
-range-new : (points line : List Point) → slice_range (points ++ line) (length points) (length points + length line) ≡ line
+range-new : {X : Type 0} (points line : List X) → slice_range (points ++ line) (length points) (length points + length line) ≡ line
 range-new points line =
     let count : length points + length line - length points ≡ length line = omega arith in
     rw (count, drop-append_seam points line) (take-length line)
@@ -54,10 +57,13 @@ known : (points : List Point) (name : ℕ) (edges : List StoredEdge) → list_an
 known points name [] = refl
 known points name (e ∷ edges) = ap (λ b. nat_eq name e.name || b) (known points name edges)
 
--- the names that are kept tell whether an edge has a name
-pub name-known : (nodes names : List ℕ) (edges : List StoredEdge) (points : List Point) (name : ℕ) → names ≡ map (λ e. e.name) edges
-    → list_any (nat_eq name) names ≡ has_name (net_of nodes edges points) name
-name-known nodes names edges points name h = rw h (known points name edges)
+-- the names of the stored edges are those of the network's edges
+pub name-known : (nodes : List ℕ) (edges : List StoredEdge) (points : List Point) (name : ℕ)
+    → list_any (nat_eq name) (names_of edges) ≡ has_name (net_of nodes edges points) name
+name-known nodes edges points name = known points name edges
+
+pub names-more : (edges : List StoredEdge) (e : StoredEdge) (name : ℕ) → e.name ≡ name → names_of (edges ++ e ∷ []) ≡ names_of edges ++ name ∷ []
+names-more edges e name h = rw (map-append (λ (x : StoredEdge). x.name) edges (e ∷ []), h) refl
 
 -- the stored edge of a row
 pub record IsStoredRow (nodes : List ℕ) (points : List Point) (r : Row) (e : StoredEdge) : Type 0 where
@@ -77,10 +83,10 @@ pub net-grown : (nodes : List ℕ) (edges : List StoredEdge) (points : List Poin
 net-grown nodes edges points r e stored h =
     rw (map-append (edge_of (points ++ r.line)) edges (e ∷ []), edges-kept points r.line edges stored, edge-new (nodes_with nodes r) points r e h) refl
 
-pub grown : (nodes names : List ℕ) (edges : List StoredEdge) (points : List Point) (r : Row) (e : StoredEdge) → BelongTogether nodes names edges points
+pub grown : (nodes : List ℕ) (edges : List StoredEdge) (points : List Point) (r : Row) (e : StoredEdge) → BelongTogether nodes edges points
     → IsFaultless (net_of nodes edges points) r → IsStoredRow (nodes_with nodes r) points r e
-    → BelongTogether (nodes_with nodes r) (names ++ r.name ∷ []) (edges ++ e ∷ []) (points ++ r.line)
-grown nodes names edges points r e h f is =
+    → BelongTogether (nodes_with nodes r) (edges ++ e ∷ []) (points ++ r.line)
+grown nodes edges points r e h f is =
     let net = net-grown nodes edges points r e h.stored is in
     record {
       lawful = subst IsLawful (sym net) (lawful-more (net_of nodes edges points) r h.lawful f);
@@ -91,9 +97,25 @@ grown nodes names edges points r e h f is =
             within = omega (arith, is.end, length-append points r.line);
             measured = rw (is.measured, is.first, is.end, range-new points r.line) refl;
           });
-      named = rw (map-append (λ (x : StoredEdge). x.name) edges (e ∷ []), h.named, is.name) refl;
       count = length-append points r.line ∙ ap (λ k. k + length r.line) h.count ∙ sym (points-more (net_of nodes edges points) r)
           ∙ ap (λ (k : Net). point_count k.edges) (sym net);
+    }
+
+-- the offsets of one more line
+pub offsets-grown : (nodes : List ℕ) (points : List Point) (edges : List StoredEdge) (offsets : List ℕ) (r : Row) (e : StoredEdge) → All (IsStored points) edges → AreOffsets points edges offsets
+    → IsStoredRow (nodes_with nodes r) points r e → AreOffsets (points ++ r.line) (edges ++ e ∷ []) (offsets ++ line_offsets r.line)
+offsets-grown nodes points edges offsets r e stored h is =
+    let count : length (offsets ++ line_offsets r.line) ≡ length (points ++ r.line) = omega (arith, h.count, length-append offsets (line_offsets r.line), length-append points r.line, length-line_offsets r.line) in
+    let here : slice_range (offsets ++ line_offsets r.line) (length points) (length points + length r.line) ≡ line_offsets r.line =
+    rw (← h.count, ← length-line_offsets r.line) (range-new offsets (line_offsets r.line)) in
+    record {
+      count = count;
+      each = All-push (λ x. slice_range (offsets ++ line_offsets r.line) x.first x.end ≡ line_offsets (slice_range (points ++ r.line) x.first x.end)) edges e
+          (λ k d lt.
+          let s = stored k d lt in
+          range-kept offsets (line_offsets r.line) (get_or edges k d).first (get_or edges k d).end s.order (omega (arith, s.within, h.count)) ∙ h.each k d lt
+          ∙ ap line_offsets (sym (range-kept points r.line (get_or edges k d).first (get_or edges k d).end s.order s.within)))
+          (rw (is.first, is.end, range-new points r.line) here);
     }
 
 -- what was counted is what the limits are about

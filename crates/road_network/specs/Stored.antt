@@ -4,6 +4,7 @@ use Rattle.std.specs.Prelude.{ℕ, ◌≡◌, ◌+◌, ◌<◌, ◌≤◌, List,
 use Rattle.std.specs.List.{All}
 use Rattle.polyline_geometry.specs.declared.plane.Point.{Point}
 use Rattle.polyline_geometry.specs.Plane.{line_length}
+use Rattle.polyline_geometry.specs.Offsets.{line_offsets}
 use Rattle.road_network.specs.declared.EdgeId.{EdgeId}
 use Rattle.road_network.specs.declared.StoredEdge.{StoredEdge}
 use Rattle.road_network.specs.declared.Network.TheInside.{Inside}
@@ -36,10 +37,18 @@ pub record IsStored (points : List Point) (e : StoredEdge) : Type 0 where
   pub within : e.end ≤ length points
   pub measured : e.length ≡ line_length (slice_range points e.first e.end)
 
+-- the list of all offsets has those of each edge's line where the list of all points has this line
+pub record AreOffsets (points : List Point) (edges : List StoredEdge)
+    (offsets : List ℕ) : Type 0 where
+  pub count : length offsets ≡ length points
+  pub each : All (λ e. slice_range offsets e.first e.end
+      ≡ line_offsets (slice_range points e.first e.end)) edges
+
 -- what every network meets inside
 pub record IsKept (a : Inside) : Type 0 where
   pub lawful : IsLawful (shown a)
   pub stored : All (IsStored a.points.items) a.edges.items
+  pub offsets : AreOffsets a.points.items a.edges.items a.offsets.items
   pub starts : length a.starts.items ≡ length a.nodes.items + 1
   pub lists : (v : ℕ) → v < length a.nodes.items
       → IsLeavingList (shown a) a.starts.items a.leaving.items v

@@ -1,16 +1,18 @@
 //! A network as its edges are read, one after the other.
-ghost use Rattle.std.specs.Prelude.{◌≡◌, ◌≢◌, ◌+◌, ◌<◌, ◌≤◌, None, Some, IfOk, IfErr, OnOk, length};
+ghost use Rattle.std.specs.Prelude.{◌≡◌, ◌≢◌, ◌++◌, ◌+◌, ◌<◌, ◌≤◌, None, Some, IfOk, IfErr, OnOk, length};
 ghost use Rattle.std.specs.List.{All};
+ghost use Rattle.polyline_geometry.specs.Offsets.{line_offsets};
 ghost use Rattle.polyline_geometry.specs.Plane.{InRange, line_length};
 ghost use Rattle.road_network.specs.NetworkFile.{add_row, first_fault, limit_faults, line_faults, no_net, place_of, repeated_point, with_node};
 ghost use Rattle.road_network.specs.Drafted.{drafted, IsDraft};
 ghost use Rattle.road_network.specs.Rows.{row_with};
 
 use crate::counting::{arcs_of, place_edges, starts_of};
+use crate::edge_names::note_name;
 use crate::fault::NetworkFault;
 use crate::{EdgeId, Network, NodeId, StoredEdge};
 use indexmap::IndexSet;
-use polyline_geometry::{List, Point, straight};
+use polyline_geometry::{List, Point, extend_offsets};
 use std::alloc::{AllocError, Global};
 
 /// The most nodes, edges, points of all lines, and centimetres of one edge.
@@ -20,7 +22,7 @@ const MOST_EDGES: usize = 150_000;
 
 const MOST_POINTS: usize = 1_000_000;
 
-const LONGEST_EDGE: u64 = 100_000_000;
+const LONGEST_EDGE: u32 = 100_000_000;
 
 /// The first three fields of a record: an edge's id, and those of the nodes that it joins.
 #[derive(Clone, Copy)]
@@ -34,9 +36,11 @@ pub(crate) struct RowHead {
 #[derive(Drop)]
 pub(crate) struct Draft {
     nodes: IndexSet<u64>,
-    names: IndexSet<u32>,
+    names: Option<IndexSet<u32>>,
     edges: List<StoredEdge>,
     points: List<Point>,
+    offsets: List<u32>,
+    alloc: Global,
 }
 
 /// The place, from 1, of the first point that equals the one before it.
@@ -52,26 +56,15 @@ fn repeated_point(line: &[Point]) -> Option<u32>
     None
 }
 
-/// The length of a line of any number of points, in cm.
-fn length_of(line: &[Point]) -> u64
-    requires few { length line.now ≤ 200_000_000 }
-    requires within { All InRange line.now }
-    ensures { result ≡ line_length line.now }
-{
-    let mut length = 0;
-    for i in 1..line.len() {
-        length += u64::from(straight(line[i - 1], line[i]));
-    }
-    length
-}
-
-/// The length of an edge's line, in cm, if the line is faultless.
-fn check_line(rec: u32, line: &[Point]) -> Result<u32, NetworkFault>
+/// The length of an edge's line, in cm, if the line is faultless. Appends the offsets of its points.
+fn check_line(rec: u32, line: &[Point], offsets: &mut List<u32>) -> Result<u32, NetworkFault>
     requires few { length line.now ≤ 200_000_000 }
     requires within { All InRange line.now }
     ensures ok { OnOk result (first_fault (line_faults rec line.now) ≡ None) }
     ensures length { IfOk result (λ length. length ≡ line_length line.now) }
-    ensures fault { IfErr result (λ e. first_fault (line_faults rec line.now) ≡ Some e) }
+    ensures offsets { OnOk result (offsets.new ≡ offsets.old ++ line_offsets line.now) }
+    ensures fault { IfErr result
+        (λ e. e ≢ NetworkFault.Memory → first_fault (line_faults rec line.now) ≡ Some e) }
 {
     if line.len() < 2 {
         return Err(NetworkFault::ShortLine(rec));
@@ -79,11 +72,10 @@ fn check_line(rec: u32, line: &[Point]) -> Result<u32, NetworkFault>
     if let Some(place) = repeated_point(line) {
         return Err(NetworkFault::RepeatedPoint(rec, place));
     }
-    let length = length_of(line);
-    if length > LONGEST_EDGE {
+    let Some(length) = extend_offsets(line, LONGEST_EDGE, offsets)? else {
         return Err(NetworkFault::EdgeTooLong(rec));
-    }
-    Ok(length as u32)
+    };
+    Ok(length)
 }
 
 /// The number of a node, which is new if no earlier record names it.
@@ -122,9 +114,11 @@ impl Draft {
     {
         Draft {
             nodes: IndexSet::new(alloc),
-            names: IndexSet::new(alloc),
+            names: None,
             edges: List::new(alloc),
             points: List::new(alloc),
+            offsets: List::new(alloc),
+            alloc,
         }
     }
 
@@ -148,11 +142,11 @@ impl Draft {
             → add_row (drafted self.old) (row_with head.now line.now) ≡ Err e) }
     {
         let rec = self.next_record();
-        let (_, is_new) = self.names.insert_full(head.name)?;
+        let is_new = note_name(self.alloc, &mut self.names, self.edges.as_slice(), head.name)?;
         if !is_new {
             return Err(NetworkFault::DuplicateEdge(rec));
         }
-        let length = check_line(rec, line)?;
+        let length = check_line(rec, line, &mut self.offsets)?;
         let from = number_of(&mut self.nodes, head.from)?;
         let to = number_of(&mut self.nodes, head.to)?;
         let first = self.points.len();
@@ -181,6 +175,8 @@ impl Draft {
             names: _,
             edges,
             points,
+            offsets,
+            alloc: _,
         } = self;
         let starts = starts_of(alloc, nodes.len(), edges.as_slice())?;
         let leaving = place_edges(alloc, starts.as_slice(), edges.as_slice())?;
@@ -190,6 +186,7 @@ impl Draft {
             nodes,
             edges: edges.into_vec(),
             points: points.into_vec(),
+            offsets: offsets.into_vec(),
             starts,
             leaving,
             arcs,

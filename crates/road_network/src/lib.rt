@@ -14,10 +14,12 @@
 
 ghost use Rattle.std.specs.Prelude.{◌≡◌, ◌<◌, ◌≤◌, ℕ, length, map};
 ghost use Rattle.std.specs.List.{All, Contains};
+ghost use Rattle.polyline_geometry.specs.Offsets.{line_offsets};
 ghost use Rattle.road_network.specs.Net.{Net, HasEdge, HasNode, IsLawful, arc_of, edge_line, edge_name, leaving, node_name, source, span, target};
 
 mod counting;
 mod draft;
+mod edge_names;
 mod fault;
 mod fields;
 mod file;
@@ -68,12 +70,13 @@ struct StoredEdge {
 
 /// A network: nodes and directed edges with lines. All points lie in one list, and so do the
 /// leaving edges of all nodes: those of node v are `leaving[starts[v]..starts[v + 1]]`. Their arcs
-/// lie in the same order.
+/// lie in the same order, and the offsets of all points in the order of the points.
 #[derive(Drop)]
 pub struct Network {
     nodes: Vec<u64>,
     edges: Vec<StoredEdge>,
     points: Vec<Point>,
+    offsets: Vec<u32>,
     starts: Vec<u32>,
     leaving: Vec<EdgeId>,
     arcs: Vec<Arc>,
@@ -144,6 +147,15 @@ impl Network {
     {
         let edge = &self.edges[e.0 as usize];
         &self.points[edge.first..edge.end]
+    }
+
+    /// How far along the edge each point of its line lies, in cm.
+    pub fn offsets(&self, e: EdgeId) -> &[u32]
+        requires { HasEdge self.now e.0 }
+        ensures { result.now ≡ line_offsets (edge_line self.now e.0) }
+    {
+        let edge = &self.edges[e.0 as usize];
+        &self.offsets[edge.first..edge.end]
     }
 
     /// The edge's id in the file.

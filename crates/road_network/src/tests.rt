@@ -56,6 +56,7 @@ fn blanks_and_quotes_in_a_line(rt: HostRuntime) -> Result<(), Fail> {
     let net = read_network(rt.alloc(), file)?;
     assert_eq!(rt; net.edge_count(), 1);
     assert_eq!(rt; net.line(EdgeId(0)).len(), 3);
+    assert_eq!(rt; net.offsets(EdgeId(0)), [0, 5_000, 100_000_000].as_slice());
     assert_eq!(rt; net.length(EdgeId(0)), 100_000_000);
     Ok(())
 }
