@@ -142,7 +142,12 @@ impl Draft {
             → add_row (drafted self.old) (row_with head.now line.now) ≡ Err e) }
     {
         let rec = self.next_record();
-        let is_new = note_name(self.alloc, &mut self.names, self.edges.as_slice(), head.name)?;
+        let is_new = note_name(
+            self.alloc,
+            &mut self.names,
+            self.edges.as_slice(),
+            head.name,
+        )?;
         if !is_new {
             return Err(NetworkFault::DuplicateEdge(rec));
         }

@@ -1,4 +1,4 @@
-use Rattle.std.proofs.Common.{◌≡◌, ◌∙◌, Some, not, sym, ap}
+use Rattle.std.proofs.Common.{◌∙◌, Some, not, sym, ap}
 use Rattle.road_network.specs.EdgeNames.{HasNames, names_of}
 use Rattle.road_network.proofs.KeptNames.{kept-none, kept-set, more-names, next-is-new}
 use Rattle.road_network.proofs.edge_names.note_name.Goals as goal
