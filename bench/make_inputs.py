@@ -6,11 +6,16 @@
                                         a river with nine bridges), and 2,000 traces of 200 points with times and noise
   city-small-traces.csv                 the first 200 of these traces
   city-points.csv                       the points of the city's traces, each as a trace of its own
+  country-net.csv, country-traces.csv   16,907 nodes and 55,465 edges (towns, villages, winding roads, motorways with ramps), 200
+                                        traces of 900 points, one a second, and 400 of 45 points, one a minute
+  long-net.csv, long-traces.csv         one edge of 1,000,000 points, and 20 traces of 100 points beside it
 """
 import math
 import os
 import random
 import sys
+
+import country
 
 
 class Draw:
@@ -206,12 +211,33 @@ def city(folder, side=224, count=2000, length=200, seed=7):
                 number += 1
 
 
+# ---- the long edge
+
+def long_edge(folder, points=1_000_000):
+    def place(i):
+        return 60 * i, round(20000 * math.sin(i / 400))
+
+    with open(os.path.join(folder, "long-net.csv"), "w") as f:
+        f.write("edge,from,to,line\n1,1,2,")
+        f.write(";".join("%d %d" % place(i) for i in range(points)) + "\n")
+    draw = Draw(3)
+    with open(os.path.join(folder, "long-traces.csv"), "w") as f:
+        f.write("trace,x,y\n")
+        for trace in range(20):
+            start = draw.below(points - 5000)
+            for step in range(100):
+                x, y = place(start + 50 * step)
+                f.write(f"{trace},{x + draw.below(4001) - 2000},{y + draw.below(4001) - 2000}\n")
+
+
 def main():
     folder = sys.argv[1]
     os.makedirs(folder, exist_ok=True)
     town_network(os.path.join(folder, "town-net.csv"), 100)
     town_traces(os.path.join(folder, "town-traces.csv"), 100, 2000, 1)
     city(folder)
+    country.write_country(folder)
+    long_edge(folder)
 
 
 if __name__ == "__main__":

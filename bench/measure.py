@@ -14,13 +14,17 @@ import shlex
 import subprocess
 import time
 
+ONE_WORKER = ["--workers", "1"]
 JOBS = [
     # name, file whose lines are counted, words
-    ("load network", "city-net.csv", ["match", "city-net.csv", "no-traces.csv"]),
-    ("read points", "city-points.csv", ["match", "far-net.csv", "city-points.csv"]),
-    ("match points", "city-points.csv", ["match", "city-net.csv", "city-points.csv"]),
-    ("match town", "town-traces.csv", ["match", "town-net.csv", "town-traces.csv", "--workers", "1"]),
-    ("match city", "city-traces.csv", ["match", "city-net.csv", "city-traces.csv", "--workers", "1"]),
+    ("load network", "city-net.csv", ["match", "city-net.csv", "no-traces.csv", *ONE_WORKER]),
+    ("read points", "city-points.csv", ["match", "far-net.csv", "city-points.csv", *ONE_WORKER]),
+    ("match points", "city-points.csv", ["match", "city-net.csv", "city-points.csv", *ONE_WORKER]),
+    ("match town", "town-traces.csv", ["match", "town-net.csv", "town-traces.csv", *ONE_WORKER]),
+    ("match city", "city-traces.csv", ["match", "city-net.csv", "city-traces.csv", *ONE_WORKER]),
+    ("match country", "country-traces.csv", ["match", "country-net.csv", "country-traces.csv", *ONE_WORKER]),
+    ("country k 1", "country-traces.csv", ["match", "country-net.csv", "country-traces.csv", "--k", "1", *ONE_WORKER]),
+    ("long edge", "long-traces.csv", ["match", "long-net.csv", "long-traces.csv", *ONE_WORKER]),
 ]
 
 

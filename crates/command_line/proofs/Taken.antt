@@ -8,8 +8,9 @@ use Rattle.clap.specs.declared.error.kind.ErrorKind.{ErrorKind}
 use Rattle.clap.specs.declared.error.kind.ErrorKind.TheVariants.{OutOfMemory}
 use Rattle.clap.specs.declared.parser.matches.ArgMatches.{ArgMatches}
 use Rattle.command_line.specs.Syntax.{program}
-use Rattle.command_line.specs.Words.{PlainCommand, command_of, entered_of, if_taken, plain}
-use Rattle.command_line.specs.declared.command.Command.{Command}
+use Rattle.command_line.specs.Work.{PlainCommand, plain}
+use Rattle.command_line.specs.Words.{command_of, entered_of, if_taken}
+use Rattle.command_line.specs.declared.work.Command.{Command}
 use Rattle.command_line.specs.declared.fault.WordsFault.{WordsFault}
 use Rattle.command_line.specs.declared.fault.WordsFault.TheVariants.{Usage, Memory}
 

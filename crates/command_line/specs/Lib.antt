@@ -1,4 +1,8 @@
-pub mod Options
+pub mod Building
 pub mod FaultLine
+pub mod Options
 pub mod Syntax
+pub mod Values
 pub mod Words
+pub mod Work
+pub mod works

@@ -1,62 +1,40 @@
--- The options: their names, their ranges and defaults, and how their values are read.
-use Rattle.std.specs.Prelude.{ℕ, List, [], ◌∷◌, codes, nat_le, if◌then◌else◌}
-use Rattle.std.specs.Prelude.{Option, Some, None, Result, Ok, Err}
-use Rattle.decimal_text.specs.Number.{unsigned_within}
-use Rattle.decimal_text.specs.declared.number.NumberFault.{NumberFault}
+-- The options that every command takes, and how they are read.
+use Rattle.std.specs.Prelude.{ℕ, List, [], ◌∷◌, Option, Some, None, Result, Ok, Err}
 use Rattle.cost_model.specs.declared.params.Params.{Params}
-use Rattle.command_line.specs.declared.option.OptionName.{OptionName}
-use Rattle.command_line.specs.declared.option.OptionName.TheVariants.{K, Radius, Sigma, Beta, Bound, Workers, Back, Gap}
-use Rattle.command_line.specs.declared.option.OptionRange.{OptionRange}
+use Rattle.cost_model.specs.declared.params.TheConstants.Params.{DEFAULT}
+use Rattle.command_line.specs.Values.{name_of, value_of}
+use Rattle.command_line.specs.declared.fault.WordsFault.{WordsFault}
+use Rattle.command_line.specs.declared.value.ValueName.{ValueName}
+use Rattle.command_line.specs.declared.value.ValueName.TheVariants.{K, Radius, Sigma, Beta, Bound, Workers, Back, Gap}
 
-abbrev pub name_of : OptionName → List ℕ
-name_of K = codes "k"
-name_of Radius = codes "radius"
-name_of Sigma = codes "sigma"
-name_of Beta = codes "beta"
-name_of Bound = codes "bound"
-name_of Workers = codes "workers"
-name_of Back = codes "back"
-name_of Gap = codes "gap"
-
-abbrev pub all_options : List OptionName
+abbrev pub all_options : List ValueName
 all_options = K ∷ Radius ∷ Sigma ∷ Beta ∷ Bound ∷ Workers ∷ Back ∷ Gap ∷ []
 
-abbrev pub range_of : OptionName → OptionRange
-range_of K = record { least = 1; most = 32; default = 8 }
-range_of Radius = record { least = 1; most = 100_000; default = 10_000 }
-range_of Sigma = record { least = 1; most = 100_000; default = 1_000 }
-range_of Beta = record { least = 1; most = 1_000_000; default = 1_000 }
-range_of Bound = record { least = 0; most = 10_000_000; default = 300_000 }
-range_of Workers = record { least = 1; most = 64; default = 4 }
-range_of Back = record { least = 0; most = 100_000; default = 0 }
-range_of Gap = record { least = 0; most = 4_294_967_295; default = 4_294_967_295 }
-
--- a number that is too small is refused as one that is too great, and as a misspelt one
-abbrev pub checked : OptionName → Result ℕ NumberFault → Result ℕ OptionName
-checked option (Ok n) = if nat_le (range_of option).least n then Ok n else Err option
-checked option (Err fault) = Err option
-
 -- the value of an option that the words give this text, or none
-unfoldable pub value_of : OptionName → Option (List ℕ) → Result ℕ OptionName
-value_of option None = Ok (range_of option).default
-value_of option (Some text) = checked option (unsigned_within (range_of option).most text)
+abbrev pub option_from : ValueName → ℕ → Option (List ℕ) → Result ℕ WordsFault
+option_from name default None = Ok default
+option_from name default (Some text) = value_of name text
+
+-- the value of an option, of what the words give for each name
+abbrev pub option_of : ValueName → ℕ → (List ℕ → Option (List ℕ)) → Result ℕ WordsFault
+option_of name default text = option_from name default (text (name_of name))
 
 -- the second reading where the first succeeds, and else its error
 abbrev pub and_then : {A B E : Type 0} → Result A E → (A → Result B E) → Result B E
 and_then (Ok x) next = next x
 and_then (Err e) next = Err e
 
--- the options that these texts give, or the first whose text is bad
-unfoldable pub params_of : (OptionName → Option (List ℕ)) → Result Params OptionName
-params_of text =
-    and_then (value_of K (text K)) (λ k.
-    and_then (value_of Radius (text Radius)) (λ radius.
-    and_then (value_of Sigma (text Sigma)) (λ sigma.
-    and_then (value_of Beta (text Beta)) (λ beta.
-    and_then (value_of Bound (text Bound)) (λ bound.
-    and_then (value_of Workers (text Workers)) (λ workers.
-    and_then (value_of Back (text Back)) (λ back.
-    and_then (value_of Gap (text Gap)) (λ gap.
+-- the options that the words give, or the fault of the first whose text is bad
+unfoldable pub options_of : (List ℕ → Option (List ℕ)) → Result Params WordsFault
+options_of text =
+    and_then (option_of K DEFAULT.k text) (λ k.
+    and_then (option_of Radius DEFAULT.radius text) (λ radius.
+    and_then (option_of Sigma DEFAULT.sigma text) (λ sigma.
+    and_then (option_of Beta DEFAULT.beta text) (λ beta.
+    and_then (option_of Bound DEFAULT.bound text) (λ bound.
+    and_then (option_of Workers DEFAULT.workers text) (λ workers.
+    and_then (option_of Back DEFAULT.back text) (λ back.
+    and_then (option_of Gap DEFAULT.gap text) (λ gap.
     Ok (record {
       k = k;
       radius = radius;

@@ -1,46 +1,33 @@
 -- The command that words ask for.
-use Rattle.std.specs.Prelude.{ℕ, List, [], ◌∷◌, codes, if◌then◌else◌}
+use Rattle.std.specs.Prelude.{ℕ, List, [], ◌∷◌, if◌then◌else◌}
 use Rattle.std.specs.Prelude.{Option, Some, None, Result, Ok, Err}
 use Rattle.std.specs.Result.{result_map_both}
 use Rattle.std.specs.Str.{bytes_eq}
 use Rattle.clap.specs.Words.{Kinds, Row, Text, fault_of, first_of, subcommand_of}
-use Rattle.cost_model.specs.declared.params.Params.{Params}
 use Rattle.command_line.specs.FaultLine.{fault_line}
-use Rattle.command_line.specs.Options.{name_of, params_of}
-use Rattle.command_line.specs.Syntax.{program}
-use Rattle.command_line.specs.declared.option.OptionName.{OptionName}
-use Rattle.command_line.specs.declared.command.Command.{Command}
-use Rattle.command_line.specs.declared.command.Command.TheVariants.{Match}
+use Rattle.command_line.specs.Options.{and_then, options_of}
+use Rattle.command_line.specs.Syntax.{all_kinds, program}
+use Rattle.command_line.specs.Work.{PlainCommand, PlainWork, WorkKind}
 use Rattle.command_line.specs.declared.fault.WordsFault.{WordsFault}
-use Rattle.command_line.specs.declared.fault.WordsFault.TheVariants.{Usage, BadValue}
+use Rattle.command_line.specs.declared.fault.WordsFault.TheVariants.{Usage}
 
--- a command, with the bytes of its names
-pub data PlainCommand : Type 0 where
-  match_files : (network traces : List ℕ) (params : Params) → PlainCommand
+-- the work of the kind of this name, of what the words give for each name
+abbrev pub work_of : List WorkKind → Text → (List ℕ → Option (List ℕ)) → Result PlainWork WordsFault
+work_of [] name text = Err Usage
+work_of (kind ∷ kinds) name text =
+    if bytes_eq name kind.name then kind.work text else work_of kinds name text
 
-abbrev pub plain : Command → PlainCommand
-plain (Match network traces params) = match_files network.now traces.now params
-
-abbrev pub options_in : PlainCommand → Params
-options_in (match_files network traces params) = params
-
--- `match`, of its two names and its options
-abbrev pub match_from : Option Text → Option Text → Result Params OptionName
-    → Result PlainCommand WordsFault
-match_from (Some network) (Some traces) (Ok params) = Ok (match_files network traces params)
-match_from (Some network) (Some traces) (Err option) = Err (BadValue option)
-match_from _ _ _ = Err Usage
-
--- `match`, of what the words give for each name
-unfoldable pub match_of : List Row → Result PlainCommand WordsFault
-match_of rows = match_from (first_of (codes "NET") rows) (first_of (codes "TRACES") rows)
-    (params_of (λ option. first_of (name_of option) rows))
+-- the command of this name, of what the words give for each name: the options are read first
+unfoldable pub command_named : Text → (List ℕ → Option (List ℕ)) → Result PlainCommand WordsFault
+command_named name text =
+    and_then (options_of text) (λ options.
+    and_then (work_of all_kinds name text) (λ work.
+    Ok (record { work = work; options = options })))
 
 -- the command of the subcommand that the words name, with what they give for each name
-unfoldable pub entered_of : Option (Text × List Row) → Result PlainCommand WordsFault
+abbrev pub entered_of : Option (Text × List Row) → Result PlainCommand WordsFault
 entered_of None = Err Usage
-entered_of (Some entered) =
-    if bytes_eq entered.0 (codes "match") then match_of entered.1 else Err Usage
+entered_of (Some entered) = command_named entered.0 (λ name. first_of name entered.1)
 
 abbrev pub if_taken : Kinds → Result PlainCommand WordsFault → Result PlainCommand WordsFault
 if_taken [] command = command

@@ -1,8 +1,8 @@
-// Why words are refused, and the line that says so.
+// Why words are refused, and the line that says so. Serves `read_command`; decided by `fault_line`.
 ghost use Rattle.std.specs.Prelude.{◌≡◌};
 ghost use Rattle.command_line.specs.FaultLine.{fault_line};
 
-use crate::option::OptionName;
+use crate::value::ValueName;
 use std::alloc::AllocError;
 
 /// Why the words give no command.
@@ -10,8 +10,8 @@ use std::alloc::AllocError;
 pub enum WordsFault {
     /// The words are not those of a command.
     Usage,
-    /// The value of this option is no number, or is out of its range.
-    BadValue(OptionName),
+    /// The value of this name is no number, or is out of its range.
+    BadValue(ValueName),
     /// Memory is wanting.
     Memory,
 }
@@ -34,14 +34,14 @@ impl WordsFault {
     {
         match self {
             WordsFault::Usage => "fmm: bad command line\n",
-            WordsFault::BadValue(OptionName::K) => "fmm: bad value k\n",
-            WordsFault::BadValue(OptionName::Radius) => "fmm: bad value radius\n",
-            WordsFault::BadValue(OptionName::Sigma) => "fmm: bad value sigma\n",
-            WordsFault::BadValue(OptionName::Beta) => "fmm: bad value beta\n",
-            WordsFault::BadValue(OptionName::Bound) => "fmm: bad value bound\n",
-            WordsFault::BadValue(OptionName::Workers) => "fmm: bad value workers\n",
-            WordsFault::BadValue(OptionName::Back) => "fmm: bad value back\n",
-            WordsFault::BadValue(OptionName::Gap) => "fmm: bad value gap\n",
+            WordsFault::BadValue(ValueName::K) => "fmm: bad value k\n",
+            WordsFault::BadValue(ValueName::Radius) => "fmm: bad value radius\n",
+            WordsFault::BadValue(ValueName::Sigma) => "fmm: bad value sigma\n",
+            WordsFault::BadValue(ValueName::Beta) => "fmm: bad value beta\n",
+            WordsFault::BadValue(ValueName::Bound) => "fmm: bad value bound\n",
+            WordsFault::BadValue(ValueName::Workers) => "fmm: bad value workers\n",
+            WordsFault::BadValue(ValueName::Back) => "fmm: bad value back\n",
+            WordsFault::BadValue(ValueName::Gap) => "fmm: bad value gap\n",
             WordsFault::Memory => "fmm: out of memory\n",
         }
     }

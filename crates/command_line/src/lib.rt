@@ -11,12 +11,16 @@
 
 mod command;
 mod fault;
-mod option;
+mod read;
 mod syntax;
+mod value;
+mod work;
+mod works;
 
-pub use command::{Command, read_command};
+pub use command::read_command;
 pub use fault::WordsFault;
-pub use option::{OptionName, OptionRange};
+pub use value::{ValueName, ValueRange};
+pub use work::{Command, Work};
 
 #[cfg(test)]
 mod tests;

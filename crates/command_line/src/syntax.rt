@@ -1,83 +1,100 @@
-// The program as `clap` reads its words.
+// The program as `clap` reads its words. Serves `read_command`; decided by `program`.
 ghost use Rattle.std.specs.Prelude.{◌≡◌, map, false, IfOk};
 ghost use Rattle.clap.specs.Words.{app_of, rule_of, shape_of};
 ghost use Rattle.clap.specs.declared.builder.command.Command.TheViews.{out-Command};
 ghost use Rattle.command_line.specs.Options.{all_options};
-ghost use Rattle.command_line.specs.Syntax.{argument_rule, command_shape, option_rule, program, with_rules};
+ghost use Rattle.command_line.specs.Building.{form_shape, rule_of_word, with_rules};
+ghost use Rattle.command_line.specs.Syntax.{option_rule, program};
+ghost use Rattle.command_line.specs.Values.{name_of};
 
-use crate::option::OptionName;
+use crate::value::ValueName;
+use crate::works::matching;
 use clap::{Arg, Command};
 use std::alloc::{AllocError, Global};
 
-static MATCH_ARGUMENTS: [&str; 2] = ["NET", "TRACES"];
+/// A command as words give it.
+#[derive(Clone, Copy)]
+pub struct Form {
+    pub name: &'static str,
+    /// The options that it takes beside those of every command.
+    pub options: &'static [&'static str],
+    /// The arguments, in their order.
+    pub arguments: &'static [&'static str],
+}
 
-/// The program, with a subcommand for each command.
+/// Every command.
+const FORMS: [Form; 1] = [matching::FORM];
+
+/// What a word behind the command is.
+#[derive(Clone, Copy, PartialEq, Eq, Debug)]
+pub enum WordRole {
+    /// The value of an option, which stands behind `--` and the option's name.
+    Option,
+    /// An argument, which has to be given.
+    Argument,
+}
+
+/// The program, with a subcommand for each form.
 pub fn program<'a>(alloc: Global) -> Result<Command<'a>, AllocError>
     ensures { IfOk result (λ c. app_of c ≡ program) }
 {
-    let matching = command(alloc, "match", MATCH_ARGUMENTS.as_slice())?;
-    Command::new(alloc, "fmm")
+    let mut program = Command::new(alloc, "fmm")
         .no_binary_name(true)
-        .subcommand_required(true)
-        .subcommand(matching)
+        .subcommand_required(true);
+    for form in FORMS {
+        program = program.subcommand(command(alloc, form)?)?;
+    }
+    Ok(program)
 }
 
-// A command that takes the options, and these arguments in this order.
-fn command<'a>(
-    alloc: Global,
-    name: &'a str,
-    arguments: &[&'static str],
-) -> Result<Command<'a>, AllocError>
-    ensures shape { IfOk result
-        (λ c. shape_of c ≡ command_shape name.now (map (λ s. s.now) arguments.now)) }
+// A command that takes the options of every command, then its own, and then its arguments.
+fn command<'a>(alloc: Global, form: Form) -> Result<Command<'a>, AllocError>
+    ensures shape { IfOk result (λ c. shape_of c ≡ form_shape form) }
     ensures local { IfOk result (λ c. (out-Command c).has_globals ≡ false) }
 {
-    let command = with_options(alloc, Command::new(alloc, name))?;
-    with_arguments(alloc, command, arguments)
+    let command = with_options(alloc, Command::new(alloc, form.name))?;
+    let command = with_words(alloc, command, form.options, WordRole::Option)?;
+    with_words(alloc, command, form.arguments, WordRole::Argument)
 }
 
 fn with_options<'a>(alloc: Global, command: Command<'a>) -> Result<Command<'a>, AllocError>
     requires { (out-Command command).has_globals ≡ false }
-    ensures app { IfOk result
-        (λ c. app_of c ≡ with_rules (app_of command.entry) (map option_rule all_options)) }
+    ensures app { IfOk result (λ c. app_of c
+        ≡ with_rules (app_of command.entry) (map (λ o. option_rule (name_of o)) all_options)) }
     ensures local { IfOk result (λ c. (out-Command c).has_globals ≡ false) }
 {
     let mut command = command;
-    for option in OptionName::ALL {
-        command = command.arg(option_arg(alloc, option))?;
+    for option in ValueName::OPTIONS {
+        command = command.arg(arg(alloc, option.name(), WordRole::Option))?;
     }
     Ok(command)
 }
 
-fn option_arg<'a>(alloc: Global, option: OptionName) -> Arg<'a>
-    ensures rule { rule_of result ≡ option_rule option }
-    ensures local { result.global ≡ false }
-{
-    let name: &'a str = option.name();
-    Arg::new(alloc, name).long(name)
-}
-
-fn with_arguments<'a>(
+fn with_words<'a>(
     alloc: Global,
     command: Command<'a>,
-    arguments: &[&'static str],
+    names: &[&'static str],
+    role: WordRole,
 ) -> Result<Command<'a>, AllocError>
     requires { (out-Command command).has_globals ≡ false }
     ensures app { IfOk result (λ c. app_of c
-        ≡ with_rules (app_of command.entry) (map (λ s. argument_rule s.now) arguments.now)) }
+        ≡ with_rules (app_of command.entry) (map (λ s. rule_of_word role s.now) names.now)) }
     ensures local { IfOk result (λ c. (out-Command c).has_globals ≡ false) }
 {
     let mut command = command;
-    for argument in arguments {
-        command = command.arg(argument_arg(alloc, argument))?;
+    for name in names {
+        command = command.arg(arg(alloc, name, role))?;
     }
     Ok(command)
 }
 
-fn argument_arg<'a>(alloc: Global, name: &'static str) -> Arg<'a>
-    ensures rule { rule_of result ≡ argument_rule name.now }
+fn arg<'a>(alloc: Global, name: &'static str, role: WordRole) -> Arg<'a>
+    ensures rule { rule_of result ≡ rule_of_word role name.now }
     ensures local { result.global ≡ false }
 {
     let name: &'a str = name;
-    Arg::new(alloc, name).required(true)
+    match role {
+        WordRole::Option => Arg::new(alloc, name).long(name),
+        WordRole::Argument => Arg::new(alloc, name).required(true),
+    }
 }

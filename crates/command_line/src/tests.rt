@@ -1,18 +1,7 @@
-use crate::{Command, OptionName, WordsFault, read_command};
+use crate::{Command, ValueName, WordsFault, Work, read_command};
 use cost_model::Params;
 use std::alloc::Global;
 use std::test::Fail;
-
-const DEFAULTS: Params = Params {
-    k: 8,
-    radius: 10_000,
-    sigma: 1_000,
-    beta: 1_000,
-    bound: 300_000,
-    workers: 4,
-    back: 0,
-    gap: u32::MAX,
-};
 
 // The words, which stand in the line between spaces.
 fn words(alloc: Global, line: &str) -> Result<Vec<String>, Fail> {
@@ -25,43 +14,29 @@ fn words(alloc: Global, line: &str) -> Result<Vec<String>, Fail> {
 
 #[test]
 fn refused_words(rt: HostRuntime) -> Result<(), Fail> {
-    let lines = [
-        "",
-        "match a",
-        "match a b c",
-        "follows a b",
-        "match a b --k 3 --k 4",
-        "match a b --k",
-        "match a b --size 3",
-        "match a -b",
-        "match a b --help",
-        "help",
+    let rows = [
+        ("", WordsFault::Usage),
+        ("match a", WordsFault::Usage),
+        ("match a b c", WordsFault::Usage),
+        ("follows a b", WordsFault::Usage),
+        ("match a b --k 3 --k 4", WordsFault::Usage),
+        ("match a b --k", WordsFault::Usage),
+        ("match a b --size 3", WordsFault::Usage),
+        ("match a -b", WordsFault::Usage),
+        ("match a b --help", WordsFault::Usage),
+        ("help", WordsFault::Usage),
+        ("match a b --k 0", WordsFault::BadValue(ValueName::K)),
+        ("match a b --k 33", WordsFault::BadValue(ValueName::K)),
+        ("match a b --k x", WordsFault::BadValue(ValueName::K)),
+        ("match a b --k=+3", WordsFault::BadValue(ValueName::K)),
+        (
+            "match --gap 4294967296 a b --radius 0",
+            WordsFault::BadValue(ValueName::Radius),
+        ),
     ];
-    for line in lines {
+    for (line, fault) in rows {
         let words = words(rt.alloc(), line)?;
-        assert_eq!(rt;
-            read_command(rt.alloc(), words.as_slice()),
-            Err(WordsFault::Usage)
-        );
-    }
-    Ok(())
-}
-
-#[test]
-fn refused_values(rt: HostRuntime) -> Result<(), Fail> {
-    let lines = [
-        ("match a b --k 0", OptionName::K),
-        ("match a b --k 33", OptionName::K),
-        ("match a b --k x", OptionName::K),
-        ("match a b --k=+3", OptionName::K),
-        ("match --gap 4294967296 a b --radius 0", OptionName::Radius),
-    ];
-    for (line, option) in lines {
-        let words = words(rt.alloc(), line)?;
-        assert_eq!(rt;
-            read_command(rt.alloc(), words.as_slice()),
-            Err(WordsFault::BadValue(option))
-        );
+        assert_eq!(rt; read_command(rt.alloc(), words.as_slice()), Err(fault));
     }
     Ok(())
 }
@@ -69,28 +44,18 @@ fn refused_values(rt: HostRuntime) -> Result<(), Fail> {
 #[test]
 fn accepted_words(rt: HostRuntime) -> Result<(), Fail> {
     let words = words(rt.alloc(), "match a --k=3 --gap 60 --bound 0 -- -b")?;
-    let params = Params {
-        k: 3,
-        bound: 0,
-        gap: 60,
-        ..DEFAULTS
-    };
-    assert_eq!(rt;
-        read_command(rt.alloc(), words.as_slice()),
-        Ok(Command::Match {
+    let command = Command {
+        work: Work::Match {
             network: "a",
             traces: "-b",
-            params
-        })
-    );
+        },
+        options: Params {
+            k: 3,
+            bound: 0,
+            gap: 60,
+            ..Params::DEFAULT
+        },
+    };
+    assert_eq!(rt; read_command(rt.alloc(), words.as_slice()), Ok(command));
     Ok(())
-}
-
-#[test]
-fn lines_of_the_faults(rt: HostRuntime) {
-    assert_eq!(rt; WordsFault::Usage.line(), "fmm: bad command line\n");
-    assert_eq!(rt;
-        WordsFault::BadValue(OptionName::Back).line(),
-        "fmm: bad value back\n"
-    );
 }

@@ -38,6 +38,18 @@ pub enum ParamFault {
 }
 
 impl Params {
+    /// The options of words that give none.
+    pub const DEFAULT: Params = Params {
+        k: 8,
+        radius: 10_000,
+        sigma: 1_000,
+        beta: 1_000,
+        bound: 300_000,
+        workers: 4,
+        back: 0,
+        gap: u32::MAX,
+    };
+
     /// The same options, if each is in its range. Where several are not, the first in the order of
     /// the fields is the fault.
     pub fn check(self) -> Result<Params, ParamFault>

@@ -1,5 +1,7 @@
 // Numbers read from a slice, and written to the end of a buffer.
-ghost use Rattle.std.specs.Prelude.{◌≡◌, ◌^◌, ◌<◌, ◌≤◌, ◌++◌, true, false, IfOk, OnOk, OnErr, MatchOption};
+ghost use Rattle.std.specs.Prelude.{◌≡◌, ◌^◌, ◌<◌, ◌≤◌, ◌++◌, true, false, IfOk, OnOk, OnErr, MatchOption, length};
+ghost use Rattle.std.specs.List.{list_all};
+ghost use Rattle.std.specs.Char.{is_ascii_digit};
 ghost use Rattle.std.specs.Str.Parse.{digits_value, starts_with_minus};
 ghost use Rattle.decimal_text.specs.Number.{is_unsigned, unsigned_within, signed_within, decimal, signed_decimal};
 
@@ -53,22 +55,41 @@ fn starts_with_minus(text: &[u8]) -> bool
     !text.is_empty() && text[0] == b'-'
 }
 
-// The number that 1 to 20 digits write. 20 digits do not fit 64 bits.
-fn value_of(text: &[u8]) -> Option<u128>
-    ensures { MatchOption result (is_unsigned text.now ≡ false)
-        (λ n. (is_unsigned text.now ≡ true) × (n ≡ digits_value 10 text.now)) }
+/// The number that at most 19 digits write.
+fn narrow_value(text: &[u8]) -> Option<u64>
+    requires { length text.now ≤ 19 }
+    ensures { MatchOption result (list_all is_ascii_digit text.now ≡ false)
+        (λ n. (list_all is_ascii_digit text.now ≡ true) × (n ≡ digits_value 10 text.now)) }
 {
-    if text.is_empty() || text.len() > MAX_DIGITS {
-        return None;
-    }
-    let mut value: u128 = 0;
+    let mut value: u64 = 0;
     for byte in text {
         if !byte.is_ascii_digit() {
             return None;
         }
-        value = value * 10 + u128::from(*byte - b'0');
+        value = value * 10 + u64::from(*byte - b'0');
     }
     Some(value)
+}
+
+/// The number that 1 to 20 digits write. 20 digits do not fit 64 bits, so the last is put to the
+/// others in 128.
+fn value_of(text: &[u8]) -> Option<u128>
+    ensures { MatchOption result (is_unsigned text.now ≡ false)
+        (λ n. (is_unsigned text.now ≡ true) × (n ≡ digits_value 10 text.now)) }
+{
+    if text.len() < MAX_DIGITS {
+        if text.is_empty() {
+            return None;
+        }
+        return Some(u128::from(narrow_value(text)?));
+    }
+    let [head @ .., last] = text else {
+        return None;
+    };
+    if text.len() > MAX_DIGITS || !last.is_ascii_digit() {
+        return None;
+    }
+    Some(u128::from(narrow_value(head)?) * 10 + u128::from(*last - b'0'))
 }
 
 /// Appends the digits of the number.

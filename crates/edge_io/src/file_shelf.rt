@@ -1,68 +1,120 @@
-// The files of a runtime. Nothing is known of their bytes.
-ghost use Rattle.std.specs.Prelude.{◌≡◌, [], ◌≤◌, ◌+◌, None, vec_len, length, IfOk};
-ghost use Rattle.edge_io.specs.Shelf.{Grows, IsNotRead};
+// The files of a runtime. Serves the program's `main`; decided by the clauses of `Shelf::read`, which
+// say nothing of a real file's bytes.
+ghost use Rattle.std.specs.Prelude.{◌≡◌, ◌≤◌, ◌^◌, None, length, IfOk};
+ghost use Rattle.edge_io.specs.State.{new_shelf};
 
 use crate::noting::fail_read;
 use crate::{Shelf, Taken};
 use polyline_geometry::List;
 use std::alloc::Global;
-use std::io::{Read, Seek, SeekFrom};
+use std::io::{ErrorKind, Read, Seek, SeekFrom};
 use std::rt::Files;
 use std::{fs, io};
 
 /// The files of a runtime, by their paths. A missing file is a failed read.
+///
+/// The file of the latest read stays open where that read ended, and a read from there on goes on in
+/// it, without a seek. So a pipe can be read from its start on, and a file that is exchanged while
+/// it is read is read as it was. Any other place or name is opened anew.
 #[derive(Drop)]
 pub struct FileShelf<R: Files + Drop> {
     alloc: Global,
     rt: R,
+    current: Option<OpenFile<R::File>>,
     failed: List<List<u8>>,
+}
+
+// A file that is open, and where it stands.
+#[derive(Drop)]
+struct OpenFile<F: Drop> {
+    name: List<u8>,
+    at: u64,
+    file: F,
 }
 
 impl<R: Files + Drop> FileShelf<R> {
     /// The files that the runtime reaches.
     pub fn new(alloc: Global, rt: R) -> Self
-        ensures { ⟦<FileShelf<R> as Shelf>⟧.failed result ≡ [] }
+        ensures { ⟦<FileShelf<R> as Shelf>⟧.state result ≡ new_shelf None }
     {
         FileShelf {
             alloc,
             rt,
+            current: None,
             failed: List::new(alloc),
         }
     }
 }
 
-// Reads a file from a place on into a buffer, and says how many bytes came.
-fn read_at<R: Files>(rt: &R, name: &str, at: u64, buffer: &mut [u8]) -> io::Result<usize>
+// Opens a file where a read is to begin.
+fn open_at<R: Files>(alloc: Global, rt: &R, name: &str, at: u64) -> io::Result<OpenFile<R::File>>
+    ensures { IfOk result (λ file. file.at ≡ at) }
+{
+    let mut copy = List::new(alloc);
+    copy.extend_from_slice(name.as_bytes())?;
+    let mut file = fs::open(rt, name)?;
+    if at > 0 {
+        file.seek(SeekFrom::Start(at))?;
+    }
+    Ok(OpenFile {
+        name: copy,
+        at,
+        file,
+    })
+}
+
+// Reads once, and again where a signal interrupted the read.
+pub(crate) fn read_again<F: Read>(file: &mut F, buffer: &mut [u8]) -> io::Result<usize>
     ensures { IfOk result (λ count. count ≤ length buffer.old) }
 {
-    let mut file = fs::open(rt, name)?;
-    file.seek(SeekFrom::Start(at))?;
-    file.read(buffer)
+    for _ in 0..u64::MAX {
+        match file.read(buffer) {
+            Err(error) if error.kind() == ErrorKind::Interrupted => {}
+            result => return result,
+        }
+    }
+    Err(io::Error::from(ErrorKind::Interrupted))
+}
+
+// Reads a file from a place on into a buffer, and says how many bytes came. The file that is left
+// open stands behind them; after an error none is open.
+fn read_at<R: Files>(
+    alloc: Global,
+    rt: &R,
+    current: &mut Option<OpenFile<R::File>>,
+    name: &str,
+    at: u64,
+    buffer: &mut [u8],
+) -> io::Result<usize>
+    requires { at ≤ 2 ^ 40 }
+    ensures { IfOk result (λ count. count ≤ length buffer.old) }
+{
+    let mut found = match current.take() {
+        Some(left) if left.at == at && left.name.as_slice() == name.as_bytes() => left,
+        _ => open_at(alloc, rt, name, at)?,
+    };
+    let count = read_again(&mut found.file, buffer)?;
+    found.at = at + count as u64;
+    *current = Some(found);
+    Ok(count)
 }
 
 impl<R: Files + Drop> Shelf for FileShelf<R> {
-    ghost holds = { λ _. None };
-
-    ghost failed = { λ s. s.failed };
+    ghost state = { λ s. record { holds = None; failed = s.failed } };
 
     fn read(&mut self, name: &str, at: u64, into: &mut Vec<u8>, most: u32) -> Taken {
         let before = into.len();
         if into.resize(before + most as usize, 0).is_err() {
             return Taken::NoMemory;
         }
-        match read_at(&self.rt, name, at, &mut into[before..]) {
-            Ok(0) => {
-                into.truncate(before);
-                Taken::End
-            }
-            Ok(count) => {
-                into.truncate(before + count);
-                Taken::Got(count as u32)
-            }
-            Err(_) => {
-                into.truncate(before);
-                fail_read(self.alloc, &mut self.failed, name)
-            }
+        let buffer = &mut into[before..];
+        let read = read_at(self.alloc, &self.rt, &mut self.current, name, at, buffer);
+        into.truncate(before + read.as_ref().map_or(0, |count| *count));
+        match read {
+            Ok(0) => Taken::End,
+            Ok(count) => Taken::Got(count as u32),
+            Err(error) if error.kind() == ErrorKind::OutOfMemory => Taken::NoMemory,
+            Err(_) => fail_read(self.alloc, &mut self.failed, name),
         }
     }
 }

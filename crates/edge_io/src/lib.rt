@@ -3,7 +3,7 @@
 //!
 //! - `Shelf` is a shelf of named files. `Shelf::read` brings some bytes of a file from a place on,
 //!   and the shelf notes the name of each read that failed.
-//! - `Sink` takes bytes in order. `Sink::put` writes a piece, and the sink counts the
+//! - `Sink` takes bytes in order. `Sink::put` writes a text, and the sink counts the
 //!   puts that failed.
 //! - `MemoryShelf` and `MemorySink` tell their bytes, and fail where they are told to.
 //! - `FileShelf` and `StreamSink` are thin adapters over a runtime's files and over a stream. They

@@ -1,14 +1,14 @@
-// A shelf in memory, whose calls fail where they are told to.
-ghost use Rattle.std.specs.Prelude.{◌≡◌, ◌≢◌, ◌≤◌, ◌<◌, ◌+◌, ◌-◌, ◌^◌, ◌==◌, ◌⊎◌, ◌∷◌, ◌++◌, [], Some, None, length, take, drop, min, IfOk, IsTrue, option_copied};
-ghost use Rattle.std.specs.List.{list_any};
+// A shelf in memory, whose calls fail where they are told to. Serves tests; decided by `Serves`.
+ghost use Rattle.std.specs.Prelude.{◌≡◌, ◌≤◌, ◌-◌, ◌^◌, min, option_copied};
 ghost use Rattle.edge_io.specs.Files.{lookup};
-ghost use Rattle.edge_io.specs.Memory.{ServesFile, Serves, next_call};
-ghost use Rattle.edge_io.specs.Shelf.{Grows, IsNotRead, Reads, ReadsFile, failed_after};
+ghost use Rattle.edge_io.specs.Memory.{FilesInMemory, Serves, ServesFile, fails_next, files_after, new_files, state_of_files};
+ghost use Rattle.edge_io.specs.Shelf.{Grows, Reads, ReadsFile};
 
 use crate::noting::fail_read;
 use crate::{Shelf, Taken};
 use polyline_geometry::List;
 use std::alloc::Global;
+use std::marker::Model;
 
 /// A shelf of files in memory. It tells their bytes.
 #[derive(Drop)]
@@ -20,19 +20,27 @@ pub struct MemoryShelf {
     calls: u64,
     // the most bytes that a call gives
     drip: u32,
-    failed: List<List<u8>>,
-    ghost gives_some: { 1 ≤ drip },
+    pub(crate) failed: List<List<u8>>,
+}
+
+impl Model for MemoryShelf {
+    ghost Value = { FilesInMemory };
+
+    ghost view = { λ s. record {
+      files = s.files;
+      failed = s.failed;
+      script = record { fail = s.fail; calls = s.calls };
+      most = s.drip;
+    } };
+
+    ghost invariant = { λ s. 1 ≤ s.drip };
 }
 
 impl MemoryShelf {
     /// A shelf of these files, by name and bytes, whose calls of the numbers `fail` fail, counted
     /// from 1. Where a name stands twice, its first file is the one that is held.
     pub fn new(alloc: Global, files: List<(List<u8>, List<u8>)>, fail: List<u64>) -> Self
-        ensures holds { ⟦<MemoryShelf as Shelf>⟧.holds result ≡ Some (lookup files) }
-        ensures failed { ⟦<MemoryShelf as Shelf>⟧.failed result ≡ [] }
-        ensures fail { result.fail ≡ fail }
-        ensures calls { result.calls ≡ 0 }
-        ensures drip { result.drip ≡ 2 ^ 32 - 1 }
+        ensures { result ≡ new_files files fail (2 ^ 32 - 1) }
     {
         Self::drip(alloc, files, fail, u32::MAX)
     }
@@ -45,11 +53,7 @@ impl MemoryShelf {
         most: u32,
     ) -> Self
         requires { 1 ≤ most }
-        ensures holds { ⟦<MemoryShelf as Shelf>⟧.holds result ≡ Some (lookup files) }
-        ensures failed { ⟦<MemoryShelf as Shelf>⟧.failed result ≡ [] }
-        ensures fail { result.fail ≡ fail }
-        ensures calls { result.calls ≡ 0 }
-        ensures drip { result.drip ≡ most }
+        ensures { result ≡ new_files files fail most }
     {
         MemoryShelf {
             alloc,
@@ -77,23 +81,18 @@ fn find<'a>(files: &'a [(List<u8>, List<u8>)], name: &[u8]) -> Option<&'a List<u
 }
 
 impl Shelf for MemoryShelf {
-    ghost holds = { λ s. Some (lookup s.files) };
-
-    ghost failed = { λ s. s.failed };
+    ghost state = { state_of_files };
 
     /// Fails where this call's number is among those that fail, or the name is not held; else gives
     /// what the file has from the place on, as much as one call may give.
     fn read(&mut self, name: &str, at: u64, into: &mut Vec<u8>, most: u32) -> Taken
-        requires some { 1 ≤ most }
-        requires place { at ≤ 2 ^ 40 }
+        requires { 1 ≤ most }
         ensures grows { Grows most into.old.items into.new.items result }
-        ensures bytes { Reads (Some (lookup self.old.files)) name.now at into.old.items
-            into.new.items result }
-        ensures failed { self.new.failed ≡ failed_after result name.now self.old.failed }
-        ensures serves { Serves (list_any (λ n. n == self.new.calls) self.old.fail)
-            (lookup self.old.files name.now) at (min most self.old.drip) result }
-        ensures same { self.new
-            ≡ record self.old { calls = next_call self.old.calls; failed = self.new.failed } }
+        ensures bytes { Reads (state_of_files self.old).holds name.now at
+            into.old.items into.new.items result }
+        ensures serves { Serves (fails_next self.old.script) (lookup self.old.files name.now)
+            at (min most self.old.most) result }
+        ensures after { self.new ≡ files_after result name.now self.old }
     {
         self.calls = self.calls.saturating_add(1);
         if self.fail.as_slice().contains(&self.calls) {

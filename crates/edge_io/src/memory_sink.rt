@@ -1,12 +1,12 @@
-// A sink in memory, whose puts fail where they are told to.
-ghost use Rattle.std.specs.Prelude.{◌≡◌, ◌+◌, ◌-◌, ◌^◌, ◌==◌, [], Some, min};
-ghost use Rattle.std.specs.List.{list_any};
-ghost use Rattle.edge_io.specs.Memory.{Takes, next_call};
+// A sink in memory, whose puts fail where they are told to. Serves tests; decided by `Takes`.
+ghost use Rattle.std.specs.Prelude.{◌≡◌, Some};
+ghost use Rattle.edge_io.specs.Memory.{BytesInMemory, Takes, fails_next, new_bytes, state_of_bytes};
 ghost use Rattle.edge_io.specs.Sink.{Puts};
 
 use crate::{Put, Sink};
 use polyline_geometry::List;
 use std::alloc::Global;
+use std::marker::Model;
 
 /// A sink in memory. It tells what was written.
 #[derive(Drop)]
@@ -15,16 +15,23 @@ pub struct MemorySink {
     fail: List<u64>,
     calls: u64,
     bytes: Vec<u8>,
-    faults: u64,
+    pub(crate) faults: u64,
+}
+
+impl Model for MemorySink {
+    ghost Value = { BytesInMemory };
+
+    ghost view = { λ s. record {
+      bytes = s.bytes.items;
+      faults = s.faults;
+      script = record { fail = s.fail; calls = s.calls };
+    } };
 }
 
 impl MemorySink {
     /// An empty sink, whose puts of the numbers `fail` fail, counted from 1.
     pub fn new(alloc: Global, fail: List<u64>) -> Self
-        ensures written { ⟦<MemorySink as Sink>⟧.written result ≡ Some [] }
-        ensures faults { ⟦<MemorySink as Sink>⟧.faults result ≡ 0 }
-        ensures fail { result.fail ≡ fail }
-        ensures calls { result.calls ≡ 0 }
+        ensures { result ≡ new_bytes fail }
     {
         MemorySink {
             fail,
@@ -36,30 +43,24 @@ impl MemorySink {
 
     /// What was written.
     pub fn bytes(&self) -> &[u8]
-        ensures { ⟦<MemorySink as Sink>⟧.written self.now ≡ Some result.now }
+        ensures { result.now ≡ self.now.bytes }
     {
         self.bytes.as_slice()
     }
 }
 
 impl Sink for MemorySink {
-    ghost written = { λ s. Some s.bytes.items };
-
-    ghost faults = { λ s. s.faults };
+    ghost state = { state_of_bytes };
 
     /// Fails where this put's number is among those that fail, and then writes the first half
-    /// of the piece.
-    fn put(&mut self, piece: &[u8]) -> Put
-        ensures puts { Puts (Some self.old.bytes.items) (Some self.new.bytes.items) self.old.faults
-            self.new.faults piece.now result }
-        ensures takes { Takes (list_any (λ n. n == self.new.calls) self.old.fail)
-            self.old.bytes.items self.new.bytes.items piece.now result }
-        ensures calls { self.new.calls ≡ next_call self.old.calls }
-        ensures fail { self.new.fail ≡ self.old.fail }
+    /// of the text.
+    fn put(&mut self, text: &[u8]) -> Put
+        ensures puts { Puts (state_of_bytes self.old) (state_of_bytes self.new) text.now result }
+        ensures takes { Takes (fails_next self.old.script) text.now self.old self.new result }
     {
         self.calls = self.calls.saturating_add(1);
         if self.fail.as_slice().contains(&self.calls) {
-            let half = &piece[..piece.len() / 2];
+            let half = &text[..text.len() / 2];
             return match self.bytes.extend_from_slice(half) {
                 Ok(()) => {
                     self.faults = self.faults.saturating_add(1);
@@ -68,7 +69,7 @@ impl Sink for MemorySink {
                 Err(_) => Put::NoMemory,
             };
         }
-        match self.bytes.extend_from_slice(piece) {
+        match self.bytes.extend_from_slice(text) {
             Ok(()) => Put::All,
             Err(_) => Put::NoMemory,
         }

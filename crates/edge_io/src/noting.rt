@@ -1,6 +1,6 @@
-// The note of a failed read.
-ghost use Rattle.std.specs.Prelude.{◌≡◌, ◌++◌, ◌∷◌, [], OnOk, OnErr};
-ghost use Rattle.edge_io.specs.Shelf.{IsNotRead, failed_after};
+// The note of a failed read. Serves the shelves; decided by `shelf_after`.
+ghost use Rattle.std.specs.Prelude.{◌≡◌, ◌++◌, ◌∷◌, [], None, OnOk, OnErr};
+ghost use Rattle.edge_io.specs.Shelf.{IsNotRead, shelf_after};
 
 use crate::Taken;
 use polyline_geometry::List;
@@ -18,7 +18,8 @@ fn note(alloc: Global, failed: &mut List<List<u8>>, name: &str) -> Result<(), Al
 
 /// Notes the name of a read that failed, and gives the read's answer.
 pub fn fail_read(alloc: Global, failed: &mut List<List<u8>>, name: &str) -> Taken
-    ensures noted { failed.new ≡ failed_after result name.now failed.old }
+    ensures noted { failed.new
+        ≡ (shelf_after result name.now (record { holds = None; failed = failed.old })).failed }
     ensures fault { IsNotRead result }
 {
     match note(alloc, failed, name) {

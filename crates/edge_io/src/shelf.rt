@@ -1,7 +1,7 @@
-// A shelf of named files.
-ghost use Rattle.std.specs.Prelude.{◌≡◌, ◌≤◌, ◌^◌, ℕ, List};
-ghost use Rattle.std.specs.declared.option.Option.{Option};
-ghost use Rattle.edge_io.specs.Shelf.{Grows, Reads, failed_after};
+// A shelf of named files. Serves every program that reads; decided by `Reads` and `shelf_after`.
+ghost use Rattle.std.specs.Prelude.{◌≡◌, ◌≤◌, ◌^◌};
+ghost use Rattle.edge_io.specs.Shelf.{Grows, Reads, shelf_after};
+ghost use Rattle.edge_io.specs.State.{ShelfState};
 
 /// What a read answers.
 #[derive(Clone, Copy, Debug, PartialEq, Eq)]
@@ -18,12 +18,8 @@ pub enum Taken {
 
 /// A shelf of named files. What it holds does not change.
 pub trait Shelf {
-    /// The bytes of each name, or `None` where the name is not held; `None` as a whole where the
-    /// shelf tells nothing.
-    ghost holds: { Self → Option (List ℕ → Option (List ℕ)) };
-
-    /// The names of the reads that failed, in their order.
-    ghost failed: { Self → List (List ℕ) };
+    /// What it holds, where it tells it, and the names of the reads that failed.
+    ghost state: { Self → ShelfState };
 
     /// Appends bytes of a file from the place `at` on, at least one and at most `most`.
     /// They may be fewer than the file has, so a file is read by calling again behind what
@@ -32,7 +28,7 @@ pub trait Shelf {
         requires some { 1 ≤ most }
         requires place { at ≤ 2 ^ 40 }
         ensures grows { Grows most into.old.items into.new.items result }
-        ensures bytes { Reads (holds self.old) name.now at into.old.items into.new.items result }
-        ensures failed { failed self.new ≡ failed_after result name.now (failed self.old) }
-        ensures holds { holds self.new ≡ holds self.old };
+        ensures bytes { Reads (state self.old).holds name.now at
+            into.old.items into.new.items result }
+        ensures state { state self.new ≡ shelf_after result name.now (state self.old) };
 }

@@ -1,14 +1,13 @@
-// A place that bytes are written to.
-ghost use Rattle.std.specs.Prelude.{ℕ, List};
-ghost use Rattle.std.specs.declared.option.Option.{Option};
+// A place that bytes are written to. Serves every program that writes; decided by `Puts`.
 ghost use Rattle.edge_io.specs.Sink.{Puts};
+ghost use Rattle.edge_io.specs.State.{SinkState};
 
 /// What a put answers.
 #[derive(Clone, Copy, Debug, PartialEq, Eq)]
 pub enum Put {
-    /// The whole piece was written.
+    /// The whole text was written.
     All,
-    /// A prefix of the piece was written, and the fault was counted.
+    /// A prefix of the text was written, and the fault was counted.
     Failed,
     /// There was no memory, and nothing was written.
     NoMemory,
@@ -16,14 +15,10 @@ pub enum Put {
 
 /// A place that bytes are written to, in their order.
 pub trait Sink {
-    /// What was written, where the sink tells it.
-    ghost written: { Self → Option (List ℕ) };
+    /// What was written, where it tells it, and how many puts failed. The count stays at 2^64 - 1.
+    ghost state: { Self → SinkState };
 
-    /// How many puts failed. The count stands still at 2^64 - 1.
-    ghost faults: { Self → ℕ };
-
-    /// Writes the piece behind what was written.
-    fn put(&mut self, piece: &[u8]) -> Put
-        ensures { Puts (written self.old) (written self.new) (faults self.old) (faults self.new)
-            piece.now result };
+    /// Writes the text behind what was written.
+    fn put(&mut self, text: &[u8]) -> Put
+        ensures { Puts (state self.old) (state self.new) text.now result };
 }

@@ -1,11 +1,13 @@
-// A stream that is written to. Nothing is known of what it took.
+// A stream that is written to. Serves the program's `main`; decided by the clause of `Sink::put`, which
+// says nothing of what a stream took.
 ghost use Rattle.std.specs.Prelude.{◌≡◌, None};
+ghost use Rattle.edge_io.specs.State.{new_sink};
 
 use crate::{Put, Sink};
 use std::io;
 use std::io::Write;
 
-/// A stream that is written to, and flushed after each piece.
+/// A stream that is written to, and flushed after each text.
 #[derive(Drop)]
 pub struct StreamSink<W: Write + Drop> {
     stream: W,
@@ -15,25 +17,23 @@ pub struct StreamSink<W: Write + Drop> {
 impl<W: Write + Drop> StreamSink<W> {
     /// A sink over the stream.
     pub fn new(stream: W) -> Self
-        ensures { ⟦<StreamSink<W> as Sink>⟧.faults result ≡ 0 }
+        ensures { ⟦<StreamSink<W> as Sink>⟧.state result ≡ new_sink None }
     {
         StreamSink { stream, faults: 0 }
     }
 }
 
-// Writes a piece and flushes.
-fn write_flushed<W: Write>(stream: &mut W, piece: &[u8]) -> io::Result<()> {
-    stream.write_all(piece)?;
+// Writes a text and flushes.
+fn write_flushed<W: Write>(stream: &mut W, text: &[u8]) -> io::Result<()> {
+    stream.write_all(text)?;
     stream.flush()
 }
 
 impl<W: Write + Drop> Sink for StreamSink<W> {
-    ghost written = { λ _. None };
+    ghost state = { λ s. record { written = None; faults = s.faults } };
 
-    ghost faults = { λ s. s.faults };
-
-    fn put(&mut self, piece: &[u8]) -> Put {
-        match write_flushed(&mut self.stream, piece) {
+    fn put(&mut self, text: &[u8]) -> Put {
+        match write_flushed(&mut self.stream, text) {
             Ok(()) => Put::All,
             Err(_) => {
                 self.faults = self.faults.saturating_add(1);

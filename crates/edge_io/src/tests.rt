@@ -1,16 +1,12 @@
 use super::*;
+use crate::file_shelf::read_again;
 use polyline_geometry::List;
 use std::alloc::{AllocError, Global};
-use std::fs;
+use std::io::{BufWriter, ErrorKind, Read};
 use std::test::Fail;
+use std::{fs, io};
 
-fn list(alloc: Global, items: &[u8]) -> Result<List<u8>, AllocError> {
-    let mut list = List::new(alloc);
-    list.extend_from_slice(items)?;
-    Ok(list)
-}
-
-fn numbers(alloc: Global, items: &[u64]) -> Result<List<u64>, AllocError> {
+fn list<T: Copy>(alloc: Global, items: &[T]) -> Result<List<T>, AllocError> {
     let mut list = List::new(alloc);
     list.extend_from_slice(items)?;
     Ok(list)
@@ -28,14 +24,14 @@ fn read<S: Shelf + Send>(shelf: &mut S, name: &str, at: u32, into: &mut Vec<u8>)
     shelf.read(name, u64::from(at), into, 2)
 }
 
-fn put<K: Sink>(sink: &mut K, piece: &[u8]) -> Put {
-    sink.put(piece)
+fn put<K: Sink>(sink: &mut K, text: &[u8]) -> Put {
+    sink.put(text)
 }
 
 #[test]
 fn a_shelf_in_memory_brings_a_file_in_parts(rt: HostRuntime) -> Result<(), Fail> {
     let alloc = rt.alloc();
-    let mut shelf = MemoryShelf::new(alloc, files(alloc)?, numbers(alloc, &[5])?);
+    let mut shelf = MemoryShelf::new(alloc, files(alloc)?, list(alloc, &[5])?);
     let mut into = Vec::new(alloc);
     let answers = [
         ("a", 0, Taken::Got(2)),
@@ -49,6 +45,7 @@ fn a_shelf_in_memory_brings_a_file_in_parts(rt: HostRuntime) -> Result<(), Fail>
         assert_eq!(rt; read(&mut shelf, name, at, &mut into), answer);
     }
     assert_eq!(rt; into.as_slice(), b"xyzyz".as_slice());
+    assert_eq!(rt; shelf.failed.len(), 2);
     Ok(())
 }
 
@@ -66,41 +63,73 @@ fn a_dripping_shelf_gives_no_more_than_its_most(rt: HostRuntime) -> Result<(), F
 }
 
 #[test]
-fn a_put_that_fails_writes_half(rt: HostRuntime) -> Result<(), Fail> {
+fn a_put_that_fails_writes_half_and_is_counted(rt: HostRuntime) -> Result<(), Fail> {
     let alloc = rt.alloc();
-    let mut sink = MemorySink::new(alloc, numbers(alloc, &[1])?);
+    let mut sink = MemorySink::new(alloc, list(alloc, &[1])?);
     assert_eq!(rt; put(&mut sink, b"abcd"), Put::Failed);
     assert_eq!(rt; sink.bytes(), b"ab".as_slice());
     assert_eq!(rt; put(&mut sink, b"wxyz"), Put::All);
     assert_eq!(rt; sink.bytes(), b"abwxyz".as_slice());
+    assert_eq!(rt; sink.faults, 1);
     Ok(())
 }
 
+// The file `here` is read from its start on as it was opened, whatever takes its name meanwhile.
 #[test]
-fn a_real_file_is_read_and_a_missing_one_is_a_fault(rt: HostRuntime) -> Result<(), Fail> {
+fn a_real_file_is_read_on_where_it_is_open(rt: HostRuntime) -> Result<(), Fail> {
     let alloc = rt.alloc();
     fs::write(&rt, "here", "xyz")?;
+    fs::write(&rt, "other", "uvw")?;
     let mut shelf = FileShelf::new(alloc, rt);
     let mut into = Vec::new(alloc);
+    assert_eq!(rt; read(&mut shelf, "here", 0, &mut into), Taken::Got(2));
+    fs::rename(&rt, "other", "here")?;
     let answers = [
-        ("here", 0, Taken::Got(2)),
         ("here", 2, Taken::Got(1)),
         ("here", 3, Taken::End),
+        ("here", 1, Taken::Got(2)),
         ("gone", 0, Taken::Failed),
+        ("gone", 3, Taken::Failed),
     ];
     for (name, at, answer) in answers {
         assert_eq!(rt; read(&mut shelf, name, at, &mut into), answer);
     }
-    assert_eq!(rt; into.as_slice(), b"xyz".as_slice());
+    assert_eq!(rt; into.as_slice(), b"xyzvw".as_slice());
+    Ok(())
+}
+
+// A reader whose first reads are interrupted.
+#[derive(Drop)]
+struct Interrupted {
+    times: u32,
+}
+
+impl Read for Interrupted {
+    fn read(&mut self, buffer: &mut [u8]) -> io::Result<usize> {
+        if self.times == 0 {
+            return Ok(buffer.len());
+        }
+        self.times -= 1;
+        Err(io::Error::from(ErrorKind::Interrupted))
+    }
+}
+
+#[test]
+fn an_interrupted_read_is_tried_again(rt: HostRuntime) -> Result<(), Fail> {
+    let mut buffer = [0u8; 3];
+    let count = read_again(&mut Interrupted { times: 2 }, &mut buffer)?;
+    assert_eq!(rt; count, 3);
     Ok(())
 }
 
 #[test]
-fn a_stream_takes_whole_pieces(rt: HostRuntime) -> Result<(), Fail> {
-    let mut sink = StreamSink::new(fs::create(&rt, "there")?);
-    assert_eq!(rt; put(&mut sink, b"ab"), Put::All);
-    assert_eq!(rt; put(&mut sink, b"c"), Put::All);
-    let text = fs::read_to_string(&rt, "there")?;
-    assert_eq!(rt; text.as_str(), "abc");
+fn a_stream_is_flushed_after_each_text(rt: HostRuntime) -> Result<(), Fail> {
+    let stream = BufWriter::new(rt.alloc(), fs::create(&rt, "there")?)?;
+    let mut sink = StreamSink::new(stream);
+    for (text, whole) in [(b"ab".as_slice(), "ab"), (b"c".as_slice(), "abc")] {
+        assert_eq!(rt; put(&mut sink, text), Put::All);
+        let written = fs::read_to_string(&rt, "there")?;
+        assert_eq!(rt; written.as_str(), whole);
+    }
     Ok(())
 }

@@ -1,9 +1,1 @@
-pub mod TraceLayers
-pub mod Points
-pub mod Ranks
-pub mod ChosenEnds
-pub mod LabelLists
-pub mod RouteNames
-pub mod Asked
-pub mod Lawful
-pub mod Matched
+pub mod Found

@@ -1,2 +1,1 @@
-pub mod Match
-pub mod Ranked
+pub mod Answers

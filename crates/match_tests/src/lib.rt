@@ -1,5 +1,6 @@
-//! Tests that cross crates: small traces, matched and followed to their roads.
+//! Tests that cross crates: small traces, matched over own rows and over rows that refuse a call. What
+//! the program alone can show, `tests/cases` has.
 #![tactic(auto)]
 
 #[cfg(test)]
-mod roads;
+mod traces;

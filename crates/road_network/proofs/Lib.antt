@@ -12,3 +12,5 @@ pub mod Records
 pub mod RowsRead
 pub mod Stored
 pub mod Travel
+mod KeptNames
+pub mod NearOrder

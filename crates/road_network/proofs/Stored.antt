@@ -11,6 +11,7 @@ use Rattle.polyline_geometry.specs.Plane.{line_length}
 use Rattle.polyline_geometry.specs.Offsets.{line_offsets}
 use Rattle.polyline_geometry.proofs.OffsetLists.{length-line_offsets}
 use Rattle.road_network.specs.declared.StoredEdge.{StoredEdge}
+use Rattle.road_network.specs.EdgeNames.{names_of}
 use Rattle.road_network.specs.Drafted.{BelongTogether}
 use Rattle.road_network.specs.Net.{Edge, Net, IsLawful, point_count}
 use Rattle.road_network.specs.NetworkFile.{Row, edge_with, has_name, limit_faults, nodes_with, place_of, with_row}
@@ -56,10 +57,13 @@ known : (points : List Point) (name : ℕ) (edges : List StoredEdge) → list_an
 known points name [] = refl
 known points name (e ∷ edges) = ap (λ b. nat_eq name e.name || b) (known points name edges)
 
--- the names that are kept tell whether an edge has a name
-pub name-known : (nodes names : List ℕ) (edges : List StoredEdge) (points : List Point) (name : ℕ) → names ≡ map (λ e. e.name) edges
-    → list_any (nat_eq name) names ≡ has_name (net_of nodes edges points) name
-name-known nodes names edges points name h = rw h (known points name edges)
+-- the names of the stored edges are those of the network's edges
+pub name-known : (nodes : List ℕ) (edges : List StoredEdge) (points : List Point) (name : ℕ)
+    → list_any (nat_eq name) (names_of edges) ≡ has_name (net_of nodes edges points) name
+name-known nodes edges points name = known points name edges
+
+pub names-more : (edges : List StoredEdge) (e : StoredEdge) (name : ℕ) → e.name ≡ name → names_of (edges ++ e ∷ []) ≡ names_of edges ++ name ∷ []
+names-more edges e name h = rw (map-append (λ (x : StoredEdge). x.name) edges (e ∷ []), h) refl
 
 -- the stored edge of a row
 pub record IsStoredRow (nodes : List ℕ) (points : List Point) (r : Row) (e : StoredEdge) : Type 0 where
@@ -79,10 +83,10 @@ pub net-grown : (nodes : List ℕ) (edges : List StoredEdge) (points : List Poin
 net-grown nodes edges points r e stored h =
     rw (map-append (edge_of (points ++ r.line)) edges (e ∷ []), edges-kept points r.line edges stored, edge-new (nodes_with nodes r) points r e h) refl
 
-pub grown : (nodes names : List ℕ) (edges : List StoredEdge) (points : List Point) (r : Row) (e : StoredEdge) → BelongTogether nodes names edges points
+pub grown : (nodes : List ℕ) (edges : List StoredEdge) (points : List Point) (r : Row) (e : StoredEdge) → BelongTogether nodes edges points
     → IsFaultless (net_of nodes edges points) r → IsStoredRow (nodes_with nodes r) points r e
-    → BelongTogether (nodes_with nodes r) (names ++ r.name ∷ []) (edges ++ e ∷ []) (points ++ r.line)
-grown nodes names edges points r e h f is =
+    → BelongTogether (nodes_with nodes r) (edges ++ e ∷ []) (points ++ r.line)
+grown nodes edges points r e h f is =
     let net = net-grown nodes edges points r e h.stored is in
     record {
       lawful = subst IsLawful (sym net) (lawful-more (net_of nodes edges points) r h.lawful f);
@@ -93,7 +97,6 @@ grown nodes names edges points r e h f is =
             within = omega (arith, is.end, length-append points r.line);
             measured = rw (is.measured, is.first, is.end, range-new points r.line) refl;
           });
-      named = rw (map-append (λ (x : StoredEdge). x.name) edges (e ∷ []), h.named, is.name) refl;
       count = length-append points r.line ∙ ap (λ k. k + length r.line) h.count ∙ sym (points-more (net_of nodes edges points) r)
           ∙ ap (λ (k : Net). point_count k.edges) (sym net);
     }

@@ -4,6 +4,7 @@ use Rattle.std.specs.List.{All}
 use Rattle.polyline_geometry.specs.declared.plane.Point.{Point}
 use Rattle.road_network.specs.declared.StoredEdge.{StoredEdge}
 use Rattle.road_network.specs.declared.draft.Draft.{Draft}
+use Rattle.road_network.specs.EdgeNames.{AreNames, names_of}
 use Rattle.road_network.specs.Net.{Net, IsLawful, point_count}
 use Rattle.road_network.specs.Stored.{AreOffsets, IsStored, edge_of, net_of}
 
@@ -11,16 +12,15 @@ use Rattle.road_network.specs.Stored.{AreOffsets, IsStored, edge_of, net_of}
 abbrev pub drafted : Draft → Net
 drafted d = net_of d.nodes.keys d.edges d.points
 
--- the names of the nodes and the edges, the stored edges and the points of all lines belong
--- together
-pub record BelongTogether (nodes names : List ℕ) (edges : List StoredEdge)
+-- the names of the nodes, the stored edges and the points of all lines belong together
+pub record BelongTogether (nodes : List ℕ) (edges : List StoredEdge)
     (points : List Point) : Type 0 where
   pub lawful : IsLawful (net_of nodes edges points)
   pub stored : All (IsStored points) edges
-  pub named : names ≡ map (λ e. e.name) edges
   pub count : length points ≡ point_count (map (edge_of points) edges)
 
 -- what every draft meets, until a fault is found
 pub record IsDraft (d : Draft) : Type 0 where
-  pub parts : BelongTogether d.nodes.keys d.names.keys d.edges d.points
+  pub parts : BelongTogether d.nodes.keys d.edges d.points
+  pub names : AreNames d.names (names_of d.edges)
   pub offsets : AreOffsets d.points d.edges d.offsets

@@ -8,3 +8,5 @@ pub mod FaultLine
 pub mod Rows
 pub mod Between
 pub mod Drafted
+pub mod EdgeNames
+pub mod NearLaws

@@ -8,6 +8,7 @@ ghost use Rattle.road_network.specs.Drafted.{drafted, IsDraft};
 ghost use Rattle.road_network.specs.Rows.{row_with};
 
 use crate::counting::{arcs_of, place_edges, starts_of};
+use crate::edge_names::note_name;
 use crate::fault::NetworkFault;
 use crate::{EdgeId, Network, NodeId, StoredEdge};
 use indexmap::IndexSet;
@@ -35,10 +36,11 @@ pub(crate) struct RowHead {
 #[derive(Drop)]
 pub(crate) struct Draft {
     nodes: IndexSet<u64>,
-    names: IndexSet<u32>,
+    names: Option<IndexSet<u32>>,
     edges: List<StoredEdge>,
     points: List<Point>,
     offsets: List<u32>,
+    alloc: Global,
 }
 
 /// The place, from 1, of the first point that equals the one before it.
@@ -112,10 +114,11 @@ impl Draft {
     {
         Draft {
             nodes: IndexSet::new(alloc),
-            names: IndexSet::new(alloc),
+            names: None,
             edges: List::new(alloc),
             points: List::new(alloc),
             offsets: List::new(alloc),
+            alloc,
         }
     }
 
@@ -139,7 +142,12 @@ impl Draft {
             → add_row (drafted self.old) (row_with head.now line.now) ≡ Err e) }
     {
         let rec = self.next_record();
-        let (_, is_new) = self.names.insert_full(head.name)?;
+        let is_new = note_name(
+            self.alloc,
+            &mut self.names,
+            self.edges.as_slice(),
+            head.name,
+        )?;
         if !is_new {
             return Err(NetworkFault::DuplicateEdge(rec));
         }
@@ -173,6 +181,7 @@ impl Draft {
             edges,
             points,
             offsets,
+            alloc: _,
         } = self;
         let starts = starts_of(alloc, nodes.len(), edges.as_slice())?;
         let leaving = place_edges(alloc, starts.as_slice(), edges.as_slice())?;

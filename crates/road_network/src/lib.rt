@@ -19,14 +19,17 @@ ghost use Rattle.road_network.specs.Net.{Net, HasEdge, HasNode, IsLawful, arc_of
 
 mod counting;
 mod draft;
+mod edge_names;
 mod fault;
 mod fields;
 mod file;
+mod laws;
 #[cfg(test)]
 mod tests;
 
 pub use fault::NetworkFault;
 pub use file::read_network;
+pub use laws::{candidates_are_nearest, candidates_differ};
 use polyline_geometry::Point;
 use std::marker::Model;
 

@@ -1,7 +1,8 @@
 -- The edges of a route join, and their lengths add up.
-use Rattle.std.proofs.Common.{◌≡◌, ℕ, zero, suc, ◌+◌, ◌-◌, ◌≤◌, ◌++◌, List, [], ◌∷◌, reverse, refl, sym, ap, subst, ◌∙◌, arith, append_assoc}
+use Rattle.std.proofs.Common.{◌≡◌, ℕ, zero, suc, ◌+◌, ◌-◌, ◌≤◌, ◌++◌, List, [], ◌∷◌, reverse, Option, refl, sym, ap, subst, ◌∙◌, arith, append_assoc}
 use mathlib.Core.List.{reverse-cons}
 use Rattle.cost_model.specs.declared.params.Params.{Params}
+use Rattle.matching.specs.declared.parts.Layer.{Layer}
 use Rattle.matching.specs.declared.parts.Piece.{Piece}
 use Rattle.matching.specs.Layers.{IsCandidate}
 use Rattle.matching.specs.Routes.{Route, Direct, Over, IsRoute, route_length}
@@ -9,8 +10,10 @@ use Rattle.road_network.specs.Net.{Net, HasEdge, source, span, target}
 use Rattle.road_network.specs.Walk.{Leads, walk_length}
 use Rattle.road_network.specs.declared.Candidate.{Candidate}
 use Rattle.road_network.proofs.Travel.{leads_from_walk}
-use Rattle.route_rebuild.specs.Laws.{AddUp, AreCandidates, edges_length, move_back, LengthsAddUp, RoutesJoin}
-use Rattle.route_rebuild.specs.Routes.{GoesOn, chosen_at, edges_of}
+use Rattle.route_rebuild.specs.Chosen.{IsChosenRun}
+use Rattle.route_rebuild.specs.Laws.{AddsUp, AreTotals, IsJoinedRoute, RoutesAreJoined, edges_length, move_back}
+use Rattle.route_rebuild.specs.Routes.{AreLegs, IsRouteOf, chosen_at, edges_of, piece_at}
+use Rattle.route_rebuild.proofs.ChosenRun.{chosen_run}
 
 lead_on : (n : Net) (u m v : ℕ) (x y : List ℕ) → Leads n u x m → Leads n m y v → Leads n u (x ++ y) v
 lead_on n u m v [] y hx hy = subst (λ (k : ℕ). Leads n k y v) (sym hx) hy
@@ -26,10 +29,13 @@ step_leads n bound back a b (Over w) rest v is has on =
 abbrev Known : Net → Params → (ℕ → Candidate) → ℕ → ℕ → Type 0
 Known n p chosen i k = (j : ℕ) → i ≤ j → j ≤ i + k → IsCandidate n p (chosen j)
 
+known_run : (n : Net) (p : Params) (layers : List Layer) (ranks : List (Option ℕ)) (piece : Piece) → IsChosenRun n p layers ranks piece → Known n p (chosen_at layers ranks) piece.first (piece.last - piece.first)
+known_run n p layers ranks piece run j ge le = let some = run.some in run.candidates j ge (omega (arith, some, le))
+
 known_rest : (n : Net) (p : Params) (chosen : ℕ → Candidate) (i k : ℕ) → Known n p chosen i (suc k) → Known n p chosen (i + 1) k
 known_rest n p chosen i k are j ge le = are j (omega (arith, ge)) (omega (arith, le))
 
-joins : (n : Net) (p : Params) (chosen : ℕ → Candidate) (i k : ℕ) (es : List ℕ) → Known n p chosen i k → GoesOn n p.bound p.back chosen i k es → Leads n (target n (chosen i).edge.0) es (target n (chosen (i + k)).edge.0)
+joins : (n : Net) (p : Params) (chosen : ℕ → Candidate) (i k : ℕ) (es : List ℕ) → Known n p chosen i k → AreLegs n p.bound p.back chosen i k es → Leads n (target n (chosen i).edge.0) es (target n (chosen (i + k)).edge.0)
 joins n p chosen i zero es are h =
     let end : i ≡ i + 0 = omega arith in
     subst (λ (k : List ℕ). Leads n (target n (chosen i).edge.0) k (target n (chosen (i + 0)).edge.0)) (sym h) (ap (λ (k : ℕ). target n (chosen k).edge.0) end)
@@ -40,17 +46,17 @@ joins n p chosen i (suc k) es are (r, rest, is, eq, more) =
     subst (λ (q : List ℕ). Leads n (target n (chosen i).edge.0) q (target n (chosen (i + suc k)).edge.0)) (sym eq)
     (step_leads n p.bound p.back (chosen i) (chosen (i + 1)) r rest (target n (chosen (i + suc k)).edge.0) is.route (are (i + 1) (omega arith) (omega arith)).edge far)
 
-known_piece : (n : Net) (p : Params) (chosen : ℕ → Candidate) (piece : Piece) → piece.first ≤ piece.last → AreCandidates n p chosen piece → Known n p chosen piece.first (piece.last - piece.first)
-known_piece n p chosen piece some are j ge le = are j ge (omega (arith, some, le))
-
-pub routes_join : RoutesJoin
-routes_join n p layers ranks piece es some are is =
+-- neighbouring edges of a route join
+joined : (n : Net) (p : Params) (layers : List Layer) (ranks : List (Option ℕ)) (piece : Piece) (es : List ℕ) → IsChosenRun n p layers ranks piece → IsRouteOf n p layers ranks piece es
+    → Leads n (source n (chosen_at layers ranks piece.first).edge.0) es (target n (chosen_at layers ranks piece.last).edge.0)
+joined n p layers ranks piece es run is =
     let chosen : ℕ → Candidate = chosen_at layers ranks in
+    let some = run.some in
     let end : piece.first + (piece.last - piece.first) ≡ piece.last = omega (arith, some) in
-    let on = joins n p chosen piece.first (piece.last - piece.first) is.rest (known_piece n p chosen piece some are) is.goes_on in
+    let on = joins n p chosen piece.first (piece.last - piece.first) is.rest (known_run n p layers ranks piece run) is.legs-are in
     let far : Leads n (target n (chosen piece.first).edge.0) is.rest (target n (chosen piece.last).edge.0) = subst (λ (q : ℕ). Leads n (target n (chosen piece.first).edge.0) is.rest (target n (chosen q).edge.0)) end on in
     subst (λ (q : List ℕ). Leads n (source n (chosen piece.first).edge.0) q (target n (chosen piece.last).edge.0)) (sym is.begins)
-    ((are piece.first (omega arith) some).edge, refl, far)
+    ((run.candidates piece.first (omega arith) some).edge, refl, far)
 
 length_append : (n : Net) (xs ys : List ℕ) → edges_length n (xs ++ ys) ≡ edges_length n xs + edges_length n ys
 length_append n [] ys = omega arith
@@ -72,10 +78,10 @@ step_length n bound back a b (Over w) is along =
 record Totals (n : Net) (p : Params) (chosen : ℕ → Candidate) (i k : ℕ) (es : List ℕ) : Type 0 where
   lengths : ℕ
   moves : ℕ
-  add_up : AddUp n p.bound p.back chosen i k lengths moves
+  add_up : AreTotals n p.bound p.back chosen i k lengths moves
   law : lengths + (chosen i).offset + (span n (chosen (i + k)).edge.0 - (chosen (i + k)).offset) ≡ span n (chosen i).edge.0 + edges_length n es + moves
 
-totals : (n : Net) (p : Params) (chosen : ℕ → Candidate) (i k : ℕ) (es : List ℕ) → Known n p chosen i k → GoesOn n p.bound p.back chosen i k es → Totals n p chosen i k es
+totals : (n : Net) (p : Params) (chosen : ℕ → Candidate) (i k : ℕ) (es : List ℕ) → Known n p chosen i k → AreLegs n p.bound p.back chosen i k es → Totals n p chosen i k es
 totals n p chosen i zero es are h =
     let end : chosen (i + 0) ≡ chosen i = ap chosen (let e : i + 0 ≡ i = omega arith in e) in
     let along : (chosen i).offset ≤ span n (chosen i).edge.0 = (are i (omega arith) (omega arith)).offset in
@@ -100,12 +106,27 @@ totals n p chosen i (suc k) es are (r, rest, is, eq, more) =
       law = omega (arith, t.law, step, spans, offsets, all);
     }
 
-pub lengths_add_up : LengthsAddUp
-lengths_add_up n p layers ranks piece es some are is =
+-- the lengths of the routes of a piece add up
+added_up : (n : Net) (p : Params) (layers : List Layer) (ranks : List (Option ℕ)) (piece : Piece) (es : List ℕ) → IsChosenRun n p layers ranks piece → IsRouteOf n p layers ranks piece es
+    → AddsUp n p (chosen_at layers ranks) piece es
+added_up n p layers ranks piece es run is =
     let chosen : ℕ → Candidate = chosen_at layers ranks in
-    let t : Totals n p chosen piece.first (piece.last - piece.first) is.rest = totals n p chosen piece.first (piece.last - piece.first) is.rest (known_piece n p chosen piece some are) is.goes_on in
+    let some = run.some in
+    let t : Totals n p chosen piece.first (piece.last - piece.first) is.rest = totals n p chosen piece.first (piece.last - piece.first) is.rest (known_run n p layers ranks piece run) is.legs-are in
     let end : chosen (piece.first + (piece.last - piece.first)) ≡ chosen piece.last = ap chosen (let e : piece.first + (piece.last - piece.first) ≡ piece.last = omega (arith, some) in e) in
     let spans : span n (chosen (piece.first + (piece.last - piece.first))).edge.0 ≡ span n (chosen piece.last).edge.0 = ap (λ (c : Candidate). span n c.edge.0) end in
     let offsets : (chosen (piece.first + (piece.last - piece.first))).offset ≡ (chosen piece.last).offset = ap (λ (c : Candidate). c.offset) end in
     let all : edges_length n es ≡ span n (chosen piece.first).edge.0 + edges_length n is.rest = ap (edges_length n) is.begins in
-    (t.lengths, t.moves, t.add_up, omega (arith, t.law, spans, offsets, all))
+    record { lengths = t.lengths; moves = t.moves; totals = t.add_up; law = omega (arith, t.law, spans, offsets, all) }
+
+-- both, of a run
+pub joined_route : (n : Net) (p : Params) (layers : List Layer) (ranks : List (Option ℕ)) (piece : Piece) (es : List ℕ) → IsChosenRun n p layers ranks piece → IsRouteOf n p layers ranks piece es
+    → IsJoinedRoute n p layers ranks piece es
+joined_route n p layers ranks piece es run is = record {
+  route = is;
+  joins = joined n p layers ranks piece es run is;
+  adds_up = added_up n p layers ranks piece es run is;
+}
+
+pub routes_joined : RoutesAreJoined
+routes_joined n p layers s k es lawful is lt route = joined_route n p layers s.ranks (piece_at s.pieces k) es (chosen_run n p layers s k lawful is lt) route

@@ -1,6 +1,5 @@
 pub mod StepsBack
-pub mod Learned
-pub mod RouteSoFar
 pub mod ChosenRun
-pub mod Joining
 pub mod RouteValue
+pub mod RouteSoFar
+pub mod Joining

@@ -3,61 +3,105 @@ use Rattle.std.proofs.Common.{◌≡◌, ℕ, suc, ◌+◌, ◌-◌, ◌<◌, �
 use Rattle.std.proofs.lemmas.List.{append-nil, reverse-reverse}
 use Rattle.road_network.specs.declared.Candidate.{Candidate}
 use Rattle.road_network.specs.declared.EdgeId.{EdgeId}
-use Rattle.road_network.specs.Net.{Net, source, target}
-use Rattle.road_network.specs.Walk.{IsLeastWalk, IsWalk, walk_length}
+use Rattle.road_network.specs.Net.{Net, IsLawful, source, target}
+use Rattle.road_network.specs.Walk.{IsLeastWalk, walk_length}
 use Rattle.matching.specs.Routes.{Route, Direct, Over, IsRoute, IsTheRoute}
-use Rattle.matching.proofs.Routes.{over_route}
+use Rattle.matching.proofs.Routes.{direct_route, over_route}
 use Rattle.route_rebuild.specs.Numbers.{numbers}
-use Rattle.route_rebuild.specs.Routes.{GoesOn, edges_of}
+use Rattle.route_rebuild.specs.Routes.{AreLegs, edges_of}
+use Rattle.route_rebuild.specs.Runs.{HasWalk, IsLegAdded, IsRouteOfRun, chosen_in}
+use Rattle.route_rebuild.specs.declared.run.Run.{Run}
+use Rattle.route_rebuild.proofs.RouteValue.{route_found}
 
--- es is the route over the points from `first` to i; with what goes on from there it is the route to `last`
-pub record IsSoFar (n : Net) (bound back : ℕ) (chosen : ℕ → Candidate) (first last i : ℕ) (es : List ℕ) : Type 0 where
+-- es is the route over the points from the run's first to i; with the legs from there it is the route over the run
+pub record IsSoFar (run : Run) (i : ℕ) (es : List ℕ) : Type 0 where
   pub tail : List ℕ
-  pub begins : es ≡ (chosen first).edge.0 ∷ tail
-  pub go_on : (rest : List ℕ) → GoesOn n bound back chosen i (last - i) rest → GoesOn n bound back chosen first (last - first) (tail ++ rest)
+  pub begins : es ≡ (chosen_in run run.piece.first).edge.0 ∷ tail
+  pub legs : (rest : List ℕ) → AreLegs run.net.now run.params.now.bound run.params.now.back (chosen_in run) i (run.piece.last - i) rest
+      → AreLegs run.net.now run.params.now.bound run.params.now.back (chosen_in run) run.piece.first (run.piece.last - run.piece.first) (tail ++ rest)
 
-pub so_far_start : (n : Net) (bound back : ℕ) (chosen : ℕ → Candidate) (first last : ℕ) (es : List ℕ) → es ≡ (chosen first).edge.0 ∷ [] → IsSoFar n bound back chosen first last first es
-so_far_start n bound back chosen first last es is = record { tail = []; begins = is; go_on = λ rest h. h }
-
-pub so_far_more : (n : Net) (bound back : ℕ) (chosen : ℕ → Candidate) (first last i : ℕ) (es more : List ℕ) (r : Route) → i < last → IsSoFar n bound back chosen first last i es
-    → IsTheRoute n bound back (chosen i) (chosen (i + 1)) r → more ≡ es ++ edges_of (chosen (i + 1)) r → IsSoFar n bound back chosen first last (i + 1) more
-so_far_more n bound back chosen first last i es more r lt far is new =
-    let edges : List ℕ = edges_of (chosen (i + 1)) r in
+pub so_far_more : (run : Run) (i : ℕ) (es more : List ℕ) → i < run.piece.last → IsSoFar run i es → IsLegAdded run i es more → IsSoFar run (i + 1) more
+so_far_more run i es more lt far leg =
+    let n = run.net.now in
+    let bound = run.params.now.bound in
+    let back = run.params.now.back in
+    let first = run.piece.first in
+    let last = run.piece.last in
+    let edges : List ℕ = edges_of (chosen_in run (i + 1)) leg.route in
     let count : suc (last - (i + 1)) ≡ last - i = omega (arith, lt) in
     record {
       tail = far.tail ++ edges;
-      begins = new ∙ ap (λ (k : List ℕ). k ++ edges) far.begins;
-      go_on = λ rest h.
-          subst (λ (k : List ℕ). GoesOn n bound back chosen first (last - first) k) (sym (append_assoc far.tail edges rest))
-          (far.go_on (edges ++ rest) (subst (λ (k : ℕ). GoesOn n bound back chosen i k (edges ++ rest)) count (r, rest, is, refl, h)));
+      begins = leg.added ∙ ap (λ (k : List ℕ). k ++ edges) far.begins;
+      legs = λ rest h.
+          subst (λ (k : List ℕ). AreLegs n bound back (chosen_in run) first (last - first) k) (sym (append_assoc far.tail edges rest))
+          (far.legs (edges ++ rest) (subst (λ (k : ℕ). AreLegs n bound back (chosen_in run) i k (edges ++ rest)) count (leg.route, rest, leg.is, refl, h)));
     }
 
-pub so_far_end : (n : Net) (bound back : ℕ) (chosen : ℕ → Candidate) (first last : ℕ) (es : List ℕ) → (far : IsSoFar n bound back chosen first last last es) → GoesOn n bound back chosen first (last - first) far.tail
-so_far_end n bound back chosen first last es far =
-    let none : 0 ≡ last - last = omega arith in
-    subst (λ (k : List ℕ). GoesOn n bound back chosen first (last - first) k) (append-nil far.tail)
-    (far.go_on [] (subst (λ (k : ℕ). GoesOn n bound back chosen last k []) none refl))
+pub so_far_end : (run : Run) (i : ℕ) (es : List ℕ) → i ≡ run.piece.last → IsSoFar run i es → IsRouteOfRun run es
+so_far_end run i es at far =
+    let n = run.net.now in
+    let bound = run.params.now.bound in
+    let back = run.params.now.back in
+    let first = run.piece.first in
+    let last = run.piece.last in
+    let none : 0 ≡ last - i = omega (arith, at) in
+    record {
+      rest = far.tail;
+      begins = far.begins;
+      legs-are = subst (λ (k : List ℕ). AreLegs n bound back (chosen_in run) first (last - first) k) (append-nil far.tail)
+          (far.legs [] (subst (λ (k : ℕ). AreLegs n bound back (chosen_in run) i k []) none refl));
+    }
 
 -- where no route is direct, there is a walk within the bound
-pub walk_of : (n : Net) (bound back : ℕ) (a b : Candidate) (r : Route) → IsRoute n bound back a b r → (IsRoute n bound back a b Direct → ⊥) → (w : List ℕ) × IsWalk n (target n a.edge.0) w (source n b.edge.0) × (walk_length n w ≤ bound)
+walk_of : (n : Net) (bound back : ℕ) (a b : Candidate) (r : Route) → IsRoute n bound back a b r → (IsRoute n bound back a b Direct → ⊥) → HasWalk n bound a.edge.0 b.edge.0
 walk_of n bound back a b Direct is none = absurd (none is)
 walk_of n bound back a b (Over w) is none = (w, is.0, is.1)
 
 -- and the route is over the least
-pub least_route : (n : Net) (bound back : ℕ) (a b : Candidate) (r : Route) (w : List ℕ) → IsRoute n bound back a b r → (IsRoute n bound back a b Direct → ⊥) → IsLeastWalk n (target n a.edge.0) w (source n b.edge.0) → IsTheRoute n bound back a b (Over w)
-least_route n bound back a b r w is none least =
-    let found = walk_of n bound back a b r is none in
+least_route : (n : Net) (bound back : ℕ) (a b : Candidate) (w : List ℕ) → HasWalk n bound a.edge.0 b.edge.0 → (IsRoute n bound back a b Direct → ⊥) → IsLeastWalk n (target n a.edge.0) w (source n b.edge.0) → IsTheRoute n bound back a b (Over w)
+least_route n bound back a b w found none least =
     let within : walk_length n w ≤ bound = elim (least.least found.0 found.1) [ inl lt ↦ omega (arith, lt, found.2) | inr p ↦ omega (arith, p.0, found.2) ] in
     over_route n bound back a b w none least within
 
-pub numbers_append : (xs ys : List EdgeId) → numbers (xs ++ ys) ≡ numbers xs ++ numbers ys
+numbers_append : (xs ys : List EdgeId) → numbers (xs ++ ys) ≡ numbers xs ++ numbers ys
 numbers_append [] ys = refl
 numbers_append (x ∷ xs) ys = ap (λ (k : List ℕ). x.0 ∷ k) (numbers_append xs ys)
 
--- the walk and the next edge, as they are appended
-pub appended : (b : Candidate) (edges walk after : List EdgeId) → after ≡ (edges ++ walk) ++ b.edge ∷ [] → numbers after ≡ numbers edges ++ edges_of b (Over (reverse (numbers walk)))
+appended : (b : Candidate) (edges walk after : List EdgeId) → after ≡ (edges ++ walk) ++ b.edge ∷ [] → numbers after ≡ numbers edges ++ edges_of b (Over (reverse (numbers walk)))
 appended b edges walk after is =
     ap numbers is ∙ (numbers_append (edges ++ walk) (b.edge ∷ [])
     ∙ (ap (λ (k : List ℕ). k ++ b.edge.0 ∷ []) (numbers_append edges walk)
     ∙ (append_assoc (numbers edges) (numbers walk) (b.edge.0 ∷ [])
     ∙ ap (λ (k : List ℕ). numbers edges ++ (k ++ b.edge.0 ∷ [])) (sym (reverse-reverse (numbers walk))))))
+
+-- there is a direct route from point i to the next
+abbrev pub IsDirect : Run → ℕ → Type 0
+IsDirect run i = IsRoute run.net.now run.params.now.bound run.params.now.back (chosen_in run i) (chosen_in run (i + 1)) Direct
+
+pub direct_leg : (run : Run) (i : ℕ) (es : List ℕ) → IsDirect run i → IsLegAdded run i es es
+direct_leg run i es is = record {
+  route = Direct;
+  is = direct_route run.net.now run.params.now.bound run.params.now.back (chosen_in run i) (chosen_in run (i + 1)) is;
+  added = sym (append-nil es);
+}
+
+-- where there is none, there is a walk from point i to the next
+pub leg_walk : (run : Run) (i : ℕ) → IsLawful run.net.now → run.piece.first ≤ i → i < run.piece.last → (IsDirect run i → ⊥) → HasWalk run.net.now run.params.now.bound (chosen_in run i).edge.0 (chosen_in run (i + 1)).edge.0
+leg_walk run i lawful ge lt none =
+    let n = run.net.now in
+    let bound = run.params.now.bound in
+    let back = run.params.now.back in
+    let found = route_found n bound back (chosen_in run i) (chosen_in run (i + 1)) lawful (run.is.routes i ge lt) in
+    walk_of n bound back (chosen_in run i) (chosen_in run (i + 1)) found.0 found.2.route none
+
+-- the walk and the next edge, as they are appended
+pub walk_leg : (run : Run) (i : ℕ) (edges walk after : List EdgeId) → HasWalk run.net.now run.params.now.bound (chosen_in run i).edge.0 (chosen_in run (i + 1)).edge.0 → (IsDirect run i → ⊥)
+    → IsLeastWalk run.net.now (target run.net.now (chosen_in run i).edge.0) (reverse (numbers walk)) (source run.net.now (chosen_in run (i + 1)).edge.0)
+    → after ≡ (edges ++ walk) ++ (chosen_in run (i + 1)).edge ∷ [] → IsLegAdded run i (numbers edges) (numbers after)
+walk_leg run i edges walk after found none least added =
+    let b = chosen_in run (i + 1) in
+    record {
+      route = Over (reverse (numbers walk));
+      is = least_route run.net.now run.params.now.bound run.params.now.back (chosen_in run i) b (reverse (numbers walk)) found none least;
+      added = appended b edges walk after added;
+    }

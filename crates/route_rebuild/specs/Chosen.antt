@@ -1,12 +1,20 @@
--- What is known of the chosen candidates of a piece of a match.
+-- What is known of the match of a trace, and of the chosen candidates of its pieces.
 use Rattle.std.specs.Prelude.{ℕ, ◌+◌, ◌<◌, ◌≤◌, List, Option, None, length, slice_index_or, unwrap_or}
 use Rattle.cost_model.specs.declared.params.Params.{Params}
+use Rattle.cost_model.specs.Options.{IsAccepted}
 use Rattle.matching.specs.declared.parts.Layer.{Layer}
 use Rattle.matching.specs.declared.parts.Piece.{Piece}
-use Rattle.matching.specs.Layers.{IsCandidate}
-use Rattle.matching.specs.Routes.{Route, IsRoute}
+use Rattle.matching.specs.Layers.{IsCandidate, IsMatchable, trellis}
+use Rattle.matching.specs.Match.{IsMatch}
+use Rattle.matching.specs.Routes.{HasNoRoute}
 use Rattle.road_network.specs.Net.{Net}
 use Rattle.route_rebuild.specs.Routes.{chosen_at, no_layer}
+use Rattle.trellis.specs.declared.parts.Solved.{Solved}
+
+-- it is the match of these layers, which are layers of this network, with accepted options
+pub record IsSolved (n : Net) (p : Params) (layers : List Layer) (solved : Solved) : Type 0 where
+  pub trace : IsMatchable n p layers
+  pub matched : IsMatch (trellis n p) layers solved.ranks solved.pieces solved.tables
 
 -- point i has a chosen candidate
 pub record IsChosenPoint (layers : List Layer) (ranks : List (Option ℕ)) (i : ℕ) : Type 0 where
@@ -15,13 +23,13 @@ pub record IsChosenPoint (layers : List Layer) (ranks : List (Option ℕ)) (i : 
   pub among : unwrap_or (slice_index_or ranks i None) 0
       < length (slice_index_or layers i no_layer).candidates
 
--- each point of the piece has one, and each neighbouring pair has a route
+-- each point of the piece has one, and no neighbouring pair is without a route
 pub record IsChosenRun (n : Net) (p : Params) (layers : List Layer) (ranks : List (Option ℕ))
     (piece : Piece) : Type 0 where
+  pub options : IsAccepted p
   pub some : piece.first ≤ piece.last
   pub points : (i : ℕ) → piece.first ≤ i → i ≤ piece.last → IsChosenPoint layers ranks i
   pub candidates : (i : ℕ) → piece.first ≤ i → i ≤ piece.last
       → IsCandidate n p (chosen_at layers ranks i)
   pub routes : (i : ℕ) → piece.first ≤ i → i < piece.last
-      → (r : Route)
-      × IsRoute n p.bound p.back (chosen_at layers ranks i) (chosen_at layers ranks (i + 1)) r
+      → HasNoRoute n p.bound p.back (chosen_at layers ranks i) (chosen_at layers ranks (i + 1)) → ⊥

@@ -3,7 +3,7 @@ use Rattle.std.specs.Prelude.{ℕ, zero, suc, ◌≡◌, ◌+◌, ◌-◌, ◌<�
 use Rattle.cost_model.specs.declared.params.Params.{Params}
 use Rattle.matching.specs.declared.parts.Layer.{Layer}
 use Rattle.matching.specs.declared.parts.Piece.{Piece}
-use Rattle.matching.specs.Layers.{candidate_at}
+use Rattle.matching.specs.Layers.{candidate_of_rank}
 use Rattle.matching.specs.Routes.{Route, Direct, Over, IsTheRoute}
 use Rattle.matching.specs.RouteBetween.{route_between}
 use Rattle.road_network.specs.Net.{Net, target}
@@ -15,13 +15,13 @@ abbrev pub edges_of : Candidate → Route → List ℕ
 edges_of b Direct = []
 edges_of b (Over w) = reverse w ++ b.edge.0 ∷ []
 
--- es goes on from the candidate of point i over those of the next k points, by the route of
--- each neighbouring pair
-abbrev pub GoesOn : Net → ℕ → ℕ → (ℕ → Candidate) → ℕ → ℕ → List ℕ → Type 0
-GoesOn n bound back chosen i zero es = es ≡ []
-GoesOn n bound back chosen i (suc k) es =
+-- es are the edges of the legs from point i over the next k points: what the route of each
+-- neighbouring pair adds
+abbrev pub AreLegs : Net → ℕ → ℕ → (ℕ → Candidate) → ℕ → ℕ → List ℕ → Type 0
+AreLegs n bound back chosen i zero es = es ≡ []
+AreLegs n bound back chosen i (suc k) es =
     (r : Route) × (rest : List ℕ) × IsTheRoute n bound back (chosen i) (chosen (i + 1)) r
-    × (es ≡ edges_of (chosen (i + 1)) r ++ rest) × GoesOn n bound back chosen (i + 1) k rest
+    × (es ≡ edges_of (chosen (i + 1)) r ++ rest) × AreLegs n bound back chosen (i + 1) k rest
 
 -- what stands for a layer past the last one
 abbrev pub no_layer : Layer
@@ -30,14 +30,14 @@ no_layer = record { point = record { x = pos 0; y = pos 0 }; candidates = []; ti
 -- the chosen candidate of point i
 abbrev pub chosen_at : List Layer → List (Option ℕ) → ℕ → Candidate
 chosen_at layers ranks i =
-    candidate_at (slice_index_or layers i no_layer) (unwrap_or (slice_index_or ranks i None) 0)
+    candidate_of_rank (slice_index_or layers i no_layer) (unwrap_or (slice_index_or ranks i None) 0)
 
--- es is the route of the piece: the edge of its first chosen candidate, and on over the others
+-- es is the route of the piece: the edge of its first chosen candidate, and the legs to the others
 pub record IsRouteOf (n : Net) (p : Params) (layers : List Layer) (ranks : List (Option ℕ))
     (piece : Piece) (es : List ℕ) : Type 0 where
   pub rest : List ℕ
   pub begins : es ≡ (chosen_at layers ranks piece.first).edge.0 ∷ rest
-  pub goes_on : GoesOn n p.bound p.back (chosen_at layers ranks) piece.first
+  pub legs-are : AreLegs n p.bound p.back (chosen_at layers ranks) piece.first
       (piece.last - piece.first) rest
 
 -- the same as a value: the edges that the way to candidate b adds, and those over the next k points

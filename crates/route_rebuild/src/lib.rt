@@ -5,8 +5,9 @@
 //!   then for each neighbouring pair nothing where its route is direct, and else its walk and the
 //!   next point's edge.
 //!
-//! [`laws`] has that the edges of a route join, what their lengths add up to, and that the route is
-//! the value `route_of` in `specs/Routes.antt`.
+//! Neighbouring edges of a route join, and their lengths add up: `route` says so, and [`laws`] of
+//! whatever meets the definition. [`laws`] also has that the route is the value `route_of` in
+//! `specs/Routes.antt`, and nothing else is.
 //!
 //! Both hand out edges from the first to the last; the definitions keep walks from the last edge to
 //! the first, so the clauses say `reverse`. The clause to read first is `route` of [`route`]:
@@ -15,6 +16,7 @@
 
 pub mod laws;
 mod routes;
+mod run;
 #[cfg(test)]
 mod tests;
 mod walks;

@@ -1,20 +1,22 @@
-use Rattle.std.proofs.Common.{◌≡◌, ◌∙◌, ap, map, ◌++◌, List, [], ◌∷◌, refl, Bor}
+use Rattle.std.proofs.Common.{◌∙◌, ap, map}
 use Rattle.std.proofs.lemmas.Result.{IfOk-weaker}
-use Rattle.clap.specs.Words.{App, Text}
+use Rattle.clap.specs.Words.{App}
 use Rattle.command_line.specs.Options.{all_options}
-use Rattle.command_line.specs.Syntax.{argument_rule, command_shape, option_rule, with_rules}
+use Rattle.command_line.specs.Building.{rule_of_word, with_rules}
+use Rattle.command_line.specs.Syntax.{option_rule}
+use Rattle.command_line.specs.Values.{name_of}
+use Rattle.command_line.proofs.Rules.{in_three, of_the_names}
+use Rattle.command_line.specs.declared.syntax.WordRole.TheVariants.{Option, Argument}
 use Rattle.command_line.proofs.syntax.command.Goals as goal
-
-of_the_names : (xs : List (Bor Text)) → map (λ s. argument_rule s.now) xs ≡ map argument_rule (map (λ s. s.now) xs)
-of_the_names [] = refl
-of_the_names (x ∷ xs) = ap (λ l. argument_rule x.now ∷ l) (of_the_names xs)
 
 pub returns-clause-shape : goal.returns-clause-shape
 returns-clause-shape c =
-    let options = map option_rule all_options in
-    let arguments = map (λ s. argument_rule s.now) c.args.arguments.now in
-    let base = c.in_ok-command.ensures.app ∙ ap (λ a. with_rules a options) c.new.ensures.app in
-    IfOk-weaker c.with_arguments.result _ _ (λ m h. ap (λ (a : App). a.top) h
-    ∙ (ap (λ a. (with_rules a arguments).top) base
-    ∙ ap (λ l. record (command_shape c.args.name.now []) { rules = options ++ l }) (of_the_names c.args.arguments.now)))
-    c.with_arguments.ensures.app
+    let every = map (λ o. option_rule (name_of o)) all_options in
+    let own = map (λ s. rule_of_word Option s.now) c.args.form.options.now in
+    let arguments = map (λ s. rule_of_word Argument s.now) c.args.form.arguments.now in
+    let base = c.in_ok-command.ensures.app ∙ ap (λ a. with_rules a every) c.new.ensures.app in
+    let with_own = c.in_ok-command-2.ensures.app ∙ ap (λ a. with_rules a own) base in
+    IfOk-weaker c.with_words-2.result _ _ (λ m h. ap (λ (a : App). a.top) h
+    ∙ (ap (λ a. (with_rules a arguments).top) with_own
+    ∙ in_three c.args.form.name.now every _ _ _ _ (of_the_names Option c.args.form.options.now) (of_the_names Argument c.args.form.arguments.now)))
+    c.with_words-2.ensures.app

@@ -1,12 +1,11 @@
-use Rattle.std.proofs.Common.{arith, sym, ◌∙◌}
-use Rattle.decimal_text.proofs.Spelling.{digits_more, value_more, small_more}
+use Rattle.std.proofs.Common.{◌≡◌, ◌+◌, ◌-◌, true, take, length, get_or, arith, sym, ◌∙◌, ap}
+use Rattle.std.specs.List.{list_all}
+use Rattle.std.specs.Char.{is_ascii_digit}
+use Rattle.std.proofs.lemmas.Grind.{common_steps}
+use Rattle.decimal_text.proofs.Spelling.{twenty_digits}
 use Rattle.decimal_text.proofs.number.value_of.Goals as goal
 
-pub loop-byte-preserved : goal.loop-byte-preserved
-loop-byte-preserved c =
-    let inv = c.loop-byte.invariant in
-    record {
-      digits = digits_more _ _ c.loop-byte-test.true inv.digits (sym c.is_ascii_digit.ensures.value ∙ c.if-not-is_ascii_digit.false);
-      value = value_more _ _ _ _ c.loop-byte-test.true inv.value (grind arith);
-      small = small_more _ _ _ inv.small (grind arith);
-    }
+pub returns : goal.returns
+returns c =
+    let head = c.in_ok-narrow_value-2.ensures {u = tt} in
+    twenty_digits c.args.text.now c.from-2.result c.from-3.result (omega arith) head.0 (c.from-2.ensures ∙ head.1) (sym c.is_ascii_digit.ensures.value ∙ c.if-not-is_ascii_digit.false) c.from-3.ensures

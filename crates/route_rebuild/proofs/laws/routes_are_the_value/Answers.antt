@@ -1,5 +1,5 @@
-use Rattle.route_rebuild.proofs.RouteValue.{route_of-is}
+use Rattle.route_rebuild.proofs.RouteValue.{routes_value}
 use Rattle.route_rebuild.proofs.laws.routes_are_the_value.Goals as goal
 
 pub returns : goal.returns
-returns c = route_of-is
+returns c = routes_value

@@ -9,22 +9,22 @@ use Rattle.road_network.specs.declared.StoredEdge.{StoredEdge}
 use Rattle.road_network.proofs.Names.{mentioned, stays-at}
 use Rattle.std.proofs.lemmas.List.{length-map}
 use Rattle.road_network.proofs.Growing.{IsFaultless, accepted, limits_with, refused-limit, refused-line, refused-name}
-use Rattle.road_network.proofs.Stored.{IsStoredRow, edges-more, grown, limits-are, name-known, net-grown, new-name, offsets-grown, old-name, points-more}
+use Rattle.road_network.proofs.Stored.{IsStoredRow, edges-more, grown, limits-are, name-known, names-more, net-grown, new-name, offsets-grown, old-name, points-more}
 use Rattle.road_network.proofs.draft.Draft.add.Goals as goal
 
 pub returns-then-not-is_new-clause-fault : goal.returns-then-not-is_new-clause-fault
 returns-then-not-is_new-clause-fault c =
     let d = c.args.self.now in
-    let names-known = name-known d.nodes.keys d.names.keys d.edges d.points c.args.head.now.name c.requires.draft.parts.named in
-    let old : has_name (drafted d) c.args.head.now.name ≡ true = old-name c.in_ok-is_new.is_new _ (c.in_ok-is_new.ensures.added ∙ ap not names-known) (search rules) in
+    let names-known = name-known d.nodes.keys d.edges d.points c.args.head.now.name in
+    let old : has_name (drafted d) c.args.head.now.name ≡ true = old-name c.in_ok-is_new.is_new _ ((rw c.as_slice.ensures at c.in_ok-is_new.ensures.new) ∙ ap not names-known) (search rules) in
     λ _. rw c.next_record-rec.ensures (refused-name (drafted d) (row_with c.args.head.now c.args.line.now) old)
 
 pub returns-in_err-length-clause-fault : goal.returns-in_err-length-clause-fault
 returns-in_err-length-clause-fault c =
     let d = c.args.self.now in
     let r = row_with c.args.head.now c.args.line.now in
-    let names-known = name-known d.nodes.keys d.names.keys d.edges d.points c.args.head.now.name c.requires.draft.parts.named in
-    let new : has_name (drafted d) c.args.head.now.name ≡ false = new-name c.in_ok-is_new.is_new _ (c.in_ok-is_new.ensures.added ∙ ap not names-known) (search rules) in
+    let names-known = name-known d.nodes.keys d.edges d.points c.args.head.now.name in
+    let new : has_name (drafted d) c.args.head.now.name ≡ false = new-name c.in_ok-is_new.is_new _ ((rw c.as_slice.ensures at c.in_ok-is_new.ensures.new) ∙ ap not names-known) (search rules) in
     let p = err_from_is_err_and c.from_residual-in_err-length.result c.from_residual-in_err-length.ensures.1 in
     let rec = c.next_record-rec.ensures in
     rw (p.1, p.2) (λ known. refused-line (drafted d) r _ new (rw rec at (c.in_err-length.ensures.fault known)))
@@ -34,8 +34,8 @@ returns-in_err-check_limits-clause-fault c =
     let d = c.args.self.now in
     let n = drafted d in
     let r = row_with c.args.head.now c.args.line.now in
-    let names-known = name-known d.nodes.keys d.names.keys d.edges d.points c.args.head.now.name c.requires.draft.parts.named in
-    let new : has_name n c.args.head.now.name ≡ false = new-name c.in_ok-is_new.is_new _ (c.in_ok-is_new.ensures.added ∙ ap not names-known) (search rules) in
+    let names-known = name-known d.nodes.keys d.edges d.points c.args.head.now.name in
+    let new : has_name n c.args.head.now.name ≡ false = new-name c.in_ok-is_new.is_new _ ((rw c.as_slice.ensures at c.in_ok-is_new.ensures.new) ∙ ap not names-known) (search rules) in
     let rec = c.next_record-rec.ensures in
     let nodes : c.number_of-2.new.nodes.keys ≡ nodes_with d.nodes.keys r = c.in_ok-to.ensures.nodes ∙ ap (λ k. with_node k r.to) c.in_ok-from.ensures.nodes in
     let edges : c.len.result + 1 ≡ length (with_row n r).edges = omega (arith, c.len.ensures, edges-more n r, length-map d.edges (edge_of d.points)) in
@@ -50,8 +50,8 @@ returns-clause-draft c =
     let d = c.args.self.now in
     let n = drafted d in
     let r = row_with c.args.head.now c.args.line.now in
-    let names-known = name-known d.nodes.keys d.names.keys d.edges d.points c.args.head.now.name c.requires.draft.parts.named in
-    let new : has_name n c.args.head.now.name ≡ false = new-name c.in_ok-is_new.is_new _ (c.in_ok-is_new.ensures.added ∙ ap not names-known) (search rules) in
+    let names-known = name-known d.nodes.keys d.edges d.points c.args.head.now.name in
+    let new : has_name n c.args.head.now.name ≡ false = new-name c.in_ok-is_new.is_new _ ((rw c.as_slice.ensures at c.in_ok-is_new.ensures.new) ∙ ap not names-known) (search rules) in
     let rec = c.next_record-rec.ensures in
     let nodes : c.number_of-2.new.nodes.keys ≡ nodes_with d.nodes.keys r = c.in_ok-to.ensures.nodes ∙ ap (λ k. with_node k r.to) c.in_ok-from.ensures.nodes in
     let edges : c.len.result + 1 ≡ length (with_row n r).edges = omega (arith, c.len.ensures, edges-more n r, length-map d.edges (edge_of d.points)) in
@@ -67,10 +67,10 @@ returns-clause-draft c =
     let e : StoredEdge = record { name = c.args.head.now.name; from = c.in_ok-from.from; to = c.in_ok-to.to; length = c.in_ok-length.length; first = c.len-first.result; end = c.len-first.result + length c.args.line.now } in
     let stored : IsStoredRow (nodes_with d.nodes.keys r) d.points r e =
     record { name = refl; start = start; stop = stop; measured = c.in_ok-length.ensures.length; first = c.len-first.ensures; end = omega (arith, c.len-first.ensures) } in
-    let all = grown d.nodes.keys d.names.keys d.edges d.points r e c.requires.draft.parts faultless stored in
-    let names : c.insert_full.new.self.keys ≡ d.names.keys ++ r.name ∷ [] = search rules in
+    let all = grown d.nodes.keys d.edges d.points r e c.requires.draft.parts faultless stored in
     record {
-      parts = rw (nodes, names, c.in_ok-push.ensures.ok, c.in_ok-extend_from_slice.ensures.ok) all;
+      parts = rw (nodes, c.in_ok-push.ensures.ok, c.in_ok-extend_from_slice.ensures.ok) all;
+      names = rw (c.in_ok-push.ensures.ok, names-more d.edges e c.args.head.now.name refl) (rw c.as_slice.ensures at c.in_ok-is_new.ensures.names);
       offsets = rw (c.in_ok-push.ensures.ok, c.in_ok-extend_from_slice.ensures.ok, c.in_ok-length.ensures.offsets)
           (offsets-grown d.nodes.keys d.points d.edges d.offsets r e c.requires.draft.parts.stored c.requires.draft.offsets stored);
     }
@@ -80,8 +80,8 @@ returns-clause-network c =
     let d = c.args.self.now in
     let n = drafted d in
     let r = row_with c.args.head.now c.args.line.now in
-    let names-known = name-known d.nodes.keys d.names.keys d.edges d.points c.args.head.now.name c.requires.draft.parts.named in
-    let new : has_name n c.args.head.now.name ≡ false = new-name c.in_ok-is_new.is_new _ (c.in_ok-is_new.ensures.added ∙ ap not names-known) (search rules) in
+    let names-known = name-known d.nodes.keys d.edges d.points c.args.head.now.name in
+    let new : has_name n c.args.head.now.name ≡ false = new-name c.in_ok-is_new.is_new _ ((rw c.as_slice.ensures at c.in_ok-is_new.ensures.new) ∙ ap not names-known) (search rules) in
     let rec = c.next_record-rec.ensures in
     let nodes : c.number_of-2.new.nodes.keys ≡ nodes_with d.nodes.keys r = c.in_ok-to.ensures.nodes ∙ ap (λ k. with_node k r.to) c.in_ok-from.ensures.nodes in
     let edges : c.len.result + 1 ≡ length (with_row n r).edges = omega (arith, c.len.ensures, edges-more n r, length-map d.edges (edge_of d.points)) in

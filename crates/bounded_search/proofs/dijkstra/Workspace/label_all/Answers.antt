@@ -1,0 +1,58 @@
+use Rattle.std.proofs.Common.{◌≡◌, ◌∷◌, ◌/◌, ◌^◌, ℕ, [], true, ap, arith, length, ltb}
+use Rattle.std.proofs.lemmas.Bool.{lt-ltb}
+use Rattle.std.proofs.lemmas.List.Sorted.{length_permutation}
+use Rattle.std.specs.List.Sorted.{IsPermutation}
+use Rattle.bounded_search.specs.declared.queue.Waiting.{Waiting}
+use Rattle.bounded_search.specs.LabelWords.{distance_at}
+use Rattle.bounded_search.proofs.TouchedNodes.{none_touched}
+use Rattle.bounded_search.proofs.Underway.{begun, closed_at_end, gains_one, reordered}
+use Rattle.bounded_search.proofs.dijkstra.Workspace.label_all.Goals as goal
+
+pub returns-in_err-label-clause-touched : goal.returns-in_err-label-clause-touched
+returns-in_err-label-clause-touched c = c.in_err-label.ensures.touched (length c.args.net.now.nodes) (none_touched (length c.args.net.now.nodes) c.args.self.now c.requires.clean)
+
+pub loop-next-init : goal.loop-next-init
+loop-next-init c =
+    let n = c.args.net.now in
+    let w = c.args.self.now in
+    let clean = c.requires.clean in
+    let s : ℕ = c.args.origin.0 in
+    let e = c.in_ok-label.ensures in
+    let far : distance_at w.words.items s ≡ 4294967295 = ap (λ (word : ℕ). word / 2 ^ 32) (clean.none_labelled s) in
+    let nearer : ltb 0 (distance_at w.words.items s) ≡ true = lt-ltb 0 (distance_at w.words.items s) (omega (arith, far)) in
+    let waits : IsPermutation (record { distance = 0; node = s } ∷ []) c.label.new.self.queue = gains_one (ltb 0 (distance_at w.words.items s)) (record { distance = 0; node = s }) w.queue c.label.new.self.queue nearer clean.none_waiting e.queue in
+    record {
+      touched = e.touched (length n.nodes) (none_touched (length n.nodes) w clean);
+      underway = rw e.words (begun n c.args.bound s w.words.items c.label.new.self.queue c.requires.bound c.requires.origin clean.words_count clean.none_labelled waits);
+    }
+
+pub relax_leaving-requires-clause-next : goal.relax_leaving-requires-clause-next
+relax_leaving-requires-clause-next c =
+    let w = c.loop-next.self in
+    let next : Waiting = c.in-Some.next in
+    let under = reordered c.args.net.now c.args.bound c.args.origin.0 w.words.items w.queue (next ∷ c.pop.new.self) c.in-Some.ensures.taken c.loop-next.invariant.underway in
+    let inside = under.inside 0 next (omega arith) in
+    (omega (arith, inside.0, under.count), omega (arith, inside.1, c.requires.bound))
+
+pub loop-next-smaller : goal.loop-next-smaller
+loop-next-smaller c =
+    let w = c.loop-next.self in
+    omega (arith, c.in_ok-relax_leaving.ensures.less, length_permutation w.queue (c.in-Some.next ∷ c.pop.new.self) c.in-Some.ensures.taken)
+
+pub returns-in_err-relax_leaving-clause-touched : goal.returns-in_err-relax_leaving-clause-touched
+returns-in_err-relax_leaving-clause-touched c = c.in_err-relax_leaving.ensures.touched (length c.args.net.now.nodes) c.loop-next.invariant.touched
+
+pub loop-next-preserved : goal.loop-next-preserved
+loop-next-preserved c =
+    let w = c.loop-next.self in
+    let r = c.in_ok-relax_leaving.ensures in
+    let s : ℕ = c.args.origin.0 in
+    record {
+      touched = r.touched (length c.args.net.now.nodes) c.loop-next.invariant.touched;
+      underway = r.underway s (reordered c.args.net.now c.args.bound s w.words.items w.queue (c.in-Some.next ∷ c.pop.new.self) c.in-Some.ensures.taken c.loop-next.invariant.underway);
+    }
+
+pub returns-clause-closed : goal.returns-clause-closed
+returns-clause-closed c =
+    let w = c.loop-next.self in
+    closed_at_end c.args.net.now c.args.bound c.args.origin.0 w.words.items w.queue c.known.ensures c.requires.bound c.in_default.ensures.none c.loop-next.invariant.underway

@@ -1,0 +1,45 @@
+-- Labels as words: the distance of a label in the high half, the number of its last edge in the low half.
+-- Of two words the smaller is the better label: nearer, or as near by an earlier last edge.
+use Rattle.std.specs.Prelude.{ℕ, ◌+◌, ◌-◌, ◌*◌, ◌/◌, ◌%◌, ◌^◌, ◌==◌, if◌then◌else◌, List, [], ◌∷◌, ◌++◌, Option, Some, None, slice_index_or, slice_set}
+use Rattle.road_network.specs.declared.EdgeId.{EdgeId}
+use Rattle.bounded_search.specs.declared.table_row.Label.{Label}
+use Rattle.bounded_search.specs.declared.table_row.Entry.{Entry}
+use Rattle.bounded_search.specs.Labels.{entry_of}
+
+-- the word of a node without a label
+abbrev pub no_label : ℕ
+no_label = 2 ^ 64 - 1
+
+-- the word of an origin: no distance and no last edge
+abbrev pub origin_word : ℕ
+origin_word = 2 ^ 32 - 1
+
+-- the word of a label at distance d with last edge e
+abbrev pub word_by : ℕ → ℕ → ℕ
+word_by d e = d * 2 ^ 32 + e
+
+-- the last edge in the low half of a word
+abbrev pub last_in : ℕ → Option EdgeId
+last_in e = if e == 2 ^ 32 - 1 then None else Some (record { 0 = e })
+
+-- the label in a word
+abbrev pub label_in_word : ℕ → Option Label
+label_in_word word =
+    if word == no_label then None else Some (record { distance = word / 2 ^ 32; last = last_in (word % 2 ^ 32) })
+
+-- the word of a node
+abbrev pub word_at : List ℕ → ℕ → ℕ
+word_at words v = slice_index_or words v no_label
+
+-- the distance of a node; that of no label is beyond every bound
+abbrev pub distance_at : List ℕ → ℕ → ℕ
+distance_at words v = word_at words v / 2 ^ 32
+
+-- the label of a node
+abbrev pub label_at : List ℕ → ℕ → Option Label
+label_at words v = label_in_word (word_at words v)
+
+-- the entries of these nodes, where each node's label is taken out as it is listed
+abbrev pub taken_entries : List ℕ → List ℕ → List Entry
+taken_entries [] words = []
+taken_entries (v ∷ nodes) words = entry_of v (label_at words v) ++ taken_entries nodes (slice_set words v no_label)

@@ -1,0 +1,47 @@
+//! Labels in eight bytes. Serves the search and the check by words; decided by `label_in_word`.
+ghost use Rattle.std.specs.Prelude.{◌≡◌, ◌/◌, ◌^◌};
+ghost use Rattle.bounded_search.specs.LabelWords.{label_in_word, no_label, origin_word, word_by};
+
+use crate::table_row::Label;
+use road_network::EdgeId;
+
+/// The word of a node without a label.
+pub const NO_LABEL: u64 = 0xffff_ffff_ffff_ffff;
+
+/// The word of an origin: distance 0 and no last edge.
+pub const ORIGIN: u64 = 0xffff_ffff;
+
+/// The word of a label: its distance in the high half, its last edge in the low half. Of two words the
+/// smaller is the better label: nearer, or as near by an earlier last edge.
+pub fn word_by(distance: u32, e: EdgeId) -> u64
+    ensures { result ≡ word_by distance e.0 }
+{
+    u64::from(distance) << 32 | u64::from(e.0)
+}
+
+/// The distance in a word. That of no label is beyond every bound.
+pub fn distance_in(word: u64) -> u32
+    ensures { result ≡ word / 2 ^ 32 }
+{
+    (word >> 32) as u32
+}
+
+/// The label in a word.
+pub fn label_in(word: u64) -> Option<Label>
+    ensures { result ≡ label_in_word word }
+{
+    if word == NO_LABEL {
+        return None;
+    }
+    let last = (word & 0xffff_ffff) as u32;
+    if last == 0xffff_ffff {
+        return Some(Label {
+            distance: distance_in(word),
+            last: None,
+        });
+    }
+    Some(Label {
+        distance: distance_in(word),
+        last: Some(EdgeId(last)),
+    })
+}

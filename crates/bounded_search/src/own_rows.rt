@@ -1,0 +1,109 @@
+//! Rows that one owner finds and keeps.
+ghost use Rattle.std.specs.Prelude.{◌≡◌, ◌≤◌, ◌↔◌, length, Contains, IfOk, OnErr, IsTrue, IsOk};
+ghost use Rattle.road_network.specs.Net.{HasNode};
+ghost use Rattle.bounded_search.specs.Table.{IsRow};
+ghost use Rattle.bounded_search.specs.Known.{IsKnownList};
+ghost use Rattle.bounded_search.specs.Rows.{AsksFor, no_rows};
+
+use crate::Rows;
+use crate::searcher::Searcher;
+use crate::table_row::Row;
+use road_network::{Network, NodeId};
+use std::alloc::{AllocError, Global};
+use std::marker::Model;
+
+/// Rows of a network within a bound, which are found when they are first asked for, and kept.
+#[derive(Drop)]
+pub struct OwnRows<'n> {
+    searcher: Searcher<'n>,
+    rows: Vec<Option<Row>>,
+    count: u32,
+}
+
+impl<'n> Model for OwnRows<'n> {
+    ghost use Rattle.bounded_search.specs.Rows.{RowsState};
+
+    ghost Value = { RowsState };
+
+    ghost use Rattle.bounded_search.specs.OwnInside.{own_rows, IsKept};
+
+    ghost view = { own_rows };
+
+    ghost invariant = { IsKept };
+}
+
+impl<'n> OwnRows<'n> {
+    /// Rows of this network with a bound in cm of at most 10,000,000. No node is known.
+    pub fn open(alloc: Global, network: &'n Network, bound: u32) -> Result<OwnRows<'n>, AllocError>
+        requires { bound ≤ 10_000_000 }
+        ensures { IfOk result (λ rows. rows ≡ no_rows network.now bound) }
+    {
+        network.known();
+        let mut rows = Vec::with_capacity(alloc, network.node_count() as usize)?;
+        for _ in 0..network.node_count() {
+            rows.push(None)?;
+        }
+        let searcher = Searcher::open(alloc, network, bound)?;
+        Ok(OwnRows {
+            searcher,
+            rows,
+            count: 0,
+        })
+    }
+
+    /// What the known nodes always meet.
+    pub fn known(&self)
+        ensures { IsKnownList self.now.network self.now.known }
+    {
+        let _ = &self.rows;
+    }
+
+    /// How many nodes are known.
+    pub fn count(&self) -> u32
+        ensures { result ≡ length self.now.known }
+    {
+        self.count
+    }
+
+    /// Whether a node is known.
+    pub fn has(&self, n: NodeId) -> bool
+        requires { HasNode self.now.network n.0 }
+        ensures { IsTrue result ↔ Contains self.now.known n.0 }
+    {
+        self.rows[n.0 as usize].is_some()
+    }
+
+    /// Finds the row of a node, where it is not known.
+    pub(crate) fn fill(&mut self, n: NodeId) -> Result<(), AllocError>
+        requires { HasNode self.old.network n.0 }
+        ensures asks { AsksFor self.old (λ v. v ≡ n.0) result self.new }
+        ensures err { OnErr result (self.new ≡ self.old) }
+        ensures again { Contains self.old.known n.0 → IsOk result }
+    {
+        let place = n.0 as usize;
+        if self.rows[place].is_some() {
+            return Ok(());
+        }
+        let row = self.searcher.row(n)?;
+        self.rows[place] = Some(row);
+        self.count += 1;
+        Ok(())
+    }
+
+    /// The row of a known node.
+    pub(crate) fn get(&self, n: NodeId) -> &Row
+        requires { Contains self.now.known n.0 }
+        ensures { IsRow self.now.network self.now.bound n.0 result.now }
+    {
+        self.rows[n.0 as usize].as_ref().unwrap()
+    }
+}
+
+impl<'n> Rows for OwnRows<'n> {
+    ghost state = { λ rows. rows };
+
+    fn row(&mut self, n: NodeId) -> Result<&Row, AllocError> {
+        self.fill(n)?;
+        Ok(self.get(n))
+    }
+}

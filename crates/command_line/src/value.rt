@@ -1,0 +1,74 @@
+// The values that words give by number. Serves `read_options` and `WordsFault`; decided by
+// `range_of`.
+ghost use Rattle.std.specs.Prelude.{◌≡◌};
+ghost use Rattle.command_line.specs.Values.{name_of, range_of};
+
+/// A value that words give as a number. An option is named as the field of `Params` that has its
+/// value.
+#[derive(Clone, Copy, PartialEq, Eq, Debug)]
+pub enum ValueName {
+    K,
+    Radius,
+    Sigma,
+    Beta,
+    Bound,
+    Workers,
+    Back,
+    Gap,
+}
+
+/// The numbers that a value may be.
+#[derive(Clone, Copy, PartialEq, Eq, Debug)]
+pub struct ValueRange {
+    /// The least number.
+    pub least: u32,
+    /// The greatest number.
+    pub most: u32,
+}
+
+impl ValueName {
+    /// The options that every command takes, in the order in which they are read.
+    pub const OPTIONS: [ValueName; 8] = [
+        ValueName::K,
+        ValueName::Radius,
+        ValueName::Sigma,
+        ValueName::Beta,
+        ValueName::Bound,
+        ValueName::Workers,
+        ValueName::Back,
+        ValueName::Gap,
+    ];
+
+    /// The name. Words give an option behind `--` and its name.
+    pub fn name(self) -> &'static str
+        ensures { result.now ≡ name_of self }
+    {
+        match self {
+            ValueName::K => "k",
+            ValueName::Radius => "radius",
+            ValueName::Sigma => "sigma",
+            ValueName::Beta => "beta",
+            ValueName::Bound => "bound",
+            ValueName::Workers => "workers",
+            ValueName::Back => "back",
+            ValueName::Gap => "gap",
+        }
+    }
+
+    /// The numbers that it may be, for an option in the unit of its field of `Params`.
+    pub fn range(self) -> ValueRange
+        ensures { result ≡ range_of self }
+    {
+        let (least, most) = match self {
+            ValueName::K => (1, 32),
+            ValueName::Radius => (1, 100_000),
+            ValueName::Sigma => (1, 100_000),
+            ValueName::Beta => (1, 1_000_000),
+            ValueName::Bound => (0, 10_000_000),
+            ValueName::Workers => (1, 64),
+            ValueName::Back => (0, 100_000),
+            ValueName::Gap => (0, u32::MAX),
+        };
+        ValueRange { least, most }
+    }
+}

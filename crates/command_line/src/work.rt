@@ -1,0 +1,22 @@
+// What words ask for.
+
+use cost_model::Params;
+
+/// A command: its work, and the options that every command takes, each in its range.
+#[derive(Clone, Copy, PartialEq, Eq, Debug)]
+pub struct Command<'a> {
+    pub work: Work<'a>,
+    pub options: Params,
+}
+
+/// The work of a command.
+#[derive(Clone, Copy, PartialEq, Eq, Debug)]
+pub enum Work<'a> {
+    /// Match the traces of a file on the network of a file.
+    Match {
+        /// The name of the network file.
+        network: &'a str,
+        /// The name of the trace file.
+        traces: &'a str,
+    },
+}

@@ -1,0 +1,2 @@
+// The kinds of work, each in a file of its own.
+pub mod matching;

@@ -1,6 +1,0 @@
-use Rattle.std.proofs.Common.{◌≡◌, map, take}
-use Rattle.match_pool.specs.Match.{layer_of}
-use Rattle.match_pool.proofs.layers.layers.Given as goal
-
-abbrev pub invariant-loop-fix : goal.invariant-loop-fix
-invariant-loop-fix l = l.found.items ≡ map (layer_of l.net l.p) (take l.fix-index l.fixes)

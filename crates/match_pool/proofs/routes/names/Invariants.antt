@@ -1,7 +1,0 @@
-use Rattle.std.proofs.Common.{◌≡◌, map, take}
-use Rattle.road_network.specs.Net.{edge_name}
-use Rattle.route_rebuild.specs.Numbers.{numbers}
-use Rattle.match_pool.proofs.routes.names.Given as goal
-
-abbrev pub invariant-loop-edge : goal.invariant-loop-edge
-invariant-loop-edge l = l.names.items ≡ map (edge_name l.net) (numbers (take l.edge-index l.edges))

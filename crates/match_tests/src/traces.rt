@@ -1,0 +1,141 @@
+//! Traces on two edges in a row.
+ghost use Rattle.std.specs.Prelude.{◌↔◌, IsTrue};
+ghost use Rattle.std.specs.List.{All};
+ghost use Rattle.bounded_search.specs.Rows.{AreRowsOf};
+ghost use Rattle.cost_model.specs.Options.{IsAccepted};
+ghost use Rattle.polyline_geometry.specs.Plane.{InRange};
+ghost use Rattle.trace_match.specs.Match.{place_of};
+ghost use Rattle.trace_reader.specs.Trace.{IsLawfulTrace};
+
+use bounded_search::{OwnRows, RefusingRows, Rows};
+use cost_model::Params;
+use grid_index::Grid;
+use match_pool::{Answer, match_one};
+use match_text::{Label, Routed};
+use polyline_geometry::List;
+use road_network::{Network, read_network};
+use std::alloc::{AllocError, Global};
+use std::test::Fail;
+use trace_reader::{Fix, Trace};
+
+const DEFAULTS: Params = Params {
+    k: 8,
+    radius: 10_000,
+    sigma: 1_000,
+    beta: 1_000,
+    bound: 300_000,
+    workers: 4,
+    back: 0,
+    gap: u32::MAX,
+};
+
+/// Two edges in a row.
+const ROW: &[u8] = b"edge,from,to,line\n10,1,2,0 0;10000 0\n11,2,3,10000 0;20000 0\n";
+
+/// The greatest coordinate of a fix, in cm.
+const GREATEST: u32 = 1_000_000_000;
+
+fn is_in_range(fix: &Fix) -> bool
+    ensures { IsTrue result ↔ InRange (place_of fix.now) }
+{
+    fix.x.unsigned_abs() <= GREATEST && fix.y.unsigned_abs() <= GREATEST
+}
+
+fn are_in_range(fixes: &[Fix]) -> bool
+    ensures { IsTrue result ↔ All (λ fix. InRange (place_of fix)) fixes.now }
+{
+    fixes.iter().all(|fix| is_in_range(fix))
+}
+
+fn is_lawful(trace: &Trace) -> bool
+    ensures { IsTrue result ↔ IsLawfulTrace trace.now }
+{
+    1 <= trace.fixes.len() && trace.fixes.len() <= 100_000 && are_in_range(trace.fixes.as_slice())
+}
+
+/// Trace 7 with fixes at these places.
+fn trace_at(alloc: Global, places: &[(i32, i32)]) -> Result<Trace, AllocError> {
+    let mut fixes = List::new(alloc);
+    for (x, y) in places {
+        fixes.push(Fix {
+            x: *x,
+            y: *y,
+            time: 0,
+        })?;
+    }
+    Ok(Trace { id: 7, fixes })
+}
+
+/// The match of a trace. None where it is none that a file can have.
+fn match_trace<R: Rows>(
+    alloc: Global,
+    net: &Network,
+    rows: &mut R,
+    trace: &Trace,
+) -> Result<Option<Answer>, AllocError>
+    requires { AreRowsOf (R.state rows.old) net.now DEFAULTS.bound }
+{
+    if !is_lawful(trace) {
+        return Ok(None);
+    }
+    let grid = Grid::build(alloc, net, DEFAULTS.radius)?;
+    Ok(Some(match_one(alloc, net, &grid, &DEFAULTS, rows, trace)?))
+}
+
+fn on_first(offset: u32, d2: u64) -> Label {
+    Label::On {
+        edge: 10,
+        offset,
+        d2,
+    }
+}
+
+fn is_along_first(piece: &Routed) -> bool {
+    piece.first == 0 && piece.last == 1 && piece.cost == 112 && piece.route.as_slice() == [10].as_slice()
+}
+
+/// Whether the match is that of two fixes along the first edge.
+fn is_wanted(answer: &Answer) -> bool {
+    let labels = [on_first(1_000, 90_000), on_first(9_000, 90_000)];
+    answer.matched.id == 7
+        && answer.matched.labels.as_slice() == labels.as_slice()
+        && answer.matched.pieces.len() == 1
+        && answer.matched.pieces.as_slice().iter().all(|piece| is_along_first(piece))
+}
+
+/// Two places beside the first edge, one after the other.
+const ALONG: [(i32, i32); 2] = [(1_000, 300), (9_000, -300)];
+
+/// Two places on the first edge, the second one behind: the road leads on, and the third row that is
+/// asked for is the road's.
+const BEHIND: [(i32, i32); 2] = [(9_000, 0), (1_000, 0)];
+
+/// Whether memory is refused where this call for a row is.
+fn is_refused(alloc: Global, net: &Network, call: u64) -> Result<bool, AllocError> {
+    let mut calls = List::new(alloc);
+    calls.push(call)?;
+    let mut rows = RefusingRows::open(alloc, net, DEFAULTS.bound, calls)?;
+    let trace = trace_at(alloc, &BEHIND)?;
+    Ok(match_trace(alloc, net, &mut rows, &trace).is_err())
+}
+
+#[test]
+fn two_fixes_on_one_edge(rt: HostRuntime) -> Result<(), Fail> {
+    let net = read_network(rt.alloc(), ROW)?;
+    let mut rows = OwnRows::open(rt.alloc(), &net, DEFAULTS.bound)?;
+    let trace = trace_at(rt.alloc(), &ALONG)?;
+    let answer = match_trace(rt.alloc(), &net, &mut rows, &trace)?.ok_or("no match")?;
+    assert!(rt; is_wanted(&answer));
+    assert_eq!(rt; rows.count(), 2);
+    Ok(())
+}
+
+#[test]
+fn a_refused_row(rt: HostRuntime) -> Result<(), Fail> {
+    let net = read_network(rt.alloc(), ROW)?;
+    for call in 1..4 {
+        assert!(rt; is_refused(rt.alloc(), &net, call)?);
+    }
+    assert!(rt; !is_refused(rt.alloc(), &net, 4)?);
+    Ok(())
+}

@@ -1,0 +1,20 @@
+use Rattle.std.proofs.Common.{◌∙◌, Some, not, sym, ap}
+use Rattle.road_network.specs.EdgeNames.{HasNames, names_of}
+use Rattle.road_network.proofs.KeptNames.{kept-none, kept-set, more-names, next-is-new}
+use Rattle.road_network.proofs.edge_names.note_name.Goals as goal
+use Rattle.road_network.proofs.edge_names.note_name.Goals.{in-Some, in-None+else-is_next+in_ok-set-in-None}
+
+pub returns-then-is_next-clause-new : goal.returns-then-is_next-clause-new
+returns-then-is_next-clause-new c =
+    let names = names_of c.args.edges.now in
+    let above = kept-none c.args.names.now names (sym c.take.ensures.value ∙ c.in-None.is) c.requires in
+    ap not (sym (next-is-new names c.args.name above (sym c.is_next.ensures ∙ c.if-is_next.true)))
+
+pub returns-clause-names : goal.returns-clause-names
+returns-clause-names c =
+    let names = names_of c.args.edges.now in
+    let set : HasNames c.match-take.set.keys names = elim c.match-take.branch [
+      | in-Some w ↦ kept-set c.args.names.now c.match-take.set names (sym c.take.ensures.value ∙ w.in-Some.is ∙ ap (λ k. Some k) (sym w.set-is)) c.requires
+      | in-None+else-is_next+in_ok-set-in-None w ↦ rw w.set-is w.in_ok-set-in-None.ensures.set
+    ] in
+    rw c.in_ok-is_new.ensures.keys (more-names c.match-take.set.keys names c.args.name set)

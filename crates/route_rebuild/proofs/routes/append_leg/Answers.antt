@@ -1,0 +1,50 @@
+use Rattle.std.proofs.Common.{◌++◌, ◌∷◌, [], List, Result, Ok, Err, OnOk, ap, ◌∙◌, arith}
+use Rattle.std.proofs.lemmas.Bool.Decides.{nat_tests}
+use Rattle.bounded_search.proofs.Asking.{only_by}
+use Rattle.matching.specs.Routes.{Direct, IsRoute}
+use Rattle.road_network.specs.Net.{target}
+use Rattle.road_network.specs.declared.Candidate.{Candidate}
+use Rattle.road_network.specs.declared.EdgeId.{EdgeId}
+use Rattle.route_rebuild.proofs.RouteSoFar.{IsDirect, leg_walk, walk_leg}
+use Rattle.route_rebuild.proofs.routes.append_leg.Goals as goal
+use Rattle.route_rebuild.proofs.routes.append_leg.Goals.{else-eq-via-then-eq+else-a-b, else-eq-via-else-eq}
+
+pub walk_between-requires-clause-walk : goal.walk_between-requires-clause-walk
+walk_between-requires-clause-walk g c =
+    let run = c.args.run.now in
+    let none : IsDirect run c.args.i → ⊥ = λ direct.
+    let is : IsRoute run.net.now run.params.now.bound run.params.now.back c.chosen-a.result c.chosen-b.result Direct = rw (c.chosen-a.ensures, c.chosen-b.ensures) direct in
+    elim c.else-eq.branch [ else-eq-via-then-eq+else-a-b w ↦ omega (arith, is.1) | else-eq-via-else-eq w ↦ let same = is.0 in grind (arith, nat_tests) ] in
+    rw (c.chosen-a.ensures, c.chosen-b.ensures, c.requires.rows.bound) (leg_walk run c.args.i c.known.ensures c.requires.point.0 c.requires.point.1 none)
+
+pub returns-in_err-walk-clause-asks : goal.returns-in_err-walk-clause-asks
+returns-in_err-walk-clause-asks g c =
+    only_by c.walk_between.ensures.asks (λ v same. same ∙ ap (λ (x : Candidate). target c.args.run.now.net.now x.edge.0) c.chosen-a.ensures)
+
+pub returns-in_err-extend_from_slice-clause-asks : goal.returns-in_err-extend_from_slice-clause-asks
+returns-in_err-extend_from_slice-clause-asks g c =
+    only_by c.walk_between.ensures.asks (λ v same. same ∙ ap (λ (x : Candidate). target c.args.run.now.net.now x.edge.0) c.chosen-a.ensures)
+
+on_by : {A E P Q : Type 0} (r : Result A E) → OnOk r P → (P → Q) → OnOk r Q
+on_by (Ok x) p f = f p
+on_by (Err e) p f = tt
+
+pub returns-clause-leg : goal.returns-clause-leg
+returns-clause-leg g c =
+    let run = c.args.run.now in
+    let i = c.args.i in
+    let edges = c.args.edges.now in
+    let walk : List EdgeId = c.in_ok-walk.walk in
+    let none : IsDirect run i → ⊥ = λ direct.
+    let is : IsRoute run.net.now run.params.now.bound run.params.now.back c.chosen-a.result c.chosen-b.result Direct = rw (c.chosen-a.ensures, c.chosen-b.ensures) direct in
+    elim c.else-eq.branch [ else-eq-via-then-eq+else-a-b w ↦ omega (arith, is.1) | else-eq-via-else-eq w ↦ let same = is.0 in grind (arith, nat_tests) ] in
+    let found = leg_walk run i c.known.ensures c.requires.point.0 c.requires.point.1 none in
+    on_by c.push.result c.push.ensures.ok (λ pushed.
+    walk_leg run i edges walk c.push.new.self found none (rw (c.chosen-a.ensures, c.chosen-b.ensures) at c.in_ok-walk.ensures.least)
+    (pushed
+    ∙ ap (λ (k : List EdgeId). k ++ c.chosen-b.result.edge ∷ []) (c.in_ok-extend_from_slice.ensures.ok ∙ ap (λ (k : List EdgeId). edges ++ k) c.as_slice.ensures)
+    ∙ ap (λ (x : Candidate). (edges ++ walk) ++ x.edge ∷ []) c.chosen-b.ensures))
+
+pub returns-clause-asks : goal.returns-clause-asks
+returns-clause-asks g c =
+    only_by c.walk_between.ensures.asks (λ v same. same ∙ ap (λ (x : Candidate). target c.args.run.now.net.now x.edge.0) c.chosen-a.ensures)

@@ -1,0 +1,38 @@
+-- The route over a run, in the words of the run.
+use Rattle.std.specs.Prelude.{ℕ, ◌≡◌, ◌+◌, ◌≤◌, ◌++◌, List}
+use Rattle.bounded_search.specs.Rows.{RowsState, AreRowsOf}
+use Rattle.matching.specs.Routes.{Route, IsTheRoute}
+use Rattle.road_network.specs.Net.{Net, source, target}
+use Rattle.road_network.specs.Walk.{IsWalk, walk_length}
+use Rattle.road_network.specs.declared.Candidate.{Candidate}
+use Rattle.route_rebuild.specs.declared.run.Run.{Run}
+use Rattle.route_rebuild.specs.Routes.{IsChosenEnd, IsRouteOf, chosen_at, edges_of}
+
+-- they are the rows that the run asks for
+abbrev pub AreRowsForRun : RowsState → Run → Type 0
+AreRowsForRun state run = AreRowsOf state run.net.now run.params.now.bound
+
+-- the chosen candidate of point i
+abbrev pub chosen_in : Run → ℕ → Candidate
+chosen_in run i = chosen_at run.layers.now run.ranks.now i
+
+-- es is the route over the run
+abbrev pub IsRouteOfRun : Run → List ℕ → Type 0
+IsRouteOfRun run es =
+    IsRouteOf run.net.now run.params.now run.layers.now run.ranks.now run.piece es
+
+-- v is the end of a chosen edge before the run's last point
+abbrev pub EndsLeg : Run → ℕ → Type 0
+EndsLeg run v = IsChosenEnd run.net.now run.layers.now run.ranks.now run.piece v
+
+-- the edges of the route from point i to the next were appended
+pub record IsLegAdded (run : Run) (i : ℕ) (old new : List ℕ) : Type 0 where
+  pub route : Route
+  pub is : IsTheRoute run.net.now run.params.now.bound run.params.now.back (chosen_in run i)
+      (chosen_in run (i + 1)) route
+  pub added : new ≡ old ++ edges_of (chosen_in run (i + 1)) route
+
+-- there is a walk of at most this length from the end of edge e to the start of edge f
+abbrev pub HasWalk : Net → ℕ → ℕ → ℕ → Type 0
+HasWalk n bound e f =
+    (w : List ℕ) × IsWalk n (target n e) w (source n f) × (walk_length n w ≤ bound)

@@ -1,0 +1,4 @@
+pub mod Match
+pub mod Ranked
+pub mod Ground
+pub mod Laws

@@ -1,0 +1,53 @@
+//! The fixes of a trace with their candidates. Serves `layers`; decided by `layer_of`.
+ghost use Rattle.std.specs.Prelude.{◌≡◌, All, IfOk, map};
+ghost use Rattle.polyline_geometry.specs.Plane.{InRange};
+ghost use Rattle.trace_match.specs.Ground.{IsGridFor};
+ghost use Rattle.trace_match.specs.Match.{layer_of, place_of};
+
+use candidate_search::candidates;
+use cost_model::Params;
+use grid_index::Grid;
+use matching::Layer;
+use polyline_geometry::{List, Point};
+use road_network::Network;
+use std::alloc::{AllocError, Global};
+use trace_reader::Fix;
+
+/// A fix with its candidates.
+pub fn layer(
+    alloc: Global,
+    net: &Network,
+    grid: &Grid,
+    p: &Params,
+    fix: &Fix,
+) -> Result<Layer, AllocError>
+    requires ground { IsGridFor net.now p.now grid.now }
+    requires place { InRange (place_of fix.now) }
+    ensures { IfOk result (λ layer. layer ≡ layer_of net.now p.now fix.now) }
+{
+    let point = Point { x: fix.x, y: fix.y };
+    Ok(Layer {
+        point,
+        candidates: candidates(alloc, net, grid, p, point)?,
+        time: fix.time,
+    })
+}
+
+/// The fixes of a trace with their candidates.
+pub fn layers(
+    alloc: Global,
+    net: &Network,
+    grid: &Grid,
+    p: &Params,
+    fixes: &[Fix],
+) -> Result<List<Layer>, AllocError>
+    requires ground { IsGridFor net.now p.now grid.now }
+    requires places { All (λ fix. InRange (place_of fix)) fixes.now }
+    ensures { IfOk result (λ layers. layers ≡ map (layer_of net.now p.now) fixes.now) }
+{
+    let mut found = Vec::with_capacity(alloc, fixes.len())?;
+    for fix in fixes {
+        found.push(layer(alloc, net, grid, p, fix)?)?;
+    }
+    Ok(List::from_vec(found))
+}

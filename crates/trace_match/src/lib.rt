@@ -1,0 +1,21 @@
+//! The match of one trace as a value, and what it is made of: a fix with its candidates, and its
+//! labels and routes in the ids of the network file.
+//!
+//! `match_of` in `specs/Match.antt` is the match of a trace, and `asks` there says which rows the
+//! trace asks for. Whoever matches, follows or checks a trace stands on these.
+//!
+//! - [`layers`] gives the fixes of a trace with their candidates, and [`layer`] one of them.
+//! - [`labels`] gives the labels of points by their ranks, and [`label`] one of them.
+//! - [`routed`] gives a piece with its route in the ids of the file.
+//! - [`laws`] has what every match has, that labels agree exactly where ranks do, and that the labels
+//!   that are committed stay, whatever fixes follow.
+#![tactic(auto)]
+
+mod fixes;
+pub mod laws;
+mod names;
+mod ranked;
+
+pub use fixes::{layer, layers};
+pub use names::routed;
+pub use ranked::{label, labels};

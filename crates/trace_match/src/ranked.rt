@@ -1,0 +1,43 @@
+//! The labels of the points of a trace. Serves `labels`; decided by `labels_of`.
+ghost use Rattle.std.specs.Prelude.{◌≡◌, IfOk};
+ghost use Rattle.trace_match.specs.Match.{label_of, labels_of};
+ghost use Rattle.trace_match.specs.Ranked.{AreRanked, IsRanked};
+
+use match_text::Label;
+use matching::Layer;
+use polyline_geometry::List;
+use road_network::Network;
+use std::alloc::{AllocError, Global};
+
+/// The label of a point: that of its ranked candidate, or none.
+pub fn label(net: &Network, layer: &Layer, rank: Option<u32>) -> Label
+    requires { IsRanked net.now layer.now rank }
+    ensures { result ≡ label_of net.now layer.now rank }
+{
+    let Some(rank) = rank else {
+        return Label::Missing;
+    };
+    let candidate = layer.candidates.as_slice()[rank as usize];
+    Label::On {
+        edge: net.name(candidate.edge),
+        offset: candidate.offset,
+        d2: candidate.d2,
+    }
+}
+
+/// The labels of the points of a trace, a rank or none for each layer.
+pub fn labels(
+    alloc: Global,
+    net: &Network,
+    layers: &[Layer],
+    ranks: &[Option<u32>],
+) -> Result<List<Label>, AllocError>
+    requires { AreRanked net.now layers.now ranks.now }
+    ensures { IfOk result (λ labels. labels ≡ labels_of net.now layers.now ranks.now) }
+{
+    let mut labels = Vec::with_capacity(alloc, layers.len())?;
+    for (i, layer) in layers.iter().enumerate() {
+        labels.push(label(net, layer, ranks[i]))?;
+    }
+    Ok(List::from_vec(labels))
+}

@@ -1,0 +1,76 @@
+-- What a step of a piece reads from its lists. In this file layers and tables stand in the order of the points.
+use Rattle.std.proofs.Common.{◌≡◌, ℕ, ◌-◌, ◌<◌, ◌^◌, ◌≤◌, List, Option, Some, None, sym, subst, arith, MatchOption, length, get_or}
+use Rattle.cost_model.specs.declared.params.Params.{Params}
+use Rattle.road_network.specs.Net.{Net}
+use Rattle.matching.specs.declared.parts.Cell.{Cell}
+use Rattle.matching.specs.declared.parts.Layer.{Layer}
+use Rattle.matching.specs.Layers.{IsLayer, trellis}
+use Rattle.matching.specs.SoFar.{IsMatchBefore}
+use Rattle.matching.proofs.Lists.{all-at}
+use Rattle.trellis.specs.declared.parts.Solved.{Solved}
+use Rattle.matching.proofs.PieceSoFar.{IsGround, IsPieceSoFar, IsStepAt, so_far_count, so_far_small}
+use Rattle.viterbi.specs.Growing.{IsNextStep, IsSolvedFurther}
+
+-- what is read at place i: the layers there and before, and the cells before
+pub record IsRead (layers : List Layer) (tables read : List (List Cell)) (i : ℕ) (m l : Layer) (costs : List Cell) : Type 0 where
+  pub count : length tables ≡ i
+  pub some : 0 < i
+  pub below : i < length layers
+  pub same : read ≡ tables
+  pub m-is : m ≡ get_or layers (i - 1) m
+  pub l-is : l ≡ get_or layers i l
+  pub costs-are : costs ≡ get_or read (i - 1) costs
+
+pub step_read : (n : Net) (p : Params) (layers : List Layer) (tables read : List (List Cell)) (i : ℕ) (m l : Layer)
+    → {costs : List Cell} → IsRead layers tables read i m l costs → IsStepAt n p layers tables m l costs
+step_read n p layers tables read i m l {costs} h =
+    let some = h.some in
+    let count = h.count in
+    let lt = h.below in record {
+      ends = record {
+        layer = record { below = omega (arith, count, some, lt); is = subst (λ k. m ≡ get_or layers (k - 1) m) (sym count) h.m-is };
+        table = record {
+          below = omega (arith, count, some);
+          is = subst (λ k. costs ≡ get_or tables (k - 1) costs) (sym count) (subst (λ ts. costs ≡ get_or ts (i - 1) costs) h.same h.costs-are);
+        };
+      };
+      at = record { below = omega (arith, count, lt); is = subst (λ k. l ≡ get_or layers k l) (sym count) h.l-is };
+    }
+
+-- it may be a step of a piece so far
+pub may_step : (n : Net) (p : Params) (layers : List Layer) (tables : List (List Cell)) (m l : Layer) (costs : List Cell)
+    → IsGround n p layers → IsPieceSoFar n p layers tables → IsStepAt n p layers tables m l costs → IsNextStep n p m costs l
+may_step n p layers tables m l costs ground so_far step =
+    let are = ground.trace.are in
+    let count = so_far_count n p layers tables m costs so_far step.ends in
+    let narrow = all-at (λ x. length x.candidates ≤ 2 ^ 32) layers (length tables - 1) m are.narrow step.ends.layer in
+    record {
+      layers = record {
+        options = ground.trace.options;
+        before = all-at (IsLayer n p) layers (length tables - 1) m are.each step.ends.layer;
+        layer = all-at (IsLayer n p) layers (length tables) l are.each step.at;
+      };
+      cells = record {
+        count = count;
+        few = omega (arith, count, narrow);
+        small = so_far_small n p layers tables m costs ground so_far step.ends;
+      };
+      narrow = all-at (λ x. length x.candidates ≤ 2 ^ 32) layers (length tables) l are.narrow step.at;
+    }
+
+pub at_none : (P : Type 0) (Q : List Cell → Type 0) (o : Option (List Cell)) → MatchOption o P Q → o ≡ None → P
+at_none P Q None h e = h
+at_none P Q (Some x) h e = absurd (cc)
+
+pub at_cells : (P : Type 0) (Q : List Cell → Type 0) (o : Option (List Cell)) (x : List Cell) → MatchOption o P Q → o ≡ Some x → Q x
+at_cells P Q None x h e = absurd (cc)
+at_cells P Q (Some y) x h e = let s : y ≡ x = cc in subst Q s h
+
+-- the points that are matched are counted by their ranks
+pub solved_further : (n : Net) (p : Params) (layers : List Layer) (old new : Solved) (at : ℕ)
+    → IsMatchBefore (trellis n p) layers at new.ranks new.pieces new.tables → length old.ranks < at → IsSolvedFurther n p layers old new
+solved_further n p layers old new at h lt =
+    let count = h.ranks-count in record {
+      so_far = subst (λ k. IsMatchBefore (trellis n p) layers k new.ranks new.pieces new.tables) (sym count) h;
+      further = omega (arith, count, lt);
+    }

@@ -1,0 +1,101 @@
+#!/usr/bin/env python3
+"""wkt_network.py LAYER.csv NETWORK LOOKUP [--oneway COLUMN --forward V,.. --backward V,..] [--keep COLUMN,..] [--join CM]
+
+Makes a network file of a layer of lines, as ogr2ogr writes it in metres:
+
+    ogr2ogr -f CSV LAYER.csv ROADS.gpkg -t_srs EPSG:32632 -lco GEOMETRY=AS_WKT
+
+Lines join where their ends lie within CM centimetres (1 by default), and where the end of one lies at an inner point of
+another, which is split there. A line is open both ways, but where its value in the column --oneway is one of --forward or
+--backward. LOOKUP becomes a table of edge ids, record numbers of the layer, and the columns named by --keep.
+"""
+import argparse
+import csv
+import math
+import re
+import sys
+
+from network_file import NetworkFile
+
+
+class Nodes:
+    """Places with numbers from 1. Places within `join` centimetres of a node are that node."""
+
+    def __init__(self, join):
+        self.join, self.cells, self.count = join, {}, 0
+
+    def find(self, place):
+        column, row = (int(v // self.join) for v in place)
+        for c in (column, column - 1, column + 1):
+            for r in (row, row - 1, row + 1):
+                for other, number in self.cells.get((c, r), ()):
+                    if math.dist(place, other) <= self.join:
+                        return number
+        return None
+
+    def find_or_add(self, place):
+        number = self.find(place)
+        if number is None:
+            self.count += 1
+            number = self.count
+            self.cells.setdefault(tuple(int(v // self.join) for v in place), []).append((place, number))
+        return number
+
+
+def lines_of(wkt):
+    """The lines of a LINESTRING or MULTILINESTRING in whole centimetres; heights are dropped."""
+    if not wkt.upper().startswith(("LINESTRING", "MULTILINESTRING")):
+        return
+    for inner in re.findall(r"\(([^()]+)\)", wkt):
+        metres = [tuple(float(n) for n in point.split()[:2]) for point in inner.split(",")]
+        line = [(round(100 * x), round(100 * y)) for x, y in metres]
+        line = line[:1] + [q for p, q in zip(line, line[1:]) if p != q]
+        if len(line) > 1:
+            yield line
+
+
+def main():
+    parser = argparse.ArgumentParser()
+    parser.add_argument("layer")
+    parser.add_argument("network")
+    parser.add_argument("lookup")
+    parser.add_argument("--oneway", default="")
+    parser.add_argument("--forward", default="")
+    parser.add_argument("--backward", default="")
+    parser.add_argument("--keep", default="")
+    parser.add_argument("--join", type=int, default=1)
+    args = parser.parse_args()
+    csv.field_size_limit(1 << 30)
+    with open(args.layer, encoding="utf-8-sig", newline="") as file:
+        rows = list(csv.DictReader(file))
+    keep = [name for name in args.keep.split(",") if name]
+    for name in ["WKT", *keep] + ([args.oneway] if args.oneway else []):
+        if not rows or name not in rows[0]:
+            sys.exit(f"the layer has no rows or no column {name}")
+    streets = [(number, row, line) for number, row in enumerate(rows, 1) for line in lines_of(row["WKT"])]
+    if not streets:
+        sys.exit("the layer has no lines")
+    if all(abs(x) <= 18000 and abs(y) <= 9000 for _, _, line in streets for x, y in line):
+        sys.exit("the lines are in degrees; let ogr2ogr project them with -t_srs")
+    nodes = Nodes(max(1, args.join))
+    ends = [(nodes.find_or_add(line[0]), nodes.find_or_add(line[-1])) for _, _, line in streets]
+    file = NetworkFile(args.network, args.lookup, ["record", *keep])
+    forward_only, backward_only = args.forward.split(","), args.backward.split(",")
+    for (number, row, line), (begin, end) in zip(streets, ends):
+        rule = row.get(args.oneway) or None
+        open_ways = rule not in backward_only, rule not in forward_only
+        about = [number, *(row[name] for name in keep)]
+        start, node = 0, begin
+        for i in range(1, len(line)):
+            here = end if i == len(line) - 1 else nodes.find(line[i])
+            if here is not None:
+                file.add(node, here, line[start:i + 1], *open_ways, about)
+                start, node = i, here
+    file.close()
+
+
+if __name__ == "__main__":
+    try:
+        main()
+    except OSError as fault:
+        sys.exit(str(fault))
