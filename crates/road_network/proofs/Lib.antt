@@ -13,3 +13,4 @@ pub mod RowsRead
 pub mod Stored
 pub mod Travel
 mod KeptNames
+pub mod NearOrder

@@ -9,3 +9,4 @@ pub mod Rows
 pub mod Between
 pub mod Drafted
 pub mod EdgeNames
+pub mod NearLaws

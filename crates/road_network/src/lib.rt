@@ -23,12 +23,14 @@ mod edge_names;
 mod fault;
 mod fields;
 mod file;
+mod laws;
 mod limits;
 #[cfg(test)]
 mod tests;
 
 pub use fault::NetworkFault;
 pub use file::read_network;
+pub use laws::{candidates_are_nearest, candidates_differ};
 pub use limits::{COORDINATE_LIMIT, EDGE_LIMIT, FILE_LIMIT, LENGTH_LIMIT, NODE_LIMIT, POINT_LIMIT};
 use polyline_geometry::Point;
 use std::marker::Model;
