@@ -1,7 +1,7 @@
 -- What a network is to every contract: its nodes with their names, and its edges in the order
 -- of the file.
 use Rattle.std.specs.Prelude.{ℕ, zero, suc, ◌≡◌, ◌<◌, ◌≤◌, ◌==◌, ◌++◌, ◌∷◌, [], if◌then◌else◌, List, length, slice_index, slice_index_or}
-use Rattle.std.specs.List.{sum_by}
+use Rattle.std.specs.List.{Contains, sum_by}
 use Rattle.polyline_geometry.specs.declared.plane.Point.{Point}
 use Rattle.polyline_geometry.specs.Plane.{IsLine, line_length}
 use Rattle.road_network.specs.declared.limits.TheConstants.{EDGE_LIMIT, LENGTH_LIMIT, NODE_LIMIT, POINT_LIMIT}
@@ -83,6 +83,11 @@ leaving_below n v (suc e) =
 -- the edges that begin at node v, by rising number
 abbrev pub leaving : Net → ℕ → List EdgeId
 leaving n v = leaving_below n v (length n.edges)
+
+-- each edge that begins at node v is in the list
+abbrev pub ContainsLeaving : Net → ℕ → List EdgeId → Type 0
+ContainsLeaving n v edges =
+    (e : ℕ) → HasEdge n e → source n e ≡ v → Contains edges (record { 0 = e })
 
 -- an edge with the node where it ends and its length
 abbrev pub arc_of : Net → EdgeId → Arc

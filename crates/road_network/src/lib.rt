@@ -12,10 +12,10 @@
 //! `specs/NetworkFile.antt`. The clauses to read first are those of [`read_network`].
 #![tactic(auto)]
 
-ghost use Rattle.std.specs.Prelude.{◌≡◌, ◌<◌, ◌≤◌, ℕ, length, map};
-ghost use Rattle.std.specs.List.{All, Contains};
+ghost use Rattle.std.specs.Prelude.{◌≡◌, ◌<◌, ◌≤◌, length, map};
+ghost use Rattle.std.specs.List.{All};
 ghost use Rattle.polyline_geometry.specs.Offsets.{line_offsets};
-ghost use Rattle.road_network.specs.Net.{Net, HasEdge, HasNode, IsLawful, arc_of, edge_line, edge_name, leaving, node_name, source, span, target};
+ghost use Rattle.road_network.specs.Net.{Net, ContainsLeaving, HasEdge, HasNode, IsLawful, arc_of, edge_line, edge_name, leaving, node_name, source, span, target};
 
 mod counting;
 mod draft;
@@ -184,10 +184,7 @@ impl Network {
         requires { HasNode self.now n.0 }
         ensures list { result.now ≡ leaving self.now n.0 }
         ensures each { All (λ e. HasEdge self.now e.0 × (source self.now e.0 ≡ n.0)) result.now }
-        ensures every { (e : ℕ)
-            → HasEdge self.now e
-            → source self.now e ≡ n.0
-            → Contains result.now (record { 0 = e }) }
+        ensures every { ContainsLeaving self.now n.0 result.now }
     {
         let first = self.starts[n.0 as usize] as usize;
         let end = self.starts[n.0 as usize + 1] as usize;

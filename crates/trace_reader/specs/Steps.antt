@@ -1,8 +1,9 @@
 -- What the parts of a call leave, seen from where it began.
-use Rattle.std.specs.Prelude.{◌≡◌, ◌≢◌, ℕ, ◌+◌, ◌-◌, ◌<◌, ◌≤◌, false, List, [], ◌++◌, length, take, ◌⊎◌, Option, Some, None}
+use Rattle.std.specs.Prelude.{◌≡◌, ◌≢◌, ℕ, ◌+◌, ◌-◌, ◌<◌, ◌≤◌, false, List, [], ◌∷◌, ◌++◌, length, take, ◌⊎◌, Option, Some, None, Ok, Err}
+use Rattle.trace_reader.specs.Content.{read_line}
 use Rattle.trace_reader.specs.Reading.{Reading, reads, refused, read_bytes, closed_of, file_limit, line_limit, end_reading, nothing_read}
 use Rattle.trace_reader.specs.Parts.{is_reached}
-use Rattle.trace_reader.specs.Reader.{progress_of}
+use Rattle.trace_reader.specs.Reader.{content_of, progress_of}
 use Rattle.trace_reader.specs.declared.reader.TraceReader.{TraceReader}
 use Rattle.trace_reader.specs.declared.trace.Trace.{Trace}
 use Rattle.trace_reader.specs.declared.fault.TraceFault.{TraceFault}
@@ -36,6 +37,32 @@ Reaches before bytes old after new = read_bytes (start_of before old) bytes ≡ 
 abbrev pub Refuses : TraceReader → List ℕ → List Trace → TraceFault → Type 0
 Refuses before bytes old fault =
     fault ≢ Memory → read_bytes (start_of before old) bytes ≡ refused old fault
+
+-- the line that has begun was read with its last bytes
+pub record ReadsLine (before : TraceReader) (part : List ℕ) (old : List Trace) (after : TraceReader)
+    (new : List Trace) : Type 0 where
+  pub read : read_line (before.lines + 1) (content_of before.content old) (before.line ++ part)
+      ≡ Ok (content_of after.content new)
+  pub line : after.line ≡ []
+  pub one : length new ≤ length old + 1
+
+-- it has this fault, unless memory ran out
+abbrev pub RefusesLine : TraceReader → List ℕ → List Trace → TraceFault → Type 0
+RefusesLine before part old fault =
+    fault ≢ Memory
+    → read_line (before.lines + 1) (content_of before.content old) (before.line ++ part) ≡ Err fault
+
+-- the counts of bytes and lines stay, and what is known of a fault
+pub record KeepsCounts (before after : TraceReader) : Type 0 where
+  pub bytes : after.bytes ≡ before.bytes
+  pub lines : after.lines ≡ before.lines
+  pub fault : after.fault ≡ before.fault
+
+-- the last bytes of a line and its LF were taken
+pub record EndsLine (before : TraceReader) (part : List ℕ) (old : List Trace) (after : TraceReader)
+    (new : List Trace) : Type 0 where
+  pub reached : Reaches before (part ++ 10 ∷ []) old after new
+  pub one : length new ≤ length old + 1
 
 -- the first n bytes were taken, of which only the last may close a trace
 pub record TakesLine (before : TraceReader) (bytes : List ℕ) (old : List Trace) (n : ℕ)

@@ -13,8 +13,8 @@
 
 mod content;
 mod fault;
-mod reader;
 mod laws_of_reading;
+mod reader;
 mod row;
 mod trace;
 

@@ -32,7 +32,7 @@ pub struct TraceReader {
 impl TraceReader {
     ghost use Rattle.trace_reader.specs.Content.{read_line};
     ghost use Rattle.trace_reader.specs.Reader.{StandsFor, HasFailed, Feeds, FeedsSome, Finishes, content_of};
-    ghost use Rattle.trace_reader.specs.Steps.{Exceeds, HasRoom, Reaches, Refuses, TakesLine, TakesLines, FailsLines, EndsFile, FailsEnd};
+    ghost use Rattle.trace_reader.specs.Steps.{Exceeds, HasRoom, KeepsCounts, Reaches, Refuses, EndsLine, ReadsLine, RefusesLine, TakesLine, TakesLines, FailsLines, EndsFile, FailsEnd};
 
     /// A reader that was fed nothing. Takes no memory.
     pub fn open(alloc: Global) -> Self
@@ -174,11 +174,9 @@ impl TraceReader {
     // Takes the last bytes of a line, and its LF.
     fn end_line(&mut self, part: &[u8], into: &mut List<Trace>) -> Result<(), TraceFault>
         requires { HasNoEnd part.now }
-        ensures ok { OnOk result
-            (Reaches self.old (part.now ++ 10 ∷ []) into.old self.new into.new) }
+        ensures ok { OnOk result (EndsLine self.old part.now into.old self.new into.new) }
         ensures err { IfErr result (Refuses self.old (part.now ++ 10 ∷ []) into.old) }
         ensures same { OnErr result (into.new ≡ into.old) }
-        ensures one { length into.new ≤ length into.old + 1 }
         ensures fault { self.new.fault ≡ self.old.fault }
     {
         self.check_limits(part.len())?;
@@ -196,19 +194,10 @@ impl TraceReader {
     // not copied.
     fn read_line(&mut self, part: &[u8], into: &mut List<Trace>) -> Result<(), TraceFault>
         requires { HasRoom self.old (length part.now) }
-        ensures ok { OnOk result (read_line (self.old.lines + 1)
-            (content_of self.old.content into.old) (self.old.line ++ part.now)
-            ≡ Ok (content_of self.new.content into.new)) }
-        ensures line { OnOk result (self.new.line ≡ []) }
-        ensures err { IfErr result (λ fault. fault ≢ TraceFault.Memory
-            → read_line (self.old.lines + 1) (content_of self.old.content into.old)
-            (self.old.line ++ part.now)
-            ≡ Err fault) }
+        ensures ok { OnOk result (ReadsLine self.old part.now into.old self.new into.new) }
+        ensures err { IfErr result (RefusesLine self.old part.now into.old) }
         ensures same { OnErr result (into.new ≡ into.old) }
-        ensures one { length into.new ≤ length into.old + 1 }
-        ensures lines { self.new.lines ≡ self.old.lines }
-        ensures bytes { self.new.bytes ≡ self.old.bytes }
-        ensures fault { self.new.fault ≡ self.old.fault }
+        ensures kept { KeepsCounts self.old self.new }
     {
         let number = self.lines + 1;
         if self.line.as_slice().is_empty() {

@@ -25,10 +25,12 @@ returns-in_err-read_line-clause-err c =
 
 pub returns-clause-ok : goal.returns-clause-ok
 returns-clause-ok c =
-    let read = c.in_ok-read_line.ensures in
+    let read = c.in_ok-read_line.ensures.ok in
+    let kept = c.in_ok-read_line.ensures.kept in
     let bytes = c.args.self.now.bytes + length c.args.part.now + 1 in
     let content = content_of c.read_line.new.self.content c.read_line.new.into in
-    ended c.args.self.now c.args.part.now c.args.into.now c.requires c.in_ok-check_limits.ensures.ok c.if-bytes-eq-FILE_LIMIT.false
-    ∙ ap (end_line (with_part (progress_of c.args.self.now c.args.into.now) c.args.part.now)) read.ok
+    let reached = ended c.args.self.now c.args.part.now c.args.into.now c.requires c.in_ok-check_limits.ensures.ok c.if-bytes-eq-FILE_LIMIT.false
+    ∙ ap (end_line (with_part (progress_of c.args.self.now c.args.into.now) c.args.part.now)) read.read
     ∙ ap (λ line. reads (record { bytes = bytes; lines = c.args.self.now.lines + 1; line = line; content = content })) (sym read.line)
-    ∙ ap (λ lines. reads (record { bytes = bytes; lines = lines + 1; line = c.read_line.new.self.line; content = content })) (sym read.lines)
+    ∙ ap (λ lines. reads (record { bytes = bytes; lines = lines + 1; line = c.read_line.new.self.line; content = content })) (sym kept.lines) in
+    record { reached = reached; one = read.one }

@@ -32,9 +32,9 @@ returns-in_ok-end_line-in-Some-clause-ok c =
     record {
       some = omega arith;
       within = omega arith;
-      reached = subst (λ part. Reaches c.args.self.now part c.args.into.now c.end_line.new.self c.end_line.new.into) (sym (to_first_end bytes place below c.in-Some.ensures.1)) c.in_ok-end_line-in-Some.ensures.ok;
+      reached = subst (λ part. Reaches c.args.self.now part c.args.into.now c.end_line.new.self c.end_line.new.into) (sym (to_first_end bytes place below c.in-Some.ensures.1)) c.in_ok-end_line-in-Some.ensures.ok.reached;
       quiet = λ k h. quiet_in_part c.args.self.now bytes c.args.into.now place k (HasNo-before 10 bytes place c.in-Some.ensures.0) (omega arith);
-      one = c.in_ok-end_line-in-Some.ensures.one;
+      one = c.in_ok-end_line-in-Some.ensures.ok.one;
     }
 
 pub returns-in_ok-keep-in-None-clause-ok : goal.returns-in_ok-keep-in-None-clause-ok
