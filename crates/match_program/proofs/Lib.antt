@@ -4,3 +4,4 @@ pub mod Counting
 pub mod Jobs
 pub mod Lines
 pub mod Texts
+pub mod Workers

@@ -1,5 +1,6 @@
 pub mod Matched
 pub mod MatcherInside
 pub mod Setting
+pub mod Workers
 pub mod Words
 pub mod commands

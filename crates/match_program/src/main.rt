@@ -14,6 +14,7 @@
 #![tactic(auto)]
 
 mod commands;
+pub mod laws;
 mod matcher;
 mod run;
 

@@ -1,0 +1,10 @@
+-- No definition of a match looks at the number of workers.
+use Rattle.std.proofs.Common.{refl}
+use Rattle.command_line.specs.Work.PlainWork.{match_files}
+use Rattle.route_rebuild.specs.Routes.{route_of}
+use Rattle.trace_match.specs.Match.{asks, match_of}
+use Rattle.match_program.specs.Workers.{WorkersChangeNothing}
+
+pub workers_change_nothing : WorkersChangeNothing
+unfolding match_of asks route_of
+workers_change_nothing (match_files network traces) options workers = refl
