@@ -18,7 +18,7 @@ use Rattle.polyline_geometry.proofs.Nearest.{snap_nearest}
 use Rattle.road_network.specs.declared.Candidate.{Candidate}
 use Rattle.road_network.specs.Near.{is_before, placed}
 use Rattle.candidate_search.specs.Nearest.{AllAreFar, IsFound, IsNearestOf, IsPlace, with_one}
-use Rattle.candidate_search.proofs.Order.{before_false, before_later, before_true, placed_after, placed_first}
+use Rattle.road_network.proofs.NearOrder.{before_false, before_later, before_true, placed_after, placed_first}
 
 not_before : (c d : Candidate) → d.d2 ≤ c.d2 → d.edge.0 < c.edge.0 → is_before c d ≡ false
 not_before c d h k = ⊎_elim (λ lt. before_false c d lt) (λ ge. let e : d.d2 ≡ c.d2 = omega (arith, h, ge) in before_later c d e k) (cases_lt d.d2 c.d2)

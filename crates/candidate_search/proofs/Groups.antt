@@ -197,17 +197,6 @@ taken_up net at k radius runs place e found lawful h t le few behind =
       found_later k t.number e found le t.found_is,
     )
 
-pub taken_none_to : (net : Net) (at : Point) (k radius : ℕ) (runs : List Run) (found : List Candidate)
-    → found ≡ nearest k radius (map (candidate_at net at) (range_with_len 0 0)) → IsFound k 0 found → IsTakenTo net at k radius runs 0 found
-taken_none_to net at k radius runs found list is = record {
-  number = 0;
-  few = omega arith;
-  list = list;
-  found_is = is;
-  before = λ j d lt. absurd (omega (arith, lt));
-  after = λ j d le lt. omega arith;
-}
-
 -- one more edge
 pub taken_group : (net : Net) (at : Point) (k radius : ℕ) (runs : List Run) (place end e : ℕ) (new : List Candidate) → IsGroup runs place end
     → ((d : Run) → (get_or runs place d).edge.0 ≡ e) → HasEdge net e → ((j : ℕ) (d : Run) → j < place → (get_or runs j d).edge.0 < e)

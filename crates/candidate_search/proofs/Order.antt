@@ -1,74 +1,12 @@
 -- The order of candidates, and how a list in order takes one more.
-use Rattle.std.proofs.Common.{◌≡◌, ℕ, zero, suc, ◌*◌, ◌<◌, ◌≤◌, ◌⊎◌, Bool, true, false, cond, leb, List, [], ◌∷◌, ◌++◌, take, All, refl, sym, ap, ◌∙◌, inl, inr, arith, ⊎_elim}
+use Rattle.std.proofs.Common.{◌≡◌, ℕ, zero, suc, ◌*◌, ◌<◌, Bool, true, false, cond, leb, List, [], ◌∷◌, ◌++◌, take, All, refl, sym, ap, ◌∙◌, arith, ⊎_elim}
 use Rattle.std.specs.List.{filter}
-use Rattle.std.proofs.lemmas.Bool.{cases_lt, true≢false}
-use Rattle.std.proofs.lemmas.Bool.Decides.{nat_tests}
+use Rattle.std.proofs.lemmas.Bool.{true≢false}
 use Rattle.std.proofs.lemmas.List.Elements.{All-filter, filter-append}
 use Rattle.road_network.specs.declared.Candidate.{Candidate}
 use Rattle.road_network.specs.Near.{in_order, is_before, placed}
+use Rattle.road_network.proofs.NearOrder.{chain, placed_after, placed_first, stand}
 use Rattle.candidate_search.specs.Nearest.{nearest, with_one}
-
-abbrev IsBefore : Candidate → Candidate → Type 0
-IsBefore c d = (c.d2 < d.d2) ⊎ ((c.d2 ≡ d.d2) × (c.edge.0 < d.edge.0))
-
-pub before_true : (c d : Candidate) → c.d2 < d.d2 → is_before c d ≡ true
-before_true c d h = grind (arith, nat_tests)
-
-before_tie : (c d : Candidate) → c.d2 ≡ d.d2 → c.edge.0 < d.edge.0 → is_before c d ≡ true
-before_tie c d h k = grind (arith, nat_tests)
-
-pub before_false : (c d : Candidate) → d.d2 < c.d2 → is_before c d ≡ false
-before_false c d h = grind (arith, nat_tests)
-
-pub before_later : (c d : Candidate) → d.d2 ≡ c.d2 → d.edge.0 < c.edge.0 → is_before c d ≡ false
-before_later c d h k = grind (arith, nat_tests)
-
-before_not : (c d : Candidate) → c.d2 ≡ d.d2 → d.edge.0 ≤ c.edge.0 → is_before c d ≡ false
-before_not c d h k = grind (arith, nat_tests)
-
-before_of : (c d : Candidate) → IsBefore c d → is_before c d ≡ true
-before_of c d h = ⊎_elim (λ lt. before_true c d lt) (λ tie. before_tie c d tie.0 tie.1) h
-
-is_before_of : (c d : Candidate) → is_before c d ≡ true → IsBefore c d
-is_before_of c d h =
-    ⊎_elim
-    (λ lt. inl lt)
-    (λ ge.
-    ⊎_elim
-    (λ lt. absurd (true≢false (sym h ∙ before_false c d lt)))
-    (λ le.
-    let e : c.d2 ≡ d.d2 = omega (arith, ge, le) in
-    ⊎_elim (λ lt. inr (e, lt)) (λ no. absurd (true≢false (sym h ∙ before_not c d e no))) (cases_lt c.edge.0 d.edge.0))
-    (cases_lt d.d2 c.d2))
-    (cases_lt c.d2 d.d2)
-
-chain_of : (c d e : Candidate) → IsBefore c d → IsBefore d e → IsBefore c e
-chain_of c d e h k =
-    ⊎_elim
-    (λ lt. ⊎_elim (λ m. inl (omega (arith, lt, m))) (λ m. inl (omega (arith, lt, m.0))) k)
-    (λ tie. ⊎_elim (λ m. inl (omega (arith, tie.0, m))) (λ m. inr (omega (arith, tie.0, m.0), omega (arith, tie.1, m.1))) k)
-    h
-
-chain : (c d e : Candidate) → is_before c d ≡ true → is_before d e ≡ true → is_before c e ≡ true
-chain c d e h k = before_of c e (chain_of c d e (is_before_of c d h) (is_before_of d e k))
-
--- of two candidates of different edges one is before the other
-stand : (c d : Candidate) → c.edge.0 < d.edge.0 → ((is_before c d ≡ true) × (is_before d c ≡ false)) ⊎ ((is_before c d ≡ false) × (is_before d c ≡ true))
-stand c d h =
-    ⊎_elim
-    (λ lt. inl (before_true c d lt, before_false d c lt))
-    (λ ge.
-    ⊎_elim
-    (λ lt. inr (before_false c d lt, before_true d c lt))
-    (λ le. let e : c.d2 ≡ d.d2 = omega (arith, ge, le) in inl (before_tie c d e h, before_later d c e h))
-    (cases_lt d.d2 c.d2))
-    (cases_lt c.d2 d.d2)
-
-pub placed_first : (c d : Candidate) (others : List Candidate) → is_before c d ≡ true → placed c (d ∷ others) ≡ c ∷ d ∷ others
-placed_first c d others h = ap (λ b. cond b (c ∷ d ∷ others) (d ∷ placed c others)) h
-
-pub placed_after : (c d : Candidate) (others : List Candidate) → is_before c d ≡ false → placed c (d ∷ others) ≡ d ∷ placed c others
-placed_after c d others h = ap (λ b. cond b (c ∷ d ∷ others) (d ∷ placed c others)) h
 
 swap_both : (x c d : Candidate) (r : List Candidate) → x.edge.0 < c.edge.0 → is_before c d ≡ true → is_before x d ≡ true
     → placed x (placed c (d ∷ r)) ≡ placed c (placed x (d ∷ r))
