@@ -14,6 +14,10 @@ const TWO_TRACES: &[u8] = b"trace,x,y\n1,1000,0\n2,1000,0\n";
 
 const FAULTY: &[u8] = b"trace,x,y\n1,1000,0\n2,1000,0\n7,2000,0\n7,12x,0\n";
 
+// Half of the two texts.
+const ONE_TEXT: &[u8] =
+    b"trace 1\nat 0 edge 10 offset 1000 d2 0\npiece 0 0 cost 0 route 10\nend 1\n";
+
 const TWO_TEXTS: &[u8] =
     b"trace 1\nat 0 edge 10 offset 1000 d2 0\npiece 0 0 cost 0 route 10\nend 1\ntrace 2\nat 0 edge 10 offset 1000 d2 0\npiece 0 0 cost 0 route 10\nend 2\n";
 
@@ -76,22 +80,22 @@ const CASES: [Case; 7] = [
         err: b"traces line 5 field 2: bad number\n",
     },
     Case {
-        shows: "the put of a text fails",
+        shows: "the put of a text fails after half of it",
         words: MATCH,
         traces: TWO_TRACES,
         fail: [&[], &[1], &[]],
         status: 4,
-        out: b"",
+        out: ONE_TEXT,
         err: b"fmm: write failed\n",
     },
     Case {
-        shows: "the put of a refusal fails",
+        shows: "the put of a refusal fails after half of it",
         words: MATCH,
         traces: FAULTY,
         fail: [&[], &[], &[1]],
         status: 4,
         out: TWO_TEXTS,
-        err: b"",
+        err: b"traces line 5 fie",
     },
 ];
 
