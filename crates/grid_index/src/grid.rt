@@ -39,12 +39,22 @@ impl<'n> Model for Grid<'n> {
     ghost invariant = { IsKept };
 }
 
-/// How many slots a row of the table has, so that there are about twice as many as edges.
+/// About how many runs the lines of a network have: one for each edge, and one for each 16 points.
+fn runs_expected(net: &Network) -> usize {
+    let mut runs = 0_usize;
+    for number in 0..net.edge_count() {
+        let points = net.line(EdgeId(number)).len();
+        runs = runs.saturating_add(points / 16).saturating_add(1);
+    }
+    runs
+}
+
+/// How many slots a row of the table has, so that there are about twice as many as runs.
 fn width_for(net: &Network) -> u32
     ensures some { 1 ≤ result }
     ensures few { result ≤ 2_048 }
 {
-    (net.edge_count() / 2).isqrt().clamp(1, 1_024) * 2
+    (runs_expected(net) / 2).isqrt().clamp(1, 1_024) as u32 * 2
 }
 
 /// The edges that stand in a list, once each and by rising number.
