@@ -1,5 +1,5 @@
 -- The buckets of a queue, against the list of what waits in them.
-use Rattle.std.proofs.Common.{◌≡◌, ℕ, zero, suc, ◌+◌, ◌<◌, List, [], ◌∷◌, ◌++◌, inl, inr, length, set, length-set, get_or-set_same, get_or-set_other, slice_index_or, refl, sym, ap, subst, ◌∙◌, arith, append_assoc}
+use Rattle.std.proofs.Common.{◌≡◌, ◌≢◌, ◌≤◌, ℕ, zero, suc, ◌+◌, ◌<◌, List, [], ◌∷◌, ◌++◌, inl, inr, length, set, length-set, get_or-set_same, get_or-set_other, slice_index_or, refl, sym, ap, subst, ◌∙◌, arith, append_assoc}
 use Rattle.std.proofs.lemmas.Bool.{cases_eq, cases_lt}
 use Rattle.std.proofs.lemmas.List.{get_or_past}
 use Rattle.std.proofs.lemmas.List.Sorted.{IsPermutation-append_right, IsPermutation-middle, IsPermutation-sym, IsPermutation-trans}
@@ -53,3 +53,13 @@ empty_more buckets place empty k from to =
       ]
       | inr apart ↦ get_or-set_other buckets place k [] [] apart ∙ empty k from (omega arith)
     ]
+
+-- buckets that are empty side by side
+pub empty_both : (buckets : List (List Waiting)) (first middle past : ℕ) → AreEmptyBetween first middle buckets → AreEmptyBetween middle past buckets → AreEmptyBetween first past buckets
+empty_both buckets first middle past low high k from to = elim (cases_lt k middle) [ inl lt ↦ low k from lt | inr ge ↦ high k ge to ]
+
+-- what is in a bucket behind them does not matter
+pub still_empty : (buckets : List (List Waiting)) (first past less place : ℕ) (items : List Waiting) → AreEmptyBetween first past buckets → less ≤ past → less ≤ place → AreEmptyBetween first less (set buckets place items)
+still_empty buckets first past less place items empty le behind k from to =
+    let apart : k ≢ place = omega arith in
+    get_or-set_other buckets place k items [] apart ∙ empty k from (omega arith)

@@ -1,10 +1,8 @@
 -- Labels as words: the distance of a label in the high half, the number of its last edge in the low half.
 -- Of two words the smaller is the better label: nearer, or as near by an earlier last edge.
-use Rattle.std.specs.Prelude.{ℕ, ◌+◌, ◌-◌, ◌*◌, ◌/◌, ◌%◌, ◌^◌, ◌==◌, if◌then◌else◌, List, [], ◌∷◌, ◌++◌, Option, Some, None, slice_index_or, slice_set}
+use Rattle.std.specs.Prelude.{ℕ, ◌+◌, ◌-◌, ◌*◌, ◌/◌, ◌%◌, ◌^◌, ◌==◌, if◌then◌else◌, List, Option, Some, None, slice_index_or}
 use Rattle.road_network.specs.declared.EdgeId.{EdgeId}
 use Rattle.bounded_search.specs.declared.table_row.Label.{Label}
-use Rattle.bounded_search.specs.declared.table_row.Entry.{Entry}
-use Rattle.bounded_search.specs.Labels.{entry_of}
 
 -- the word of a node without a label
 abbrev pub no_label : ℕ
@@ -17,6 +15,14 @@ origin_word = 2 ^ 32 - 1
 -- the word of a label at distance d with last edge e
 abbrev pub word_by : ℕ → ℕ → ℕ
 word_by d e = d * 2 ^ 32 + e
+
+-- the word of a label at distance d, with a last edge or with none
+abbrev pub low_of : Option EdgeId → ℕ
+low_of None = 2 ^ 32 - 1
+low_of (Some e) = e.0
+
+abbrev pub word_of : ℕ → Option EdgeId → ℕ
+word_of d last = word_by d (low_of last)
 
 -- the last edge in the low half of a word
 abbrev pub last_in : ℕ → Option EdgeId
@@ -38,8 +44,3 @@ distance_at words v = word_at words v / 2 ^ 32
 -- the label of a node
 abbrev pub label_at : List ℕ → ℕ → Option Label
 label_at words v = label_in_word (word_at words v)
-
--- the entries of these nodes, where each node's label is taken out as it is listed
-abbrev pub taken_entries : List ℕ → List ℕ → List Entry
-taken_entries [] words = []
-taken_entries (v ∷ nodes) words = entry_of v (label_at words v) ++ taken_entries nodes (slice_set words v no_label)

@@ -1,33 +1,34 @@
 //! The search for the row of an origin. Serves `Searcher::row`; decided by `IsRow`.
-ghost use Rattle.std.specs.Prelude.{◌≡◌, ◌<◌, ◌≤◌, ◌/◌, ◌^◌, ◌∷◌, ◌++◌, ℕ, nat_lt, length, IfOk, OnOk, slice_set};
-ghost use Rattle.std.specs.List.{Contains};
+ghost use Rattle.std.specs.Prelude.{◌≡◌, ◌<◌, ◌≤◌, ◌+◌, ◌*◌, ◌/◌, ◌^◌, ◌∷◌, ◌++◌, ℕ, [], nat_lt, length, List, IfOk, OnOk, slice_set};
 ghost use Rattle.road_network.specs.Net.{HasNode};
 ghost use Rattle.bounded_search.specs.Closed.{IsClosed};
 ghost use Rattle.bounded_search.specs.Underway.{Gains, IsUnderway, NonePending, Tries, effort, state_of};
 ghost use Rattle.bounded_search.specs.LabelWords.{distance_at, label_at, no_label};
 ghost use Rattle.bounded_search.specs.Labels.{entry_of};
+ghost use Rattle.bounded_search.specs.Marked.{AreMarked, IsClean, IsSized, IsTaken, MarksToo};
 ghost use Rattle.bounded_search.specs.Table.{label_in, RisesFrom, IsRow};
-ghost use Rattle.bounded_search.specs.Touched.{IsClean, IsTouched};
 
 use crate::label_words::{NO_LABEL, ORIGIN, distance_in, label_in, word_by};
-use crate::marks::in_order;
 use crate::queue::{Queue, Waiting};
 use crate::table_row::Entry;
 use road_network::{Arc, EdgeId, Network, NodeId};
 use std::alloc::{AllocError, Global};
 
-/// The labels of one search as words by node number, and the nodes that wait.
+/// The labels of one search as words by node number, the nodes that have one, and the nodes that wait.
 ///
-/// `touched` lists every node that was given a label: what it names is all that has to be cleared.
+/// Each labelled node is marked by one bit. So the entries come out by rising node number, and what has to
+/// be cleared is found, in a look at every 64 nodes.
 #[derive(Drop)]
 pub struct Workspace {
     pub(crate) words: Vec<u64>,
-    touched: Vec<u32>,
+    marks: Vec<u64>,
+    /// How many nodes are labelled: so much memory their entries take.
+    labelled: usize,
     queue: Queue,
 }
 
-/// How wide the buckets of the queue are, as a power of two: up to a tenth of the mean length of an edge. So few
-/// nodes become nearer after they were taken out, and few buckets are empty. There are at most some 8,192.
+/// How wide the buckets of the queue are, as a power of two: up to half of the mean length of an edge. So few
+/// nodes become nearer after they were taken out, and few buckets are empty. There are at most some 2,048.
 fn bucket_shift(net: &Network, bound: u32) -> u32
     ensures { result < 32 }
 {
@@ -35,8 +36,8 @@ fn bucket_shift(net: &Network, bound: u32) -> u32
     for e in 0..net.edge_count() {
         total = total.saturating_add(u64::from(net.length(EdgeId(e))));
     }
-    let tenth = total / (u64::from(net.edge_count()) * 10 + 1);
-    let width = tenth.max(u64::from(bound / 4096)).max(1);
+    let half = total / (u64::from(net.edge_count()) * 2 + 1);
+    let width = half.max(u64::from(bound / 1024)).max(1);
     63_u32.saturating_sub(width.leading_zeros()).min(31)
 }
 
@@ -48,33 +49,34 @@ impl Workspace {
         let nodes = net.node_count() as usize;
         Ok(Workspace {
             words: vec![in alloc; NO_LABEL; nodes]?,
-            touched: Vec::new(alloc),
+            marks: vec![in alloc; 0; nodes / 64 + 1]?,
+            labelled: 0,
             queue: Queue::new(alloc, bound, bucket_shift(net, bound))?,
         })
     }
 
-    /// Lists a node as touched, unless a label shows that it is listed already.
-    fn touch(&mut self, node: NodeId) -> Result<(), AllocError>
-        requires { node.0 < length self.old.words.items }
-        ensures state { state_of self.new ≡ state_of self.old }
-        ensures touched { (count : ℕ) → IsTouched count self.old → IsTouched count self.new }
-        ensures listed { OnOk result ((count : ℕ) → IsTouched count self.old → Contains self.new.touched.items node.0) }
+    /// Marks a node.
+    fn mark(&mut self, node: NodeId)
+        requires { node.0 / 64 < length self.old.marks.items }
+        ensures words { self.new.words.items ≡ self.old.words.items }
+        ensures queue { self.new.queue ≡ self.old.queue }
+        ensures count { length self.new.marks.items ≡ length self.old.marks.items }
+        ensures marks { MarksToo self.old.marks.items node.0 self.new.marks.items }
     {
-        if self.words[node.0 as usize] == NO_LABEL {
-            self.touched.push(node.0)?;
-        }
-        Ok(())
+        self.marks[node.0 as usize / 64] |= 1 << (node.0 % 64);
     }
 
     /// Lets a node wait at a distance, where that is nearer than it was before.
     fn wait_nearer(&mut self, node: NodeId, distance: u32) -> Result<(), AllocError>
         requires { node.0 < length self.old.words.items }
         ensures words { self.new.words.items ≡ self.old.words.items }
-        ensures touched { self.new.touched.items ≡ self.old.touched.items }
+        ensures marks { self.new.marks.items ≡ self.old.marks.items }
         ensures queue { OnOk result (Gains (nat_lt distance (distance_at self.old.words.items node.0))
             (record { distance = distance; node = node.0 }) self.old.queue self.new.queue) }
     {
-        if distance < distance_in(self.words[node.0 as usize]) {
+        let word = self.words[node.0 as usize];
+        if distance < distance_in(word) {
+            self.labelled = self.labelled.saturating_add(usize::from(word == NO_LABEL));
             self.queue.push(Waiting {
                 distance,
                 node: node.0,
@@ -85,13 +87,14 @@ impl Workspace {
 
     /// Gives a node the label of a word, and lets it wait where it becomes nearer.
     fn label(&mut self, node: NodeId, word: u64) -> Result<(), AllocError>
-        requires { node.0 < length self.old.words.items }
+        requires node { (node.0 < length self.old.words.items) × (node.0 / 64 < length self.old.marks.items) }
         ensures words { OnOk result (self.new.words.items ≡ slice_set self.old.words.items node.0 word) }
         ensures queue { OnOk result (Gains (nat_lt (word / 2 ^ 32) (distance_at self.old.words.items node.0))
             (record { distance = word / 2 ^ 32; node = node.0 }) self.old.queue self.new.queue) }
-        ensures touched { (count : ℕ) → IsTouched count self.old → IsTouched count self.new }
+        ensures sized { (count : ℕ) → IsSized count self.old → IsSized count self.new }
+        ensures marked { (count : ℕ) → AreMarked count self.old → OnOk result (AreMarked count self.new) }
     {
-        self.touch(node)?;
+        self.mark(node);
         self.wait_nearer(node, distance_in(word))?;
         self.words[node.0 as usize] = word;
         Ok(())
@@ -99,10 +102,11 @@ impl Workspace {
 
     /// Tries an arc from a distance: where it gives its end a better label, that is written.
     fn relax(&mut self, bound: u32, distance: u32, arc: Arc) -> Result<(), AllocError>
-        requires end { arc.to.0 < length self.old.words.items }
+        requires end { (arc.to.0 < length self.old.words.items) × (arc.to.0 / 64 < length self.old.marks.items) }
         requires fits { (arc.length ≤ 100_000_000) × (distance ≤ 10_000_000) }
         ensures tries { OnOk result (Tries bound distance arc (state_of self.old) (state_of self.new)) }
-        ensures touched { (count : ℕ) → IsTouched count self.old → IsTouched count self.new }
+        ensures sized { (count : ℕ) → IsSized count self.old → IsSized count self.new }
+        ensures marked { (count : ℕ) → AreMarked count self.old → OnOk result (AreMarked count self.new) }
     {
         let next = distance + arc.length;
         let word = word_by(next, arc.edge);
@@ -115,12 +119,13 @@ impl Workspace {
     /// Tries every edge out of a node that waited, unless it has become nearer since.
     fn relax_leaving(&mut self, net: &Network, bound: u32, next: Waiting) -> Result<(), AllocError>
         requires next { HasNode net.now next.node × (next.distance ≤ 10_000_000) }
-        requires words { length self.old.words.items ≡ length net.now.nodes }
+        requires sized { IsSized (length net.now.nodes) self.old }
         ensures underway { OnOk result ((s : ℕ)
             → IsUnderway net.now bound s (record { words = self.old.words.items; queue = next ∷ self.old.queue }) NonePending
             → IsUnderway net.now bound s (state_of self.new) NonePending) }
         ensures less { OnOk result (effort (state_of self.new) ≤ effort (state_of self.old)) }
-        ensures touched { (count : ℕ) → IsTouched count self.old → IsTouched count self.new }
+        ensures sized { IsSized (length net.now.nodes) self.new }
+        ensures marked { (count : ℕ) → AreMarked count self.old → OnOk result (AreMarked count self.new) }
     {
         net.known();
         if distance_in(self.words[next.node as usize]) != next.distance {
@@ -141,7 +146,9 @@ impl Workspace {
         requires bound { bound ≤ 10_000_000 }
         requires clean { IsClean (length net.now.nodes) self.old }
         ensures closed { OnOk result (IsClosed net.now bound origin.0 (label_at self.new.words.items)) }
-        ensures touched { IsTouched (length net.now.nodes) self.new }
+        ensures marked { OnOk result (AreMarked (length net.now.nodes) self.new) }
+        ensures none_waiting { OnOk result (self.new.queue ≡ []) }
+        ensures sized { IsSized (length net.now.nodes) self.new }
     {
         net.known();
         self.label(origin, ORIGIN)?;
@@ -157,7 +164,8 @@ impl Workspace {
         ensures entries { OnOk result
             (entries.new.items ≡ entries.old.items ++ entry_of node (label_at self.old.words.items node)) }
         ensures words { OnOk result (self.new.words.items ≡ slice_set self.old.words.items node no_label) }
-        ensures touched { (count : ℕ) → IsTouched count self.old → IsTouched count self.new }
+        ensures count { length self.new.words.items ≡ length self.old.words.items }
+        ensures others { (self.new.marks.items ≡ self.old.marks.items) × (self.new.queue ≡ self.old.queue) }
     {
         if let Some(label) = label_in(self.words[node as usize]) {
             entries.push(Entry {
@@ -170,24 +178,47 @@ impl Workspace {
         Ok(())
     }
 
+    /// Takes out the labels of the nodes that one word marks, and appends their entries by rising node number.
+    fn take_marked(&mut self, place: usize, entries: &mut Vec<Entry>) -> Result<(), AllocError>
+        requires place { (place < length self.old.marks.items) × (length self.old.words.items ≤ 60_000) }
+        requires marked { AreMarked (length self.old.words.items) self.old }
+        ensures taken { OnOk result ((before : List ℕ)
+            → IsTaken before (place * 64) self.old entries.old.items
+            → IsTaken before ((place + 1) * 64) self.new entries.new.items) }
+        ensures marked { OnOk result (AreMarked (length self.old.words.items) self.new) }
+        ensures sized { IsSized (length self.old.words.items) self.new }
+        ensures queue { self.new.queue ≡ self.old.queue }
+    {
+        let mut rest = self.marks[place];
+        while rest != 0 {
+            let bit = rest.trailing_zeros();
+            self.take_entry(place as u32 * 64 + bit, entries)?;
+            rest &= !(1 << bit);
+            self.marks[place] = rest;
+        }
+        Ok(())
+    }
+
     /// Takes the labels out as entries, by rising node number.
     fn take_entries(&mut self, alloc: Global) -> Result<Vec<Entry>, AllocError>
         requires few { length self.old.words.items ≤ 60_000 }
-        requires touched { IsTouched (length self.old.words.items) self.old }
+        requires marked { AreMarked (length self.old.words.items) self.old }
+        requires none_waiting { self.old.queue ≡ [] }
         ensures rising { IfOk result (λ entries. RisesFrom 0 entries.items) }
         ensures labels { IfOk result (λ entries. (v : ℕ)
             → label_in entries.items v ≡ label_at self.old.words.items v) }
-        ensures touched { IsTouched (length self.old.words.items) self.new }
+        ensures clean { OnOk result (IsClean (length self.old.words.items) self.new) }
+        ensures sized { IsSized (length self.old.words.items) self.new }
     {
-        let nodes = in_order(alloc, self.touched.as_slice(), self.words.len())?;
-        let mut entries = Vec::with_capacity(alloc, nodes.len())?;
-        for node in nodes.as_slice() {
-            self.take_entry(*node, &mut entries)?;
+        let mut entries = Vec::with_capacity(alloc, self.labelled)?;
+        for place in 0..self.marks.len() {
+            self.take_marked(place, &mut entries)?;
         }
+        self.labelled = 0;
         Ok(entries)
     }
 
-    /// The entries of the row of an origin. The arrays have to be cleared afterwards, after Err too.
+    /// The entries of the row of an origin. After Err the arrays have to be cleared.
     pub fn entries(
         &mut self,
         alloc: Global,
@@ -200,21 +231,22 @@ impl Workspace {
         requires clean { IsClean (length net.now.nodes) self.old }
         ensures row { IfOk result (λ entries.
             IsRow net.now bound origin.0 (record { origin = origin.0; entries = entries.items })) }
-        ensures touched { IsTouched (length net.now.nodes) self.new }
+        ensures clean { OnOk result (IsClean (length net.now.nodes) self.new) }
+        ensures sized { IsSized (length net.now.nodes) self.new }
     {
         net.known();
         self.label_all(net, bound, origin)?;
         self.take_entries(alloc)
     }
 
-    /// Empties the arrays, in as many steps as nodes were touched.
+    /// Empties the arrays after a search that was broken off, in as many steps as they have places.
     pub fn clear(&mut self)
-        requires { IsTouched (length self.old.words.items) self.old }
+        requires { IsSized (length self.old.words.items) self.old }
         ensures { IsClean (length self.old.words.items) self.new }
     {
-        while let Some(node) = self.touched.pop() {
-            self.words[node as usize] = NO_LABEL;
-        }
+        self.words.fill(NO_LABEL);
+        self.marks.fill(0);
+        self.labelled = 0;
         self.queue.clear();
     }
 }

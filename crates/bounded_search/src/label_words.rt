@@ -1,6 +1,6 @@
 //! Labels in eight bytes. Serves the search and the check by words; decided by `label_in_word`.
 ghost use Rattle.std.specs.Prelude.{◌≡◌, ◌/◌, ◌^◌};
-ghost use Rattle.bounded_search.specs.LabelWords.{label_in_word, no_label, origin_word, word_by};
+ghost use Rattle.bounded_search.specs.LabelWords.{label_in_word, no_label, origin_word, word_by, word_of};
 
 use crate::table_row::Label;
 use road_network::EdgeId;
@@ -17,6 +17,16 @@ pub fn word_by(distance: u32, e: EdgeId) -> u64
     ensures { result ≡ word_by distance e.0 }
 {
     u64::from(distance) << 32 | u64::from(e.0)
+}
+
+/// The word of a label by its parts.
+pub fn word_of(distance: u32, last: Option<EdgeId>) -> u64
+    ensures { result ≡ word_of distance last }
+{
+    match last {
+        Some(e) => word_by(distance, e),
+        None => word_by(distance, EdgeId(0xffff_ffff)),
+    }
 }
 
 /// The distance in a word. That of no label is beyond every bound.

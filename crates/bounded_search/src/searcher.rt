@@ -1,5 +1,5 @@
 //! Searches for many rows of one network. Serves `search` and `OwnRows`; decided by `IsRow`.
-ghost use Rattle.std.specs.Prelude.{◌≡◌, ◌≤◌, IfOk};
+ghost use Rattle.std.specs.Prelude.{◌≡◌, ◌≤◌, ◌↔◌, IfOk, IsTrue};
 ghost use Rattle.road_network.specs.Net.{HasNode};
 ghost use Rattle.bounded_search.specs.Table.{IsRow};
 
@@ -12,8 +12,8 @@ use std::marker::Model;
 
 /// Searches for rows of one network within one bound.
 ///
-/// It keeps its arrays over many rows, and clears of them what a search touched: a row costs what it
-/// reaches, and not what the network has.
+/// It keeps its arrays over many rows, and leaves them empty: a row costs what it reaches, and a look at
+/// every 64 nodes of the network.
 #[derive(Drop)]
 pub struct Searcher<'n> {
     alloc: Global,
@@ -49,6 +49,22 @@ impl<'n> Searcher<'n> {
         })
     }
 
+    /// Whether a row is the row of an origin, as `check_row` decides it.
+    ///
+    /// The labels are spread over an array by node, so it costs one look for each edge out of an entry's node.
+    /// Takes no memory.
+    pub fn check(&mut self, origin: NodeId, row: &Row) -> bool
+        requires { HasNode self.old.network origin.0 }
+        ensures same { self.new ≡ self.old }
+        ensures row { IsTrue result ↔ IsRow self.old.network self.old.bound origin.0 row.now }
+    {
+        let network = self.network;
+        let bound = self.bound;
+        network.known();
+        row.known();
+        row.origin() == origin && self.workspace.gives_all(network, bound, row.entries())
+    }
+
     /// The row of an origin, as `search` finds it.
     pub fn row(&mut self, origin: NodeId) -> Result<Row, AllocError>
         requires { HasNode self.old.network origin.0 }
@@ -59,10 +75,16 @@ impl<'n> Searcher<'n> {
         let network = self.network;
         let bound = self.bound;
         network.known();
-        let found = self.workspace.entries(alloc, network, bound, origin);
-        self.workspace.clear();
-        let entries = List::from_vec(found?);
-        Ok(Row { origin, entries })
+        match self.workspace.entries(alloc, network, bound, origin) {
+            Ok(entries) => Ok(Row {
+                origin,
+                entries: List::from_vec(entries),
+            }),
+            Err(error) => {
+                self.workspace.clear();
+                Err(error)
+            }
+        }
     }
 }
 

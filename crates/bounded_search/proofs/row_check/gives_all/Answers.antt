@@ -3,7 +3,7 @@ use Rattle.std.proofs.lemmas.List.Elements.{All-more}
 use Rattle.std.proofs.lemmas.List.Sums.{sum_by-take-le, sum_by_more, sum_by_more_le}
 use Rattle.std.specs.List.{sum_by}
 use Rattle.bounded_search.specs.declared.table_row.Entry.{Entry}
-use Rattle.bounded_search.specs.Given.{IsRelaxedAt, given_by}
+use Rattle.bounded_search.specs.Given.{IsRelaxedAt, given_by, start_of}
 use Rattle.bounded_search.specs.Table.{label_in}
 use Rattle.bounded_search.proofs.GivenLabels.{given_few}
 use Rattle.bounded_search.proofs.row_check.gives_all.Goals as goal
@@ -14,11 +14,11 @@ nothing = record { node = record { 0 = 0 }; distance = 0; last = None }
 pub overflow_add-given : goal.overflow_add-given
 overflow_add-given c =
     let entries : List Entry = c.args.entries.now in
-    let f : Entry → ℕ = given_by c.args.net.now c.args.bound entries in
+    let f : Entry → ℕ = given_by c.args.net.now c.args.bound (start_of c.args.net.now) entries in
     let place : ℕ = c.loop-place.place in
     let lt : place < length entries = omega arith in
     let more : sum_by f (take place entries) + f (get_or entries place nothing) ≤ sum_by f entries = sum_by_more_le f entries place nothing lt in
-    let few : sum_by f entries ≤ length entries = given_few c.args.net.now c.args.bound entries c.requires in
+    let few : sum_by f entries ≤ length entries = given_few c.args.net.now c.args.bound (start_of c.args.net.now) entries c.requires in
     let count : c.in-Some.count ≡ f (get_or entries place nothing) = c.in-Some.ensures.count in
     let given : c.loop-place.given ≡ sum_by f (take place entries) = c.loop-place.invariant.counted in
     let inside : c.loop-place.given + c.in-Some.count ≤ length entries = omega (arith, more, few, count, given) in
@@ -29,11 +29,11 @@ loop-place-preserved c =
     let n = c.args.net.now in
     let bound = c.args.bound in
     let entries : List Entry = c.args.entries.now in
-    let f : Entry → ℕ = given_by n bound entries in
+    let f : Entry → ℕ = given_by n bound (start_of n) entries in
     let place : ℕ = c.loop-place.place in
     let lt : place < length entries = omega arith in
     record {
-      each = All-more (IsRelaxedAt n bound (label_in entries)) entries place nothing lt c.loop-place.invariant.each (c.in-Some.ensures.some.0 (search rules));
+      each = All-more (IsRelaxedAt n bound (start_of n) (label_in entries)) entries place nothing lt c.loop-place.invariant.each (c.in-Some.ensures.some.0 (search rules));
       counted =
           let count : c.in-Some.count ≡ f (get_or entries place nothing) = c.in-Some.ensures.count in
           omega (arith, c.loop-place.invariant.counted, sum_by_more f entries place nothing lt, count);
@@ -42,9 +42,9 @@ loop-place-preserved c =
 pub overflow_add-result : goal.overflow_add-result
 overflow_add-result c =
     let entries : List Entry = c.args.entries.now in
-    let f : Entry → ℕ = given_by c.args.net.now c.args.bound entries in
+    let f : Entry → ℕ = given_by c.args.net.now c.args.bound (start_of c.args.net.now) entries in
     let part : sum_by f (take c.loop-place.place entries) ≤ sum_by f entries = sum_by-take-le f entries c.loop-place.place in
-    let few : sum_by f entries ≤ length entries = given_few c.args.net.now c.args.bound entries c.requires in
+    let few : sum_by f entries ≤ length entries = given_few c.args.net.now c.args.bound (start_of c.args.net.now) entries c.requires in
     let given : c.loop-place.given ≡ sum_by f (take c.loop-place.place entries) = c.loop-place.invariant.counted in
     let inside : c.loop-place.given ≤ length entries = omega (arith, part, few, given) in
     search rules

@@ -4,12 +4,18 @@ use Rattle.std.proofs.lemmas.List.Sorted.{length_permutation}
 use Rattle.std.specs.List.Sorted.{IsPermutation}
 use Rattle.bounded_search.specs.declared.queue.Waiting.{Waiting}
 use Rattle.bounded_search.specs.LabelWords.{distance_at}
-use Rattle.bounded_search.proofs.TouchedNodes.{none_touched}
+use Rattle.bounded_search.proofs.MarkedNodes.{none_marked, word_inside}
 use Rattle.bounded_search.proofs.Underway.{begun, closed_at_end, gains_one, reordered}
 use Rattle.bounded_search.proofs.dijkstra.Workspace.label_all.Goals as goal
 
-pub returns-in_err-label-clause-touched : goal.returns-in_err-label-clause-touched
-returns-in_err-label-clause-touched c = c.in_err-label.ensures.touched (length c.args.net.now.nodes) (none_touched (length c.args.net.now.nodes) c.args.self.now c.requires.clean)
+pub returns-in_err-label-clause-sized : goal.returns-in_err-label-clause-sized
+returns-in_err-label-clause-sized c = c.in_err-label.ensures.sized (length c.args.net.now.nodes) c.requires.clean.sized
+
+pub label-requires : goal.label-requires
+label-requires c =
+    let sized = c.requires.clean.sized in
+    let word = word_inside c.args.origin.0 (length c.args.net.now.nodes) c.requires.origin in
+    record { node = (omega (arith, sized.words_count, c.requires.origin), omega (arith, sized.marks_count, word)) }
 
 pub loop-next-init : goal.loop-next-init
 loop-next-init c =
@@ -22,8 +28,8 @@ loop-next-init c =
     let nearer : ltb 0 (distance_at w.words.items s) ≡ true = lt-ltb 0 (distance_at w.words.items s) (omega (arith, far)) in
     let waits : IsPermutation (record { distance = 0; node = s } ∷ []) c.label.new.self.queue = gains_one (ltb 0 (distance_at w.words.items s)) (record { distance = 0; node = s }) w.queue c.label.new.self.queue nearer clean.none_waiting e.queue in
     record {
-      touched = e.touched (length n.nodes) (none_touched (length n.nodes) w clean);
-      underway = rw e.words (begun n c.args.bound s w.words.items c.label.new.self.queue c.requires.bound c.requires.origin clean.words_count clean.none_labelled waits);
+      marked = e.marked (length n.nodes) (none_marked (length n.nodes) w clean);
+      underway = rw e.words (begun n c.args.bound s w.words.items c.label.new.self.queue c.requires.bound c.requires.origin clean.sized.words_count clean.none_labelled waits);
     }
 
 pub relax_leaving-requires-clause-next : goal.relax_leaving-requires-clause-next
@@ -39,20 +45,26 @@ loop-next-smaller c =
     let w = c.loop-next.self in
     omega (arith, c.in_ok-relax_leaving.ensures.less, length_permutation w.queue (c.in-Some.next ∷ c.pop.new.self) c.in-Some.ensures.taken)
 
-pub returns-in_err-relax_leaving-clause-touched : goal.returns-in_err-relax_leaving-clause-touched
-returns-in_err-relax_leaving-clause-touched c = c.in_err-relax_leaving.ensures.touched (length c.args.net.now.nodes) c.loop-next.invariant.touched
-
 pub loop-next-preserved : goal.loop-next-preserved
 loop-next-preserved c =
     let w = c.loop-next.self in
     let r = c.in_ok-relax_leaving.ensures in
     let s : ℕ = c.args.origin.0 in
     record {
-      touched = r.touched (length c.args.net.now.nodes) c.loop-next.invariant.touched;
+      marked = r.marked (length c.args.net.now.nodes) c.loop-next.invariant.marked;
       underway = r.underway s (reordered c.args.net.now c.args.bound s w.words.items w.queue (c.in-Some.next ∷ c.pop.new.self) c.in-Some.ensures.taken c.loop-next.invariant.underway);
     }
 
 pub returns-clause-closed : goal.returns-clause-closed
 returns-clause-closed c =
     let w = c.loop-next.self in
-    closed_at_end c.args.net.now c.args.bound c.args.origin.0 w.words.items w.queue c.known.ensures c.requires.bound c.in_default.ensures.none c.loop-next.invariant.underway
+    closed_at_end c.args.net.now c.args.bound c.args.origin.0 w.words.items w.queue c.known.ensures c.requires.bound c.in_default.ensures.none.0 c.loop-next.invariant.underway
+
+pub relax_leaving-requires-clause-sized : goal.relax_leaving-requires-clause-sized
+relax_leaving-requires-clause-sized c = c.loop-next.invariant.marked.sized
+
+pub returns-clause-sized : goal.returns-clause-sized
+returns-clause-sized c = c.loop-next.invariant.marked.sized
+
+pub returns-clause-marked : goal.returns-clause-marked
+returns-clause-marked c = c.loop-next.invariant.marked

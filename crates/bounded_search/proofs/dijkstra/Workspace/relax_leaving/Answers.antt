@@ -6,6 +6,7 @@ use Rattle.road_network.specs.declared.Arc.{Arc}
 use Rattle.bounded_search.specs.LabelWords.{distance_at, no_label, word_at}
 use Rattle.bounded_search.specs.Underway.{IsUnderway, SearchState, state_of}
 use Rattle.bounded_search.proofs.Arcs.{IsLeaving, known_arcs, nothing}
+use Rattle.bounded_search.proofs.MarkedNodes.{word_inside}
 use Rattle.bounded_search.proofs.Underway.{IsPending, all_tried, no_more_effort, not_taken, starts_still, step_keeps, taken}
 use Rattle.bounded_search.proofs.dijkstra.Workspace.relax_leaving.Goals as goal
 
@@ -14,7 +15,7 @@ returns-then-distance_in-next-clause-underway c s under =
     let w = c.args.self.now in
     let words : List ℕ = w.words.items in
     let u : ℕ = c.args.next.node in
-    let at : c.index.result.now ≡ word_at words u = get_or_read words u c.index.result.now (omega (arith, c.requires.words, c.requires.next)) c.index.ensures no_label in
+    let at : c.index.result.now ≡ word_at words u = get_or_read words u c.index.result.now (omega (arith, c.requires.sized.words_count, c.requires.next)) c.index.ensures no_label in
     let far : distance_at words u ≡ c.distance_in.result = ap (λ (word : ℕ). word / 2 ^ 32) (sym at) ∙ sym c.distance_in.ensures in
     let stale : distance_at words u ≢ c.args.next.distance = grind (arith, nat_tests) in
     not_taken c.args.net.now c.args.bound s c.args.next words w.queue stale under
@@ -25,24 +26,28 @@ loop-arc-init c =
     let w = c.args.self.now in
     let words : List ℕ = w.words.items in
     let u : ℕ = c.args.next.node in
-    let at : c.index.result.now ≡ word_at words u = get_or_read words u c.index.result.now (omega (arith, c.requires.words, c.requires.next)) c.index.ensures no_label in
+    let at : c.index.result.now ≡ word_at words u = get_or_read words u c.index.result.now (omega (arith, c.requires.sized.words_count, c.requires.next)) c.index.ensures no_label in
     record {
-      count = c.requires.words;
+      sized = c.requires.sized;
       arcs = rw c.arcs-arc-items.ensures (known_arcs n u c.known.ensures);
       starts = ap (λ (word : ℕ). word / 2 ^ 32) (sym at) ∙ (sym c.distance_in.ensures ∙ c.if-distance_in-next.false);
       underway = λ s under. rw c.arcs-arc-items.ensures (taken n c.args.bound s c.args.next words w.queue under);
       less = omega arith;
-      touched = λ count t. t;
+      marked = λ count t. t;
     }
 
 pub relax-requires-clause-end : goal.relax-requires-clause-end
-relax-requires-clause-end c = let a = c.loop-arc.invariant.arcs c.loop-arc.arc-index nothing c.loop-arc-test.true in omega (arith, a.end, c.loop-arc.invariant.count)
+relax-requires-clause-end c =
+    let a = c.loop-arc.invariant.arcs c.loop-arc.arc-index nothing c.loop-arc-test.true in
+    let sized = c.loop-arc.invariant.sized in
+    let word = word_inside (slice_index_or c.arcs-arc-items.result.now c.loop-arc.arc-index nothing).to.0 (length c.args.net.now.nodes) a.end in
+    (omega (arith, a.end, sized.words_count), omega (arith, word, sized.marks_count))
 
 pub relax-requires-clause-fits : goal.relax-requires-clause-fits
 relax-requires-clause-fits c = let a = c.loop-arc.invariant.arcs c.loop-arc.arc-index nothing c.loop-arc-test.true in (a.not_long, c.requires.next.1)
 
-pub returns-in_err-relax-clause-touched : goal.returns-in_err-relax-clause-touched
-returns-in_err-relax-clause-touched c count t = c.in_err-relax.ensures.touched count (c.loop-arc.invariant.touched count t)
+pub returns-in_err-relax-clause-sized : goal.returns-in_err-relax-clause-sized
+returns-in_err-relax-clause-sized c = c.in_err-relax.ensures.sized (length c.args.net.now.nodes) c.loop-arc.invariant.sized
 
 pub loop-arc-preserved : goal.loop-arc-preserved
 loop-arc-preserved c =
@@ -59,15 +64,15 @@ loop-arc-preserved c =
     let old : SearchState = state_of c.loop-arc.self in
     let new : SearchState = state_of c.relax.new.self in
     let tries = c.in_ok-relax.ensures.tries in
-    let still = starts_still n bound d u a old new c.known.ensures arc inv.count inv.starts tries in
+    let still = starts_still n bound d u a old new c.known.ensures arc inv.sized.words_count inv.starts tries in
     let next : drop i arcs ≡ a ∷ drop (i + 1) arcs = grind (arith, common_steps) in
     record {
-      count = still.1;
+      sized = c.in_ok-relax.ensures.sized (length n.nodes) inv.sized;
       arcs = inv.arcs;
       starts = still.0;
       underway = λ s under. step_keeps n bound d u s a (drop (i + 1) arcs) old new c.known.ensures arc inv.starts tries (subst (λ (k : List Arc). IsUnderway n bound s old (IsPending n k)) next (inv.underway s under));
-      less = omega (arith, inv.less, no_more_effort bound d a old new (omega (arith, arc.end, inv.count)) tries);
-      touched = λ count t. c.in_ok-relax.ensures.touched count (inv.touched count t);
+      less = omega (arith, inv.less, no_more_effort bound d a old new (omega (arith, arc.end, inv.sized.words_count)) tries);
+      marked = λ count t. c.in_ok-relax.ensures.marked count (inv.marked count t);
     }
 
 pub returns-clause-underway : goal.returns-clause-underway

@@ -1,67 +1,59 @@
-use Rattle.std.proofs.Common.{◌≡◌, ◌≤◌, ◌<◌, ◌++◌, slice_index_or, ℕ, List, Some, length, drop, sym, ap, subst, arith}
-use Rattle.std.proofs.lemmas.Grind.{common_steps}
-use Rattle.std.proofs.lemmas.List.Elements.{All-contains, Contains-get_or}
-use Rattle.std.specs.Prelude.{◌↔◌}
-use Rattle.std.specs.List.{All, Contains}
-use Rattle.std.specs.List.Sorted.{IsNonDecreasing}
-use Rattle.bounded_search.specs.declared.table_row.Label.{Label}
-use Rattle.bounded_search.specs.declared.table_row.Entry.{Entry}
-use Rattle.bounded_search.specs.LabelWords.{label_at, taken_entries, word_at}
-use Rattle.bounded_search.proofs.RowOfLabels.{IsListing, taken_rise, taken_labels}
-use Rattle.bounded_search.proofs.LabelWords.{word_there}
+use Rattle.std.proofs.Common.{◌*◌, ℕ, length, sym, subst, arith}
+use Rattle.std.proofs.Math.Nat.{lt-div-mul-add}
+use Rattle.bounded_search.specs.Marked.{AreMarked, IsSized}
+use Rattle.bounded_search.proofs.MarkedNodes.{all_taken, none_taken}
 use Rattle.bounded_search.proofs.dijkstra.Workspace.take_entries.Goals as goal
 
-pub loop-node-init : goal.loop-node-init
-loop-node-init c = record {
-  entries = ap (λ (k : List Entry). k ++ taken_entries c.as_slice-node-items.result.now c.args.self.now.words.items) c.in_ok-entries.ensures.items;
-  touched = c.requires.touched;
+pub loop-place-init : goal.loop-place-init
+loop-place-init c = record {
+  marked = c.requires.marked;
+  taken = rw c.in_ok-entries.ensures.items (none_taken c.args.self.now.words.items c.args.self.now.marks.items);
+  queue = c.requires.none_waiting;
 }
 
-pub returns-in_err-take_entry-clause-touched : goal.returns-in_err-take_entry-clause-touched
-returns-in_err-take_entry-clause-touched c = c.in_err-take_entry.ensures.touched (length c.args.self.now.words.items) c.loop-node.invariant.touched
+pub take_marked-requires-clause-place : goal.take_marked-requires-clause-place
+take_marked-requires-clause-place c =
+    let sized = c.loop-place.invariant.marked.sized in
+    (omega (arith, sized.marks_count, c.requires.marked.sized.marks_count), omega (arith, sized.words_count, c.requires.few))
 
-pub loop-node-preserved : goal.loop-node-preserved
-loop-node-preserved c = record {
-  entries = grind (arith, common_steps);
-  touched = c.in_ok-take_entry.ensures.touched (length c.args.self.now.words.items) c.loop-node.invariant.touched;
-}
+pub take_marked-requires-clause-marked : goal.take_marked-requires-clause-marked
+take_marked-requires-clause-marked c = subst (λ (k : ℕ). AreMarked k c.loop-place.self) (sym c.loop-place.invariant.marked.sized.words_count) c.loop-place.invariant.marked
 
--- the nodes in order are those that were touched
-ordered_inside : (nodes ordered given touched : List ℕ) (count i : ℕ) → nodes ≡ ordered → given ≡ touched → ((v : ℕ) → Contains ordered v ↔ Contains given v) → All (λ v. v < count) touched → i < length nodes → slice_index_or nodes i 0 < count
-ordered_inside nodes ordered given touched count i is was same all lt =
-    let v : ℕ = slice_index_or nodes i 0 in
-    All-contains (λ v. v < count) touched v all (subst (λ (k : List ℕ). Contains k v) was ((same v).0 (subst (λ (k : List ℕ). Contains k v) is (Contains-get_or nodes i 0 lt))))
+pub returns-in_err-take_marked-clause-sized : goal.returns-in_err-take_marked-clause-sized
+returns-in_err-take_marked-clause-sized c = subst (λ (k : ℕ). IsSized k c.take_marked.new.self) c.loop-place.invariant.marked.sized.words_count c.in_err-take_marked.ensures.sized
 
-ordered_listing : (nodes ordered given touched : List ℕ) (labels : List ℕ) → nodes ≡ ordered → given ≡ touched → IsNonDecreasing ordered → ((v : ℕ) → Contains ordered v ↔ Contains given v) → ((v : ℕ) (l : Label) → label_at labels v ≡ Some l → Contains touched v) → IsListing nodes labels
-ordered_listing nodes ordered given touched labels is was rising same all =
-    subst (λ (k : List ℕ). IsListing k labels) (sym is) (record {
-      rising = rising;
-      all = λ v l h. (same v).1 (subst (λ (k : List ℕ). Contains k v) (sym was) (all v l h));
-    })
-
-pub take_entry-requires : goal.take_entry-requires
-take_entry-requires c =
-    let e = c.in_ok-nodes.ensures in
-    let lt = ordered_inside c.as_slice-node-items.result.now c.in_ok-nodes.nodes.items c.as_slice.result.now c.args.self.now.touched.items (length c.args.self.now.words.items) c.loop-node.node-index c.as_slice-node-items.ensures.value c.as_slice.ensures.value e.same c.requires.touched.inside c.loop-node-test.true in
-    omega (arith, lt, c.loop-node.invariant.touched.words_count)
-
-all_taken : (entries : List Entry) (i : ℕ) (nodes : List ℕ) (labels first : List ℕ) → length nodes ≤ i → entries ++ taken_entries (drop i nodes) labels ≡ taken_entries nodes first → entries ≡ taken_entries nodes first
-all_taken entries i nodes labels first le h = grind (arith, common_steps)
+pub loop-place-preserved : goal.loop-place-preserved
+loop-place-preserved c =
+    let inv = c.loop-place.invariant in
+    let e = c.in_ok-take_marked.ensures in
+    record {
+      marked = subst (λ (k : ℕ). AreMarked k c.take_marked.new.self) inv.marked.sized.words_count e.marked;
+      taken = e.taken c.args.self.now.words.items inv.taken;
+      queue = rw e.queue inv.queue;
+    }
 
 pub returns-clause-rising : goal.returns-clause-rising
-returns-clause-rising c =
-    let w = c.args.self.now in
-    let e = c.in_ok-nodes.ensures in
-    let nodes : List ℕ = c.as_slice-node-items.result.now in
-    let listing : IsListing nodes w.words.items = ordered_listing nodes c.in_ok-nodes.nodes.items c.as_slice.result.now w.touched.items w.words.items c.as_slice-node-items.ensures.value c.as_slice.ensures.value e.rising e.same (λ v l h. c.requires.touched.labelled v (word_there (word_at w.words.items v) l h)) in
-    rw (all_taken c.loop-node.entries.items c.loop-node.node-index nodes c.loop-node.self.words.items w.words.items (omega arith) c.loop-node.invariant.entries)
-    (taken_rise nodes w.words.items listing)
+returns-clause-rising c = c.loop-place.invariant.taken.rising
 
 pub returns-clause-labels : goal.returns-clause-labels
 returns-clause-labels c v =
-    let w = c.args.self.now in
-    let e = c.in_ok-nodes.ensures in
-    let nodes : List ℕ = c.as_slice-node-items.result.now in
-    let listing : IsListing nodes w.words.items = ordered_listing nodes c.in_ok-nodes.nodes.items c.as_slice.result.now w.touched.items w.words.items c.as_slice-node-items.ensures.value c.as_slice.ensures.value e.rising e.same (λ v l h. c.requires.touched.labelled v (word_there (word_at w.words.items v) l h)) in
-    rw (all_taken c.loop-node.entries.items c.loop-node.node-index nodes c.loop-node.self.words.items w.words.items (omega arith) c.loop-node.invariant.entries)
-    (taken_labels nodes w.words.items listing v)
+    let inv = c.loop-place.invariant in
+    let w = c.loop-place.self in
+    let count : ℕ = length c.args.self.now.words.items in
+    (all_taken c.args.self.now.words.items count (c.loop-place.place * 64) w.words.items w.marks.items c.loop-place.entries.items inv.marked (omega (arith, inv.marked.sized.marks_count, c.requires.marked.sized.marks_count, lt-div-mul-add {a = count} {b = 64} (omega arith))) inv.taken v).2
+
+pub returns-clause-clean : goal.returns-clause-clean
+returns-clause-clean c =
+    let inv = c.loop-place.invariant in
+    let w = c.loop-place.self in
+    let count : ℕ = length c.args.self.now.words.items in
+    let all = all_taken c.args.self.now.words.items count (c.loop-place.place * 64) w.words.items w.marks.items c.loop-place.entries.items inv.marked (omega (arith, inv.marked.sized.marks_count, c.requires.marked.sized.marks_count, lt-div-mul-add {a = count} {b = 64} (omega arith))) inv.taken in
+    record {
+      sized = inv.marked.sized;
+      none_labelled = λ v. (all v).1;
+      none_marked = λ v. (all v).0;
+      none_waiting = inv.queue;
+    }
+
+pub returns-clause-sized : goal.returns-clause-sized
+returns-clause-sized c = c.loop-place.invariant.marked.sized

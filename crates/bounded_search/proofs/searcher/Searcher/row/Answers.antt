@@ -3,5 +3,5 @@ use Rattle.bounded_search.proofs.searcher.Searcher.row.Goals as goal
 
 pub invariant_of-result : goal.invariant_of-result
 invariant_of-result c =
-    rw c.from_vec-entries.ensures
-    (rules_of_row c.self.inside.network.now c.self.inside.bound c.args.origin.0 (record { origin = c.args.origin.0; entries = c.in_ok-found.field-0.items }) c.known.ensures c.in_ok-found.ensures.row)
+    rw c.from_vec.ensures
+    (rules_of_row c.self.inside.network.now c.self.inside.bound c.args.origin.0 (record { origin = c.args.origin.0; entries = c.in-Ok.entries.items }) c.known.ensures c.in-Ok.ensures.row)

@@ -1,0 +1,13 @@
+use Rattle.std.proofs.Common.{◌≡◌, length, take}
+use Rattle.std.specs.List.{All}
+use Rattle.bounded_search.specs.Spread.{FitsIn, IsSpread}
+use Rattle.bounded_search.proofs.dijkstra.Workspace.spread.Given as goal
+
+abbrev pub invariant-loop-x : goal.invariant-loop-x
+invariant-loop-x l = record {
+  spread : IsSpread (take l.x-index l.entries) l.self.words.items;
+  fits : All (FitsIn l.net l.bound) (take l.x-index l.entries);
+  count : length l.self.words.items ≡ length l.fn.self.words.items;
+  marks : l.self.marks.items ≡ l.fn.self.marks.items;
+  queue : l.self.queue ≡ l.fn.self.queue;
+}

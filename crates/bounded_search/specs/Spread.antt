@@ -1,0 +1,30 @@
+-- The words of a row's labels, spread over an array by node.
+use Rattle.std.specs.Prelude.{ℕ, ◌≡◌, ◌≤◌, List, Option, Some, None, length}
+use Rattle.road_network.specs.Net.{Net, HasEdge, HasNode}
+use Rattle.road_network.specs.declared.EdgeId.{EdgeId}
+use Rattle.bounded_search.specs.declared.dijkstra.Workspace.{Workspace}
+use Rattle.bounded_search.specs.declared.table_row.Entry.{Entry}
+use Rattle.bounded_search.specs.LabelWords.{label_at, no_label, word_at}
+use Rattle.bounded_search.specs.Table.{entry_in, label_in}
+
+-- the network has a last edge, if there is one
+abbrev pub HasLast : Net → Option EdgeId → Type 0
+HasLast n None = Unit {0}
+HasLast n (Some e) = HasEdge n e.0
+
+-- a row of this network and bound may have entry x
+pub record FitsIn (n : Net) (bound : ℕ) (x : Entry) : Type 0 where
+  pub last : HasLast n x.last
+  pub node : HasNode n x.node.0
+  pub within : x.distance ≤ bound
+
+-- the words say what the entries say
+abbrev pub IsSpread : List Entry → List ℕ → Type 0
+IsSpread entries words = (v : ℕ) → label_at words v ≡ label_in entries v
+
+-- only nodes of the entries are labelled, and all else is as before
+pub record KeepsOthers (entries : List Entry) (old new : Workspace) : Type 0 where
+  pub none : (v : ℕ) → entry_in entries v ≡ None → word_at new.words.items v ≡ no_label
+  pub count : length new.words.items ≡ length old.words.items
+  pub marks : new.marks.items ≡ old.marks.items
+  pub queue : new.queue ≡ old.queue
