@@ -1,5 +1,7 @@
 pub mod Order
 pub mod Found
 pub mod Taken
-pub mod Telling
-pub mod Groups
+pub mod BestLists
+pub mod Visiting
+pub mod Reached
+pub mod Visited

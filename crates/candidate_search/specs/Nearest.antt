@@ -1,13 +1,16 @@
 -- The nearest candidates so far.
-use Rattle.std.specs.Prelude.{ℕ, ◌≡◌, ◌-◌, ◌*◌, ◌<◌, ◌≤◌, ◌⊎◌, Option, MatchOption, nat_le, if◌then◌else◌, List, length, slice_index_or, take}
+use Rattle.std.specs.Prelude.{ℕ, ◌≡◌, ◌+◌, ◌-◌, ◌*◌, ◌<◌, ◌≤◌, ◌⊎◌, Option, MatchOption, nat_le, if◌then◌else◌, List, length, slice_index_or, take}
 use Rattle.std.specs.List.{All}
 use Rattle.std.specs.List.Sorted.{IsNonDecreasingBy}
 use Rattle.polyline_geometry.specs.declared.line.NearSegment.{NearSegment}
 use Rattle.polyline_geometry.specs.declared.plane.Point.{Point}
-use Rattle.polyline_geometry.specs.Nearest.{IsNearest}
+use Rattle.polyline_geometry.specs.Nearest.{IsNearest, segment_snap}
 use Rattle.polyline_geometry.specs.Plane.{snap_line}
 use Rattle.road_network.specs.declared.Candidate.{Candidate}
 use Rattle.candidate_search.specs.declared.wanted.Search.{Search}
+use Rattle.road_network.specs.Net.{Net, HasEdge, edge_line}
+use Rattle.candidate_search.specs.declared.best.NearEdge.{NearEdge}
+use Rattle.candidate_search.specs.Best.{AreBest, IsAccounted}
 use Rattle.road_network.specs.Near.{in_order, placed, within}
 
 -- the first k within the radius, in order
@@ -44,3 +47,16 @@ IsNearestOf line search found near =
     MatchOption near (AllAreFar search found (snap_line line search.at).d2)
     (λ s. IsNearest line search.at 0 (length line - 1) s
     × (s.d2 ≤ search.radius * search.radius))
+
+-- the segment is the first of the nearest of its edge
+abbrev pub IsNearestOn : Net → Search → NearEdge → Type 0
+IsNearestOn net search c =
+    HasEdge net c.edge.0
+    × IsNearest (edge_line net c.edge.0) search.at 0 (length (edge_line net c.edge.0) - 1) (record { segment = c.segment; d2 = c.d2 })
+
+-- the best edges, with all segments within the radius accounted for
+pub record AreNearestEdges (net : Net) (search : Search) (found : List NearEdge) : Type 0 where
+  pub best : AreBest net search found
+  pub every : (e i : ℕ) → HasEdge net e → i + 1 < length (edge_line net e)
+      → (segment_snap (edge_line net e) search.at i).d2 ≤ search.radius * search.radius
+      → IsAccounted search.k found (segment_snap (edge_line net e) search.at i).d2 e i

@@ -1,15 +1,17 @@
 //! The candidates of a point. Decided by road_network's `candidates`.
-ghost use Rattle.std.specs.Prelude.{◌≡◌, ℕ, ◌≤◌, IfOk};
+ghost use Rattle.std.specs.Prelude.{◌≡◌, ◌≤◌, All, IfOk, map};
 ghost use Rattle.polyline_geometry.specs.Plane.{InRange};
 ghost use Rattle.cost_model.specs.Options.{IsAccepted};
-ghost use Rattle.road_network.specs.Near.{candidates};
+ghost use Rattle.road_network.specs.Near.{candidate_at, candidates};
+ghost use Rattle.candidate_search.specs.Nearest.{AreNearestEdges, IsNearestOn};
 
-use crate::near_runs::{consider_runs, end_of_edge};
+use crate::best::NearEdge;
 use crate::nearest::consider;
+use crate::visit::{look_at_cells, look_at_wide};
 use crate::wanted::Search;
 use cost_model::Params;
 use grid_index::Grid;
-use polyline_geometry::{List, Point};
+use polyline_geometry::{List, Point, snap_on};
 use road_network::{Candidate, EdgeId, Network};
 use std::alloc::{AllocError, Global};
 
@@ -28,6 +30,71 @@ fn search_for(p: &Params, at: Point) -> Search
     }
 }
 
+/// The candidate of an edge whose nearest segment is known.
+fn candidate_of(net: &Network, search: Search, near: NearEdge) -> Candidate
+    requires { IsNearestOn net.now search near }
+    ensures { result ≡ candidate_at net.now search.at near.edge.0 }
+{
+    net.known();
+    let before = net.offsets(near.edge)[near.segment as usize];
+    let snap = snap_on(
+        net.line(near.edge),
+        before,
+        search.at,
+        near.segment as usize,
+    );
+    Candidate {
+        edge: near.edge,
+        d2: snap.d2,
+        offset: snap.offset,
+    }
+}
+
+/// The candidates of edges whose nearest segments are known.
+fn candidates_of(
+    alloc: Global,
+    net: &Network,
+    search: Search,
+    found: &[NearEdge],
+) -> Result<Vec<Candidate>, AllocError>
+    requires { All (IsNearestOn net.now search) found.now }
+    ensures { IfOk result (λ list. list.items
+        ≡ map (λ c. candidate_at net.now search.at c.edge.0) found.now) }
+{
+    let mut list = Vec::with_capacity(alloc, found.len())?;
+    for near in found {
+        list.push(candidate_of(net, search, *near))?;
+    }
+    Ok(list)
+}
+
+/// The nearest edges, by the runs of the grid.
+fn nearest_edges(
+    alloc: Global,
+    net: &Network,
+    grid: &Grid,
+    search: Search,
+    reach: u32,
+) -> Result<Vec<NearEdge>, AllocError>
+    requires network { grid.now.net ≡ net.now }
+    requires side { reach ≤ grid.now.side }
+    requires reach { reach ≡ search.radius }
+    ensures { IfOk result (λ found. AreNearestEdges net.now search found.items) }
+{
+    net.known();
+    grid.known();
+    let mut found = Vec::with_capacity(alloc, search.k.saturating_add(1))?;
+    look_at_cells(
+        net,
+        grid,
+        &mut found,
+        search,
+        grid.cells_near(search.at, reach),
+    )?;
+    look_at_wide(net, grid, &mut found, search)?;
+    Ok(found)
+}
+
 /// The candidates of a point, among the runs that the grid gives.
 pub fn candidates(
     alloc: Global,
@@ -44,16 +111,9 @@ pub fn candidates(
 {
     net.known();
     let search = search_for(p, at);
-    let runs = grid.runs_near(alloc, at, p.radius)?;
-    let runs = runs.as_slice();
-    let mut found = Vec::with_capacity(alloc, search.k + 1)?;
-    let mut place = 0;
-    while place < runs.len() {
-        let end = end_of_edge(runs, place);
-        consider_runs(net, &mut found, search, runs[place].edge, &runs[place..end])?;
-        place = end;
-    }
-    Ok(List::from_vec(found))
+    let found = nearest_edges(alloc, net, grid, search, p.radius)?;
+    let list = candidates_of(alloc, net, search, found.as_slice())?;
+    Ok(List::from_vec(list))
 }
 
 /// The candidates of a point, by a scan of all edges.

@@ -164,15 +164,6 @@ hits_edge g p reach e runs h has meets =
     let edge-is : hit.0.edge ≡ record { 0 = e } = ap (λ v. let x : EdgeId = record { 0 = v } in x) hit.2.edge_is in
     subst (Contains (map edge_of runs)) edge-is (edge_among runs hit.0 hit.1)
 
--- in another order they are hits too
-pub hits_permuted : (g : GridOf) (p : Point) (reach far2 : ℕ) (runs new : List Run) → IsPermutation runs new → AreHits g p reach far2 runs → AreHits g p reach far2 new
-hits_permuted g p reach far2 runs new same h = record {
-  are_runs = All-permutation (IsRun g.net) runs new same h.are_runs;
-  complete = λ e i has lt q inside square close.
-      let hit = h.complete e i has lt q inside square close in
-      (hit.0, Contains-permutation runs new hit.0 same hit.1, hit.2);
-}
-
 -- what holds of each element of a list holds of those of a list that has no others
 pub all_within : (P : EdgeId → Type 0) (xs ys : List EdgeId) → ((e : EdgeId) → Contains xs e → Contains ys e) → All P ys → All P xs
 all_within P xs ys within all = λ k d lt.

@@ -6,3 +6,4 @@ pub mod Starting
 pub mod LaidOut
 pub mod Rising
 pub mod Gathering
+pub mod NearestCells

@@ -7,7 +7,7 @@ use Rattle.std.specs.Int.RustNames.{unsigned_abs}
 use Rattle.polyline_geometry.specs.Boxes.{IsBetween}
 use Rattle.grid_index.specs.Cells.{cell, shifted}
 
-rises : (a z : ℤ) → unsigned_abs a ≤ 1_000_000_000 → a ≤ℤ z → shifted a ≤ shifted z
+pub rises : (a z : ℤ) → unsigned_abs a ≤ 1_000_000_000 → a ≤ℤ z → shifted a ≤ shifted z
 rises (pos a) (pos z) h k = omega (arith, ints)
 rises (pos a) (negsuc z) h k = absurd (omega (arith, ints, k))
 rises (negsuc a) (pos z) h k = omega (arith, ints)

@@ -1,5 +1,6 @@
 pub mod Cells
 pub mod Runs
+pub mod NearestCell
 pub mod Entries
 pub mod Starts
 pub mod GridOf

@@ -1,7 +1,6 @@
 -- Runs of segments.
-use Rattle.std.specs.Prelude.{ℕ, ◌≡◌, ◌+◌, ◌*◌, ◌<◌, ◌≤◌, List, length, ◌≤ℤ◌}
+use Rattle.std.specs.Prelude.{ℕ, ◌≡◌, ◌<◌, ◌≤◌, List, length, ◌≤ℤ◌}
 use Rattle.std.specs.List.{Contains}
-use Rattle.std.specs.List.Sorted.{IsNonDecreasingBy}
 use Rattle.polyline_geometry.specs.declared.plane.Point.{Point}
 use Rattle.polyline_geometry.specs.Plane.{InRange, distance2, point_at}
 use Rattle.polyline_geometry.specs.Boxes.{InBox}
@@ -51,10 +50,3 @@ HasRunFor runs e i = (r : Run) × Contains runs r × HasSegment r e i
 -- the box of the run has a place whose squared distance from p is at most this
 abbrev pub IsNearRun : Point → ℕ → Run → Type 0
 IsNearRun p far2 r = (q : Point) × InBox r.low r.high q × (distance2 p q ≤ far2)
-
--- runs by edge, and those of an edge by their first segment
-abbrev pub order : Run → ℕ
-order r = r.edge.0 * 4_294_967_296 + r.first
-
-abbrev pub AreInOrder : List Run → Type 0
-AreInOrder runs = IsNonDecreasingBy order runs

@@ -11,15 +11,15 @@ use polyline_geometry::Point;
 
 /// The cells of these columns and rows; `right` and `top` are one past the last.
 #[derive(Clone, Copy)]
-pub(crate) struct Cells {
-    pub(crate) left: u32,
-    pub(crate) right: u32,
-    pub(crate) bottom: u32,
-    pub(crate) top: u32,
+pub struct Cells {
+    pub left: u32,
+    pub right: u32,
+    pub bottom: u32,
+    pub top: u32,
 }
 
 /// The coordinate above the least one that any square reaches, which is -1,001,000,000.
-fn shifted(z: i32) -> u32
+pub(crate) fn shifted(z: i32) -> u32
     requires { unsigned_abs z ≤ 1_000_000_000 }
     ensures value { result ≡ shifted z }
     ensures low { 1_000_000 ≤ result }

@@ -1,17 +1,21 @@
 //! The grid of a network. Serves searches of candidates; decided by `IsGrid`.
-ghost use Rattle.std.specs.Prelude.{◌≡◌, ℕ, ◌*◌, ◌≤◌, IfOk, map};
+ghost use Rattle.std.specs.Prelude.{◌≡◌, ℕ, ◌*◌, ◌≤◌, ◌↔◌, IfOk, IsTrue, map};
 ghost use Rattle.std.specs.List.{All, Contains};
-ghost use Rattle.std.specs.List.Sorted.{IsPermutation};
-ghost use Rattle.polyline_geometry.specs.Plane.{InRange};
-ghost use Rattle.polyline_geometry.specs.Boxes.{LineMeetsSquare};
+ghost use Rattle.polyline_geometry.specs.declared.plane.Point.{Point as Place};
+ghost use Rattle.polyline_geometry.specs.Plane.{InRange, distance2};
+ghost use Rattle.polyline_geometry.specs.Boxes.{InBox, InSquare, LineMeetsSquare};
 ghost use Rattle.road_network.specs.declared.EdgeId.{EdgeId as EdgeOf};
 ghost use Rattle.road_network.specs.Net.{HasEdge, edge_line};
-ghost use Rattle.grid_index.specs.GridOf.{AreHits, IsGrid};
-ghost use Rattle.grid_index.specs.Runs.{AreInOrder};
+ghost use Rattle.grid_index.specs.declared.runs.Run.{Run as RunOf};
+ghost use Rattle.grid_index.specs.Cells.{HasCell, cell};
+ghost use Rattle.grid_index.specs.GridOf.{AreHits, IsGrid, runs_at};
+ghost use Rattle.grid_index.specs.NearestCell.{IsNearestCell};
+ghost use Rattle.grid_index.specs.Runs.{HasCorners, IsRun};
 ghost use Rattle.grid_index.specs.Rising.{AreRising};
 
-use crate::cells::Cells;
+use crate::cells::{Cells, shifted};
 use crate::entries::Layout;
+use crate::nearest_cell::{cell_distance2, is_nearest_cell};
 use crate::runs::Run;
 use crate::table::Table;
 use polyline_geometry::{List, Point};
@@ -75,15 +79,6 @@ fn edges_of(alloc: Global, runs: &[Run]) -> Result<Vec<EdgeId>, AllocError>
     runs.iter().map(|run| run.edge).collect(alloc)
 }
 
-/// Brings runs into order.
-fn runs_in_order(mut runs: Vec<Run>) -> Vec<Run>
-    ensures same { IsPermutation runs.items result.items }
-    ensures order { AreInOrder result.items }
-{
-    runs.sort_unstable_by_key(|run| run.order());
-    runs
-}
-
 impl<'n> Grid<'n> {
     /// The grid of a network with cells of this side, in cm.
     pub fn build(alloc: Global, net: &'n Network, side: u32) -> Result<Grid<'n>, AllocError>
@@ -127,16 +122,64 @@ impl<'n> Grid<'n> {
         Ok(found)
     }
 
-    /// The runs with a place of their box within `reach` of a point, in the order of their edges and
-    /// then of their segments, some of them several times.
-    pub fn runs_near(&self, alloc: Global, p: Point, reach: u32) -> Result<Vec<Run>, AllocError>
+    /// The columns and rows of the cells that the square of half side `reach` round a point meets.
+    pub fn cells_near(&self, p: Point, reach: u32) -> Cells
         requires p_in { InRange p }
         requires reach { reach ≤ self.now.side }
-        ensures runs { IfOk result (λ runs. AreHits self.now p reach (reach * reach) runs.items) }
-        ensures order { IfOk result (λ runs. AreInOrder runs.items) }
+        ensures { (q : Place) → InSquare p reach q
+            → HasCell result (cell self.now.side q.x) (cell self.now.side q.y) }
     {
-        let runs = self.hits(alloc, p, reach, u64::from(reach) * u64::from(reach))?;
-        Ok(runs_in_order(runs))
+        Cells::of_square(p, reach, self.table.layout.side)
+    }
+
+    /// The column of the cell in which a point lies.
+    pub fn column_of(&self, p: Point) -> u32
+        requires p_in { InRange p }
+        ensures { result ≡ cell self.now.side p.x }
+    {
+        shifted(p.x) / self.table.layout.side
+    }
+
+    /// The row of the cell in which a point lies.
+    pub fn row_of(&self, p: Point) -> u32
+        requires p_in { InRange p }
+        ensures { result ≡ cell self.now.side p.y }
+    {
+        shifted(p.y) / self.table.layout.side
+    }
+
+    /// The runs at the cell of a column and a row: those whose box meets it, and maybe others.
+    pub fn runs_at(&self, column: u32, row: u32) -> &[Run]
+        ensures { result.now ≡ runs_at self.now column row }
+    {
+        self.table.runs_at(column, row)
+    }
+
+    /// The runs that stand at no cell, since their box meets too many.
+    pub fn wide_runs(&self) -> &[Run]
+        ensures { result.now ≡ self.now.wide }
+    {
+        self.table.wide.as_slice()
+    }
+
+    /// Whether the place of a run's box that is nearest to p lies in the cell of a column and a row.
+    pub fn is_nearest_cell(&self, run: Run, p: Point, column: u32, row: u32) -> bool
+        requires corners { HasCorners run }
+        requires p_in { InRange p }
+        ensures { IsTrue result ↔ IsNearestCell self.now.side p run column row }
+    {
+        is_nearest_cell(run, p, column, row, self.table.layout.side)
+    }
+
+    /// How far p is at least, squared, from the boxes of the runs that have their nearest place in
+    /// the cell of a column and a row, in cm².
+    pub fn cell_distance2(&self, p: Point, column: u32, row: u32) -> u64
+        requires p_in { InRange p }
+        ensures { (r : RunOf) (q : Place) → IsRun self.now.net r
+            → IsNearestCell self.now.side p r column row → InBox r.low r.high q
+            → result ≤ distance2 p q }
+    {
+        cell_distance2(p, column, row, self.table.layout.side)
     }
 
     /// Edges near a point, once each and by rising number: all with a segment whose box meets the

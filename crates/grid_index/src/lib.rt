@@ -3,23 +3,26 @@
 //!
 //! [`Grid::build`] cuts each line into runs of at most 16 segments, lays the plane out in square cells
 //! and enters each run at every cell that its box meets; runs with a box that meets more than 64
-//! cells stand in one list instead. [`Grid::runs_near`] gives the runs near a point, and
-//! [`Grid::near`] their edges.
+//! cells stand in one list instead. [`Grid::near`] gives the edges near a point. Those who visit the
+//! cells themselves take [`Grid::cells_near`], [`Grid::runs_at`] and [`Grid::wide_runs`], each run at
+//! one cell by [`Grid::is_nearest_cell`], and leave out a cell by [`Grid::cell_distance2`].
 //!
 //! Cells lie side by side in a table of `width` by `width` slots, which repeats over the plane:
 //! cell (column, row) has the slot of the remainders of both. Two far cells may share a slot, so a
 //! look meets further runs, and takes no search. The clauses to read first are `complete` of
-//! [`Grid::near`], no edge within reach is missed, and `runs` of [`Grid::runs_near`].
+//! [`Grid::near`], no edge within reach is missed, and that of [`Grid::known`].
 #![tactic(auto)]
 
 mod cells;
 mod entries;
 mod grid;
+mod nearest_cell;
 mod runs;
 mod starts;
 mod table;
 #[cfg(test)]
 mod tests;
 
+pub use cells::Cells;
 pub use grid::Grid;
 pub use runs::Run;

@@ -5,7 +5,7 @@ ghost use Rattle.std.specs.Int.RustNames.{unsigned_abs};
 ghost use Rattle.polyline_geometry.specs.declared.plane.Point.{Point as Place};
 ghost use Rattle.polyline_geometry.specs.Boxes.{InBox};
 ghost use Rattle.polyline_geometry.specs.Plane.{InRange, IsLine, distance2};
-ghost use Rattle.grid_index.specs.Runs.{HasCorners, IsBelow, IsRunFrom, IsRunOf, order};
+ghost use Rattle.grid_index.specs.Runs.{HasCorners, IsBelow, IsRunFrom, IsRunOf};
 
 use polyline_geometry::{Point, distance2, nearest_in_box};
 use road_network::EdgeId;
@@ -119,13 +119,6 @@ impl Run {
         ensures { (q : Place) → InBox self.low self.high q → result ≤ distance2 p q }
     {
         distance2(p, nearest_in_box(self.low, self.high, p))
-    }
-
-    /// Runs by rising edge, and those of an edge by rising first segment.
-    pub(crate) fn order(self) -> u64
-        ensures { result ≡ order self }
-    {
-        u64::from(self.edge.0) * 0x1_0000_0000 + u64::from(self.first)
     }
 
     /// Whether the box is small enough for a run of several segments.

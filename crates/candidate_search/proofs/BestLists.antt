@@ -1,0 +1,351 @@
+-- The nearest edges so far: one more, and what is accounted for.
+use Rattle.std.proofs.Common.{◌≡◌, ℕ, zero, suc, ◌+◌, ◌-◌, ◌*◌, ◌<◌, ◌≤◌, ◌⊎◌, List, [], ◌∷◌, length, get_or, take, drop, All, refl, sym, ap, ◌∙◌, subst, inl, inr, arith, ⊎_elim, length-take}
+use Rattle.std.specs.List.{Contains, insert, remove}
+use Rattle.std.proofs.lemmas.Bool.{cases_lt}
+use Rattle.std.proofs.lemmas.List.{get_or_default, get_or-take}
+use Rattle.std.proofs.lemmas.List.Edits.{get_or-insert_at, get_or-remove_above, get_or-remove_below, length-insert, length-remove}
+use Rattle.std.proofs.lemmas.List.Elements.{All-append, All-cons, All-drop, All-take}
+use Rattle.std.proofs.lemmas.List.Kept.{AllPairs-cons}
+use Rattle.std.proofs.lemmas.List.Quantifiers.{all_pairs_remove}
+use Rattle.candidate_search.specs.declared.best.NearEdge.{NearEdge}
+use Rattle.candidate_search.specs.declared.wanted.Search.{Search}
+use Rattle.candidate_search.specs.Best.{AreApart, ComesBefore, IsAccounted, IsApart, IsBehind, IsLimit, IsNoLater, IsPlaceFor, IsPlaceOf, IsWanted, Precedes, Puts, Takes}
+
+abbrev pub no_edge : NearEdge
+no_edge = record { edge = record { 0 = 0 }; segment = 0; d2 = 0 }
+
+pub precedes_twice : (a e b f c g : ℕ) → Precedes a e b f → Precedes b f c g → Precedes a e c g
+precedes_twice a e b f c g h k = record {
+  near = omega (arith, h.near, k.near);
+  tie = λ le.
+      let x = h.tie (omega (arith, le, k.near)) in
+      let y = k.tie (omega (arith, le, h.near)) in
+      omega (arith, x, y);
+}
+
+precedes_farther : (a e b c f : ℕ) → Precedes a e b f → b ≤ c → Precedes a e c f
+precedes_farther a e b c f h le = record { near = omega (arith, h.near, le); tie = λ back. h.tie (omega (arith, back, le)) }
+
+no_later_twice : (c x : NearEdge) (d2 i : ℕ) → IsNoLater c x.d2 x.segment → IsNoLater x d2 i → IsNoLater c d2 i
+no_later_twice c x d2 i h k = record {
+  near = omega (arith, h.near, k.near);
+  tie = λ le.
+      let a = h.tie (omega (arith, le, k.near)) in
+      let b = k.tie (omega (arith, le, h.near)) in
+      omega (arith, a, b);
+}
+
+-- what is accounted for at a segment is at those that are farther, or as far and later
+pub accounted_later : (k : ℕ) (found : List NearEdge) (d2 e i far j : ℕ) → d2 ≤ far → (far ≤ d2 → i ≤ j) → IsAccounted k found d2 e i → IsAccounted k found far e j
+accounted_later k found d2 e i far j le tie h =
+    ⊎_elim
+    (λ told. inl (record {
+      entry = told.entry;
+      there = told.there;
+      edge_is = told.edge_is;
+      no_later = record {
+        near = omega (arith, told.no_later.near, le);
+        tie = λ back.
+            let a = told.no_later.tie (omega (arith, back, le)) in
+            let b = tie (omega (arith, back, told.no_later.near)) in
+            omega (arith, a, b);
+      };
+    }))
+    (λ behind. inr (record { full = behind.full; before = λ n d lt. let p = behind.before n d lt in precedes_farther (get_or found n d).d2 (get_or found n d).edge.0 d2 far e p le }))
+    h
+
+pub of_contained : (P : NearEdge → Type 0) (xs : List NearEdge) (x : NearEdge) → All P xs → Contains xs x → P x
+of_contained P xs x h there = subst P there.2 (h there.0 x there.1)
+
+pub all_contained : (P : NearEdge → Type 0) (xs : List NearEdge) → ((x : NearEdge) → Contains xs x → P x) → All P xs
+all_contained P xs h i d lt = h (get_or xs i d) (i, lt, get_or_default xs i (get_or xs i d) d lt)
+
+apart_head : (x : NearEdge) (r : List NearEdge) → AreApart (x ∷ r) → All (IsApart x) r
+apart_head x r h i d lt = h 0 (suc i) d (omega arith) (omega (arith, lt))
+
+apart_tail : (x : NearEdge) (r : List NearEdge) → AreApart (x ∷ r) → AreApart r
+apart_tail x r h i j d lt under = h (suc i) (suc j) d (omega (arith, lt)) (omega (arith, under))
+
+apart_insert : (xs : List NearEdge) (place : ℕ) (y : NearEdge) → AreApart xs → place ≤ length xs
+    → ((i : ℕ) (d : NearEdge) → i < place → IsApart (get_or xs i d) y) → ((i : ℕ) (d : NearEdge) → place ≤ i → i < length xs → IsApart y (get_or xs i d))
+    → AreApart (insert xs place y)
+apart_insert [] zero y h le before after = AllPairs-cons IsApart y [] (λ i d lt. absurd (omega (arith, lt))) h
+apart_insert [] (suc place) y h le before after = absurd (omega (arith, le))
+apart_insert (x ∷ r) zero y h le before after = AllPairs-cons IsApart y (x ∷ r) (λ i d lt. after i d (omega arith) lt) h
+apart_insert (x ∷ r) (suc place) y h le before after =
+    let head = apart_head x r h in
+    AllPairs-cons IsApart x (insert r place y)
+    (All-append (IsApart x) (take place r) (y ∷ drop place r) (All-take (IsApart x) place r head)
+    (All-cons (IsApart x) y (drop place r) (before 0 y (omega arith)) (All-drop (IsApart x) place r head)))
+    (apart_insert r place y (apart_tail x r h) (omega (arith, le)) (λ i d lt. before (suc i) d (omega (arith, lt))) (λ i d from lt. after (suc i) d (omega (arith, from)) (omega (arith, lt))))
+
+apart_take : (k : ℕ) (xs : List NearEdge) → AreApart xs → AreApart (take k xs)
+apart_take k xs h i j d lt under =
+    let l = length-take k xs in
+    let a = get_or-take k xs i d (omega (arith, lt, under, l)) in
+    let b = get_or-take k xs j d (omega (arith, under, l)) in
+    subst (λ v. IsApart (get_or (take k xs) i d) v) (sym b) (subst (λ u. IsApart u (get_or xs j d)) (sym a) (h i j d lt (omega (arith, under, l))))
+
+in_insert : (xs : List NearEdge) (place : ℕ) (y x : NearEdge) → Contains xs x → Contains (insert xs place y) x
+in_insert [] place y x h = absurd (omega (arith, h.1))
+in_insert (a ∷ r) zero y x h = (suc h.0, omega (arith, h.1), h.2)
+in_insert (a ∷ r) (suc place) y x (zero, lt, is) = (0, omega arith, is)
+in_insert (a ∷ r) (suc place) y x (suc i, lt, is) = let t = in_insert r place y x (i, omega (arith, lt), is) in (suc t.0, omega (arith, t.1), t.2)
+
+from_insert : (xs : List NearEdge) (place : ℕ) (y x : NearEdge) → Contains (insert xs place y) x → Contains xs x ⊎ (x ≡ y)
+from_insert [] zero y x (zero, lt, is) = inr (sym is)
+from_insert [] zero y x (suc i, lt, is) = absurd (omega (arith, lt))
+from_insert [] (suc place) y x (zero, lt, is) = inr (sym is)
+from_insert [] (suc place) y x (suc i, lt, is) = absurd (omega (arith, lt))
+from_insert (a ∷ r) zero y x (zero, lt, is) = inr (sym is)
+from_insert (a ∷ r) zero y x (suc i, lt, is) = inl (i, omega (arith, lt), is)
+from_insert (a ∷ r) (suc place) y x (zero, lt, is) = inl (0, omega arith, is)
+from_insert (a ∷ r) (suc place) y x (suc i, lt, is) =
+    ⊎_elim (λ t. inl (suc t.0, omega (arith, t.1), t.2)) (λ e. inr e) (from_insert r place y x (i, omega (arith, lt), is))
+
+from_take : (k : ℕ) (xs : List NearEdge) (x : NearEdge) → Contains (take k xs) x → Contains xs x
+from_take k xs x h =
+    let l = length-take k xs in
+    (h.0, omega (arith, h.1, l), sym (get_or-take k xs h.0 x (omega (arith, h.1, l))) ∙ h.2)
+
+-- what the first k do not have comes behind them
+in_take : (k : ℕ) (xs : List NearEdge) (x : NearEdge) → AreApart xs → Contains xs x → Contains (take k xs) x ⊎ IsBehind k (take k xs) x.d2 x.edge.0
+in_take k xs x apart h =
+    let l = length-take k xs in
+    ⊎_elim
+    (λ lt. inl (h.0, omega (arith, h.1, lt, l), get_or-take k xs h.0 x lt ∙ h.2))
+    (λ ge. inr (record {
+      full = omega (arith, h.1, ge, l);
+      before = λ j d under.
+          let s = get_or-take k xs j d (omega (arith, under, l)) in
+          let is = get_or_default xs h.0 d x h.1 ∙ h.2 in
+          let b = (apart j h.0 d (omega (arith, under, l, ge)) h.1).before in
+          subst (λ u. ComesBefore u x) (sym s) (subst (ComesBefore (get_or xs j d)) is b);
+    }))
+    (cases_lt h.0 k)
+
+-- the parts of a list to which one more is put
+pub record IsLeft (k : ℕ) (old mid : List NearEdge) (near : NearEdge) : Type 0 where
+  pub few : length mid ≤ k
+  pub full : length old ≡ k → k ≤ length mid + 1
+  pub apart : AreApart mid
+  pub others : All (λ c. c.edge.0 ≡ near.edge.0 → ⊥) mid
+  pub only : (x : NearEdge) → Contains mid x → Contains old x
+  pub rest : (x : NearEdge) → Contains old x → Contains mid x ⊎ ((x.edge.0 ≡ near.edge.0) × IsNoLater near x.d2 x.segment)
+
+accounted_one : (k : ℕ) (xs : List NearEdge) (x : NearEdge) → AreApart xs → Contains xs x → IsAccounted k (take k xs) x.d2 x.edge.0 x.segment
+accounted_one k xs x apart h =
+    ⊎_elim
+    (λ there. inl (record { entry = x; there = there; edge_is = refl; no_later = record { near = omega arith; tie = λ le. omega arith } }))
+    (λ behind. inr behind)
+    (in_take k xs x apart h)
+
+takes_list : (k : ℕ) (old mid : List NearEdge) (near : NearEdge) (place : ℕ) → IsLeft k old mid near → IsWanted k old near → IsPlaceFor mid near place
+    → Takes k old (take k (insert mid place near)) near
+takes_list k old mid near place left wanted at =
+    let zs = insert mid place near in
+    let count = length-insert mid place near at.within in
+    let apart : AreApart zs = apart_insert mid place near left.apart at.within
+    (λ i d lt. record { before = at.before i d lt; differ = left.others i d (omega (arith, lt, at.within)) })
+    (λ i d from lt. record { before = at.after i d from lt; differ = λ e. left.others i d lt (sym e) })
+    in
+    let here : Contains zs near = (place, omega (arith, count, at.within), get_or-insert_at mid place near near at.within) in
+    let one = accounted_one k zs near apart here in
+    record {
+      few = omega (arith, length-take k zs);
+      apart = apart_take k zs apart;
+      only = λ x there. ⊎_elim (λ m. inl (left.only x m)) (λ e. inr e) (from_insert mid place near x (from_take k zs x there));
+      keeps = λ d2 e i h.
+          ⊎_elim
+          (λ told.
+          let x = told.entry in
+          let no_later = told.no_later in
+          ⊎_elim
+          (λ m. subst (λ v. IsAccounted k (take k zs) d2 v i) told.edge_is (accounted_later k (take k zs) x.d2 x.edge.0 x.segment d2 i no_later.near no_later.tie (accounted_one k zs x apart (in_insert mid place near x m))))
+          (λ same.
+          let both = no_later_twice near x d2 i same.1 no_later in
+          subst (λ v. IsAccounted k (take k zs) d2 v i) (sym same.0 ∙ told.edge_is) (accounted_later k (take k zs) near.d2 near.edge.0 near.segment d2 i both.near both.tie one))
+          (left.rest x told.there))
+          (λ behind.
+          let P = λ (c : NearEdge). Precedes c.d2 c.edge.0 d2 e in
+          let all : All P zs = all_contained P zs (λ x there. ⊎_elim (λ m. of_contained P old x behind.before (left.only x m)) (λ is. subst P (sym is) (wanted d2 e behind.full behind.before)) (from_insert mid place near x there)) in
+          inr (record { full = omega (arith, length-take k zs, count, left.full behind.full); before = All-take P k zs all }))
+          h;
+      taken = one;
+    }
+
+pub takes_put : (k : ℕ) (old mid new : List NearEdge) (near : NearEdge) → IsLeft k old mid near → IsWanted k old near → Puts k mid new near → Takes k old new near
+takes_put k old mid new near left wanted h = subst (λ l. Takes k old l near) (sym h.list) (takes_list k old mid near h.place left wanted h.place_is)
+
+-- where all k come before it, nothing changes
+pub takes_behind : (k : ℕ) (found : List NearEdge) (near last : NearEdge) → 1 ≤ k → length found ≡ k → AreApart found → get_or found (k - 1) last ≡ last → ComesBefore last near → Takes k found found near
+takes_behind k found near last some full apart is before = record {
+  few = omega (arith, full);
+  apart = apart;
+  only = λ x there. inl there;
+  keeps = λ d2 e i h. h;
+  taken = inr (record {
+    full = full;
+    before = λ i d lt.
+        let end = get_or_default found (k - 1) d last (omega (arith, full, some)) ∙ is in
+        ⊎_elim
+        (λ below. let b = subst (ComesBefore (get_or found i d)) end (apart i (k - 1) d below (omega (arith, full, some))).before in precedes_twice (get_or found i d).d2 (get_or found i d).edge.0 last.d2 last.edge.0 near.d2 near.edge.0 b before)
+        (λ here. let e : k - 1 ≡ i = omega (arith, lt, full, here) in subst (λ c. ComesBefore c near) (sym end ∙ ap (λ v. get_or found v d) e) before)
+        (cases_lt i (k - 1));
+  });
+}
+
+-- where the edge is told of as well, nothing changes
+pub takes_told : (k : ℕ) (found : List NearEdge) (near x : NearEdge) → length found ≤ k → AreApart found → Contains found x → x.edge.0 ≡ near.edge.0 → IsNoLater x near.d2 near.segment → Takes k found found near
+takes_told k found near x few apart there same no_later = record {
+  few = few;
+  apart = apart;
+  only = λ y h. inl h;
+  keeps = λ d2 e i h. h;
+  taken = inl (record { entry = x; there = there; edge_is = same; no_later = no_later });
+}
+
+-- it is wanted, where the last does not come before it
+pub is_wanted : (k : ℕ) (old : List NearEdge) (near : NearEdge) → 1 ≤ k → ((last : NearEdge) → length old ≡ k → get_or old (k - 1) last ≡ last → ComesBefore last near → ⊥) → IsWanted k old near
+is_wanted k old near some not_before d2 e full before =
+    let last = get_or old (k - 1) near in
+    let p : Precedes last.d2 last.edge.0 d2 e = before (k - 1) near (omega (arith, full, some)) in
+    let is = get_or_default old (k - 1) last near (omega (arith, full, some)) in
+    let never = not_before last full is in
+    ⊎_elim
+    (λ lt. absurd (never (record { near = omega (arith, lt); tie = λ le. absurd (omega (arith, le, lt)) })))
+    (λ ge. record {
+      near = omega (arith, ge, p.near);
+      tie = λ le.
+          let up = p.tie (omega (arith, le, ge)) in
+          ⊎_elim
+          (λ lt. absurd (never (record { near = omega (arith, ge, p.near, le); tie = λ same. lt })))
+          (λ low. omega (arith, low, up))
+          (cases_lt last.edge.0 near.edge.0);
+    })
+    (cases_lt last.d2 near.d2)
+
+-- nothing is taken out
+pub is_whole : (k : ℕ) (old : List NearEdge) (near : NearEdge) → length old ≤ k → AreApart old → All (λ c. c.edge.0 ≡ near.edge.0 → ⊥) old → IsLeft k old old near
+is_whole k old near few apart others = record {
+  few = few;
+  full = λ e. omega (arith, e);
+  apart = apart;
+  others = others;
+  only = λ x h. h;
+  rest = λ x h. inl h;
+}
+
+pub others_without : (old : List NearEdge) (near : NearEdge) (place : ℕ) → AreApart old → IsPlaceOf old near.edge.0 place → place < length old → All (λ c. c.edge.0 ≡ near.edge.0 → ⊥) (remove old place)
+others_without old near place apart at lt i d under =
+    let n = length-remove old place lt in
+    let here = at.here d lt in
+    ⊎_elim
+    (λ below. λ e. (apart i place d below lt).differ (ap (λ (c : NearEdge). c.edge.0) (sym (get_or-remove_below old place d i below lt)) ∙ e ∙ sym here))
+    (λ above. λ e. (apart place (i + 1) d (omega (arith, above)) (omega (arith, under, n))).differ (here ∙ sym e ∙ ap (λ (c : NearEdge). c.edge.0) (get_or-remove_above old place d i above lt)))
+    (cases_lt i place)
+
+-- the entry of the edge is taken out, which is later
+pub is_left : (k : ℕ) (old : List NearEdge) (near : NearEdge) (place : ℕ) → length old ≤ k → AreApart old → IsPlaceOf old near.edge.0 place → place < length old
+    → ((x : NearEdge) → get_or old place x ≡ x → IsNoLater near x.d2 x.segment) → IsLeft k old (remove old place) near
+is_left k old near place few apart at lt later =
+    let n = length-remove old place lt in
+    record {
+      few = omega (arith, few, n);
+      full = λ e. omega (arith, e, n);
+      apart = all_pairs_remove IsApart old place lt apart;
+      others = others_without old near place apart at lt;
+      only = λ x h.
+          ⊎_elim
+          (λ below. (h.0, omega (arith, h.1, n), sym (get_or-remove_below old place x h.0 below lt) ∙ h.2))
+          (λ above. (h.0 + 1, omega (arith, h.1, n), sym (get_or-remove_above old place x h.0 above lt) ∙ h.2))
+          (cases_lt h.0 place);
+      rest = λ x h.
+          ⊎_elim
+          (λ below. inl (h.0, omega (arith, h.1, n, below, lt), get_or-remove_below old place x h.0 below lt ∙ h.2))
+          (λ above.
+          ⊎_elim
+          (λ beyond.
+          let e : h.0 - 1 + 1 ≡ h.0 = omega (arith, beyond) in
+          inl (h.0 - 1, omega (arith, h.1, n, beyond), get_or-remove_above old place x (h.0 - 1) (omega (arith, beyond)) lt ∙ ap (λ v. get_or old v x) e ∙ h.2))
+          (λ here.
+          let e : h.0 ≡ place = omega (arith, above, here) in
+          let is : get_or old place x ≡ x = ap (λ v. get_or old v x) (sym e) ∙ h.2 in
+          inr (ap (λ (c : NearEdge). c.edge.0) (sym is) ∙ at.here x lt, later x is))
+          (cases_lt place h.0))
+          (cases_lt h.0 place);
+    }
+
+-- where k are found, what is farther than the last comes behind them
+pub limit_full : (search : Search) (found : List NearEdge) (last : NearEdge) (limit : ℕ) → length found ≡ search.k → 1 ≤ search.k → AreApart found → get_or found (search.k - 1) last ≡ last
+    → limit ≤ search.radius * search.radius + 1 → ((d2 : ℕ) → limit ≤ d2 → d2 ≤ search.radius * search.radius → last.d2 < d2) → IsLimit search found limit
+limit_full search found last limit full some apart is low over = record {
+  low = low;
+  far = λ d2 e i le near.
+      let beyond = over d2 le near in
+      inr (record {
+        full = full;
+        before = λ j d lt.
+            let end = get_or_default found (search.k - 1) d last (omega (arith, full, some)) ∙ is in
+            let up : (get_or found j d).d2 ≤ last.d2 = ⊎_elim
+            (λ below. let b = (apart j (search.k - 1) d below (omega (arith, full, some))).before in let s = ap (λ (c : NearEdge). c.d2) end in omega (arith, b.near, s))
+            (λ here. let e : search.k - 1 ≡ j = omega (arith, lt, full, here) in let s = ap (λ (c : NearEdge). c.d2) (sym end ∙ ap (λ v. get_or found v d) e) in omega (arith, s))
+            (cases_lt j (search.k - 1))
+            in
+            record { near = omega (arith, up, beyond); tie = λ back. absurd (omega (arith, back, up, beyond)) };
+      });
+}
+
+pub limit_none : (search : Search) (found : List NearEdge) (limit : ℕ) → limit ≡ search.radius * search.radius + 1 → IsLimit search found limit
+limit_none search found limit is = record { low = omega (arith, is); far = λ d2 e i le near. absurd (omega (arith, is, le, near)) }
+
+-- of two edges that differ one comes before the other
+comes_other : (x near : NearEdge) → (ComesBefore near x → ⊥) → (x.edge.0 ≡ near.edge.0 → ⊥) → ComesBefore x near
+comes_other x near not_before differ =
+    ⊎_elim
+    (λ lt. absurd (not_before (record { near = omega (arith, lt); tie = λ le. absurd (omega (arith, le, lt)) })))
+    (λ ge. record {
+      near = ge;
+      tie = λ le.
+          ⊎_elim
+          (λ lt. lt)
+          (λ high.
+          ⊎_elim
+          (λ lt. absurd (not_before (record { near = le; tie = λ same. lt })))
+          (λ low. absurd (differ (omega (arith, high, low))))
+          (cases_lt near.edge.0 x.edge.0))
+          (cases_lt x.edge.0 near.edge.0);
+    })
+    (cases_lt near.d2 x.d2)
+
+-- what stands before a place comes before it, where the last of these does
+pub place_last : (found : List NearEdge) (near : NearEdge) (place : ℕ) → AreApart found → All (λ c. c.edge.0 ≡ near.edge.0 → ⊥) found → 0 < place → place ≤ length found
+    → (ComesBefore near (get_or found (place - 1) no_edge) → ⊥) → (i : ℕ) (d : NearEdge) → i < place → ComesBefore (get_or found i d) near
+place_last found near place apart others some within not_before i d lt =
+    let at : place - 1 < length found = omega (arith, some, within) in
+    let x = get_or found (place - 1) no_edge in
+    let end : get_or found (place - 1) d ≡ x = get_or_default found (place - 1) d no_edge at in
+    let last : ComesBefore x near = comes_other x near not_before (others (place - 1) no_edge at) in
+    ⊎_elim
+    (λ below. let b = subst (ComesBefore (get_or found i d)) end (apart i (place - 1) d below at).before in precedes_twice (get_or found i d).d2 (get_or found i d).edge.0 x.d2 x.edge.0 near.d2 near.edge.0 b last)
+    (λ here. let e : place - 1 ≡ i = omega (arith, lt, here) in subst (λ c. ComesBefore c near) (sym end ∙ ap (λ v. get_or found v d) e) last)
+    (cases_lt i (place - 1))
+
+-- of two segments of an edge one is no later than the other
+pub later_other : (x near : NearEdge) → (IsNoLater x near.d2 near.segment → ⊥) → IsNoLater near x.d2 x.segment
+later_other x near not_later = record {
+  near =
+      ⊎_elim
+      (λ lt. absurd (not_later (record { near = omega (arith, lt); tie = λ le. absurd (omega (arith, le, lt)) })))
+      (λ le. le)
+      (cases_lt x.d2 near.d2);
+  tie = λ le.
+      ⊎_elim
+      (λ lt. absurd (not_later (record { near = le; tie = λ same. omega (arith, lt) })))
+      (λ low. low)
+      (cases_lt x.segment near.segment);
+}
+
+-- where the place of an edge is their number, no other is of it
+pub others_whole : (found : List NearEdge) (e place : ℕ) → IsPlaceOf found e place → place ≡ length found → All (λ c. c.edge.0 ≡ e → ⊥) found
+others_whole found e place at is i d lt = at.before i d (omega (arith, is, lt))

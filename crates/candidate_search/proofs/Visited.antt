@@ -1,0 +1,82 @@
+-- What was seen, when all cells near a point were visited, are the nearest edges.
+use Rattle.std.proofs.Common.{◌≡◌, ℕ, suc, ◌+◌, ◌*◌, ◌<◌, ◌≤◌, List, [], length, sym, subst, arith, ⊎_elim, ◌-ℤ◌, pos, mul-le-mul}
+use Rattle.std.specs.Int.RustNames.{unsigned_abs}
+use Rattle.std.proofs.lemmas.Bool.{cases_lt}
+use Rattle.polyline_geometry.specs.declared.plane.Point.{Point}
+use Rattle.polyline_geometry.specs.Boxes.{InBox, InSquare}
+use Rattle.polyline_geometry.specs.Nearest.{segment_snap}
+use Rattle.polyline_geometry.specs.Plane.{distance2, point_at, share, snap_segment, snapped}
+use Rattle.polyline_geometry.proofs.Boxes.{snapped_in_box}
+use Rattle.road_network.specs.Net.{Net, HasEdge, IsLawful, edge_line}
+use Rattle.grid_index.specs.declared.cells.Cells.{Cells}
+use Rattle.grid_index.specs.Cells.{HasCell, cell}
+use Rattle.grid_index.specs.GridOf.{GridOf, IsGrid, StandsFor}
+use Rattle.grid_index.specs.Runs.{IsRun}
+use Rattle.grid_index.proofs.NearestCells.{nearest_place}
+use Rattle.grid_index.proofs.RunBoxes.{segment_within}
+use Rattle.candidate_search.specs.declared.best.NearEdge.{NearEdge}
+use Rattle.candidate_search.specs.declared.wanted.Search.{Search}
+use Rattle.candidate_search.specs.Best.{AreBest, HasSeen, HasSeenRows, HasSeenWide, IsAccounted}
+use Rattle.candidate_search.specs.Nearest.{AreNearestEdges}
+
+-- a number whose square is at most another's is at most the other
+square_le : (x y r : ℕ) → x * x + y ≤ r * r → x ≤ r
+square_le x y r h =
+    ⊎_elim (λ lt. let m : (r + 1) * (r + 1) ≤ x * x = mul-le-mul (omega (arith, lt)) (omega (arith, lt)) in absurd (omega (arith, m, h))) (λ le. le) (cases_lt r x)
+
+close_square : (p q : Point) (reach : ℕ) → distance2 p q ≤ reach * reach → InSquare p reach q
+close_square p q reach h = record {
+  x = square_le (unsigned_abs (p.x -ℤ q.x)) (unsigned_abs (p.y -ℤ q.y) * unsigned_abs (p.y -ℤ q.y)) reach h;
+  y = square_le (unsigned_abs (p.y -ℤ q.y)) (unsigned_abs (p.x -ℤ q.x) * unsigned_abs (p.x -ℤ q.x)) reach (omega (arith, h));
+}
+
+-- the cells of a square
+abbrev pub HoldsSquare : GridOf → Point → ℕ → Cells → Type 0
+HoldsSquare g p reach cells = (q : Point) → InSquare p reach q → HasCell cells (cell g.side q.x) (cell g.side q.y)
+
+-- a run with a place in the square was seen
+run_seen : (net : Net) (g : GridOf) (search : Search) (found : List NearEdge) (cells : Cells) (e i : ℕ) (q : Point) (s : StandsFor g e i) → IsRun net s.run
+    → HoldsSquare g search.at search.radius cells → HasSeenWide net g search found → HasSeenRows net g search found cells cells.bottom cells.top
+    → InBox s.run.low s.run.high q → InSquare search.at search.radius q → HasSeen net search found s.run
+run_seen net g search found cells e i q s is holds wide rows inside close =
+    ⊎_elim
+    (λ there. wide s.run there)
+    (λ there.
+    let h = nearest_place net g.side search.radius search.at q s.run is search.at_in inside close in
+    let at = holds h.place h.square in
+    rows (cell g.side h.place.y) at.bottom at.top (cell g.side h.place.x) at.left at.right s.run (there h.place h.inside) h.cell_is)
+    s.stands
+
+pub all_seen : (net : Net) (g : GridOf) (search : Search) (found : List NearEdge) (cells : Cells) → IsLawful net → g.net ≡ net → IsGrid g
+    → HoldsSquare g search.at search.radius cells → AreBest net search found → HasSeenWide net g search found → HasSeenRows net g search found cells cells.bottom cells.top
+    → AreNearestEdges net search found
+all_seen net g search found cells lawful same grid holds best wide rows = record {
+  best = best;
+  every = λ e i has lt near.
+      let line = edge_line net e in
+      let p = search.at in
+      let a = point_at line i in
+      let b = point_at line (i + 1) in
+      let s : suc i ≡ i + 1 = omega arith in
+      let close : (snap_segment a b p).d2 ≤ search.radius * search.radius = subst (λ k. (snap_segment a (point_at line k) p).d2 ≤ search.radius * search.radius) s near in
+      let differ = (lawful.lines e has).differ i (record { x = pos 0; y = pos 0 }) (omega (arith, lt)) in
+      let q : Point = snapped a b (share a b p) (distance2 b a) in
+      let stands : StandsFor g e i = grid.complete e i (subst (λ (n : Net). HasEdge n e) (sym same) has) (subst (λ (n : Net). i + 1 < length (edge_line n e)) (sym same) lt) in
+      let r = stands.run in
+      let is : IsRun net r = subst (λ (n : Net). IsRun n r) same stands.is_run in
+      let here : InBox (point_at (edge_line net r.edge.0) i) (point_at (edge_line net r.edge.0) (i + 1)) q
+      = subst (λ v. InBox (point_at (edge_line net v) i) (point_at (edge_line net v) (i + 1)) q) (sym stands.segment.edge_is) (snapped_in_box a b p differ)
+      in
+      let inside = segment_within (edge_line net r.edge.0) r i q is.run stands.segment.from_first stands.segment.before_end here in
+      let seen = run_seen net g search found cells e i q stands is holds wide rows inside (close_square p q search.radius close) in
+      subst (λ v. (segment_snap (edge_line net v) p i).d2 ≤ search.radius * search.radius → IsAccounted search.k found (segment_snap (edge_line net v) p i).d2 v i) stands.segment.edge_is
+      (seen i stands.segment.from_first stands.segment.before_end) near;
+}
+
+-- nothing is found yet
+pub none_best : (net : Net) (search : Search) (found : List NearEdge) → found ≡ [] → AreBest net search found
+none_best net search found is = subst (λ l. AreBest net search l) (sym is) (record {
+  few = omega arith;
+  apart = λ i j d lt under. absurd (omega (arith, under));
+  each = λ i d lt. absurd (omega (arith, lt));
+})

@@ -1,0 +1,20 @@
+use Rattle.std.proofs.Common.{subst}
+use Rattle.candidate_search.proofs.Visiting.{rows_still}
+use Rattle.candidate_search.proofs.Visited.{HoldsSquare, all_seen, none_best}
+use Rattle.candidate_search.proofs.search.nearest_edges.Goals as goal
+
+pub look_at_cells-requires-clause-best : goal.look_at_cells-requires-clause-best
+look_at_cells-requires-clause-best c = none_best c.args.net.now c.args.search c.in_ok-found.found.items c.in_ok-found.ensures.items
+
+pub returns : goal.returns
+returns c =
+    let net = c.args.net.now in
+    let g = c.args.grid.now in
+    let search = c.args.search in
+    let cells = c.cells_near.result in
+    let one = c.look_at_cells.new.found.items in
+    let two = c.look_at_wide.new.found.items in
+    let holds = subst (λ v. HoldsSquare g search.at v cells) c.requires.reach c.cells_near.ensures in
+    let steps = c.in_ok-look_at_wide.ensures.steps in
+    all_seen net g search two cells c.known.ensures c.requires.network c.known-2.ensures holds steps.best c.in_ok-look_at_wide.ensures.seen
+    (rows_still net g search one two cells cells.bottom cells.top steps c.in_ok-look_at_cells.ensures.seen)

@@ -1,0 +1,43 @@
+use Rattle.std.proofs.Common.{get_or, arith, subst, sym}
+use Rattle.std.proofs.lemmas.List.{get_or_default}
+use Rattle.grid_index.specs.declared.runs.Run.{Run}
+use Rattle.candidate_search.specs.Best.{AreApart, IsLimit}
+use Rattle.candidate_search.proofs.Visiting.{far_cell, goes_on, nothing, seen_cell, seen_one_more, stays}
+use Rattle.candidate_search.proofs.visit.look_at_cell.Goals as goal
+
+pub limit_for-requires-clause-apart : goal.limit_for-requires-clause-apart
+limit_for-requires-clause-apart c = subst AreApart (sym c.as_slice.ensures.value) c.requires.best.apart
+
+pub returns-then-cell_distance2-limit_for-clause-seen : goal.returns-then-cell_distance2-limit_for-clause-seen
+returns-then-cell_distance2-limit_for-clause-seen c =
+    let search = c.args.search in
+    let limit = c.limit_for.result in
+    let is = subst (λ l. IsLimit search l limit) c.as_slice.ensures.value c.limit_for.ensures in
+    far_cell c.args.net.now c.args.grid.now search c.args.found.now.items c.args.column c.args.row limit c.cell_distance2.result c.known-2.ensures c.requires.network c.known.ensures is
+    c.if-cell_distance2-limit_for.true c.cell_distance2.ensures
+
+pub loop-run-init : goal.loop-run-init
+loop-run-init c = record {
+  steps = stays c.args.net.now c.args.search c.args.found.now.items c.requires.best;
+  seen = λ i d lt. absurd (omega (arith, lt));
+}
+
+pub loop-run-preserved : goal.loop-run-preserved
+loop-run-preserved c =
+    let s = c.loop-run in
+    let net = c.args.net.now in
+    let search = c.args.search in
+    let runs = c.runs_at-runs.result.now in
+    let x : Run = get_or runs s.run-index nothing in
+    let new = c.look_at_run_once.new.found.items in
+    let steps = c.in_ok-look_at_run_once.ensures.steps in
+    record {
+      steps = goes_on net search c.args.found.now.items s.found.items new s.invariant.steps steps;
+      seen = seen_one_more net c.args.grid.now search s.found.items new runs c.args.column c.args.row s.run-index x c.loop-run-test.true (get_or_default runs s.run-index x nothing c.loop-run-test.true)
+          s.invariant.seen steps c.in_ok-look_at_run_once.ensures.seen;
+    }
+
+pub returns-clause-seen : goal.returns-clause-seen
+returns-clause-seen c =
+    let s = c.loop-run in
+    seen_cell c.args.net.now c.args.grid.now c.args.search s.found.items c.runs_at-runs.result.now c.args.column c.args.row s.run-index c.runs_at-runs.ensures (omega (arith, c.loop-run-test.false)) s.invariant.seen

@@ -1,0 +1,9 @@
+use Rattle.candidate_search.specs.Best.{Steps}
+use Rattle.candidate_search.proofs.Visiting.{HasSeenUpTo}
+use Rattle.candidate_search.proofs.visit.look_at_cell.Given as goal
+
+abbrev pub invariant-loop-run : goal.invariant-loop-run
+invariant-loop-run l = record {
+  steps : Steps l.net l.fn.search l.fn.found.items l.found.items;
+  seen : HasSeenUpTo l.net l.grid l.fn.search l.found.items l.runs l.fn.column l.fn.row l.run-index;
+}

@@ -1,0 +1,8 @@
+use Rattle.candidate_search.specs.Best.{HasSeenRows, Steps}
+use Rattle.candidate_search.proofs.visit.look_at_rows.Given as goal
+
+abbrev pub invariant-loop-row : goal.invariant-loop-row
+invariant-loop-row l = record {
+  steps : Steps l.net l.fn.search l.fn.found.items l.found.items;
+  seen : HasSeenRows l.net l.grid l.fn.search l.found.items l.fn.cells l.fn.bottom l.row;
+}

@@ -1,0 +1,136 @@
+//! The nearest edges so far, while runs are visited in any order. Serves `candidates`; decided by
+//! `Takes`.
+ghost use Rattle.std.specs.Prelude.{◌≡◌, ℕ, ◌+◌, ◌*◌, ◌≤◌, ◌<◌, ◌↔◌, IsTrue, length, slice_index_or, OnOk};
+ghost use Rattle.std.specs.List.{All, remove};
+ghost use Rattle.candidate_search.specs.declared.best.NearEdge.{NearEdge as NearEdgeOf};
+ghost use Rattle.candidate_search.specs.Best.{AreApart, ComesBefore, IsLimit, IsNoLater, IsPlaceFor, IsPlaceOf, IsWanted, Puts, Takes};
+
+use crate::wanted::Search;
+use road_network::EdgeId;
+use std::alloc::AllocError;
+
+/// An edge with the nearest of its segments that were seen, and how far that is, in cm².
+#[derive(Clone, Copy)]
+pub(crate) struct NearEdge {
+    pub(crate) edge: EdgeId,
+    pub(crate) segment: u32,
+    pub(crate) d2: u64,
+}
+
+impl NearEdge {
+    /// Whether it is nearer than the other, or as near and earlier in the file.
+    fn is_before(self, other: NearEdge) -> bool
+        ensures { IsTrue result ↔ ComesBefore self other }
+    {
+        self.d2 < other.d2 || self.d2 == other.d2 && self.edge.0 < other.edge.0
+    }
+
+    /// Whether its segment is nearer than the other, or as near and no later.
+    fn is_no_later(self, other: NearEdge) -> bool
+        ensures { IsTrue result ↔ IsNoLater self other.d2 other.segment }
+    {
+        self.d2 < other.d2 || self.d2 == other.d2 && self.segment <= other.segment
+    }
+}
+
+/// The squared distance from which on no segment is wanted.
+pub(crate) fn limit_for(found: &[NearEdge], search: Search) -> u64
+    requires few { length found.now ≤ search.k }
+    requires apart { AreApart found.now }
+    ensures { IsLimit search found.now result }
+{
+    let beyond = search.radius * search.radius + 1;
+    if found.len() < search.k {
+        beyond
+    } else {
+        found[search.k - 1].d2.min(beyond - 1) + 1
+    }
+}
+
+/// The place of an edge among those found, or their number.
+fn place_of_edge(found: &[NearEdge], edge: EdgeId) -> usize
+    ensures { IsPlaceOf found.now edge.0 result }
+{
+    let mut place = 0;
+    while place < found.len() && found[place].edge.0 != edge.0 {
+        place += 1;
+    }
+    place
+}
+
+/// The place of the first that comes after it.
+fn place_for(found: &[NearEdge], near: NearEdge) -> usize
+    requires apart { AreApart found.now }
+    requires others { All (λ c. c.edge.0 ≡ near.edge.0 → ⊥) found.now }
+    ensures { IsPlaceFor found.now near result }
+{
+    let mut place = found.len();
+    while place > 0 && near.is_before(found[place - 1]) {
+        place -= 1;
+    }
+    place
+}
+
+/// Puts one more edge at its place, and drops what is then beyond the first k.
+fn put(found: &mut Vec<NearEdge>, k: usize, near: NearEdge) -> Result<(), AllocError>
+    requires apart { AreApart found.old.items }
+    requires others { All (λ c. c.edge.0 ≡ near.edge.0 → ⊥) found.old.items }
+    ensures { OnOk result (Puts k found.old.items found.new.items near) }
+{
+    let place = place_for(found.as_slice(), near);
+    found.insert(place, near)?;
+    found.truncate(k);
+    Ok(())
+}
+
+/// Puts an edge that stands at a place at that of a nearer segment of it.
+fn move_up(
+    found: &mut Vec<NearEdge>,
+    k: usize,
+    place: usize,
+    near: NearEdge,
+) -> Result<(), AllocError>
+    requires apart { AreApart found.old.items }
+    requires place { IsPlaceOf found.old.items near.edge.0 place }
+    requires inside { place < length found.old.items }
+    ensures { OnOk result (Puts k (remove found.old.items place) found.new.items near) }
+{
+    found.remove(place);
+    put(found, k, near)
+}
+
+/// Takes one more segment, which no k edges keep out.
+fn take_wanted(found: &mut Vec<NearEdge>, k: usize, near: NearEdge) -> Result<(), AllocError>
+    requires few { length found.old.items ≤ k }
+    requires apart { AreApart found.old.items }
+    requires wanted { IsWanted k found.old.items near }
+    ensures { OnOk result (Takes k found.old.items found.new.items near) }
+{
+    let place = place_of_edge(found.as_slice(), near.edge);
+    if place == found.len() {
+        return put(found, k, near);
+    }
+    if found[place].is_no_later(near) {
+        return Ok(());
+    }
+    move_up(found, k, place, near)
+}
+
+/// Takes one more segment: of each edge the nearest is kept, and of the edges the first k.
+pub(crate) fn take_near(
+    found: &mut Vec<NearEdge>,
+    search: Search,
+    near: NearEdge,
+) -> Result<(), AllocError>
+    requires few { length found.old.items ≤ search.k }
+    requires apart { AreApart found.old.items }
+    ensures { OnOk result (Takes search.k found.old.items found.new.items near) }
+{
+    if found.len() < search.k {
+        return take_wanted(found, search.k, near);
+    }
+    if found[search.k - 1].is_before(near) {
+        return Ok(());
+    }
+    take_wanted(found, search.k, near)
+}

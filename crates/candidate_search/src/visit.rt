@@ -1,0 +1,224 @@
+//! Visits of the runs near a point, cell by cell from its own on. Serves `candidates`; decided by
+//! `HasSeenCell`.
+ghost use Rattle.std.specs.Prelude.{◌≡◌, OnOk};
+ghost use Rattle.polyline_geometry.specs.Plane.{InRange};
+ghost use Rattle.road_network.specs.Net.{Net};
+ghost use Rattle.grid_index.specs.NearestCell.{IsNearestCell};
+ghost use Rattle.grid_index.specs.Runs.{IsRun};
+ghost use Rattle.candidate_search.specs.Best.{AreBest, HasSeen, HasSeenCell, HasSeenRow, HasSeenRows, HasSeenWide, IsLimit, Steps};
+
+use crate::best::{NearEdge, limit_for, take_near};
+use crate::wanted::Search;
+use grid_index::{Cells, Grid, Run};
+use polyline_geometry::{distance2, nearest_in_box, nearest_segment};
+use road_network::Network;
+use std::alloc::AllocError;
+
+/// Measures the segments of a run.
+fn measure_run(
+    net: &Network,
+    found: &mut Vec<NearEdge>,
+    search: Search,
+    run: Run,
+    limit: u64,
+) -> Result<(), AllocError>
+    requires run { IsRun net.now run }
+    requires best { AreBest net.now search found.old.items }
+    requires limit { IsLimit search found.old.items limit }
+    ensures steps { OnOk result (Steps net.now search found.old.items found.new.items) }
+    ensures seen { OnOk result (HasSeen net.now search found.new.items run) }
+{
+    net.known();
+    let (first, end) = (run.first as usize, run.end as usize);
+    match nearest_segment(net.line(run.edge), first, end, search.at, limit) {
+        None => Ok(()),
+        Some(near) => {
+            let near = NearEdge {
+                edge: run.edge,
+                segment: near.segment as u32,
+                d2: near.d2,
+            };
+            take_near(found, search, near)
+        }
+    }
+}
+
+/// Looks at a run: its segments are measured where its box is near enough.
+fn look_at_run(
+    net: &Network,
+    found: &mut Vec<NearEdge>,
+    search: Search,
+    run: Run,
+) -> Result<(), AllocError>
+    requires run { IsRun net.now run }
+    requires best { AreBest net.now search found.old.items }
+    ensures steps { OnOk result (Steps net.now search found.old.items found.new.items) }
+    ensures seen { OnOk result (HasSeen net.now search found.new.items run) }
+{
+    net.known();
+    let limit = limit_for(found.as_slice(), search);
+    let place = nearest_in_box(run.low, run.high, search.at);
+    if distance2(search.at, place) < limit {
+        measure_run(net, found, search, run, limit)
+    } else {
+        Ok(())
+    }
+}
+
+/// Looks at the runs that stand at no cell.
+pub(crate) fn look_at_wide(
+    net: &Network,
+    grid: &Grid,
+    found: &mut Vec<NearEdge>,
+    search: Search,
+) -> Result<(), AllocError>
+    requires network { grid.now.net ≡ net.now }
+    requires best { AreBest net.now search found.old.items }
+    ensures steps { OnOk result (Steps net.now search found.old.items found.new.items) }
+    ensures seen { OnOk result (HasSeenWide net.now grid.now search found.new.items) }
+{
+    grid.known();
+    let runs = grid.wide_runs();
+    for run in runs {
+        look_at_run(net, found, search, *run)?;
+    }
+    Ok(())
+}
+
+/// Looks at a run where its nearest place lies in this cell, so that each is looked at once.
+fn look_at_run_once(
+    net: &Network,
+    grid: &Grid,
+    found: &mut Vec<NearEdge>,
+    search: Search,
+    run: Run,
+    column: u32,
+    row: u32,
+) -> Result<(), AllocError>
+    requires run { IsRun net.now run }
+    requires best { AreBest net.now search found.old.items }
+    ensures steps { OnOk result (Steps net.now search found.old.items found.new.items) }
+    ensures seen { OnOk result (IsNearestCell grid.now.side search.at run column row
+        → HasSeen net.now search found.new.items run) }
+{
+    if grid.is_nearest_cell(run, search.at, column, row) {
+        look_at_run(net, found, search, run)
+    } else {
+        Ok(())
+    }
+}
+
+/// Looks at the runs of a cell, where it is near enough.
+fn look_at_cell(
+    net: &Network,
+    grid: &Grid,
+    found: &mut Vec<NearEdge>,
+    search: Search,
+    column: u32,
+    row: u32,
+) -> Result<(), AllocError>
+    requires network { grid.now.net ≡ net.now }
+    requires best { AreBest net.now search found.old.items }
+    ensures steps { OnOk result (Steps net.now search found.old.items found.new.items) }
+    ensures seen { OnOk result (HasSeenCell net.now grid.now search found.new.items column row) }
+{
+    grid.known();
+    net.known();
+    if grid.cell_distance2(search.at, column, row) >= limit_for(found.as_slice(), search) {
+        return Ok(());
+    }
+    let runs = grid.runs_at(column, row);
+    for run in runs {
+        look_at_run_once(net, grid, found, search, *run, column, row)?;
+    }
+    Ok(())
+}
+
+/// Looks at the cells of a row from one column up to before another.
+fn look_at_columns(
+    net: &Network,
+    grid: &Grid,
+    found: &mut Vec<NearEdge>,
+    search: Search,
+    left: u32,
+    right: u32,
+    row: u32,
+) -> Result<(), AllocError>
+    requires network { grid.now.net ≡ net.now }
+    requires best { AreBest net.now search found.old.items }
+    ensures steps { OnOk result (Steps net.now search found.old.items found.new.items) }
+    ensures seen { OnOk result
+        (HasSeenRow net.now grid.now search found.new.items left right row) }
+{
+    for column in left..right {
+        look_at_cell(net, grid, found, search, column, row)?;
+    }
+    Ok(())
+}
+
+/// Looks at the cells of a row, that of the point's column first.
+fn look_at_row(
+    net: &Network,
+    grid: &Grid,
+    found: &mut Vec<NearEdge>,
+    search: Search,
+    cells: Cells,
+    row: u32,
+) -> Result<(), AllocError>
+    requires network { grid.now.net ≡ net.now }
+    requires best { AreBest net.now search found.old.items }
+    ensures steps { OnOk result (Steps net.now search found.old.items found.new.items) }
+    ensures seen { OnOk result (HasSeenRow net.now grid.now search found.new.items cells.left
+        cells.right row) }
+{
+    let own = grid.column_of(search.at);
+    let next = own.saturating_add(1);
+    look_at_cell(net, grid, found, search, own, row)?;
+    look_at_columns(net, grid, found, search, next, cells.right, row)?;
+    look_at_columns(net, grid, found, search, cells.left, own, row)?;
+    Ok(())
+}
+
+/// Looks at the rows of cells from one up to before another.
+fn look_at_rows(
+    net: &Network,
+    grid: &Grid,
+    found: &mut Vec<NearEdge>,
+    search: Search,
+    cells: Cells,
+    bottom: u32,
+    top: u32,
+) -> Result<(), AllocError>
+    requires network { grid.now.net ≡ net.now }
+    requires best { AreBest net.now search found.old.items }
+    ensures steps { OnOk result (Steps net.now search found.old.items found.new.items) }
+    ensures seen { OnOk result
+        (HasSeenRows net.now grid.now search found.new.items cells bottom top) }
+{
+    for row in bottom..top {
+        look_at_row(net, grid, found, search, cells, row)?;
+    }
+    Ok(())
+}
+
+/// Looks at cells, those of the point's row first.
+pub(crate) fn look_at_cells(
+    net: &Network,
+    grid: &Grid,
+    found: &mut Vec<NearEdge>,
+    search: Search,
+    cells: Cells,
+) -> Result<(), AllocError>
+    requires network { grid.now.net ≡ net.now }
+    requires best { AreBest net.now search found.old.items }
+    ensures steps { OnOk result (Steps net.now search found.old.items found.new.items) }
+    ensures seen { OnOk result
+        (HasSeenRows net.now grid.now search found.new.items cells cells.bottom cells.top) }
+{
+    let own = grid.row_of(search.at);
+    let next = own.saturating_add(1);
+    look_at_row(net, grid, found, search, cells, own)?;
+    look_at_rows(net, grid, found, search, cells, next, cells.top)?;
+    look_at_rows(net, grid, found, search, cells, cells.bottom, own)?;
+    Ok(())
+}

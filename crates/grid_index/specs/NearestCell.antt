@@ -1,0 +1,14 @@
+-- The one cell at which a look takes a run.
+use Rattle.std.specs.Prelude.{ℕ, ◌≡◌, ◌/◌, ℤ, max, min}
+use Rattle.polyline_geometry.specs.declared.plane.Point.{Point}
+use Rattle.grid_index.specs.declared.runs.Run.{Run}
+use Rattle.grid_index.specs.Cells.{shifted}
+
+-- of the coordinates from `low` to `high` the one that is nearest to z, shifted
+abbrev pub nearest_between : ℤ → ℤ → ℤ → ℕ
+nearest_between low high z = max (shifted low) (min (shifted z) (shifted high))
+
+-- the place of the run's box that is nearest to p lies in the cell of this column and row
+pub record IsNearestCell (side : ℕ) (p : Point) (r : Run) (column row : ℕ) : Type 0 where
+  pub column_is : nearest_between r.low.x r.high.x p.x / side ≡ column
+  pub row_is : nearest_between r.low.y r.high.y p.y / side ≡ row

@@ -1,0 +1,85 @@
+//! The one cell at which a look takes a run: that of the place of its box which is nearest to the
+//! point. Serves `Grid`; decided by `IsNearestCell`.
+ghost use Rattle.std.specs.Prelude.{◌≡◌, ℕ, ◌+◌, ◌-◌, ◌*◌, ◌/◌, ◌≤◌, ◌↔◌, IsTrue, max, min};
+ghost use Rattle.std.specs.Int.RustNames.{unsigned_abs};
+ghost use Rattle.polyline_geometry.specs.declared.plane.Point.{Point as Place};
+ghost use Rattle.polyline_geometry.specs.Boxes.{InBox};
+ghost use Rattle.polyline_geometry.specs.Plane.{InRange, distance2};
+ghost use Rattle.road_network.specs.Net.{Net};
+ghost use Rattle.grid_index.specs.declared.runs.Run.{Run as RunOf};
+ghost use Rattle.grid_index.specs.NearestCell.{IsNearestCell, nearest_between};
+ghost use Rattle.grid_index.specs.Runs.{HasCorners, IsRun};
+
+use crate::cells::shifted;
+use crate::runs::Run;
+use polyline_geometry::Point;
+
+/// The greatest difference of coordinates that a distance counts.
+const MOST: u64 = 1 << 31;
+
+/// The coordinate from `low` to `high` that is nearest to z, shifted.
+fn nearest_between(low: i32, high: i32, z: i32) -> u32
+    requires low_in { unsigned_abs low ≤ 1_000_000_000 }
+    requires high_in { unsigned_abs high ≤ 1_000_000_000 }
+    requires z_in { unsigned_abs z ≤ 1_000_000_000 }
+    ensures { result ≡ nearest_between low high z }
+{
+    shifted(low).max(shifted(z).min(shifted(high)))
+}
+
+/// Whether a shifted coordinate lies in the column, or the row, of a number.
+fn is_within(x: u32, number: u32, side: u32) -> bool
+    requires some { 1 ≤ side }
+    requires few { side ≤ 1_000_000 }
+    ensures { IsTrue result ↔ (x / side ≡ number) }
+{
+    let (x, side) = (u64::from(x), u64::from(side));
+    let low = u64::from(number) * side;
+    low <= x && x < low + side
+}
+
+/// How far a shifted coordinate is at least from those of a box whose nearest one lies in the
+/// column, or the row, of a number.
+fn gap(x: u32, number: u32, side: u32) -> u64
+    requires some { 1 ≤ side }
+    requires few { side ≤ 1_000_000 }
+    ensures small { result ≤ 2_147_483_648 }
+    ensures least { (low high y : ℕ) → max low (min x high) / side ≡ number → low ≤ y → y ≤ high
+        → result ≤ x - y + (y - x) }
+{
+    let (x, side) = (u64::from(x), u64::from(side));
+    let low = u64::from(number) * side;
+    if x < low {
+        (low - x).min(MOST)
+    } else {
+        x.saturating_sub(low + side - 1).min(MOST)
+    }
+}
+
+/// Whether the place of a run's box that is nearest to p lies in the cell of this column and row.
+pub(crate) fn is_nearest_cell(run: Run, p: Point, column: u32, row: u32, side: u32) -> bool
+    requires some { 1 ≤ side }
+    requires few { side ≤ 1_000_000 }
+    requires corners { HasCorners run }
+    requires p_in { InRange p }
+    ensures { IsTrue result ↔ IsNearestCell side p run column row }
+{
+    is_within(nearest_between(run.low.x, run.high.x, p.x), column, side)
+        && is_within(nearest_between(run.low.y, run.high.y, p.y), row, side)
+}
+
+/// How far p is at least, squared, from the boxes of the runs that have their nearest place in the
+/// cell of this column and row, in cm².
+pub(crate) fn cell_distance2(p: Point, column: u32, row: u32, side: u32) -> u64
+    requires some { 1 ≤ side }
+    requires few { side ≤ 1_000_000 }
+    requires p_in { InRange p }
+    ensures { (net : Net) (r : RunOf) (q : Place) → IsRun net r → IsNearestCell side p r column row
+        → InBox r.low r.high q → result ≤ distance2 p q }
+{
+    let (x, y) = (
+        gap(shifted(p.x), column, side),
+        gap(shifted(p.y), row, side),
+    );
+    x * x + y * y
+}
