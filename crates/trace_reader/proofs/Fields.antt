@@ -1,8 +1,10 @@
 -- The fields of a line.
-use Rattle.std.proofs.Common.{◌≡◌, ℕ, ℤ, ◌+◌, ◌<◌, ◌==◌, List, [], ◌∷◌, length, take, drop, count_by, Result, Ok, Err, refl, subst, arith}
+use Rattle.std.proofs.Common.{◌≡◌, ℕ, ℤ, ◌+◌, ◌<◌, ◌==◌, List, [], ◌∷◌, length, take, drop, count_by, Result, Ok, Err, refl, ap, ◌∙◌, arith}
 use Rattle.std.specs.Result.{result_err}
 use Rattle.std.specs.List.{position_or_len}
-use Rattle.std.proofs.lemmas.List.Splits.{slice_split_first, slice_split_none, length-slice_split}
+use Rattle.std.proofs.lemmas.Bool.{false_from_ne_true}
+use Rattle.trace_reader.specs.Plain.{first_of}
+use Rattle.std.proofs.lemmas.List.Splits.{slice_split_first, length-slice_split}
 use Rattle.memchr.specs.Find.{NoneBefore, Nowhere, Passes, is_byte}
 use Rattle.trace_reader.specs.Row.{fields_of, row_of, row_fault, numbers_of, u32_of, coordinate_of}
 use Rattle.decimal_text.specs.declared.number.NumberFault.{NumberFault}
@@ -11,17 +13,24 @@ use Rattle.trace_reader.specs.declared.row.Header.TheVariants.{Untimed, Timed}
 use Rattle.trace_reader.specs.declared.row.Row.{Row}
 use Rattle.trace_reader.specs.declared.fault.TraceFault.{TraceFault}
 use Rattle.trace_reader.specs.declared.fault.TraceFault.TheVariants.{FieldCount}
-use Rattle.trace_reader.proofs.Places.{position_is, HasNo-none}
+use Rattle.trace_reader.proofs.Places.{position_is}
+use Rattle.trace_reader.proofs.Plain.{first_whole, fields_whole}
 
-pub fields-first : (text : List ℕ) (place : ℕ) → NoneBefore (Passes (is_byte 44) text) 0 (length text) place → Passes (is_byte 44) text place
-    → fields_of text ≡ take place text ∷ fields_of (drop (place + 1) text)
-fields-first text place none here =
+pub first-place : (text : List ℕ) (place : ℕ) → NoneBefore (Passes (is_byte 44) text) 0 (length text) place → Passes (is_byte 44) text place → first_of text ≡ take place text
+first-place text place none here = ap (λ n. take n text) (position_is 44 text place none here)
+
+pub fields-place : (text : List ℕ) (place : ℕ) → NoneBefore (Passes (is_byte 44) text) 0 (length text) place → Passes (is_byte 44) text place
+    → fields_of text ≡ first_of text ∷ fields_of (drop (place + 1) text)
+fields-place text place none here =
     let at = position_is 44 text place none here in
     let low : position_or_len (λ b. b == 44) text < length text = omega (arith, at, none.high) in
-    subst (λ p. fields_of text ≡ take p text ∷ fields_of (drop (p + 1) text)) at (slice_split_first (λ b. b == 44) text 0 low)
+    slice_split_first (λ b. b == 44) text 0 low ∙ ap (λ n. first_of text ∷ fields_of (drop (n + 1) text)) at
 
-pub fields-one : (text : List ℕ) → Nowhere (Passes (is_byte 44) text) 0 (length text) → fields_of text ≡ text ∷ []
-fields-one text none = slice_split_none (λ b. b == 44) text (HasNo-none 44 text none)
+pub first-whole : (text : List ℕ) → Nowhere (Passes (is_byte 44) text) 0 (length text) → first_of text ≡ text
+first-whole text none = first_whole text (λ k below. false_from_ne_true _ (none k (omega arith) below))
+
+pub fields-whole : (text : List ℕ) → Nowhere (Passes (is_byte 44) text) 0 (length text) → fields_of text ≡ first_of text ∷ []
+fields-whole text none = fields_whole text (λ k below. false_from_ne_true _ (none k (omega arith) below))
 
 nonempty : (fields : List (List ℕ)) (n : ℕ) → length fields ≡ n + 1 → (field : List ℕ) × (rest : List (List ℕ)) × (fields ≡ field ∷ rest)
 nonempty [] n e = absurd (omega arith)

@@ -4,9 +4,10 @@ mod Fields
 mod Growing
 pub mod Lawful
 pub mod Laws
-mod Lines
+pub mod Lines
 mod Magnitudes
 mod Places
+mod Plain
 mod Steps
-mod Unended
+pub mod Unended
 mod Underway

@@ -13,6 +13,7 @@
 
 mod content;
 mod fault;
+mod field;
 mod laws_of_reading;
 mod reader;
 mod row;

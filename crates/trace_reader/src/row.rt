@@ -1,11 +1,11 @@
 // One line of the file: a header, or a row of numbers.
-ghost use Rattle.std.specs.Prelude.{◌≡◌, ◌<◌, ◌^◌, ◌∷◌, [], length, position, is_some, IfSome, MatchOption, option_map};
-ghost use Rattle.trace_reader.specs.Row.{header_of, fields_of, row_of, row_fault, is_misspelt, numbers_of, time_of, u32_of, coordinate_of};
+ghost use Rattle.std.specs.Prelude.{◌≡◌, ◌<◌, ◌^◌, length, position, is_some, IfSome};
+ghost use Rattle.trace_reader.specs.Row.{header_of, fields_of, row_of, row_fault, is_misspelt, numbers_of};
 
 use crate::fault::TraceFault;
+use crate::field::{coordinate_field, unsigned_field};
 use crate::trace::Fix;
-use decimal_text::{NumberFault, parse_signed, parse_unsigned, trim};
-use memchr::memchr;
+use decimal_text::NumberFault;
 
 /// Which header a file has: `trace,x,y`, or `trace,x,y,time`.
 #[derive(Clone, Copy)]
@@ -20,8 +20,6 @@ pub struct Row {
     pub id: u32,
     pub fix: Fix,
 }
-
-const COORDINATE_LIMIT: u32 = 1_000_000_000;
 
 /// The header that the line is.
 pub fn read_header(text: &[u8]) -> Option<Header>
@@ -40,26 +38,26 @@ pub fn read_header(text: &[u8]) -> Option<Header>
 pub fn read_row(header: Header, line: u64, text: &[u8]) -> Result<Row, TraceFault>
     ensures { result ≡ row_of header line (fields_of text.now) }
 {
-    let (id, rest) = first_field(text);
+    let (id, rest) = unsigned_field(text);
     let Some(rest) = rest else {
         return Err(TraceFault::FieldCount(line));
     };
-    let (x, rest) = first_field(rest);
+    let (x, rest) = coordinate_field(rest);
     let Some(rest) = rest else {
         return Err(TraceFault::FieldCount(line));
     };
-    let (y, rest) = first_field(rest);
+    let (y, rest) = coordinate_field(rest);
     match header {
         Header::Untimed => match rest {
-            None => read_numbers(line, id, x, y, None),
+            None => gather(line, id, x, y, Ok(0)),
             Some(_) => Err(TraceFault::FieldCount(line)),
         },
         Header::Timed => match rest {
             None => Err(TraceFault::FieldCount(line)),
             Some(rest) => {
-                let (time, rest) = first_field(rest);
+                let (time, rest) = unsigned_field(rest);
                 match rest {
-                    None => read_numbers(line, id, x, y, Some(time)),
+                    None => gather(line, id, x, y, time),
                     Some(_) => Err(TraceFault::FieldCount(line)),
                 }
             }
@@ -67,49 +65,22 @@ pub fn read_row(header: Header, line: u64, text: &[u8]) -> Result<Row, TraceFaul
     }
 }
 
-// What stands before the first comma, and after it if there is one.
-fn first_field(text: &[u8]) -> (&[u8], Option<&[u8]>)
-    ensures { MatchOption result.1 (fields_of text.now ≡ result.0.now ∷ [])
-        (λ rest. fields_of text.now ≡ result.0.now ∷ fields_of rest.now) }
-{
-    match memchr(b',', text) {
-        Some(place) => (&text[..place], Some(&text[place + 1..])),
-        None => (text, None),
-    }
-}
-
-fn read_numbers(
+// The row of these numbers, or its fault.
+fn gather(
     line: u64,
-    id: &[u8],
-    x: &[u8],
-    y: &[u8],
-    time: Option<&[u8]>,
+    id: Result<u32, NumberFault>,
+    x: Result<i32, NumberFault>,
+    y: Result<i32, NumberFault>,
+    time: Result<u32, NumberFault>,
 ) -> Result<Row, TraceFault>
-    ensures { result ≡ numbers_of line (u32_of id.now) (coordinate_of x.now) (coordinate_of y.now)
-        (time_of (option_map (λ field. field.now) time.entry)) }
+    ensures { result ≡ numbers_of line id x y time }
 {
-    let id = read_u32(id);
-    let x = parse_signed(trim(x), COORDINATE_LIMIT);
-    let y = parse_signed(trim(y), COORDINATE_LIMIT);
-    let time = match time {
-        None => Ok(0),
-        Some(time) => read_u32(time),
-    };
     match (id, x, y, time) {
         (Ok(id), Ok(x), Ok(y), Ok(time)) => Ok(Row {
             id,
             fix: Fix { x, y, time },
         }),
         _ => Err(row_fault(line, &[id.err(), x.err(), y.err(), time.err()])),
-    }
-}
-
-fn read_u32(field: &[u8]) -> Result<u32, NumberFault>
-    ensures { result ≡ u32_of field.now }
-{
-    match parse_unsigned(trim(field), u32::MAX as u64) {
-        Ok(n) => Ok(n as u32),
-        Err(fault) => Err(fault),
     }
 }
 

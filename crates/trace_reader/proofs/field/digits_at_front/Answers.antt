@@ -1,0 +1,26 @@
+use Rattle.std.proofs.Common.{arith, sym, ◌∙◌}
+use Rattle.trace_reader.proofs.Plain.{digits_more, value_more, small_more, fewer_digits}
+use Rattle.trace_reader.proofs.field.digits_at_front.Goals as goal
+
+pub overflow_mul-number : goal.overflow_mul-number
+overflow_mul-number c =
+    let small = fewer_digits c.loop-count.count 8 c.loop-count.number (omega (arith, c.loop-count-test.true, c.loop-count.invariant.most)) c.loop-count.invariant.small in
+    omega (arith, small)
+
+pub overflow_add-number : goal.overflow_add-number
+overflow_add-number c =
+    let small = fewer_digits c.loop-count.count 8 c.loop-count.number (omega (arith, c.loop-count-test.true, c.loop-count.invariant.most)) c.loop-count.invariant.small in
+    omega (arith, small, c.from.type_inv)
+
+pub loop-count-preserved : goal.loop-count-preserved
+loop-count-preserved c =
+    let inv = c.loop-count.invariant in
+    let below = c.loop-count-test.true in
+    record {
+      most = inv.most;
+      inside = inv.inside;
+      few = omega (arith, below);
+      digits = digits_more c.args.text.now c.loop-count.count (omega (arith, below, inv.inside)) inv.digits (sym c.is_ascii_digit.ensures.value ∙ c.if-is_ascii_digit.true);
+      value = value_more c.args.text.now c.loop-count.count c.loop-count.number c.from.result (omega (arith, below, inv.inside)) inv.value (grind arith);
+      small = small_more c.loop-count.count c.loop-count.number c.from.result inv.small (grind arith);
+    }
