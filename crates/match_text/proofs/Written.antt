@@ -6,7 +6,7 @@ use Rattle.decimal_text.specs.Number.{decimal}
 use Rattle.match_text.specs.declared.matched.Routed.{Routed}
 use Rattle.match_text.specs.declared.matched.MatchedTrace.{MatchedTrace}
 use Rattle.match_text.specs.MatchText.{words_after, piece_line, trace_line, end_line, point_lines, text_of}
-use Rattle.match_text.specs.Parts.{numbers_text}
+use Rattle.match_text.specs.Parts.{piece_head, numbers_text}
 
 pub concat-append : (xs ys : List (List ℕ)) → concat (xs ++ ys) ≡ concat xs ++ concat ys
 concat-append [] ys = refl
@@ -15,10 +15,6 @@ concat-append (x ∷ xs) ys = ap (λ (t : List ℕ). x ++ t) (concat-append xs y
 pub words_after-numbers : (ns : List ℕ) → words_after (map decimal ns) ≡ numbers_text ns ++ 10 ∷ []
 words_after-numbers [] = refl
 words_after-numbers (n ∷ ns) = ap (λ (t : List ℕ). 32 ∷ (decimal n ++ t)) (words_after-numbers ns) ∙ sym (append_assoc (32 ∷ decimal n) (numbers_text ns) (10 ∷ []))
-
--- what is written of a piece before its route
-abbrev pub piece_head : Routed → List ℕ
-piece_head p = 112 ∷ 105 ∷ 101 ∷ 99 ∷ 101 ∷ 32 ∷ (decimal p.first ++ 32 ∷ (decimal p.last ++ 32 ∷ 99 ∷ 111 ∷ 115 ∷ 116 ∷ 32 ∷ (decimal p.cost ++ 32 ∷ 114 ∷ 111 ∷ 117 ∷ 116 ∷ 101 ∷ [])))
 
 pub piece_line_is : (p : Routed) → piece_line p ≡ piece_head p ++ (numbers_text p.route ++ 10 ∷ [])
 piece_line_is p = rw words_after-numbers (sym (simp append_assoc))

@@ -1,13 +1,14 @@
--- The parts that a line is written from.
-use Rattle.std.specs.Prelude.{ℕ, List, ◌∷◌}
+-- The parts of the line of a piece.
+use Rattle.std.specs.Prelude.{ℕ, List, ◌∷◌, ◌++◌, codes}
 use Rattle.std.specs.List.{flat_map}
 use Rattle.decimal_text.specs.Number.{decimal}
-use Rattle.match_text.specs.declared.line.Part.{Part}
-use Rattle.match_text.specs.declared.line.Part.TheVariants.{Text, Number}
+use Rattle.match_text.specs.declared.matched.Routed.{Routed}
 
-abbrev pub part_text : Part → List ℕ
-part_text (Text text) = text.now
-part_text (Number n) = decimal n
+-- the line up to its route
+abbrev pub piece_head : Routed → List ℕ
+piece_head piece =
+    codes "piece " ++ (decimal piece.first ++ (32 ∷ (decimal piece.last
+    ++ (codes " cost " ++ (decimal piece.cost ++ codes " route")))))
 
 -- each number after a space
 abbrev pub numbers_text : List ℕ → List ℕ

@@ -1,35 +1,24 @@
 //! The lines of a match text, each written whole or not at all. Serves `write_match`; decided by
 //! `trace_line`, `label_line`, `piece_line` and `end_line`.
-ghost use Rattle.std.specs.Prelude.{◌≡◌, ◌++◌, length, take, OnOk, OnErr};
-ghost use Rattle.std.specs.List.{flat_map};
+ghost use Rattle.std.specs.Prelude.{◌≡◌, ◌+◌, ◌≤◌, ◌++◌, ◌∷◌, [], length, take, drop, OnOk, OnErr};
+ghost use Rattle.decimal_text.specs.Number.{decimal};
 ghost use Rattle.match_text.specs.MatchText.{trace_line, label_line, piece_line, end_line};
-ghost use Rattle.match_text.specs.Parts.{part_text, numbers_text};
+ghost use Rattle.match_text.specs.Parts.{piece_head, numbers_text};
 
 use crate::matched::{Label, Routed};
-use decimal_text::write_unsigned;
+use itoa::write_digits;
 use polyline_geometry::List;
 use std::alloc::AllocError;
 
-/// A part of a line.
-#[derive(Clone, Copy)]
-enum Part<'a> {
-    Text(&'a [u8]),
-    Number(u64),
-}
+// Room for the longest line of fixed words, `at`, with four numbers of at most 20 digits.
+const ROOM: usize = 112;
 
 /// Appends the line `trace ID`. After Err `into` is as before.
 pub fn write_trace(id: u32, into: &mut List<u8>) -> Result<(), AllocError>
     ensures ok { OnOk result (into.new ≡ into.old ++ trace_line id) }
     ensures err { OnErr result (into.new ≡ into.old) }
 {
-    write_parts(
-        &[
-            Part::Text(b"trace "),
-            Part::Number(u64::from(id)),
-            Part::Text(b"\n"),
-        ],
-        into,
-    )
+    write_word(b"trace ", u64::from(id), into)
 }
 
 /// Appends the line `end ID`. After Err `into` is as before.
@@ -37,14 +26,7 @@ pub fn write_end(id: u32, into: &mut List<u8>) -> Result<(), AllocError>
     ensures ok { OnOk result (into.new ≡ into.old ++ end_line id) }
     ensures err { OnErr result (into.new ≡ into.old) }
 {
-    write_parts(
-        &[
-            Part::Text(b"end "),
-            Part::Number(u64::from(id)),
-            Part::Text(b"\n"),
-        ],
-        into,
-    )
+    write_word(b"end ", u64::from(id), into)
 }
 
 /// Appends the line of the point with this number: `at I edge E offset O d2 D` or `none I`.
@@ -54,24 +36,15 @@ pub fn write_label(point: u64, label: Label, into: &mut List<u8>) -> Result<(), 
     ensures err { OnErr result (into.new ≡ into.old) }
 {
     match label {
-        Label::Missing => write_parts(
-            &[Part::Text(b"none "), Part::Number(point), Part::Text(b"\n")],
-            into,
-        ),
-        Label::On { edge, offset, d2 } => write_parts(
-            &[
-                Part::Text(b"at "),
-                Part::Number(point),
-                Part::Text(b" edge "),
-                Part::Number(u64::from(edge)),
-                Part::Text(b" offset "),
-                Part::Number(u64::from(offset)),
-                Part::Text(b" d2 "),
-                Part::Number(d2),
-                Part::Text(b"\n"),
-            ],
-            into,
-        ),
+        Label::Missing => write_word(b"none ", point, into),
+        Label::On { edge, offset, d2 } => {
+            let mut line = [b'\n'; ROOM];
+            let start = put_before(b" d2 ", d2, &mut line, ROOM - 1);
+            let start = put_before(b" offset ", u64::from(offset), &mut line, start);
+            let start = put_before(b" edge ", u64::from(edge), &mut line, start);
+            let start = put_before(b"at ", point, &mut line, start);
+            into.extend_from_slice(&line[start..])
+        }
     }
 }
 
@@ -93,20 +66,22 @@ fn append_piece(piece: &Routed, into: &mut List<u8>) -> Result<(), AllocError>
     ensures ok { OnOk result (into.new ≡ into.old ++ piece_line piece.now) }
     ensures err { OnErr result (take (length into.old) into.new ≡ into.old) }
 {
-    write_parts(
-        &[
-            Part::Text(b"piece "),
-            Part::Number(u64::from(piece.first)),
-            Part::Text(b" "),
-            Part::Number(u64::from(piece.last)),
-            Part::Text(b" cost "),
-            Part::Number(piece.cost),
-            Part::Text(b" route"),
-        ],
-        into,
-    )?;
+    write_head(piece, into)?;
     append_numbers(piece.route.as_slice(), into)?;
     into.extend_from_slice(b"\n")
+}
+
+// Appends the line of a piece up to its route. After Err `into` is as before.
+fn write_head(piece: &Routed, into: &mut List<u8>) -> Result<(), AllocError>
+    ensures ok { OnOk result (into.new ≡ into.old ++ piece_head piece.now) }
+    ensures err { OnErr result (into.new ≡ into.old) }
+{
+    let mut line = [0; ROOM];
+    line[ROOM - 6..].copy_from_slice(b" route");
+    let start = put_before(b" cost ", piece.cost, &mut line, ROOM - 6);
+    let start = put_before(b" ", u64::from(piece.last), &mut line, start);
+    let start = put_before(b"piece ", u64::from(piece.first), &mut line, start);
+    into.extend_from_slice(&line[start..])
 }
 
 // Appends each number after a space. After Err some of them may stand at the end.
@@ -116,35 +91,43 @@ fn append_numbers(numbers: &[u32], into: &mut List<u8>) -> Result<(), AllocError
     ensures err { OnErr result (take (length into.old) into.new ≡ into.old) }
 {
     for number in numbers {
-        write_parts(&[Part::Text(b" "), Part::Number(u64::from(*number))], into)?;
+        write_number(*number, into)?;
     }
     Ok(())
 }
 
-// Appends the parts one after the other, or nothing.
-fn write_parts(parts: &[Part], into: &mut List<u8>) -> Result<(), AllocError>
-    ensures ok { OnOk result (into.new ≡ into.old ++ flat_map part_text parts.now) }
+// Appends a space and the number. After Err `into` is as before.
+fn write_number(number: u32, into: &mut List<u8>) -> Result<(), AllocError>
+    ensures ok { OnOk result (into.new ≡ into.old ++ 32 ∷ decimal number) }
     ensures err { OnErr result (into.new ≡ into.old) }
 {
-    let len = into.len();
-    let written = append_parts(parts, into);
-    if written.is_err() {
-        into.truncate(len);
-    }
-    written
+    let mut part = [0; 32];
+    let start = put_before(b" ", u64::from(number), &mut part, 32);
+    into.extend_from_slice(&part[start..])
 }
 
-// Appends the parts one after the other. After Err some of them may stand at the end.
-#[tactic(auto, using(crate::proofs::Kept::kept))]
-fn append_parts(parts: &[Part], into: &mut List<u8>) -> Result<(), AllocError>
-    ensures ok { OnOk result (into.new ≡ into.old ++ flat_map part_text parts.now) }
-    ensures err { OnErr result (take (length into.old) into.new ≡ into.old) }
+// Appends a line of a word and a number. After Err `into` is as before.
+fn write_word(word: &[u8], number: u64, into: &mut List<u8>) -> Result<(), AllocError>
+    requires { length word.now ≤ 8 }
+    ensures ok { OnOk result (into.new ≡ into.old ++ (word.now ++ (decimal number ++ 10 ∷ []))) }
+    ensures err { OnErr result (into.new ≡ into.old) }
 {
-    for part in parts {
-        match part {
-            Part::Text(text) => into.extend_from_slice(text)?,
-            Part::Number(number) => write_unsigned(*number, into)?,
-        }
-    }
-    Ok(())
+    let mut line = [b'\n'; 32];
+    let start = put_before(word, number, &mut line, 31);
+    into.extend_from_slice(&line[start..])
+}
+
+// Puts a word and a number before what stands from `end` on, and says where they start.
+#[inline(always)]
+fn put_before(word: &[u8], number: u64, line: &mut [u8], end: usize) -> usize
+    requires room { length word.now + 20 ≤ end }
+    requires within { end ≤ length line.old }
+    ensures written { drop result line.new ≡ word.now ++ (decimal number ++ drop end line.old) }
+    ensures near { end ≤ result + length word.now + 20 }
+    ensures within { (result ≤ length line.new) × (length line.new ≡ length line.old) }
+{
+    let start = write_digits(number, line, end);
+    let front = start - word.len();
+    line[front..start].copy_from_slice(word);
+    front
 }
