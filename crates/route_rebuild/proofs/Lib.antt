@@ -1,5 +1,6 @@
 pub mod StepsBack
 pub mod ChosenRun
 pub mod RouteValue
+pub mod ChosenEnds
 pub mod RouteSoFar
 pub mod Joining

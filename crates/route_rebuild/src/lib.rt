@@ -3,7 +3,7 @@
 //! - [`walk`] gives the least walk from a row's origin to a listed node.
 //! - [`route`] gives the edges of a matched piece in order of travel: the first point's edge,
 //!   then for each neighbouring pair nothing where its route is direct, and else its walk and the
-//!   next point's edge.
+//!   next point's edge. [`route_over`] gives the same for any points with chosen candidates.
 //!
 //! Neighbouring edges of a route join, and their lengths add up: `route` says so, and [`laws`] of
 //! whatever meets the definition. [`laws`] also has that the route is the value `route_of` in
@@ -21,5 +21,5 @@ mod run;
 mod tests;
 mod walks;
 
-pub use routes::route;
+pub use routes::{route, route_over};
 pub use walks::walk;

@@ -3,17 +3,17 @@ ghost use Rattle.std.specs.Prelude.{◌≡◌, ◌<◌, ◌≤◌, IfOk, OnOk, l
 ghost use Rattle.bounded_search.specs.Rows.{AreRowsOf, AsksOnly};
 ghost use Rattle.road_network.specs.Net.{source, target, HasEdge};
 ghost use Rattle.road_network.specs.Walk.{IsLeastWalk};
-ghost use Rattle.route_rebuild.specs.Chosen.{IsSolved};
+ghost use Rattle.route_rebuild.specs.Chosen.{IsChosenRun, IsSolved};
 ghost use Rattle.route_rebuild.specs.Laws.{IsJoinedRoute};
 ghost use Rattle.route_rebuild.specs.Numbers.{numbers};
-ghost use Rattle.route_rebuild.specs.Routes.{IsChosenEnd, piece_at};
+ghost use Rattle.route_rebuild.specs.Routes.{IsChosenEnd, IsRouteOf, piece_at};
 ghost use Rattle.route_rebuild.specs.Runs.{AreRowsForRun, EndsLeg, HasWalk, IsLegAdded, IsRouteOfRun, chosen_in};
 
 use crate::run::{Run, chosen};
 use crate::walks::walk;
 use bounded_search::Rows;
 use cost_model::Params;
-use matching::Layer;
+use matching::{Layer, Piece};
 use polyline_geometry::List;
 use road_network::{EdgeId, Network};
 use std::alloc::{AllocError, Global};
@@ -44,12 +44,34 @@ pub fn route<R: Rows>(
         (IsChosenEnd net.now layers.now solved.now.ranks (piece_at solved.now.pieces piece)) }
 {
     net.known();
+    let piece = solved.pieces.as_slice()[piece as usize];
+    route_over(alloc, net, p, rows, layers, solved.ranks.as_slice(), piece)
+}
+
+/// The route over points with chosen candidates, as [`route`] gives it for a piece of a match. It
+/// asks for the same rows.
+pub fn route_over<R: Rows>(
+    alloc: Global,
+    net: &Network,
+    p: &Params,
+    rows: &mut R,
+    layers: &[Layer],
+    ranks: &[Option<u32>],
+    piece: Piece,
+) -> Result<List<EdgeId>, AllocError>
+    requires rows { AreRowsOf (R.state rows.old) net.now p.now.bound }
+    requires run { IsChosenRun net.now p.now layers.now ranks.now piece }
+    ensures route { IfOk result
+        (λ es. IsRouteOf net.now p.now layers.now ranks.now piece (numbers es)) }
+    ensures asks { AsksOnly (R.state rows.old) (R.state rows.new)
+        (IsChosenEnd net.now layers.now ranks.now piece) }
+{
     let run = Run {
         net,
         params: p,
         layers,
-        ranks: solved.ranks.as_slice(),
-        piece: solved.pieces.as_slice()[piece as usize],
+        ranks,
+        piece,
     };
     follow(alloc, rows, &run)
 }

@@ -6,11 +6,9 @@ use Rattle.route_rebuild.proofs.ChosenRun.{chosen_run}
 use Rattle.route_rebuild.proofs.Joining.{joined_route}
 use Rattle.route_rebuild.proofs.routes.route.Goals as goal
 
-pub invariant_of-run : goal.invariant_of-run
-invariant_of-run g c =
-    record {
-      is = rw (c.as_slice.ensures, c.as_slice-2.ensures) (chosen_run c.args.net.now c.args.p.now c.args.layers.now c.args.solved.now c.args.piece c.known.ensures c.requires.solved c.requires.piece);
-    }
+pub route_over-requires-clause-run : goal.route_over-requires-clause-run
+route_over-requires-clause-run g c =
+    rw (c.as_slice.ensures, c.as_slice-2.ensures) (chosen_run c.args.net.now c.args.p.now c.args.layers.now c.args.solved.now c.args.piece c.known.ensures c.requires.solved c.requires.piece)
 
 ok_by : {A E : Type 0} {P Q : A → Type 0} (r : Result A E) → IfOk r P → ((x : A) → P x → Q x) → IfOk r Q
 ok_by (Ok x) h f = f x h
@@ -23,8 +21,8 @@ returns-clause-route g c =
     let p = c.args.p.now in
     let layers = c.args.layers.now in
     let run = chosen_run n p layers s c.args.piece c.known.ensures c.requires.solved c.requires.piece in
-    ok_by c.follow.result c.follow.ensures.route (λ es is.
+    ok_by c.route_over.result c.route_over.ensures.route (λ es is.
     joined_route n p layers s.ranks (piece_at s.pieces c.args.piece) (numbers es) run (rw (c.as_slice.ensures, c.as_slice-2.ensures) at is))
 
 pub returns-clause-asks : goal.returns-clause-asks
-returns-clause-asks g c = only_by c.follow.ensures.asks (λ v end. rw (c.as_slice.ensures, c.as_slice-2.ensures) at end)
+returns-clause-asks g c = only_by c.route_over.ensures.asks (λ v end. rw (c.as_slice.ensures, c.as_slice-2.ensures) at end)
