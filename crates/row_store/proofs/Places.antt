@@ -1,0 +1,257 @@
+-- Places of a reader, one for each node.
+use Rattle.std.proofs.Common.{◌≡◌, ◌≢◌, ◌↔◌, ℕ, zero, suc, ◌+◌, ◌<◌, List, [], ◌∷◌, ◌++◌, map, length, get_or, set, Option, Some, None, Result, Ok, Err, IfSome, IfOk, OnOk, OnErr, IsOk, IsErr, IsSome, get_or-set_same, IsTrue, Bool, Bor, is_some, true, true≢false, replicate, length-set, refl, sym, ap, ◌∙◌, subst, inl, inr, ◌⊎◌, ⊎_elim, arith}
+use Rattle.std.specs.Prelude.{slice_get, slice_index, slice_index_or}
+use native.Mathlib.Decide.{ℕ_discrete}
+use mathlib.Core.Logic.{dite}
+use Rattle.std.specs.declared.alloc.Global.{Global as Heap}
+use Rattle.once_cell.specs.Once.{cell_name, Agrees}
+use Rattle.bounded_search.specs.Table.{TableRow, IsRow}
+use Rattle.bounded_search.specs.Known.{Extends, Adds, known_nodes}
+use Rattle.bounded_search.specs.Rows.{AsksAll, AsksOnly, RowsState}
+use Rattle.bounded_search.proofs.KnownNodes.{adds, inside}
+use Rattle.row_store.specs.declared.place.Place.{Place}
+use Rattle.row_store.specs.Places.{Fits, KeepsSight, StaysBlind, now_of}
+use Rattle.row_store.specs.ReaderInside.{AllFit, reading}
+use Rattle.row_store.specs.Store.{Stored, Reading, Sees, knows, rows_state}
+
+pub set_same : {A : Type 0} (l : List A) (i : ℕ) (a : A) → slice_get l i ≡ Some a → set l i a ≡ l
+set_same [] i a e = refl
+set_same (x ∷ xs) zero a e = ap (λ y. y ∷ xs) (let f : x ≡ a = cc in sym f)
+set_same (x ∷ xs) (suc i) a e = ap (λ ys. x ∷ ys) (set_same xs i a e)
+
+pub get_at : {A : Type 0} (l : List A) (i : ℕ) (d : A) → i < length l → slice_get l i ≡ Some (get_or l i d)
+get_at [] i d h = absurd (omega arith)
+get_at (x ∷ xs) zero d h = refl
+get_at (x ∷ xs) (suc i) d h = get_at xs i d (omega arith)
+
+pub get_set : {A : Type 0} (l : List A) (i : ℕ) (a : A) → i < length l → slice_get (set l i a) i ≡ Some a
+get_set [] i a h = absurd (omega arith)
+get_set (x ∷ xs) zero a h = refl
+get_set (x ∷ xs) (suc i) a h = get_set xs i a (omega arith)
+
+pub get_set_else : {A : Type 0} (l : List A) (i j : ℕ) (a : A) → j ≢ i → slice_get (set l i a) j ≡ slice_get l j
+get_set_else [] i j a n = refl
+get_set_else (x ∷ xs) zero zero a n = absurd (n refl)
+get_set_else (x ∷ xs) zero (suc j) a n = refl
+get_set_else (x ∷ xs) (suc i) zero a n = refl
+get_set_else (x ∷ xs) (suc i) (suc j) a n = get_set_else xs i j a (λ e. n (ap suc e))
+
+abbrev pub known_of : Place → Option TableRow
+known_of p = p.note.known
+
+pub map_set : {A B : Type 0} (f : A → B) (l : List A) (i : ℕ) (a : A) → map f (set l i a) ≡ set (map f l) i (f a)
+map_set f [] i a = refl
+map_set f (x ∷ xs) zero a = refl
+map_set f (x ∷ xs) (suc i) a = ap (λ ys. f x ∷ ys) (map_set f xs i a)
+
+pub get_map : {A B : Type 0} (f : A → B) (l : List A) (i : ℕ) (a : A) → slice_get l i ≡ Some a → slice_get (map f l) i ≡ Some (f a)
+get_map f [] i a e = absurd (cc)
+get_map f (x ∷ xs) zero a e = ap (λ (y : _). Some (f y)) (let p : x ≡ a = cc in p)
+get_map f (x ∷ xs) (suc i) a e = get_map f xs i a e
+
+-- where one place changed and fits, all fit
+pub all_fit : (F : ℕ → Place → Type 0) (places : List Place) (n : ℕ) (q : Place) → F n q → ((k : ℕ) (p : Place) → slice_get places k ≡ Some p → F k p) → (k : ℕ) (p : Place) → slice_get (set places n q) k ≡ Some p → F k p
+all_fit F places n q mine others k p e = dite (ℕ_discrete k n)
+    (λ (same : k ≡ n). let there = at_set places n q k p same e in subst (λ (y : ℕ). F y p) (sym same) (subst (F n) there mine))
+    (λ ne. others k p (sym (get_set_else places n k q ne) ∙ e))
+  where
+    at_set : (l : List Place) (n : ℕ) (q : Place) (k : ℕ) (p : Place) → k ≡ n → slice_get (set l n q) k ≡ Some p → q ≡ p
+    at_set [] n q k p same e = absurd (cc)
+    at_set (x ∷ xs) zero q zero p same e = cc
+    at_set (x ∷ xs) zero q (suc k) p same e = absurd (omega arith)
+    at_set (x ∷ xs) (suc n) q zero p same e = absurd (omega arith)
+    at_set (x ∷ xs) (suc n) q (suc k) p same e = at_set xs n q k p (omega arith) e
+
+pub fits_at : (store : Stored) (places : List Place) (n : ℕ) (x : Place) → AllFit store places → n < length places → x ≡ get_or places n x → Fits store.network store.bound n (slice_index store.cells n) x
+fits_at store places n x all h e = all n x (get_at places n x h ∙ ap Some (sym e))
+
+pub there : (places : List Place) (n : ℕ) (x : Place) → n < length places → x ≡ get_or places n x → slice_get (map known_of places) n ≡ Some x.note.known
+there places n x h e = get_map known_of places n x (get_at places n x h ∙ ap Some (sym e))
+
+pub on_ok : {A E : Type 0} (P Q : Type 0) (r : Result A E) → (P → Q) → OnOk r P → OnOk r Q
+on_ok P Q (Ok a) f p = f p
+on_ok P Q (Err e) f p = tt
+
+pub on_err : {A E : Type 0} (P Q : Type 0) (r : Result A E) → (P → Q) → OnErr r P → OnErr r Q
+on_err P Q (Ok a) f p = tt
+on_err P Q (Err e) f p = f p
+
+pub ok_or_none : {A E : Type 0} (P : Type 0) (r : Result A E) → OnErr r P → (P → ⊥) → IsOk r
+ok_or_none P (Ok a) p f = refl
+ok_or_none P (Err e) p f = absurd (f p)
+
+kept : (before : Option TableRow) (row r : TableRow) → IfSome before (λ y. y ≡ row) → before ≡ Some r → row ≡ r
+kept None row r k e = absurd (cc)
+kept (Some y) row r k e = let p : y ≡ r = cc in sym k ∙ p
+
+pub settled_seen : (r : Reading) (store : Stored) (places : List Place) (n : ℕ) (x q : Place) → reading store places ≡ r → n < length places → x ≡ get_or places n x → KeepsSight x.note.known q.note.known
+    → (row : TableRow) × Sees r n row (reading store (set places n q))
+settled_seen r store places n x q is h e k =
+    subst (λ (y : Reading). (row : TableRow) × Sees y n row (reading store (set places n q))) is (
+      k.0,
+      record {
+        store = refl;
+        places = map_set known_of places n q ∙ ap (λ (o : Option TableRow). set (map known_of places) n o) k.1;
+        stays = λ s f. kept x.note.known k.0 s k.2 (let a = there places n x h e in let b : Some x.note.known ≡ Some (Some s) = sym a ∙ f in cc);
+        known = get_map known_of (set places n q) n q (get_set places n q h) ∙ ap Some k.1;
+      },
+    )
+
+pub settled_err : (r : Reading) (store : Stored) (places : List Place) (n : ℕ) (x q : Place) → reading store places ≡ r → n < length places → x ≡ get_or places n x → StaysBlind x.note.known q.note.known
+    → reading store (set places n q) ≡ r
+settled_err r store places n x q is h e none =
+    let same : map known_of (set places n q) ≡ map known_of places = map_set known_of places n q ∙ set_same (map known_of places) n q.note.known (there places n x h e ∙ ap Some (none.0 ∙ sym none.1)) in
+    ap (λ (ps : List (Option TableRow)). record { store = store; places = ps }) same ∙ is
+
+pub known_there : (r : Reading) (store : Stored) (places : List Place) (n : ℕ) (x : Place) → reading store places ≡ r → n < length places → x ≡ get_or places n x → slice_get r.places n ≡ Some x.note.known
+known_there r store places n x is h e = subst (λ (y : Reading). slice_get y.places n ≡ Some x.note.known) is (there places n x h e)
+
+-- a reference is there where the note knows a row
+pub shows : (o : Option (Bor TableRow)) (k : Option TableRow) (r : Reading) (n : ℕ) → k ≡ now_of o → slice_get r.places n ≡ Some k → is_some o ≡ knows r n
+shows o k r n e f = same o ∙ ap is_some (sym e) ∙ ap is_some (sym (get_default r.places n k f))
+  where
+    same : (o : Option (Bor TableRow)) → is_some o ≡ is_some (now_of o)
+    same None = refl
+    same (Some x) = refl
+
+    get_default : (l : List (Option TableRow)) (i : ℕ) (o : Option TableRow) → slice_get l i ≡ Some o → slice_index_or l i None ≡ o
+    get_default [] i o e = absurd (cc)
+    get_default (x ∷ xs) zero o e = cc
+    get_default (x ∷ xs) (suc i) o e = get_default xs i o e
+
+pub within : (r : Reading) (store : Stored) (places : List Place) (n : ℕ) → reading store places ≡ r → length places ≡ length store.network.nodes → n < length r.store.network.nodes → n < length places
+within r store places n is long h = subst (λ (m : ℕ). n < m) (sym long) (subst (λ (y : Reading). n < length y.store.network.nodes) (sym is) h)
+
+-- a node that is known is not unknown
+pub known_not : (o : Option TableRow) (ps : List (Option TableRow)) (n : ℕ) → slice_get ps n ≡ Some o → (row : TableRow) × (slice_get ps n ≡ Some (Some row)) → o ≡ None → ⊥
+known_not o ps n e k none = let a : Some o ≡ Some (Some k.0) = sym e ∙ k.1 in cc
+
+pub not_blind : (o : Option (Bor TableRow)) (k : Option TableRow) (ps : List (Option TableRow)) (n : ℕ) → k ≡ now_of o → slice_get ps n ≡ Some k → (row : TableRow) × (slice_get ps n ≡ Some (Some row)) → o ≡ None → ⊥
+not_blind None k ps n e f t none = let a = t.1 in cc
+not_blind (Some r) k ps n e f t none = cc
+
+right_of : (k : Option TableRow) (r : TableRow) (b : Bool) (T : TableRow → Type 0) → k ≡ Some r → IfSome k (λ y. (b ≡ true) ↔ T y) → (b ≡ true) ↔ T r
+right_of None r b T e h = absurd (cc)
+right_of (Some y) r b T e h = let same : y ≡ r = cc in subst (λ (z : TableRow). (b ≡ true) ↔ T z) same h
+
+pub sight_row : (r : Reading) (store : Stored) (places : List Place) (n name : ℕ) (x : Place) (row : Bor TableRow) → reading store places ≡ r → n < length places → x ≡ get_or places n x → Fits store.network store.bound n name x → x.seen ≡ Some row
+    → slice_get r.places n ≡ Some (Some row.now)
+sight_row r store places n name x row is h e f s = known_there r store places n x is h e ∙ ap Some (f.known ∙ ap now_of s)
+
+pub sight_table : (r : Reading) (store : Stored) (places : List Place) (n name : ℕ) (x : Place) (row : Bor TableRow) → reading store places ≡ r → Fits store.network store.bound n name x → x.seen ≡ Some row
+    → (x.right ≡ true) ↔ IsRow r.store.network r.store.bound n row.now
+sight_table r store places n name x row is f s =
+    subst (λ (y : Reading). (x.right ≡ true) ↔ IsRow y.store.network y.store.bound n row.now) is
+    (right_of x.note.known row.now x.right (λ y. IsRow store.network store.bound n y) (f.known ∙ ap now_of s) f.right)
+
+-- a new place at the end
+pub fits_more : (store : Stored) (places : List Place) (x : Place) → AllFit store places → Fits store.network store.bound (length places) (slice_index store.cells (length places)) x → AllFit store (places ++ x ∷ [])
+fits_more store places x all mine k p e = dite (ℕ_discrete k (length places))
+    (λ (same : k ≡ length places). subst (λ (y : ℕ). Fits store.network store.bound y (slice_index store.cells y) p) (sym same) (subst (λ (q : Place). Fits store.network store.bound (length places) (slice_index store.cells (length places)) q) (last places x k p same e) mine))
+    (λ ne. all k p (front places x k p ne e))
+  where
+    last : (l : List Place) (x : Place) (k : ℕ) (p : Place) → k ≡ length l → slice_get (l ++ x ∷ []) k ≡ Some p → x ≡ p
+    last [] x zero p same e = cc
+    last [] x (suc k) p same e = absurd (omega arith)
+    last (y ∷ ys) x zero p same e = absurd (omega arith)
+    last (y ∷ ys) x (suc k) p same e = last ys x k p (omega arith) e
+
+    front : (l : List Place) (x : Place) (k : ℕ) (p : Place) → k ≢ length l → slice_get (l ++ x ∷ []) k ≡ Some p → slice_get l k ≡ Some p
+    front [] x zero p ne e = absurd (ne refl)
+    front [] x (suc k) p ne e = absurd (cc)
+    front (y ∷ ys) x zero p ne e = e
+    front (y ∷ ys) x (suc k) p ne e = front ys x k p (λ q. ne (ap suc q)) e
+
+if_none : {A : Type 0} (P : A → Type 0) (o : Option A) → o ≡ None → IfSome o P
+if_none P None e = tt
+if_none P (Some a) e = absurd (cc)
+
+pub empty_fits : (store : Stored) (n name : ℕ) (x : Place) → x.note.cell ≡ name → x.note.known ≡ None → x.seen ≡ None → x.own ≡ None → Fits store.network store.bound n name x
+empty_fits store n name x cell known seen own = record {
+  cell = cell;
+  known = known ∙ sym (ap now_of seen);
+  right = subst (λ (k : Option TableRow). IfSome k (λ r. (x.right ≡ true) ↔ IsRow store.network store.bound n r)) (sym known) tt;
+  own = if_none (λ b. IsRow store.network store.bound n b.value) x.own own;
+}
+
+pub none_more : (places : List Place) (x : Place) (n : ℕ) → map known_of places ≡ replicate n None → x.note.known ≡ None → map known_of (places ++ x ∷ []) ≡ replicate (n + 1) None
+none_more [] x zero e none = ap (λ (o : Option TableRow). o ∷ []) none
+none_more [] x (suc n) e none = absurd (cc)
+none_more (y ∷ ys) x zero e none = absurd (cc)
+none_more (y ∷ ys) x (suc n) e none =
+    let tail : map known_of ys ≡ replicate n None = cc in
+    let head : y.note.known ≡ None = cc in
+    let rec = none_more ys x n tail none in
+    let more : suc n + 1 ≡ suc (n + 1) = omega arith in
+    (λ k. head k ∷ rec k) ∙ ap (λ (m : ℕ). replicate m None) (sym more)
+
+-- the name of the cell at i
+pub name_at : (cells : List (Heap × ℕ)) (i : ℕ) (x : Heap × ℕ) → i < length cells → x ≡ get_or cells i x → cell_name x ≡ slice_index (map cell_name cells) i
+name_at [] i x h e = absurd (omega arith)
+name_at (y ∷ ys) zero x h e = ap cell_name e
+name_at (y ∷ ys) (suc i) x h e = name_at ys i x (omega arith) e
+
+-- writing a place back changes nothing
+pub same_fit : (store : Stored) (places : List Place) (n : ℕ) (x q : Place) → AllFit store places → n < length places → x ≡ get_or places n x → q ≡ x → AllFit store (set places n q)
+same_fit store places n x q all h e is = subst (AllFit store) (sym (set_same places n q (get_at places n x h ∙ ap Some (sym e ∙ sym is)))) all
+
+pub same_reading : (r : Reading) (store : Stored) (places : List Place) (n : ℕ) (x q : Place) → reading store places ≡ r → n < length places → x ≡ get_or places n x → q.note.known ≡ x.note.known → reading store (set places n q) ≡ r
+same_reading r store places n x q is h e known =
+    let same : map known_of (set places n q) ≡ map known_of places = map_set known_of places n q ∙ set_same (map known_of places) n q.note.known (there places n x h e ∙ ap Some (sym known)) in
+    ap (λ (ps : List (Option TableRow)). record { store = store; places = ps }) same ∙ is
+
+-- one name for both
+pub one_cell : (r s : Reading) (store other : Stored) (places theirs : List Place) (n a b : ℕ) → reading store places ≡ r → reading other theirs ≡ s → r.store ≡ s.store → a ≡ slice_index store.cells n → b ≡ slice_index other.cells n → a ≡ b
+one_cell r s store other places theirs n a b is it same e f =
+    e ∙ ap (λ (y : Reading). slice_index y.store.cells n) is ∙ ap (λ (y : Stored). slice_index y.cells n) same ∙ sym (ap (λ (y : Reading). slice_index y.store.cells n) it) ∙ sym f
+
+-- two notes that both know something know the same
+pub one_row : (a b : Option TableRow) → IfSome b (Agrees a) → (r : TableRow) × (a ≡ Some r) → (r : TableRow) × (b ≡ Some r) → a ≡ b
+one_row None b h k l = absurd (let e = k.1 in cc)
+one_row (Some x) None h k l = absurd (let e = l.1 in cc)
+one_row (Some x) (Some y) h k l = ap Some h
+
+pub known_here : (o : Option TableRow) (ps : List (Option TableRow)) (n : ℕ) → slice_get ps n ≡ Some o → (row : TableRow) × (slice_get ps n ≡ Some (Some row)) → (r : TableRow) × (o ≡ Some r)
+known_here o ps n e k = let a : Some o ≡ Some (Some k.0) = sym e ∙ k.1 in (k.0, cc)
+
+pub if_err : {A E : Type 0} (P : A → Type 0) (r : Result A E) → IsErr r → IfOk r P
+if_err P (Ok a) h = absurd (true≢false (sym h))
+if_err P (Err e) h = tt
+
+pub some_is : (o : Option TableRow) (r : TableRow) → o ≡ Some r → IsSome o
+some_is None r e = absurd (cc)
+some_is (Some x) r e = refl
+
+pub read_back : (places : List Place) (n : ℕ) (q x : Place) → n < length places → x ≡ get_or (set places n q) n x → x ≡ q
+read_back places n q x h e = e ∙ get_or-set_same places n q x h
+
+-- what one look at node n leaves
+sees_extends : (before : Reading) (n : ℕ) (row : TableRow) (after : Reading) → Sees before n row after → Extends before.places after.places
+sees_extends before n row after s k r e = dite (ℕ_discrete k n)
+    (λ (same : k ≡ n).
+    let a : slice_get before.places n ≡ Some (Some r) = subst (λ (y : ℕ). slice_get before.places y ≡ Some (Some r)) same e in
+    subst (λ (y : ℕ). slice_get after.places y ≡ Some (Some r)) (sym same) (s.known ∙ ap (λ (y : TableRow). Some (Some y)) (s.stays r a)))
+    (λ ne. ap (λ (l : List (Option TableRow)). slice_get l k) s.places ∙ get_set_else before.places n k (Some row) ne ∙ e)
+
+sees_adds : (before : Reading) (n : ℕ) (row : TableRow) (after : Reading) → Sees before n row after → Adds (known_nodes before.places) n (known_nodes after.places)
+sees_adds before n row after s =
+    let long = inside after.places n (Some row) s.known in
+    let a = length-set before.places n (Some row) in
+    let b = ap (λ (l : List (Option TableRow)). length l) s.places in
+    subst (λ (l : List (Option TableRow)). Adds (known_nodes before.places) n (known_nodes l)) (sym s.places) (adds before.places n row (omega arith))
+
+pub sees_asks : (before : Reading) (n : ℕ) (row : TableRow) (after : Reading) → Sees before n row after → AsksAll (rows_state before) (rows_state after) (λ v. v ≡ n)
+sees_asks before n row after s =
+    let learnt = sees_adds before n row after s in record {
+      only = record {
+        keeps = record {
+          network = ap (λ (y : Stored). y.network) s.store;
+          bound = ap (λ (y : Stored). y.bound) s.store;
+          source = ap (λ (y : Stored). y.cells) s.store;
+          held = sees_extends before n row after s;
+          known = λ v k. (learnt v).1 (inr k);
+        };
+        nothing_else = λ v k. ⊎_elim (λ same. inr same) (λ old. inl old) ((learnt v).0 k);
+      };
+      all = λ v asked. (learnt v).1 (inl asked);
+    }

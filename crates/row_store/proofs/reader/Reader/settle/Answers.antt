@@ -1,0 +1,33 @@
+use Rattle.std.proofs.Common.{◌∙◌, length-set}
+use Rattle.row_store.proofs.Places.{within, all_fit, fits_at, settled_seen, settled_err, known_there, known_not, on_ok, on_err, ok_or_none}
+use Rattle.row_store.proofs.reader.Reader.settle.Goals as goal
+
+pub look-requires-clause-fits : goal.look-requires-clause-fits
+look-requires-clause-fits c =
+    let i = c.self.invariant in
+    fits_at _ _ _ _ i.fit (within _ _ _ _ c.self.view_is i.places_count c.requires) c.index_mut-place.ensures.value
+
+pub invariant_of-self : goal.invariant_of-self
+invariant_of-self c =
+    let i = c.self.invariant in
+    record {
+      cells_count = i.cells_count;
+      places_count = length-set _ _ _ ∙ i.places_count;
+      fit = all_fit _ _ _ _ c.look.ensures.fits i.fit;
+      searcher = c.look.ensures.searcher ∙ i.searcher;
+    }
+
+pub returns-clause-seen : goal.returns-clause-seen
+returns-clause-seen c =
+    let i = c.self.invariant in
+    on_ok _ _ c.look.result (settled_seen _ _ _ _ _ _ c.self.view_is (within _ _ _ _ c.self.view_is i.places_count c.requires) c.index_mut-place.ensures.value) c.look.ensures.seen
+
+pub returns-clause-err : goal.returns-clause-err
+returns-clause-err c =
+    let i = c.self.invariant in
+    on_err _ _ c.look.result (settled_err _ _ _ _ _ _ c.self.view_is (within _ _ _ _ c.self.view_is i.places_count c.requires) c.index_mut-place.ensures.value) c.look.ensures.err
+
+pub returns-clause-again : goal.returns-clause-again
+returns-clause-again c known =
+    let i = c.self.invariant in
+    ok_or_none _ c.look.result c.look.ensures.err (λ none. known_not _ c.args.self.now.places c.args.n.0 (known_there _ _ _ _ _ c.self.view_is (within _ _ _ _ c.self.view_is i.places_count c.requires) c.index_mut-place.ensures.value) known none.0)

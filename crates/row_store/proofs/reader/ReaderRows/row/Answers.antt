@@ -1,0 +1,72 @@
+use Rattle.std.proofs.Common.{◌≡◌, length, ◌<◌, ◌∙◌, refl, sym, ap, subst, length-set}
+use Rattle.bounded_search.specs.Rows.{AsksAll}
+use Rattle.bounded_search.specs.Table.{IsRow}
+use Rattle.bounded_search.proofs.Asking.{asks_done, asks_err}
+use Rattle.row_store.specs.Store.{Stored, Reading, rows_state}
+use Rattle.row_store.specs.declared.place.Place.{Place}
+use Rattle.row_store.proofs.Places.{if_err, sees_asks, some_is, read_back, within, all_fit, fits_at, same_reading, known_there, known_here}
+use Rattle.row_store.proofs.reader.ReaderRows.row.Goals as goal
+
+pub make_own-requires-clause-fits : goal.make_own-requires-clause-fits
+make_own-requires-clause-fits c =
+    let i = c.self.invariant in
+    let s = c.in_ok-settle.ensures.seen in
+    let n = c.args.n.0 in
+    let here = subst (λ (y : Stored). n < length y.network.nodes) (sym s.1.store) c.requires in
+    fits_at _ _ _ _ i.fit (within _ _ _ n c.self.view_is i.places_count here) c.index_mut.ensures.value
+
+pub invariant_of-self : goal.invariant_of-self
+invariant_of-self c =
+    let i = c.self.invariant in
+    record {
+      cells_count = i.cells_count;
+      places_count = length-set _ _ _ ∙ i.places_count;
+      fit = all_fit _ _ _ _ c.make_own.ensures.fits i.fit;
+      searcher = c.make_own.ensures.searcher ∙ i.searcher;
+    }
+
+pub invariant_of-self-2 : goal.invariant_of-self-2
+invariant_of-self-2 c =
+    let i = c.self.invariant in
+    record {
+      cells_count = i.cells_count;
+      places_count = length-set _ _ _ ∙ i.places_count;
+      fit = all_fit _ _ _ _ c.make_own.ensures.fits i.fit;
+      searcher = c.make_own.ensures.searcher ∙ i.searcher;
+    }
+
+pub returns-in_err-make_own : goal.returns-in_err-make_own
+returns-in_err-make_own c =
+    let i = c.self.invariant in
+    let s = c.in_ok-settle.ensures.seen in
+    let n = c.args.n.0 in
+    let here = subst (λ (y : Stored). n < length y.network.nodes) (sym s.1.store) c.requires in
+    let same = same_reading c.settle.new.self _ _ n _ _ c.self.view_is (within _ _ _ n c.self.view_is i.places_count here) c.index_mut.ensures.value c.make_own.ensures.same in
+    let asks = subst (λ (y : Reading). AsksAll (rows_state c.args.self.now) (rows_state y) (λ v. v ≡ n)) (sym same) (sees_asks c.args.self.now n s.0 c.settle.new.self s.1) in (
+      (refl, λ _. tt, asks_err asks.only c.from_residual-in_err-make_own.ensures.0),
+      record { value = if_err _ _ c.from_residual-in_err-make_own.ensures.0; after = tt },
+    )
+
+pub lend-requires-clause-known : goal.lend-requires-clause-known
+lend-requires-clause-known c =
+    let i = c.self.invariant in
+    let s = c.in_ok-settle.ensures.seen in
+    let n = c.args.n.0 in
+    let here = subst (λ (y : Stored). n < length y.network.nodes) (sym s.1.store) c.requires in
+    let h = within _ _ _ n c.self.view_is i.places_count here in
+    let there = known_there c.settle.new.self _ _ n _ c.self.view_is h c.index_mut.ensures.value in
+    let same = ap (λ (p : Place). p.note.known) (read_back _ _ _ _ h c.index.ensures) ∙ c.make_own.ensures.same in
+    let some = known_here _ c.settle.new.self.places n there (s.0, s.1.known) in
+    some_is _ _ (same ∙ some.1)
+
+pub returns : goal.returns
+returns c =
+    let i = c.self.invariant in
+    let s = c.in_ok-settle.ensures.seen in
+    let n = c.args.n.0 in
+    let here = subst (λ (y : Stored). n < length y.network.nodes) (sym s.1.store) c.requires in
+    let same = same_reading c.settle.new.self _ _ n _ _ c.self.view_is (within _ _ _ n c.self.view_is i.places_count here) c.index_mut.ensures.value c.make_own.ensures.same in
+    let asks = subst (λ (y : Reading). AsksAll (rows_state c.args.self.now) (rows_state y) (λ v. v ≡ n)) (sym same) (sees_asks c.args.self.now n s.0 c.settle.new.self s.1) in (
+      (refl, λ _. tt, asks_done asks),
+      record { value = subst (λ (y : Stored). IsRow y.network y.bound n c.lend.result.now) (ap (λ (y : Reading). y.store) same ∙ s.1.store) c.lend.ensures; after = tt },
+    )

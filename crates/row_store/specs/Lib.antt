@@ -1,0 +1,4 @@
+pub mod Store
+pub mod Places
+pub mod Sights
+pub mod ReaderInside

@@ -1,0 +1,179 @@
+//! What a reader keeps for one node. Serves `Reader`; decided by `Fits`.
+ghost use Rattle.std.specs.Prelude.{◌≡◌, ◌<◌, slice_index, OnErr, OnOk, IfSome, Some, None, IsSome, length};
+ghost use Rattle.once_cell.specs.Once.{cell_name, Agrees};
+ghost use Rattle.road_network.specs.Net.{HasNode};
+ghost use Rattle.bounded_search.specs.Table.{IsRow};
+ghost use Rattle.row_store.specs.Places.{Fits, IsReady, IsSearcherOf, KeepsSight, StaysBlind};
+
+use crate::store::RowStore;
+use bounded_search::{Row, Searcher};
+use once_cell::race::{Note, OnceBox};
+use road_network::NodeId;
+use std::alloc::AllocError;
+
+/// The note of the cell, the row that it knows, whether that is the node's row, and the node's row
+/// where the cell holds another.
+#[derive(Drop)]
+pub struct Place<'s> {
+    pub note: Note<Row>,
+    pub seen: Option<&'s Row>,
+    pub right: bool,
+    pub own: Option<Box<Row>>,
+}
+
+impl<'s> Place<'s> {
+    /// What is known of a cell at first: nothing.
+    pub fn empty(cell: &OnceBox<Row>) -> Place<'s>
+        ensures note { (result.note.cell ≡ cell_name cell.now) × (result.note.known ≡ None) }
+        ensures rows { (result.seen ≡ None) × (result.own ≡ None) }
+    {
+        Place {
+            note: cell.note(),
+            seen: None,
+            right: false,
+            own: None,
+        }
+    }
+
+    /// Puts the row that is searched for into an empty cell, and looks at what it then holds.
+    ///
+    /// The row that this exchange put there is right by the search; any other is checked.
+    fn fill(
+        &mut self,
+        store: &'s RowStore<'s>,
+        searcher: &mut Searcher<'s>,
+        n: NodeId,
+    ) -> Result<(), AllocError>
+        requires node { HasNode store.now.network n.0
+            × (length store.now.cells ≡ length store.now.network.nodes) }
+        requires searcher { IsSearcherOf store.now searcher.old }
+        requires fits { Fits store.now.network store.now.bound n.0
+            (slice_index store.now.cells n.0) self.old }
+        requires none { self.old.note.known ≡ None }
+        ensures searcher { searcher.new ≡ searcher.old }
+        ensures fits { Fits store.now.network store.now.bound n.0
+            (slice_index store.now.cells n.0) self.new }
+        ensures seen { OnOk result (IsSome self.new.note.known) }
+        ensures err { OnErr result (self.new.note.known ≡ None) }
+    {
+        let cell = &store.cells[n.0 as usize];
+        let made = Box::new(store.alloc, searcher.row(n)?)?;
+        let first = cell.set_as(made, &mut self.note).is_ok();
+        let Some(row) = cell.get_as(&mut self.note) else {
+            unreachable!()
+        };
+        self.right = first || searcher.check(n, row);
+        self.seen = Some(row);
+        Ok(())
+    }
+
+    /// Looks at the cell, and fills it where it is empty.
+    pub fn look(
+        &mut self,
+        store: &'s RowStore<'s>,
+        searcher: &mut Searcher<'s>,
+        n: NodeId,
+    ) -> Result<(), AllocError>
+        requires node { HasNode store.now.network n.0
+            × (length store.now.cells ≡ length store.now.network.nodes) }
+        requires searcher { IsSearcherOf store.now searcher.old }
+        requires fits { Fits store.now.network store.now.bound n.0
+            (slice_index store.now.cells n.0) self.old }
+        ensures searcher { searcher.new ≡ searcher.old }
+        ensures fits { Fits store.now.network store.now.bound n.0
+            (slice_index store.now.cells n.0) self.new }
+        ensures seen { OnOk result (KeepsSight self.old.note.known self.new.note.known) }
+        ensures err { OnErr result (StaysBlind self.old.note.known self.new.note.known) }
+    {
+        if self.seen.is_some() {
+            return Ok(());
+        }
+        let cell = &store.cells[n.0 as usize];
+        let Some(row) = cell.get_as(&mut self.note) else {
+            return self.fill(store, searcher, n);
+        };
+        self.right = searcher.check(n, row);
+        self.seen = Some(row);
+        Ok(())
+    }
+
+    /// Offers a row to the cell, and looks at what it then holds.
+    pub fn offer(
+        &mut self,
+        store: &'s RowStore<'s>,
+        searcher: &mut Searcher<'s>,
+        n: NodeId,
+        row: Row,
+    ) -> Result<(), AllocError>
+        requires node { HasNode store.now.network n.0
+            × (length store.now.cells ≡ length store.now.network.nodes) }
+        requires searcher { IsSearcherOf store.now searcher.old }
+        requires fits { Fits store.now.network store.now.bound n.0
+            (slice_index store.now.cells n.0) self.old }
+        ensures searcher { searcher.new ≡ searcher.old }
+        ensures fits { Fits store.now.network store.now.bound n.0
+            (slice_index store.now.cells n.0) self.new }
+        ensures seen { OnOk result (KeepsSight self.old.note.known self.new.note.known) }
+        ensures err { OnErr result (StaysBlind self.old.note.known self.new.note.known) }
+    {
+        if self.seen.is_some() {
+            return Ok(());
+        }
+        let cell = &store.cells[n.0 as usize];
+        let offered = Box::new(store.alloc, row)?;
+        let held = cell.get_or_init_as(move || offered, &mut self.note);
+        self.right = searcher.check(n, held);
+        self.seen = Some(held);
+        Ok(())
+    }
+
+    /// Makes the node's row, where the cell holds another and it was not made yet.
+    pub fn make_own(
+        &mut self,
+        store: &'s RowStore<'s>,
+        searcher: &mut Searcher<'s>,
+        n: NodeId,
+    ) -> Result<(), AllocError>
+        requires node { HasNode store.now.network n.0 }
+        requires searcher { IsSearcherOf store.now searcher.old }
+        requires fits { Fits store.now.network store.now.bound n.0
+            (slice_index store.now.cells n.0) self.old }
+        ensures searcher { searcher.new ≡ searcher.old }
+        ensures fits { Fits store.now.network store.now.bound n.0
+            (slice_index store.now.cells n.0) self.new }
+        ensures same { self.new.note.known ≡ self.old.note.known }
+        ensures ready { OnOk result (IsReady self.new) }
+    {
+        if !self.right && self.own.is_none() {
+            let row = Box::new(store.alloc, searcher.row(n)?)?;
+            self.own = Some(row);
+        }
+        Ok(())
+    }
+
+    /// The node's row: its own where there is one, and else the one that is known.
+    pub fn lend(&self, store: &RowStore<'_>, n: NodeId) -> &Row
+        requires fits { Fits store.now.network store.now.bound n.0
+            (slice_index store.now.cells n.0) self.now }
+        requires known { IsSome self.now.note.known }
+        requires ready { IsReady self.now }
+        ensures { IsRow store.now.network store.now.bound n.0 result.now }
+    {
+        match &self.own {
+            Some(row) => row,
+            None => match self.seen {
+                Some(row) => row,
+                None => unreachable!(),
+            },
+        }
+    }
+
+    /// What two notes of one cell know is the same.
+    pub fn compare(&mut self, other: &mut Place<'s>)
+        requires { self.old.note.cell ≡ other.old.note.cell }
+        ensures same { (self.new ≡ self.old) × (other.new ≡ other.old) }
+        ensures agree { IfSome other.old.note.known (Agrees self.old.note.known) }
+    {
+        self.note.compare(other.note.again());
+    }
+}

@@ -1,0 +1,203 @@
+//! What one thread knows of a store. Serves `Reader`; decided by `Reading`.
+ghost use Rattle.std.specs.Prelude.{◌≡◌, ◌<◌, ◌↔◌, IfOk, IsOk, OnOk, OnErr, length, replicate, slice_get, Some, None};
+ghost use Rattle.road_network.specs.Net.{HasNode};
+ghost use Rattle.bounded_search.specs.Table.{TableRow, IsRow};
+ghost use Rattle.row_store.specs.Store.{IsKnown, Sees, knows, rows_state};
+ghost use Rattle.row_store.specs.Sights.{row_seen, IsTable};
+
+use crate::place::Place;
+use crate::sight::Sight;
+use crate::store::RowStore;
+use bounded_search::{Row, Rows, Searcher};
+use road_network::NodeId;
+use std::alloc::AllocError;
+use std::marker::Model;
+
+/// What one thread has seen of a store, and found out about it.
+#[derive(Drop)]
+pub struct Reader<'s> {
+    store: &'s RowStore<'s>,
+    searcher: Searcher<'s>,
+    places: Vec<Place<'s>>,
+}
+
+impl<'s> Model for Reader<'s> {
+    ghost use Rattle.row_store.specs.Store.{Reading};
+
+    ghost Value = { Reading };
+
+    ghost use Rattle.row_store.specs.ReaderInside.{reading_of, IsKept};
+
+    ghost view = { reading_of };
+
+    ghost invariant = { IsKept };
+}
+
+impl<'n> RowStore<'n> {
+    /// A reader of this store that knows nothing.
+    ///
+    /// It keeps a place for each node and the arrays of a search.
+    pub fn reader<'s>(&'s self) -> Result<Reader<'s>, AllocError>
+        ensures { IfOk result (λ r. (r.store ≡ self.now)
+            × (r.places ≡ replicate (length self.now.network.nodes) None)) }
+    {
+        Reader::of(self)
+    }
+}
+
+impl<'s> Reader<'s> {
+    /// A reader of a store that knows nothing.
+    fn of(store: &'s RowStore<'s>) -> Result<Reader<'s>, AllocError>
+        ensures { IfOk result (λ r. (r.store ≡ store.now)
+            × (r.places ≡ replicate (length store.now.network.nodes) None)) }
+    {
+        let searcher = Searcher::open(store.alloc, store.network, store.bound)?;
+        let mut places = Vec::with_capacity(store.alloc, store.cells.len())?;
+        for cell in &store.cells {
+            places.push(Place::empty(cell))?;
+        }
+        Ok(Reader {
+            store,
+            searcher,
+            places,
+        })
+    }
+
+    /// The store that this reader is of. Takes no memory.
+    pub fn store(&self) -> &'s RowStore<'s>
+        ensures { result.now ≡ self.now.store }
+    {
+        self.store
+    }
+
+    /// Whether a row is known for node n. Takes no memory.
+    pub fn known(&self, n: NodeId) -> bool
+        requires { HasNode self.now.store.network n.0 }
+        ensures { result ≡ knows self.now n.0 }
+    {
+        self.places[n.0 as usize].seen.is_some()
+    }
+
+    /// Makes the row of the cell of n known.
+    fn settle(&mut self, n: NodeId) -> Result<(), AllocError>
+        requires { HasNode self.old.store.network n.0 }
+        ensures seen { OnOk result ((row : TableRow) × Sees self.old n.0 row self.new) }
+        ensures err { OnErr result (self.new ≡ self.old) }
+        ensures again { IsKnown self.old n.0 → IsOk result }
+    {
+        let store = self.store;
+        let place = &mut self.places[n.0 as usize];
+        place.look(store, &mut self.searcher, n)
+    }
+
+    /// Makes the row of the cell of n known, which is this one if the cell was empty.
+    fn settle_with(&mut self, n: NodeId, row: Row) -> Result<(), AllocError>
+        requires { HasNode self.old.store.network n.0 }
+        ensures seen { OnOk result ((row : TableRow) × Sees self.old n.0 row self.new) }
+        ensures err { OnErr result (self.new ≡ self.old) }
+        ensures again { IsKnown self.old n.0 → IsOk result }
+    {
+        let store = self.store;
+        let place = &mut self.places[n.0 as usize];
+        place.offer(store, &mut self.searcher, n, row)
+    }
+
+    /// What is known for node n.
+    fn sight(&self, n: NodeId) -> Sight<'s>
+        requires { (HasNode self.now.store.network n.0) × IsKnown self.now n.0 }
+        ensures row { slice_get self.now.places n.0 ≡ Some (Some (row_seen result)) }
+        ensures table { IsTable result
+            ↔ IsRow self.now.store.network self.now.store.bound n.0 (row_seen result) }
+    {
+        let place = &self.places[n.0 as usize];
+        match place.seen {
+            Some(row) => if place.right {
+                Sight::Table(row)
+            } else {
+                Sight::Foreign(row)
+            },
+            None => unreachable!(),
+        }
+    }
+
+    /// The row that is known for node n.
+    fn seen(&self, n: NodeId) -> &'s Row
+        requires { (HasNode self.now.store.network n.0) × IsKnown self.now n.0 }
+        ensures { slice_get self.now.places n.0 ≡ Some (Some result.now) }
+    {
+        match self.sight(n) {
+            Sight::Table(row) => row,
+            Sight::Foreign(row) => row,
+        }
+    }
+
+    /// The row that the cell of n holds for good, and whether it is the row of n. An empty cell is
+    /// filled with that row first.
+    ///
+    /// Err says that memory was refused. At a node that is known this takes none.
+    pub fn look(&mut self, n: NodeId) -> Result<Sight<'s>, AllocError>
+        requires { HasNode self.old.store.network n.0 }
+        ensures seen { IfOk result (λ s. Sees self.old n.0 (row_seen s) self.new) }
+        ensures table { IfOk result (λ s. IsTable s
+            ↔ IsRow self.old.store.network self.old.store.bound n.0 (row_seen s)) }
+        ensures err { OnErr result (self.new ≡ self.old) }
+        ensures again { IsKnown self.old n.0 → IsOk result }
+    {
+        self.settle(n)?;
+        Ok(self.sight(n))
+    }
+
+    /// Offers a row to the cell of n. The answer is the row that the cell holds for good, which is
+    /// another one if the cell was set before.
+    ///
+    /// The row may be wrong, with any numbers in it. Err says that memory was refused. At a node that is
+    /// known this takes none.
+    pub fn offer(&mut self, n: NodeId, row: Row) -> Result<&'s Row, AllocError>
+        requires node { HasNode self.old.store.network n.0 }
+        requires origin { row.origin ≡ n.0 }
+        ensures seen { IfOk result (λ r. Sees self.old n.0 r.now self.new) }
+        ensures err { OnErr result (self.new ≡ self.old) }
+        ensures again { IsKnown self.old n.0 → IsOk result }
+    {
+        self.settle_with(n, row)?;
+        Ok(self.seen(n))
+    }
+
+    /// Compares what two readers know for node n.
+    fn compare(&mut self, other: &mut Reader<'s>, n: NodeId)
+        requires store { self.old.store ≡ other.old.store }
+        requires known { HasNode self.old.store.network n.0
+            × IsKnown self.old n.0 × IsKnown other.old n.0 }
+        ensures same { (self.new ≡ self.old) × (other.new ≡ other.old) }
+        ensures agree { slice_get self.old.places n.0 ≡ slice_get other.old.places n.0 }
+    {
+        let mine = &mut self.places[n.0 as usize];
+        let theirs = &mut other.places[n.0 as usize];
+        mine.compare(theirs);
+    }
+}
+
+/// The row that two readers of one store know for node n, a foreign one too. Takes no memory.
+pub fn agree<'s>(a: &mut Reader<'s>, b: &mut Reader<'s>, n: NodeId) -> &'s Row
+    requires store { a.old.store ≡ b.old.store }
+    requires known { HasNode a.old.store.network n.0 × IsKnown a.old n.0 × IsKnown b.old n.0 }
+    ensures same { (a.new ≡ a.old) × (b.new ≡ b.old) }
+    ensures first { slice_get a.old.places n.0 ≡ Some (Some result.now) }
+    ensures second { slice_get b.old.places n.0 ≡ Some (Some result.now) }
+{
+    a.compare(b, n);
+    a.seen(n)
+}
+
+impl<'s> Rows for Reader<'s> {
+    ghost state = { λ r. rows_state r };
+
+    /// Where the cell holds another row, the reader makes the row of n for itself, and keeps it.
+    fn row(&mut self, n: NodeId) -> Result<&Row, AllocError> {
+        self.settle(n)?;
+        let store = self.store;
+        let at = n.0 as usize;
+        self.places[at].make_own(store, &mut self.searcher, n)?;
+        Ok(self.places[at].lend(store, n))
+    }
+}

@@ -1,0 +1,62 @@
+//! The cells, one for each node. Serves `RowStore`; decided by `Stored`.
+ghost use Rattle.std.specs.Prelude.{◌≡◌, ◌≤◌, IfOk, length};
+
+use bounded_search::Row;
+use once_cell::race::OnceBox;
+use road_network::Network;
+use std::alloc::{AllocError, Global};
+use std::marker::Model;
+
+/// A cell for the row of each node of a network within a bound.
+#[derive(Drop)]
+pub struct RowStore<'n> {
+    pub(crate) alloc: Global,
+    pub(crate) network: &'n Network,
+    pub(crate) bound: u32,
+    pub(crate) cells: Vec<OnceBox<Row>>,
+}
+
+impl<'n> Model for RowStore<'n> {
+    ghost use Rattle.std.specs.Prelude.{◌≡◌, ◌≤◌, map, length};
+    ghost use Rattle.once_cell.specs.Once.{cell_name};
+    ghost use Rattle.row_store.specs.Store.{Stored};
+
+    ghost Value = { Stored };
+
+    ghost view = { λ s. record {
+      network = s.network.now;
+      bound = s.bound;
+      cells = map cell_name s.cells.items;
+    } };
+
+    ghost invariant = { λ s. (length s.cells.items ≡ length s.network.now.nodes)
+        × (s.bound ≤ 10_000_000) };
+}
+
+impl<'n> RowStore<'n> {
+    /// An empty cell for each node of this network, for rows with a bound in cm of at most 10,000,000.
+    pub fn open(alloc: Global, network: &'n Network, bound: u32) -> Result<RowStore<'n>, AllocError>
+        requires { bound ≤ 10_000_000 }
+        ensures { IfOk result (λ s. (s.network ≡ network.now) × (s.bound ≡ bound)
+            × (length s.cells ≡ length network.now.nodes)) }
+    {
+        network.known();
+        let mut cells = Vec::with_capacity(alloc, network.node_count() as usize)?;
+        for _ in 0..network.node_count() {
+            cells.push(OnceBox::new(alloc))?;
+        }
+        Ok(RowStore {
+            alloc,
+            network,
+            bound,
+            cells,
+        })
+    }
+
+    /// The network whose rows the cells hold. Takes no memory.
+    pub fn network(&self) -> &'n Network
+        ensures { result.now ≡ self.now.network }
+    {
+        self.network
+    }
+}
