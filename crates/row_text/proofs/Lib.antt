@@ -1,0 +1,6 @@
+pub mod DigitsPut
+pub mod Entries
+pub mod Kept
+pub mod Rules
+pub mod RowLines
+pub mod Written

@@ -1,0 +1,64 @@
+// Entries as bytes, put together from their last byte to the first. Serves `write_row`; decided by
+// `entry_word`.
+ghost use Rattle.std.specs.Prelude.{◌≡◌, ◌+◌, ◌≤◌, ◌∷◌, ◌++◌, drop, length};
+ghost use Rattle.decimal_text.specs.Number.{decimal};
+ghost use Rattle.row_text.specs.RowLine.{entry_word, last_word};
+
+use bounded_search::Entry;
+use road_network::EdgeId;
+
+/// The most bytes of an entry with the space before it: three numbers of ten digits.
+pub const ENTRY_BYTES: usize = 33;
+
+/// Puts the entry and the space before it behind which the bytes from place `end` on stand. Answers where it begins.
+pub fn put_entry(bytes: &mut [u8], end: usize, x: &Entry) -> usize
+    requires room { 33 ≤ end }
+    requires end { end ≤ length bytes.old }
+    ensures bytes { drop result bytes.new ≡ 32 ∷ (entry_word x.now ++ drop end bytes.old) }
+{
+    let at = put_last(bytes, end, x.last);
+    let at = put_byte(bytes, at, b':');
+    let at = put_number(bytes, at, x.distance);
+    let at = put_byte(bytes, at, b':');
+    let at = put_number(bytes, at, x.node.0);
+    put_byte(bytes, at, b' ')
+}
+
+fn put_last(bytes: &mut [u8], end: usize, last: Option<EdgeId>) -> usize
+    requires room { 10 ≤ end }
+    requires end { end ≤ length bytes.old }
+    ensures bytes { drop result bytes.new ≡ last_word last ++ drop end bytes.old }
+    ensures place { (end ≤ result + 10) × (result ≤ end) }
+{
+    match last {
+        Some(edge) => put_number(bytes, end, edge.0),
+        None => put_byte(bytes, end, b'-'),
+    }
+}
+
+// Puts a byte before place `end`.
+fn put_byte(bytes: &mut [u8], end: usize, byte: u8) -> usize
+    requires room { 1 ≤ end }
+    requires end { end ≤ length bytes.old }
+    ensures bytes { drop result bytes.new ≡ byte ∷ drop end bytes.old }
+    ensures place { result + 1 ≡ end }
+{
+    bytes[end - 1] = byte;
+    end - 1
+}
+
+// Puts the digits of a number before place `end`.
+fn put_number(bytes: &mut [u8], end: usize, number: u32) -> usize
+    requires room { 10 ≤ end }
+    requires end { end ≤ length bytes.old }
+    ensures bytes { drop result bytes.new ≡ decimal number ++ drop end bytes.old }
+    ensures place { (end ≤ result + 10) × (result ≤ end) }
+{
+    let mut at = end;
+    let mut rest = number;
+    while rest >= 10 {
+        at = put_byte(bytes, at, b'0' + (rest % 10) as u8);
+        rest /= 10;
+    }
+    put_byte(bytes, at, b'0' + rest as u8)
+}

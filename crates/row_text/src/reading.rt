@@ -1,0 +1,72 @@
+// The line of a row, read. Serves all who take texts with such lines; decided by `row_at`.
+ghost use Rattle.std.specs.Prelude.{◌≡◌, ◌+◌, IfOk, length};
+ghost use Rattle.match_text.specs.Reading.{seen};
+ghost use Rattle.row_text.specs.Reading.{entries_at, entry_at, last_at, row_at};
+
+use bounded_search::{Entry, Row};
+use match_text::front::{after, short_number_after};
+use polyline_geometry::List;
+use road_network::{EdgeId, NodeId};
+use std::alloc::{AllocError, Global};
+
+// The last edge after a colon, and what stands after it.
+#[tactic(auto, unfolding(crate::specs::Reading::last_at))]
+fn last(text: &[u8]) -> Option<(Option<EdgeId>, &[u8])>
+    ensures { seen result ≡ last_at text.now }
+{
+    if let Some(rest) = after(text, b":-") {
+        return Some((None, rest));
+    }
+    let (edge, rest) = short_number_after(text, b":")?;
+    Some((Some(EdgeId(edge)), rest))
+}
+
+// The entry after a space, and what stands after it.
+#[tactic(auto, unfolding(crate::specs::Reading::entry_at))]
+fn entry(text: &[u8]) -> Option<(Entry, &[u8])>
+    ensures { seen result ≡ entry_at text.now }
+{
+    let (node, rest) = short_number_after(text, b" ")?;
+    let (distance, rest) = short_number_after(rest, b":")?;
+    let (last, rest) = last(rest)?;
+    let entry = Entry {
+        node: NodeId(node),
+        distance,
+        last,
+    };
+    Some((entry, rest))
+}
+
+// The entries up to the end of the line, and what stands after the line.
+fn entries(alloc: Global, text: &[u8]) -> Result<Option<(List<Entry>, &[u8])>, AllocError>
+    ensures { IfOk result (λ read. seen read ≡ entries_at (length text.now + 1) text.now) }
+{
+    let mut entries = List::new(alloc);
+    let mut rest = text;
+    while let Some((entry, next)) = entry(rest) {
+        entries.push(entry)?;
+        rest = next;
+    }
+    let Some(rest) = after(rest, b"\n") else {
+        return Ok(None);
+    };
+    Ok(Some((entries, rest)))
+}
+
+/// The row whose line is at the front of the text, and what stands after the line.
+#[tactic(auto, unfolding(crate::specs::Reading::row_at))]
+pub fn read_row(alloc: Global, text: &[u8]) -> Result<Option<(Row, &[u8])>, AllocError>
+    ensures { IfOk result (λ read. seen read ≡ row_at text.now) }
+{
+    let Some((origin, rest)) = short_number_after(text, b"row ") else {
+        return Ok(None);
+    };
+    let Some((entries, rest)) = entries(alloc, rest)? else {
+        return Ok(None);
+    };
+    let Some(row) = Row::of(NodeId(origin), entries) else {
+        return Ok(None);
+    };
+    row.known();
+    Ok(Some((row, rest)))
+}

@@ -1,0 +1,4 @@
+pub mod Drafts
+pub mod FirstLines
+pub mod RowsOfText
+pub mod Tables

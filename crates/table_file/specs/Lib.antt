@@ -1,0 +1,5 @@
+pub mod TableText
+pub mod Draft
+pub mod WriterInside
+pub mod Reading
+pub mod Laws

@@ -1,0 +1,47 @@
+// Why a table was not read or not written. Serves all calls; decided by `table_of`.
+ghost use Rattle.std.specs.Prelude.{◌≡◌};
+
+use std::alloc::AllocError;
+
+/// Why a table text was not read.
+#[derive(Clone, Copy, Debug, PartialEq, Eq)]
+pub enum TableFault {
+    /// The number, from 1, of the first complete line that is not allowed in its place, or the
+    /// number after that of the last line, where a byte stands behind it.
+    BadLine(u64),
+    /// Every complete line is allowed, and the last one has not come.
+    Cut,
+    /// The text has more than `TEXT_LIMIT` bytes.
+    TooLong,
+    /// There was no memory for what the text says.
+    Memory,
+}
+
+/// Why a row or the last line was not written.
+#[derive(Clone, Copy, Debug, PartialEq, Eq)]
+pub enum TableWriteFault {
+    /// The text would have more than `TEXT_LIMIT` bytes.
+    TooLong,
+    /// There was no memory for the text.
+    Memory,
+}
+
+impl From<AllocError> for TableFault {
+    ghost use Rattle.table_file.specs.declared.fault.TableFault.{TableFault};
+
+    ghost from_gives = { λ _ e. e ≡ TableFault.Memory };
+
+    fn from(_: AllocError) -> TableFault {
+        TableFault::Memory
+    }
+}
+
+impl From<AllocError> for TableWriteFault {
+    ghost use Rattle.table_file.specs.declared.fault.TableWriteFault.{TableWriteFault};
+
+    ghost from_gives = { λ _ e. e ≡ TableWriteFault.Memory };
+
+    fn from(_: AllocError) -> TableWriteFault {
+        TableWriteFault::Memory
+    }
+}

@@ -1,0 +1,40 @@
+// The first and the last line of a table text. Serves the writer and the reader; decided by
+// `first_line` and `end_line`.
+ghost use Rattle.std.specs.Prelude.{◌≡◌, ◌++◌, OnOk, codes};
+ghost use Rattle.decimal_text.specs.Number.{decimal};
+ghost use Rattle.table_file.specs.TableText.{end_line, first_line};
+
+use decimal_text::write_unsigned;
+use polyline_geometry::List;
+use std::alloc::AllocError;
+
+/// Appends the first line. After Err a part of it may stand at the end.
+pub fn append_first(
+    bound: u32,
+    nodes: u32,
+    edges: u32,
+    into: &mut List<u8>,
+) -> Result<(), AllocError>
+    ensures { OnOk result (into.new ≡ into.old ++ first_line bound nodes edges) }
+{
+    append_worded(b"fmm-table 1 bound ", u64::from(bound), into)?;
+    append_worded(b" nodes ", u64::from(nodes), into)?;
+    append_worded(b" edges ", u64::from(edges), into)?;
+    into.extend_from_slice(b"\n")
+}
+
+/// Appends the last line. After Err a part of it may stand at the end.
+pub fn append_end(rows: u64, into: &mut List<u8>) -> Result<(), AllocError>
+    ensures { OnOk result (into.new ≡ into.old ++ end_line rows) }
+{
+    append_worded(b"end rows ", rows, into)?;
+    into.extend_from_slice(b"\n")
+}
+
+// Appends words and a number behind them.
+fn append_worded(words: &[u8], number: u64, into: &mut List<u8>) -> Result<(), AllocError>
+    ensures { OnOk result (into.new ≡ into.old ++ words.now ++ decimal number) }
+{
+    into.extend_from_slice(words)?;
+    write_unsigned(number, into)
+}
