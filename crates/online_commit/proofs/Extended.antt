@@ -1,0 +1,97 @@
+-- A piece that took a point, as it is made. In this file layers and tables stand in the order of the points.
+use Rattle.std.proofs.Common.{◌≡◌, ℕ, ◌+◌, ◌-◌, ◌<◌, ◌≤◌, List, [], ◌∷◌, ◌++◌, Result, Ok, Err, IfOk, OnErr, sym, ap, ◌∙◌, subst, arith, length, get_or}
+use Rattle.std.proofs.lemmas.List.{length_push}
+use Rattle.cost_model.specs.declared.params.Params.{Params}
+use Rattle.road_network.specs.Net.{Net, IsLawful}
+use Rattle.matching.specs.declared.parts.Cell.{Cell}
+use Rattle.matching.specs.declared.parts.Layer.{Layer}
+use Rattle.std.specs.Prelude.{None, Some}
+use Rattle.online_commit.specs.declared.items.Item.{Item}
+use Rattle.online_commit.specs.Masks.{AreMasks, IsBehind, IsLiveMask, IsNotOne, IsOnly, mask_after, mask_at}
+use Rattle.online_commit.specs.Pieces.{IsExtended, MayGrow, Piece, session_with}
+use Rattle.online_commit.specs.Session.{IsFed, IsFedLayer, Session, points_of}
+use Rattle.online_commit.specs.Steps.{AreSettled, IsSession, TellsCells}
+use Rattle.online_commit.proofs.Anew.{BeginsAnew}
+use Rattle.online_commit.proofs.Extending.{GoesOnTo, grown-fed, grown-session, piece_part}
+
+masks-same : (tables : List (List Cell)) (mask mask' : ℕ → ℕ) (n : ℕ) → 0 < n → ((i : ℕ) → i < n → mask' i ≡ mask i) → AreMasks tables mask n → AreMasks tables mask' n
+masks-same tables mask mask' n some same h = record {
+  live = subst (IsLiveMask (get_or tables (n - 1) [])) (sym (same (n - 1) (omega (arith, some)))) h.live;
+  back = λ i lt.
+      subst (λ m. IsBehind (get_or tables (i + 1) []) m (mask' i)) (sym (same (i + 1) lt))
+      (subst (λ m. IsBehind (get_or tables (i + 1) []) (mask (i + 1)) m) (sym (same i (omega (arith, lt)))) (h.back i lt));
+}
+
+settled-same : (first : ℕ) (layers : List Layer) (mask mask' : ℕ → ℕ) (start : ℕ) (items : List Item) → ((i : ℕ) → i < length layers → mask' i ≡ mask i) → AreSettled first layers mask start items
+    → AreSettled first layers mask' start items
+settled-same first layers mask mask' start items same h =
+    let within = h.within in
+    record {
+      within = h.within;
+      single = λ j ge lt. let o = h.single j ge lt in (o.0, subst (λ m. IsOnly m o.0) (sym (same j (omega (arith, lt, within)))) o.1);
+      ends = λ lt. subst IsNotOne (sym (same (start + length items) lt)) (h.ends lt);
+      are = λ rank only. h.are rank (λ j ge lt. subst (λ m. IsOnly m (rank j)) (same j (omega (arith, lt, within))) (only j ge lt));
+    }
+
+-- the point was appended, and the masks that changed were written
+pub record IsAppended (old : Piece) (l : Layer) (cells : List Cell) (changed : List ℕ) (new : Piece) : Type 0 where
+  pub first : new.first ≡ old.first
+  pub layers : new.layers ≡ old.layers ++ l ∷ []
+  pub tables : new.tables ≡ old.tables ++ cells ∷ []
+  pub count : length new.masks ≡ length old.masks + 1
+  pub masks : (i : ℕ) → i ≤ length old.masks → mask_at new.masks i ≡ mask_after old.masks changed i
+
+pub extended-made : (old : Piece) (l : Layer) (cells : List Cell) (changed : List ℕ) (new : Piece) (items : List Item) → MayGrow old cells → IsAppended old l cells changed new
+    → AreMasks (old.tables ++ cells ∷ []) (mask_after old.masks changed) (length old.tables + 1)
+    → AreSettled old.first (old.layers ++ l ∷ []) (mask_after old.masks changed) old.told items → new.told ≡ old.told + length items → IsExtended old l cells new items
+extended-made old l cells changed new items may app masks settled told =
+    let tc = may.tables-count in
+    let mc = may.masks-count in
+    let count = app.count in
+    let len : length new.layers ≡ length old.layers + 1 = ap length app.layers ∙ length_push old.layers l in
+    let same : (i : ℕ) → i < length new.layers → mask_at new.masks i ≡ mask_after old.masks changed i = λ i lt. app.masks i (omega (arith, lt, len, mc)) in
+    let n-is : length old.tables + 1 ≡ length new.layers = omega (arith, len, tc) in
+    record {
+      first = app.first;
+      told = told;
+      layers = app.layers;
+      tables = app.tables;
+      masks-count = omega (arith, len, count, mc);
+      masks = subst (λ k. AreMasks new.tables (mask_at new.masks) k) n-is
+          (masks-same new.tables (mask_after old.masks changed) (mask_at new.masks) (length old.tables + 1) (omega arith) (λ i lt. same i (omega (arith, lt, n-is)))
+          (subst (λ ts. AreMasks ts (mask_after old.masks changed) (length old.tables + 1)) (sym app.tables) masks));
+      settled = subst (λ k. AreSettled k new.layers (mask_at new.masks) old.told items) (sym app.first)
+          (settled-same old.first new.layers (mask_after old.masks changed) (mask_at new.masks) old.told items same
+          (subst (λ ls. AreSettled old.first ls (mask_after old.masks changed) old.told items) (sym app.layers) settled));
+    }
+
+-- what is known where a point comes with which the open piece goes on
+
+pub goes-on : (s old : Session) (l : Layer) (cells : List Cell) → s ≡ old → IsLawful s.network → IsSession s → points_of old < 100_000 → IsFedLayer old.network old.params l → TellsCells s l (Some cells) → GoesOnTo s l cells
+goes-on s old l cells e lawful is room fed tells = record {
+  lawful = lawful;
+  session = is;
+  room = subst (λ x. points_of x < 100_000) (sym e) room;
+  layer = subst (λ x. IsFedLayer x.network x.params l) (sym e) fed;
+  some = tells.0;
+  goes = tells.1;
+}
+
+pub begins-anew : (s old : Session) (l : Layer) → s ≡ old → IsLawful s.network → IsSession s → points_of old < 100_000 → IsFedLayer old.network old.params l → TellsCells old l None → BeginsAnew s l
+begins-anew s old l e lawful is room fed ends = record {
+  lawful = lawful;
+  session = is;
+  room = subst (λ x. points_of x < 100_000) (sym e) room;
+  layer = subst (λ x. IsFedLayer x.network x.params l) (sym e) fed;
+  ends = subst (λ x. TellsCells x l None) (sym e) ends;
+}
+
+pub still-session : {E : Type 0} (n : Net) (p : Params) (old new : Piece) (l : Layer) (cells : List Cell) (r : Result (List Item) E) → GoesOnTo (session_with n p old) l cells
+    → IfOk r (IsExtended (piece_part (session_with n p old)) l cells new) → OnErr r (new ≡ old) → IsSession (session_with n p new)
+still-session n p old new l cells (Ok items) h ok err = grown-session (session_with n p old) l cells new items h ok
+still-session n p old new l cells (Err e) h ok err = subst (λ a. IsSession (session_with n p a)) (sym err) h.session
+
+pub fed-grown : {E : Type 0} (n : Net) (p : Params) (old new : Piece) (l : Layer) (cells : List Cell) (r : Result (List Item) E) → GoesOnTo (session_with n p old) l cells
+    → IfOk r (IsExtended (piece_part (session_with n p old)) l cells new) → IfOk r (IsFed (session_with n p old) l (session_with n p new))
+fed-grown n p old new l cells (Ok items) h ok = grown-fed (session_with n p old) l cells new items h ok
+fed-grown n p old new l cells (Err e) h ok = tt

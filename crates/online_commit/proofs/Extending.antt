@@ -1,0 +1,325 @@
+-- A session whose open piece goes on. In this file layers and tables stand in the order of the points.
+use Rattle.std.proofs.Common.{◌≡◌, ℕ, ◌+◌, ◌-◌, ◌^◌, ◌<◌, ◌≤◌, List, [], ◌∷◌, ◌++◌, refl, sym, ap, ◌∙◌, subst, arith, length, take, drop, reverse, get_or}
+use Rattle.std.specs.List.{All}
+use Rattle.std.proofs.lemmas.List.{drop-append-le, get_or_append_left, length-append, length-reverse, length_push, reverse-reverse, take-append-le}
+use Rattle.std.proofs.Math.Seq.{get_or-append_seam, take-length}
+use Rattle.cost_model.specs.declared.params.Params.{Params}
+use Rattle.road_network.specs.Net.{Net, IsLawful}
+use Rattle.matching.specs.declared.parts.Cell.{Cell}
+use Rattle.matching.specs.declared.parts.Layer.{Layer}
+use Rattle.matching.specs.Cells.{IsLive}
+use Rattle.matching.specs.Committed.{IsCommitted}
+use Rattle.matching.specs.Layers.{IsLayer, trellis}
+use Rattle.matching.specs.Local.{AreLinked}
+use Rattle.matching.specs.Pieces.{AreNear, IsPiece}
+use Rattle.matching.specs.PieceSteps.{PieceGoesOn}
+use Rattle.matching.specs.Places.{IsAt}
+use Rattle.matching.specs.Sequences.{HasSequence, IsBest}
+use Rattle.matching.specs.Value.{best_of}
+use Rattle.matching.proofs.CommittedValues.{front, front-is, whole}
+use Rattle.matching.proofs.Fronts.{front-unique}
+use Rattle.matching.proofs.Lists.{all-at, all-push, at-get_or}
+use Rattle.matching.proofs.PieceSoFar.{IsGround, IsPieceSoFar, IsStepAt, so_far_all, so_far_more}
+use Rattle.matching.proofs.Runs.{EndsWith}
+use Rattle.matching.proofs.SolutionMatches.{best_of-is}
+use Rattle.matching.proofs.Splits.{OneOrNone, Splits}
+use Rattle.route_rebuild.specs.Routes.{no_layer}
+use Rattle.online_commit.specs.declared.items.Item.{Item}
+use Rattle.online_commit.specs.Items.{handed}
+use Rattle.online_commit.specs.Masks.{AreMasks, HasFewRanks, IsOnly, mask_at}
+use Rattle.online_commit.specs.Pieces.{IsExtended, MayGrow, Piece, session_with}
+use Rattle.online_commit.specs.Session.{IsFed, IsFedLayer, Session, StandsFor, points_of}
+use Rattle.online_commit.specs.Steps.{AreSettled, IsSession, last_cells, last_layer, rank_in, ranked_items}
+use Rattle.online_commit.proofs.Growing.{grown, grown-handed}
+use Rattle.online_commit.proofs.Handed.{labels_between}
+use Rattle.online_commit.proofs.Labels.{IsBestOf, open-labels, split-of, stands-by, tail-rank}
+use Rattle.online_commit.proofs.Passing.{IsBoundary, IsTabled, chosen-single, committed-boundary, last_of}
+use Rattle.online_commit.proofs.Ranks.{next-ranks}
+
+abbrev pub piece_part : Session → Piece
+piece_part s = record { first = s.first; told = s.told; layers = s.layers; tables = s.tables; masks = s.masks }
+
+-- what a session stands on
+pub session-ground : (s : Session) → IsSession s → IsLawful s.network → IsGround s.network s.params s.layers
+session-ground s is lawful = record {
+  lawful = lawful;
+  trace = record {
+    options = is.options;
+    are = record {
+      few = let f = is.few in omega (arith, f);
+      each = λ k d lt. (is.layers k d lt).layer;
+      narrow = λ k d lt. let n = (is.layers k d lt).few in omega (arith, n);
+    };
+  };
+}
+
+pub tabled-of : (s : Session) → IsSession s → 0 < length s.layers → IsTabled (trellis s.network s.params) s.layers s.tables
+tabled-of s is some =
+    let t = trellis s.network s.params in
+    let open-is = is.open-is some in
+    let count = is.tables-count in
+    let whole-is : take (length s.tables) s.layers ≡ s.layers = ap (λ k. take k s.layers) count ∙ take-length s.layers in
+    record {
+      some = some;
+      count = count;
+      linked = subst (λ xs. AreLinked t (reverse xs) (reverse s.tables)) whole-is open-is.so_far.run.linked;
+      piece = subst (λ k. IsPiece t s.layers k) count (so_far_all s.network s.params s.layers s.tables open-is.so_far (omega (arith, count)));
+    }
+
+-- a piece so far, where more points come
+pub so_far-longer : (n : Net) (p : Params) (xs more : List Layer) (tables : List (List Cell)) → IsPieceSoFar n p xs tables → IsPieceSoFar n p (xs ++ more) tables
+so_far-longer n p xs more tables h =
+    let t = trellis n p in
+    let within = h.run.within in
+    let same : take (length tables) (xs ++ more) ≡ take (length tables) xs = take-append-le (length tables) xs more within in
+    record {
+      run = record {
+        some = h.run.some;
+        within = omega (arith, within, length-append xs more);
+        linked = subst (λ ys. AreLinked t (reverse ys) (reverse tables)) (sym same) h.run.linked;
+      };
+      can = record {
+        near = subst (λ ys. AreNear t ys) (sym same) h.can.near;
+        sequence = subst (λ ys. HasSequence t (reverse ys)) (sym same) h.can.sequence;
+      };
+      slow = h.slow;
+    }
+
+-- the last point of the open piece
+pub last-ends : (s : Session) → IsSession s → 0 < length s.layers → EndsWith s.layers s.tables (last_layer s) (last_cells s)
+last-ends s is some =
+    let count = is.tables-count in
+    let e : length s.layers - 1 ≡ length s.tables - 1 = omega (arith, count) in
+    record {
+      layer = subst (λ k. IsAt s.layers k (last_layer s)) e (at-get_or s.layers (length s.layers - 1) no_layer (omega (arith, some)));
+      table = subst (λ k. IsAt s.tables k (last_cells s)) e (at-get_or s.tables (length s.layers - 1) [] (omega (arith, some, count)));
+    }
+
+-- the session goes on to this point with these cells
+pub record GoesOnTo (s : Session) (l : Layer) (cells : List Cell) : Type 0 where
+  pub lawful : IsLawful s.network
+  pub session : IsSession s
+  pub room : points_of s < 100_000
+  pub layer : IsFedLayer s.network s.params l
+  pub some : 0 < length s.layers
+  pub goes : PieceGoesOn (trellis s.network s.params) (last_layer s) (last_cells s) l cells
+
+pub new-ranks : (s : Session) (l : Layer) (cells : List Cell) → GoesOnTo s l cells → HasFewRanks cells
+new-ranks s l cells h =
+    let last = last-ends s h.session h.some in
+    next-ranks (trellis s.network s.params) (last_layer s) (last_cells s) l cells h.goes.next h.layer.few
+    (all-at (IsFedLayer s.network s.params) s.layers (length s.tables - 1) (last_layer s) h.session.layers last.layer).few
+
+pub may-grow : (s : Session) (l : Layer) (cells : List Cell) → GoesOnTo s l cells → MayGrow (piece_part s) cells
+may-grow s l cells h =
+    let is = h.session in
+    let count = is.tables-count in
+    record {
+      few = h.room;
+      tables-count = is.tables-count;
+      masks-count = is.masks-count;
+      masks-are = λ lt. subst (λ k. AreMasks s.tables (mask_at s.masks) k) (sym count) (is.open-is h.some).masks;
+      ranks = is.ranks;
+      cells-few = new-ranks s l cells h;
+      told = let w = is.front.within in omega (arith, w, length-reverse s.layers);
+    }
+
+grown-so_far : (s : Session) (l : Layer) (cells : List Cell) → GoesOnTo s l cells → IsPieceSoFar s.network s.params (s.layers ++ l ∷ []) (s.tables ++ cells ∷ [])
+grown-so_far s l cells h =
+    let is = h.session in
+    let n = s.network in
+    let p = s.params in
+    let xs = s.layers ++ l ∷ [] in
+    let count = is.tables-count in
+    let room = h.room in
+    let last = last-ends s is h.some in
+    let ground : IsGround n p xs = record {
+      lawful = h.lawful;
+      trace = record {
+        options = is.options;
+        are = record {
+          few = omega (arith, room, length_push s.layers l);
+          each = all-push (IsLayer n p) s.layers l (λ k d lt. (is.layers k d lt).layer) h.layer.layer;
+          narrow = all-push (λ (x : Layer). length x.candidates ≤ 2 ^ 32) s.layers l (λ k d lt. let f = (is.layers k d lt).few in omega (arith, f)) (let f = h.layer.few in omega (arith, f));
+        };
+      };
+    } in
+    let step : IsStepAt n p xs s.tables (last_layer s) l (last_cells s) = record {
+      ends = record {
+        layer = record {
+          below = let b = last.layer.below in omega (arith, b, length_push s.layers l);
+          is = last.layer.is ∙ sym (get_or_append_left s.layers (l ∷ []) (last_layer s) (length s.tables - 1) last.layer.below);
+        };
+        table = last.table;
+      };
+      at = record {
+        below = omega (arith, count, length_push s.layers l);
+        is = sym (ap (λ k. get_or xs k l) count ∙ get_or-append_seam s.layers l [] l);
+      };
+    } in
+    so_far_more n p xs s.tables (last_layer s) l (last_cells s) cells ground (so_far-longer n p s.layers (l ∷ []) s.tables (is.open-is h.some).so_far) step h.goes
+
+-- what a piece with a settled front stands on, whether it went on or begins
+pub record IsFresh (t-new : Session) (xs : List Layer) (l : Layer) (told : ℕ) (items : List Item) : Type 0 where
+  pub layers : t-new.layers ≡ xs ++ l ∷ []
+  pub told-is : t-new.told ≡ told + length items
+  pub tabled : IsTabled (trellis t-new.network t-new.params) t-new.layers t-new.tables
+  pub masks : AreMasks t-new.tables (mask_at t-new.masks) (length t-new.layers)
+  pub settled : AreSettled t-new.first t-new.layers (mask_at t-new.masks) told items
+  pub rank : ℕ
+  pub live : IsLive (last_of t-new.tables) rank
+  pub front : IsCommitted (trellis t-new.network t-new.params) (reverse xs) told
+
+pub fresh-committed : (new : Session) (xs : List Layer) (l : Layer) (told : ℕ) (items : List Item) → IsFresh new xs l told items → IsCommitted (trellis new.network new.params) (reverse new.layers) new.told
+fresh-committed new xs l told items h =
+    let t = trellis new.network new.params in
+    let settled = h.settled in
+    let within = settled.within in
+    let boundary : IsBoundary (mask_at new.masks) told (told + length items) (length new.layers) = record { low = omega arith; high = within; single = settled.single; ends = settled.ends } in
+    let same = h.layers in
+    let is = committed-boundary t xs (l ∷ []) new.tables (mask_at new.masks) told (told + length items) h.rank
+    (subst (λ ys. IsTabled t ys new.tables) same h.tabled) (subst (λ ys. AreMasks new.tables (mask_at new.masks) (length ys)) same h.masks)
+    (subst (λ ys. IsBoundary (mask_at new.masks) told (told + length items) (length ys)) same boundary) h.live h.front in
+    subst (λ k. IsCommitted t (reverse new.layers) k) (sym h.told-is) (subst (λ ys. IsCommitted t (reverse ys) (told + length items)) (sym same) is)
+
+-- the best sequence of the open piece
+pub own-best : (new : Session) → IsTabled (trellis new.network new.params) new.layers new.tables
+    → (c : ℕ) × (ranks : List ℕ) × IsBestOf (trellis new.network new.params) new.layers (length new.layers) c ranks
+own-best new h =
+    let t = trellis new.network new.params in
+    let m = length new.layers in
+    let b = best_of t (take m new.layers) in
+    let is = best_of-is t (take m new.layers) h.piece.can.sequence in
+    (b.cost, reverse b.ranks, record { some = h.some; piece = h.piece; best = subst (λ rs. IsBest t (reverse (take m new.layers)) b.cost rs) (sym (reverse-reverse b.ranks)) is })
+
+-- the items that are settled are the labels of the best sequence
+pub fresh-items : (new : Session) (xs : List Layer) (l : Layer) (told c : ℕ) (ranks : List ℕ) (items : List Item) → IsFresh new xs l told items
+    → IsBestOf (trellis new.network new.params) new.layers (length new.layers) c ranks → items ≡ ranked_items new.first new.layers (rank_in ranks) told (length items)
+fresh-items new xs l told c ranks items h best =
+    let t = trellis new.network new.params in
+    let within = h.settled.within in
+    h.settled.are (rank_in ranks) (λ j ge lt.
+    let only = h.settled.single j ge lt in
+    let same : get_or ranks j 0 ≡ only.0 =
+    chosen-single t new.layers new.tables (mask_at new.masks) j only.0 c ranks h.tabled h.masks (omega (arith, lt, within)) only.1
+    (subst (λ ys. IsBest t (reverse ys) c (reverse ranks)) (take-length new.layers) best.best) in
+    subst (λ r. IsOnly (mask_at new.masks j) r) (sym same) only.1)
+
+-- in terms of the labels of the trace
+pub fresh-labels : (new : Session) (all : List Layer) (s : Splits (trellis new.network new.params) 0 all) (xs : List Layer) (l : Layer) (told : ℕ) (items : List Item) → IsFresh new xs l told items
+    → s.closed ≡ new.first → drop s.closed all ≡ new.layers → labels_between new.network new.params all (s.closed + told) (length items) ≡ items
+fresh-labels new all s xs l told items h first layers =
+    let n = new.network in
+    let p = new.params in
+    let t = trellis n p in
+    let best = own-best new h.tabled in
+    let within = h.settled.within in
+    let is : IsBestOf t (drop s.closed all) (length new.layers) best.0 best.1 = subst (λ ys. IsBestOf t ys (length new.layers) best.0 best.1) (sym layers) best.2 in
+    open-labels n p all s (rank_in best.1) told (length items) (λ j ge lt. tail-rank t s.closed (drop s.closed all) (length new.layers) best.0 best.1 j is (omega (arith, lt, within)))
+    ∙ ap (λ k. ranked_items k (drop s.closed all) (rank_in best.1) told (length items)) first
+    ∙ ap (λ ys. ranked_items new.first ys (rank_in best.1) told (length items)) layers
+    ∙ sym (fresh-items new xs l told best.0 best.1 items h best.2)
+
+-- a session whose piece went on
+
+grown-fresh : (s : Session) (l : Layer) (cells : List Cell) (new : Piece) (items : List Item) → GoesOnTo s l cells → IsExtended (piece_part s) l cells new items
+    → IsFresh (session_with s.network s.params new) s.layers l s.told items
+grown-fresh s l cells new items h ext =
+    let n = s.network in
+    let p = s.params in
+    let t = trellis n p in
+    let is = h.session in
+    let count = is.tables-count in
+    let so_far = grown-so_far s l cells h in
+    let lt = length_push s.tables cells in
+    let ll = length_push s.layers l in
+    let same : length (s.tables ++ cells ∷ []) ≡ length (s.layers ++ l ∷ []) = omega (arith, lt, ll, count) in
+    let whole-is : take (length (s.tables ++ cells ∷ [])) (s.layers ++ l ∷ []) ≡ s.layers ++ l ∷ [] = ap (λ k. take k (s.layers ++ l ∷ [])) same ∙ take-length (s.layers ++ l ∷ []) in
+    let tabled : IsTabled t (s.layers ++ l ∷ []) (s.tables ++ cells ∷ []) = record {
+      some = omega (arith, ll);
+      count = same;
+      linked = subst (λ ys. AreLinked t (reverse ys) (reverse (s.tables ++ cells ∷ []))) whole-is so_far.run.linked;
+      piece = subst (λ k. IsPiece t (s.layers ++ l ∷ []) k) same (so_far_all n p (s.layers ++ l ∷ []) (s.tables ++ cells ∷ []) so_far (omega (arith, same)));
+    } in
+    let last : last_of (s.tables ++ cells ∷ []) ≡ cells =
+    (let e : length (s.tables ++ cells ∷ []) - 1 ≡ length s.tables = omega (arith, lt) in
+    ap (λ k. get_or (s.tables ++ cells ∷ []) k []) e ∙ get_or-append_seam s.tables cells [] []) in
+    let live = h.goes.live in
+    record {
+      layers = ext.layers;
+      told-is = ext.told;
+      tabled = subst (λ ys. IsTabled t ys new.tables) (sym ext.layers) (subst (λ ts. IsTabled t (s.layers ++ l ∷ []) ts) (sym ext.tables) tabled);
+      masks = ext.masks;
+      settled = ext.settled;
+      rank = h.goes.rank;
+      live = subst (λ ts. IsLive (last_of ts) h.goes.rank) (sym ext.tables) (subst (λ c. IsLive c h.goes.rank) (sym last) live);
+      front = is.front;
+    }
+
+pub grown-session : (s : Session) (l : Layer) (cells : List Cell) (new : Piece) (items : List Item) → GoesOnTo s l cells → IsExtended (piece_part s) l cells new items
+    → IsSession (session_with s.network s.params new)
+grown-session s l cells new items h ext =
+    let n = s.network in
+    let p = s.params in
+    let is = h.session in
+    let room = h.room in
+    let first = ext.first in
+    let count = is.tables-count in
+    let fresh = grown-fresh s l cells new items h ext in
+    let so_far = grown-so_far s l cells h in
+    let len = ap length ext.layers ∙ length_push s.layers l in
+    let lent = ap length ext.tables ∙ length_push s.tables cells in
+    record {
+      options = is.options;
+      few = omega (arith, room, first, len);
+      layers = subst (All (IsFedLayer n p)) (sym ext.layers) (all-push (IsFedLayer n p) s.layers l is.layers h.layer);
+      ranks = subst (All HasFewRanks) (sym ext.tables) (all-push HasFewRanks s.tables cells is.ranks (new-ranks s l cells h));
+      tables-count = omega (arith, len, lent, count);
+      masks-count = ext.masks-count;
+      open-is = λ some. record {
+        so_far = subst (λ ys. IsPieceSoFar n p ys new.tables) (sym ext.layers) (subst (λ ts. IsPieceSoFar n p (s.layers ++ l ∷ []) ts) (sym ext.tables) so_far);
+        masks = ext.masks;
+      };
+      front = fresh-committed (session_with n p new) s.layers l s.told items fresh;
+    }
+
+grown-stands : (s : Session) (l : Layer) (cells : List Cell) (new : Piece) (items : List Item) (fed : List Layer) → GoesOnTo s l cells → IsExtended (piece_part s) l cells new items → StandsFor s fed
+    → StandsFor (session_with s.network s.params new) (fed ++ l ∷ []) × (handed s.network s.params (fed ++ l ∷ []) ≡ handed s.network s.params fed ++ items)
+grown-stands s l cells new items fed h ext st =
+    let n = s.network in
+    let p = s.params in
+    let t = trellis n p in
+    let made = session_with n p new in
+    let split = whole t fed in
+    let is = split-of s fed split st in
+    let fresh = grown-fresh s l cells new items h ext in
+    let xs = drop split.closed fed in
+    let layers : new.layers ≡ xs ++ l ∷ [] = ext.layers ∙ ap (λ ys. ys ++ l ∷ []) (sym is.layers) in
+    let one : OneOrNone t (xs ++ l ∷ []) = λ some. subst (λ ys. IsPiece t ys (length ys)) layers fresh.tabled.piece in
+    let next = grown n p fed (l ∷ []) split one in
+    let z : split.closed + 0 ≡ split.closed = omega arith in
+    let within = is.within in
+    let rest : drop (split.closed + 0) (fed ++ l ∷ []) ≡ xs ++ l ∷ [] = ap (λ k. drop k (fed ++ l ∷ [])) z ∙ drop-append-le split.closed fed (l ∷ []) split.within in
+    let first : split.closed + 0 ≡ new.first = z ∙ is.first ∙ sym ext.first in
+    let committed = fresh-committed made s.layers l s.told items fresh in
+    let len = ap length layers ∙ length_push xs l in
+    let stands = stands-by made (fed ++ l ∷ []) next first (layers ∙ sym rest ∙ ap (λ k. drop k (fed ++ l ∷ [])) first) (let c = is.count in omega (arith, first, len, c, length_push fed l)) committed in
+    let front-is-it : front t (drop (split.closed + 0) (fed ++ l ∷ [])) ≡ front t xs + length items =
+    front-unique t (reverse (drop (split.closed + 0) (fed ++ l ∷ []))) (front t (drop (split.closed + 0) (fed ++ l ∷ []))) new.told (front-is t (drop (split.closed + 0) (fed ++ l ∷ [])) next.last)
+    (subst (λ ys. IsCommitted t (reverse ys) new.told) (layers ∙ sym rest) committed)
+    ∙ ext.told ∙ ap (λ k. k + length items) (sym is.told) in (
+      stands,
+      grown-handed n p fed (l ∷ []) split one (length items) front-is-it
+          ∙ ap (λ ys. handed n p fed ++ ys)
+          (ap (λ k. labels_between n p (fed ++ l ∷ []) (split.closed + k) (length items)) is.told ∙ ap (λ k. labels_between n p (fed ++ l ∷ []) (k + s.told) (length items)) (sym z)
+          ∙ fresh-labels made (fed ++ l ∷ []) next s.layers l s.told items fresh first (rest ∙ sym layers)),
+    )
+
+pub grown-fed : (s : Session) (l : Layer) (cells : List Cell) (new : Piece) (items : List Item) → GoesOnTo s l cells → IsExtended (piece_part s) l cells new items
+    → IsFed s l (session_with s.network s.params new) items
+grown-fed s l cells new items h ext = record {
+  network = refl;
+  params = refl;
+  stands = λ fed st. (grown-stands s l cells new items fed h ext st).0;
+  handed-on = λ fed st. (grown-stands s l cells new items fed h ext st).1;
+}

@@ -1,0 +1,6 @@
+pub mod Items
+pub mod Session
+pub mod Masks
+pub mod Steps
+pub mod Pieces
+pub mod SessionInside

@@ -1,0 +1,83 @@
+-- The open piece of a session, and how it grows.
+use Rattle.std.specs.Prelude.{◌≡◌, ℕ, ◌+◌, ◌<◌, ◌≤◌, List, [], ◌∷◌, ◌++◌, length, vec_len, vec_capacity}
+use Rattle.std.specs.List.{All}
+use Rattle.cost_model.specs.declared.params.Params.{Params}
+use Rattle.road_network.specs.Net.{Net}
+use Rattle.matching.specs.declared.parts.Cell.{Cell}
+use Rattle.matching.specs.declared.parts.Layer.{Layer}
+use Rattle.matching.specs.Layers.{trellis}
+use Rattle.matching.specs.Local.{AreFirst}
+use Rattle.online_commit.specs.declared.feeding.OpenPiece.{OpenPiece}
+use Rattle.online_commit.specs.declared.items.Item.{Item}
+use Rattle.online_commit.specs.declared.items.Item.TheVariants.{Missing}
+use Rattle.online_commit.specs.Masks.{AreMasks, HasFewRanks, mask_at}
+use Rattle.online_commit.specs.Session.{Session}
+use Rattle.online_commit.specs.Steps.{AreSettled}
+
+-- what is seen of an open piece: not how much room it has
+pub record Piece : Type 0 where
+  pub first : ℕ
+  pub told : ℕ
+  pub layers : List Layer
+  pub tables : List (List Cell)
+  pub masks : List ℕ
+
+abbrev pub piece_of : OpenPiece → Piece
+piece_of a = record {
+  first = a.first;
+  told = a.told;
+  layers = a.layers.items;
+  tables = a.tables.items;
+  masks = a.masks.items;
+}
+
+-- the session with this piece
+abbrev pub session_with : Net → Params → Piece → Session
+session_with n p a = record {
+  network = n;
+  params = p;
+  first = a.first;
+  told = a.told;
+  layers = a.layers;
+  tables = a.tables;
+  masks = a.masks;
+}
+
+abbrev pub session_of : Net → Params → OpenPiece → Session
+session_of n p a = session_with n p (piece_of a)
+
+pub record HasRoom (a : OpenPiece) : Type 0 where
+  pub layers : vec_len a.layers < vec_capacity a.layers
+  pub tables : vec_len a.tables < vec_capacity a.tables
+  pub masks : vec_len a.masks < vec_capacity a.masks
+
+-- the piece may take a point with these cells
+pub record MayGrow (a : Piece) (cells : List Cell) : Type 0 where
+  pub few : a.first + length a.layers < 100_000
+  pub tables-count : length a.tables ≡ length a.layers
+  pub masks-count : length a.masks ≡ length a.layers
+  pub masks-are : 0 < length a.tables → AreMasks a.tables (mask_at a.masks) (length a.tables)
+  pub ranks : All HasFewRanks a.tables
+  pub cells-few : HasFewRanks cells
+  pub told : a.told ≤ length a.layers
+
+-- it took the point, and these are the items of the points that are committed by it
+pub record IsExtended (old : Piece) (l : Layer) (cells : List Cell) (new : Piece)
+    (items : List Item) : Type 0 where
+  pub first : new.first ≡ old.first
+  pub told : new.told ≡ old.told + length items
+  pub layers : new.layers ≡ old.layers ++ l ∷ []
+  pub tables : new.tables ≡ old.tables ++ cells ∷ []
+  pub masks-count : length new.masks ≡ length new.layers
+  pub masks : AreMasks new.tables (mask_at new.masks) (length new.layers)
+  pub settled : AreSettled new.first new.layers (mask_at new.masks) old.told items
+
+-- a piece without points that may begin with point `first`
+abbrev pub empty_piece : ℕ → Piece
+empty_piece first = record { first = first; told = 0; layers = []; tables = []; masks = [] }
+
+-- the piece that begins with point i, or none where it has no candidate
+pub record IsBegun (p : Params) (i : ℕ) (l : Layer) (new : Piece) (items : List Item) : Type 0 where
+  pub none : length l.candidates ≡ 0 → (new ≡ empty_piece (i + 1)) × (items ≡ Missing i ∷ [])
+  pub some : 0 < length l.candidates → (cells : List Cell) × ((n : Net) → AreFirst (trellis n p) l cells)
+      × IsExtended (empty_piece i) l cells new items

@@ -1,0 +1,96 @@
+-- What a session stands for: the points that were fed to it.
+use Rattle.std.specs.Prelude.{◌≡◌, ◌⊎◌, ℕ, ◌+◌, ◌≤◌, List, [], ◌∷◌, ◌++◌, Result, OnOk, Contains, length, drop}
+use Rattle.cost_model.specs.declared.params.Params.{Params}
+use Rattle.road_network.specs.Net.{Net}
+use Rattle.bounded_search.specs.Rows.{RowsState, AsksOnly, Keeps}
+use Rattle.matching.specs.declared.parts.Cell.{Cell}
+use Rattle.matching.specs.declared.parts.Layer.{Layer}
+use Rattle.matching.specs.Layers.{IsLayer, trellis}
+use Rattle.matching.specs.PieceSteps.{AsksTrace}
+use Rattle.matching.specs.Value.{solution}
+use Rattle.matching.specs.CommittedValue.{committed_of, open_first}
+use Rattle.online_commit.specs.declared.items.Item.{Item}
+use Rattle.online_commit.specs.Items.{handed, items_of}
+
+-- a session: where the open piece begins, how many of its points were handed out, and of each of its
+-- points the layer, the cells and the ranks that are still possible
+pub record Session : Type 0 where
+  pub network : Net
+  pub params : Params
+  pub first : ℕ
+  pub told : ℕ
+  pub layers : List Layer
+  pub tables : List (List Cell)
+  pub masks : List ℕ
+
+-- how many points were fed
+abbrev pub points_of : Session → ℕ
+points_of s = s.first + length s.layers
+
+-- it stands for these points: it keeps those of their open piece, and has handed out what is committed
+pub record StandsFor (s : Session) (fed : List Layer) : Type 0 where
+  pub count : points_of s ≡ length fed
+  pub layers-are : s.layers ≡ drop s.first fed
+  pub first-is : open_first (solution (trellis s.network s.params) fed).pieces (length fed) ≡ s.first
+  pub told-is : committed_of (trellis s.network s.params) fed ≡ s.first + s.told
+
+-- a session with no points
+abbrev pub no_points_of : Net → Params → Session
+no_points_of n p = record { network = n; params = p; first = 0; told = 0; layers = []; tables = []; masks = [] }
+
+-- a point of the plane with at most 32 candidates of this network
+pub record IsFedLayer (n : Net) (p : Params) (l : Layer) : Type 0 where
+  pub layer : IsLayer n p l
+  pub few : length l.candidates ≤ 32
+
+-- the match of these points asks for the row of node v
+abbrev pub AsksPoints : Net → Params → List Layer → ℕ → Type 0
+AsksPoints n p layers v = AsksTrace n p layers (solution (trellis n p) layers).pieces v
+
+-- a session of the same network and options that stands for one point more, where these items were
+-- handed out
+pub record IsFed (old : Session) (l : Layer) (new : Session) (items : List Item) : Type 0 where
+  pub network : new.network ≡ old.network
+  pub params : new.params ≡ old.params
+  pub stands : (fed : List Layer) → StandsFor old fed → StandsFor new (fed ++ l ∷ [])
+  pub handed-on : (fed : List Layer) → StandsFor old fed
+      → handed old.network old.params (fed ++ l ∷ []) ≡ handed old.network old.params fed ++ items
+
+-- all that is left was handed out, and the session is as newly opened
+pub record IsFinished (old new : Session) (items : List Item) : Type 0 where
+  pub opened : new ≡ no_points_of old.network old.params
+  pub rest : (fed : List Layer) → StandsFor old fed
+      → items_of old.network old.params fed ≡ handed old.network old.params fed ++ items
+
+-- what feeding a point leaves of the rows: nothing became known but what the points with the new one
+-- ask for, and after Ok all that they ask for is known and the points before did not
+pub record AsksFed {A E : Type 0} (old : Session) (l : Layer) (rows : RowsState) (result : Result A E)
+    (new : RowsState) : Type 0 where
+  pub keeps : Keeps rows new
+  pub only : (fed : List Layer) → StandsFor old fed
+      → AsksOnly rows new (AsksPoints old.network old.params (fed ++ l ∷ []))
+  pub all : OnOk result ((fed : List Layer) (v : ℕ) → StandsFor old fed
+      → AsksPoints old.network old.params (fed ++ l ∷ []) v
+      → AsksPoints old.network old.params fed v ⊎ Contains new.known v)
+
+-- nothing became known but what the points ask for
+pub record AsksFinished (old : Session) (rows new : RowsState) : Type 0 where
+  pub keeps : Keeps rows new
+  pub only : (fed : List Layer) → StandsFor old fed
+      → AsksOnly rows new (AsksPoints old.network old.params fed)
+
+-- the list begins with these items
+abbrev pub BeginsWith : List Item → List Item → Type 0
+BeginsWith all front = (rest : List Item) × (all ≡ front ++ rest)
+
+-- what is handed out stays, whatever points follow
+abbrev pub HandedStays : Type 0
+HandedStays =
+    (n : Net) (p : Params) (layers more : List Layer)
+    → BeginsWith (items_of n p (layers ++ more)) (handed n p layers)
+
+-- and more points hand out no less
+abbrev pub HandedGrows : Type 0
+HandedGrows =
+    (n : Net) (p : Params) (layers more : List Layer)
+    → BeginsWith (handed n p (layers ++ more)) (handed n p layers)

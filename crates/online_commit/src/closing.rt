@@ -1,0 +1,102 @@
+//! The end of a piece. Serves `feed` and `finish`; decided by `IsClosing`.
+ghost use Rattle.std.specs.Prelude.{◌≡◌, Some, ◌+◌, ◌-◌, ◌<◌, ◌≤◌, ◌^◌, [], IfOk, length, map};
+ghost use Rattle.bounded_search.specs.Rows.{AreRowsOf, AsksOnly};
+ghost use Rattle.matching.specs.PieceSteps.{AsksIn};
+ghost use Rattle.online_commit.specs.Pieces.{session_of};
+ghost use Rattle.online_commit.specs.Steps.{IsClosing, IsSession, rank_in, ranked_items};
+
+use crate::feeding::OpenPiece;
+use crate::items::Item;
+use crate::settled::candidate;
+use bounded_search::Rows;
+use cost_model::Params;
+use polyline_geometry::List;
+use road_network::Network;
+use route_rebuild::route_over;
+use std::alloc::{AllocError, Global};
+use trellis::{Layer, Piece, least_cell};
+use viterbi::follow;
+
+/// The items of the points from `start` on, which have these ranks.
+fn labelled(
+    alloc: Global,
+    first: u32,
+    layers: &[Layer],
+    ranks: &[u32],
+    start: usize,
+) -> Result<List<Item>, AllocError>
+    requires few { first + length layers.now < 2 ^ 32 }
+    requires ranks { length ranks.now ≡ length layers.now }
+    requires start { start ≤ length layers.now }
+    ensures { IfOk result (λ items. items
+        ≡ ranked_items first layers.now (rank_in ranks.now) start (length layers.now - start)) }
+{
+    let mut items = List::new(alloc);
+    for point in start..layers.len() {
+        items.push(Item::At {
+            index: first + point as u32,
+            candidate: candidate(&layers[point], ranks[point]),
+        })?;
+    }
+    Ok(items)
+}
+
+/// The ranks of points that all have one.
+fn as_some(alloc: Global, ranks: &[u32]) -> Result<Vec<Option<u32>>, AllocError>
+    ensures { IfOk result (λ some. some.items ≡ map (λ r. Some r) ranks.now) }
+{
+    let mut some = Vec::with_capacity(alloc, ranks.len())?;
+    for rank in ranks {
+        some.push(Some(*rank))?;
+    }
+    Ok(some)
+}
+
+/// The items that are left of the open piece, if there is one: those of its points, and the piece.
+pub fn closing_items<R: Rows>(
+    alloc: Global,
+    net: &Network,
+    p: &Params,
+    rows: &mut R,
+    piece: &OpenPiece,
+) -> Result<List<Item>, AllocError>
+    requires rows { AreRowsOf (R.state rows.old) net.now p.now.bound }
+    requires session { IsSession (session_of net.now p.now piece.now) }
+    ensures none { IfOk result (λ items. length piece.now.layers.items ≡ 0 → items ≡ []) }
+    ensures some { IfOk result (λ items. 0 < length piece.now.layers.items
+        → IsClosing (session_of net.now p.now piece.now) items) }
+    ensures asks { AsksOnly (R.state rows.old) (R.state rows.new)
+        (AsksIn net.now p.now piece.now.layers.items piece.now.tables.items) }
+{
+    if piece.layers.len() == 0 {
+        return Ok(List::new(alloc));
+    }
+    net.known();
+    let end = piece.layers.len() - 1;
+    let tables = piece.tables.as_slice();
+    let last = least_cell(tables[end].as_slice());
+    let ranks = follow(alloc, tables, last.from)?;
+    let some = as_some(alloc, ranks.as_slice())?;
+    let mut items = labelled(
+        alloc,
+        piece.first,
+        &piece.layers,
+        ranks.as_slice(),
+        piece.told as usize,
+    )?;
+    let own = Piece {
+        first: 0,
+        last: end as u32,
+        cost: last.cost.unwrap_or(0),
+    };
+    let route = route_over(alloc, net, p, rows, &piece.layers, &some, own)?;
+    items.push(Item::Closed {
+        piece: Piece {
+            first: piece.first,
+            last: piece.first + end as u32,
+            cost: own.cost,
+        },
+        route,
+    })?;
+    Ok(items)
+}

@@ -1,0 +1,178 @@
+//! The open piece, and how it goes on with a new point. Serves `feed`; decided by `AreMasks` and
+//! `AreSettled`.
+ghost use Rattle.std.specs.Prelude.{◌≡◌, ◌+◌, ◌<◌, ◌≤◌, ◌^◌, ◌∷◌, [], ◌++◌, ℕ, IsOk, IfOk, OnErr, OnOk, length, slice_index_or, vec_len, vec_capacity};
+ghost use Rattle.std.specs.List.{All};
+ghost use Rattle.bounded_search.specs.Rows.{AreRowsOf, AsksFor};
+ghost use Rattle.cost_model.specs.Options.{IsAccepted};
+ghost use Rattle.road_network.specs.Net.{Net};
+ghost use Rattle.online_commit.specs.Masks.{AreMasks, HasFewRanks, mask_after, mask_at, mask_written};
+ghost use Rattle.online_commit.specs.Session.{IsFedLayer};
+ghost use Rattle.online_commit.specs.Steps.{AsksStep, IsSession, TellsCells};
+ghost use Rattle.online_commit.specs.Pieces.{HasRoom, IsBegun, IsExtended, MayGrow, session_of, piece_of};
+
+use crate::items::Item;
+use crate::masks::changed_masks;
+use crate::settled::{Growing, settled_items};
+use bounded_search::Rows;
+use cost_model::Params;
+use polyline_geometry::List;
+use road_network::Network;
+use std::alloc::{AllocError, Global};
+use trellis::{Layer, Potentials, first_layer, is_near, least_cell, next_layer};
+
+/// The open piece, or where the next one may begin: its first point, how many of its points were handed
+/// out, and of each point the layer, the cells and the ranks that are still possible.
+#[derive(Drop)]
+pub struct OpenPiece {
+    pub first: u32,
+    pub told: u32,
+    pub layers: Vec<Layer>,
+    pub tables: Vec<Potentials>,
+    pub masks: Vec<u32>,
+}
+
+/// A piece without points. Takes no memory.
+pub fn no_piece(alloc: Global, first: u32) -> OpenPiece
+    ensures { piece_of result ≡ record { first = first; told = 0; layers = []; tables = []; masks = [] } }
+{
+    OpenPiece {
+        first,
+        told: 0,
+        layers: Vec::new(alloc),
+        tables: Vec::new(alloc),
+        masks: Vec::new(alloc),
+    }
+}
+
+/// The cells of the layer with which the open piece goes on, or None where it does not or there is
+/// none.
+pub fn next_cells<R: Rows>(
+    alloc: Global,
+    net: &Network,
+    p: &Params,
+    rows: &mut R,
+    piece: &OpenPiece,
+    layer: &Layer,
+) -> Result<Option<Potentials>, AllocError>
+    requires rows { AreRowsOf (R.state rows.old) net.now p.now.bound }
+    requires session { IsSession (session_of net.now p.now piece.now) }
+    requires layer { IsFedLayer net.now p.now layer.now }
+    ensures next { IfOk result (TellsCells (session_of net.now p.now piece.now) layer.now) }
+    ensures asks { AsksFor (R.state rows.old) (AsksStep (session_of net.now p.now piece.now) layer.now)
+        result (R.state rows.new) }
+{
+    if piece.layers.len() == 0 || layer.candidates.len() == 0 {
+        return Ok(None);
+    }
+    net.known();
+    let (layers, tables) = (piece.layers.as_slice(), piece.tables.as_slice());
+    let last = layers.len() - 1;
+    let (before, costs) = (&layers[last], &tables[last]);
+    if !is_near(p, before, layer) {
+        return Ok(None);
+    }
+    let cells = next_layer(alloc, net, p, rows, before, costs, layer)?;
+    if least_cell(cells.as_slice()).cost.is_none() {
+        return Ok(None);
+    }
+    Ok(Some(cells))
+}
+
+/// Writes the masks of the last points, from the last of all back.
+fn write_masks(masks: &mut [u32], changed: &[u32])
+    requires { length changed.now ≤ length masks.old }
+    ensures { (i : ℕ) → i < length masks.old
+        → mask_at masks.new i ≡ mask_written masks.old changed.now i }
+{
+    for back in 0..changed.len() {
+        let point = masks.len() - 1 - back;
+        masks[point] = changed[back];
+    }
+}
+
+/// Appends the point, for which there is room.
+fn append_point(
+    piece: &mut OpenPiece,
+    layer: Layer,
+    cells: Potentials,
+    changed: &[u32],
+) -> Result<(), AllocError>
+    requires room { HasRoom piece.old }
+    requires changed { length changed.now ≤ vec_len piece.old.masks + 1 }
+    ensures ok { IsOk result }
+    ensures first { (piece.new.first ≡ piece.old.first) × (piece.new.told ≡ piece.old.told) }
+    ensures layers { piece.new.layers.items ≡ piece.old.layers.items ++ layer ∷ [] }
+    ensures tables { piece.new.tables.items ≡ piece.old.tables.items ++ cells ∷ [] }
+    ensures masks { (length piece.new.masks.items ≡ length piece.old.masks.items + 1)
+        × ((i : ℕ) → i ≤ length piece.old.masks.items
+        → mask_at piece.new.masks.items i ≡ mask_after piece.old.masks.items changed.now i) }
+{
+    piece.layers.push(layer)?;
+    piece.tables.push(cells)?;
+    piece.masks.push(0)?;
+    write_masks(&mut piece.masks, changed);
+    Ok(())
+}
+
+/// Makes room for one point more.
+fn make_room(piece: &mut OpenPiece) -> Result<(), AllocError>
+    ensures same { piece_of piece.new ≡ piece_of piece.old }
+    ensures room { OnOk result (HasRoom piece.new) }
+{
+    piece.layers.reserve(1)?;
+    piece.tables.reserve(1)?;
+    piece.masks.reserve(1)?;
+    Ok(())
+}
+
+/// Appends a point with its cells to the open piece, and gives the items of the points that are
+/// committed by it.
+pub fn extend(
+    alloc: Global,
+    piece: &mut OpenPiece,
+    layer: Layer,
+    cells: Potentials,
+) -> Result<List<Item>, AllocError>
+    requires { MayGrow (piece_of piece.old) cells }
+    ensures ok { IfOk result (IsExtended (piece_of piece.old) layer cells (piece_of piece.new)) }
+    ensures err { OnErr result (piece_of piece.new ≡ piece_of piece.old) }
+{
+    let changed = changed_masks(alloc, &piece.tables, &piece.masks, cells.as_slice())?;
+    let growing = Growing {
+        first: piece.first,
+        layers: &piece.layers,
+        layer: &layer,
+        masks: &piece.masks,
+        changed: &changed,
+    };
+    let items = settled_items(alloc, &growing, piece.told as usize)?;
+    make_room(piece)?;
+    append_point(piece, layer, cells, &changed)?;
+    piece.told += items.len() as u32;
+    Ok(items)
+}
+
+/// The piece that begins with this point, or none where it has no candidate, and the item of the point
+/// where it is committed.
+pub fn begin(
+    alloc: Global,
+    p: &Params,
+    index: u32,
+    layer: Layer,
+) -> Result<(OpenPiece, List<Item>), AllocError>
+    requires options { IsAccepted p.now }
+    requires few { index < 100_000 }
+    requires layer { (net : Net) × IsFedLayer net p.now layer }
+    ensures { IfOk result (λ begun. IsBegun p.now index layer (piece_of begun.0) begun.1) }
+{
+    let mut piece = no_piece(alloc, index);
+    if layer.candidates.len() == 0 {
+        let mut items = List::new(alloc);
+        items.push(Item::Missing(index))?;
+        piece.first = index + 1;
+        return Ok((piece, items));
+    }
+    let cells = first_layer(alloc, p, &layer)?;
+    let items = extend(alloc, &mut piece, layer, cells)?;
+    Ok((piece, items))
+}

@@ -1,0 +1,136 @@
+//! The session. Serves those who follow a trace; decided by `IsFed` and `IsFinished`.
+ghost use Rattle.std.specs.Prelude.{◌≡◌, ◌<◌, [], ◌++◌, None, IfOk, OnErr, OnOk};
+ghost use Rattle.bounded_search.specs.Rows.{AreRowsOf, AsksOnly};
+ghost use Rattle.cost_model.specs.Options.{IsAccepted};
+ghost use Rattle.matching.specs.PieceSteps.{AsksIn};
+ghost use Rattle.online_commit.specs.Session.{AsksFed, AsksFinished, IsFed, IsFedLayer, IsFinished, StandsFor, no_points_of, points_of};
+ghost use Rattle.online_commit.specs.Steps.{TellsCells};
+
+use crate::closing::closing_items;
+use crate::feeding::{OpenPiece, begin, extend, next_cells, no_piece};
+use crate::items::Item;
+use bounded_search::Rows;
+use cost_model::Params;
+use polyline_geometry::List;
+use road_network::Network;
+use std::alloc::{AllocError, Global};
+use std::marker::Model;
+use trellis::Layer;
+
+#[cfg(test)]
+mod tests;
+
+/// A session of one trace. A contract sees the network, the options and what is kept of the points,
+/// and `StandsFor` says for which points it stands.
+#[derive(Drop)]
+pub struct Online<'n> {
+    alloc: Global,
+    net: &'n Network,
+    params: Params,
+    piece: OpenPiece,
+}
+
+impl<'n> Model for Online<'n> {
+    ghost use Rattle.online_commit.specs.Session.{Session};
+    ghost use Rattle.online_commit.specs.SessionInside.{shown_session, IsKept};
+
+    ghost Value = { Session };
+
+    ghost view = { shown_session };
+
+    ghost invariant = { IsKept };
+}
+
+/// Appends items.
+fn append_items(items: &mut List<Item>, more: List<Item>) -> Result<(), AllocError>
+    ensures { OnOk result (items.new ≡ items.old ++ more) }
+{
+    for item in more.into_vec() {
+        items.push(item)?;
+    }
+    Ok(())
+}
+
+impl<'n> Online<'n> {
+    /// A session of no points, with accepted options. Takes no memory.
+    pub fn open(alloc: Global, net: &'n Network, p: &Params) -> Online<'n>
+        requires { IsAccepted p.now }
+        ensures opened { result ≡ no_points_of net.now p.now }
+        ensures stands { StandsFor result [] }
+    {
+        Online {
+            alloc,
+            net,
+            params: *p,
+            piece: no_piece(alloc, 0),
+        }
+    }
+
+    /// How many points were taken since the session was opened or finished.
+    pub fn count(&self) -> u32
+        ensures { result ≡ points_of self.now }
+    {
+        self.piece.first + self.piece.layers.len() as u32
+    }
+
+    /// Takes the next point, and gives the items that are committed by it, in the order of the points.
+    /// Err says that memory was refused; the point was not taken then.
+    ///
+    /// The rows of the latest point before become known where the new point may follow it, and those
+    /// of the route of a piece that is closed.
+    pub fn feed<R: Rows>(&mut self, layer: Layer, rows: &mut R) -> Result<List<Item>, AllocError>
+        requires rows { AreRowsOf (R.state rows.old) self.old.network self.old.params.bound }
+        requires layer { IsFedLayer self.old.network self.old.params layer }
+        requires room { points_of self.old < 100_000 }
+        ensures fed { IfOk result (IsFed self.old layer self.new) }
+        ensures err { OnErr result (self.new ≡ self.old) }
+        ensures asks { AsksFed self.old layer (R.state rows.old) result (R.state rows.new) }
+    {
+        self.net.known();
+        let next = next_cells(
+            self.alloc,
+            self.net,
+            &self.params,
+            rows,
+            &self.piece,
+            &layer,
+        )?;
+        match next {
+            Some(cells) => extend(self.alloc, &mut self.piece, layer, cells),
+            None => self.begin_anew(layer, rows),
+        }
+    }
+
+    /// Closes the open piece, if there is one, before a point with which it does not go on.
+    fn begin_anew<R: Rows>(&mut self, layer: Layer, rows: &mut R) -> Result<List<Item>, AllocError>
+        requires rows { AreRowsOf (R.state rows.old) self.old.network self.old.params.bound }
+        requires layer { IsFedLayer self.old.network self.old.params layer }
+        requires room { points_of self.old < 100_000 }
+        requires ends { TellsCells self.old layer None }
+        ensures fed { IfOk result (IsFed self.old layer self.new) }
+        ensures err { OnErr result (self.new ≡ self.old) }
+        ensures asks { AsksOnly (R.state rows.old) (R.state rows.new)
+            (AsksIn self.old.network self.old.params self.old.layers self.old.tables) }
+    {
+        self.net.known();
+        let mut items = closing_items(self.alloc, self.net, &self.params, rows, &self.piece)?;
+        let index = self.piece.first + self.piece.layers.len() as u32;
+        let (piece, more) = begin(self.alloc, &self.params, index, layer)?;
+        append_items(&mut items, more)?;
+        self.piece = piece;
+        Ok(items)
+    }
+
+    /// Ends the trace, and gives the items that are left. Then the session is as newly opened. Err says
+    /// that memory was refused; the session is as before then.
+    pub fn finish<R: Rows>(&mut self, rows: &mut R) -> Result<List<Item>, AllocError>
+        requires rows { AreRowsOf (R.state rows.old) self.old.network self.old.params.bound }
+        ensures finished { IfOk result (IsFinished self.old self.new) }
+        ensures err { OnErr result (self.new ≡ self.old) }
+        ensures asks { AsksFinished self.old (R.state rows.old) (R.state rows.new) }
+    {
+        let items = closing_items(self.alloc, self.net, &self.params, rows, &self.piece)?;
+        self.piece = no_piece(self.alloc, 0);
+        Ok(items)
+    }
+}
