@@ -1,0 +1,10 @@
+pub mod Numerals
+pub mod States
+pub mod Lines
+pub mod Walks
+pub mod Fields
+pub mod Near
+pub mod TownNet
+pub mod TownFile
+pub mod TraceLines
+pub mod TownTraces

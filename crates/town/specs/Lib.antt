@@ -1,0 +1,5 @@
+pub mod Draws
+pub mod Corners
+pub mod Network
+pub mod Traces
+pub mod Laws

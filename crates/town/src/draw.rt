@@ -1,0 +1,33 @@
+// The generator of a town. Serves `town_traces`; decided by `draw` and `state_after`.
+ghost use Rattle.std.specs.Prelude.{◌≡◌, ◌≤◌};
+ghost use Rattle.town.specs.Draws.{draw, state_after};
+
+const FACTOR: u64 = 6_364_136_223_846_793_005;
+
+const SHIFT: u64 = 1_442_695_040_888_963_407;
+
+/// Numbers drawn one after the other, always the same from one seed. Takes no memory.
+#[derive(Clone, Copy, Debug, PartialEq, Eq)]
+pub struct Draw {
+    state: u64,
+}
+
+impl Draw {
+    /// The generator that begins with this seed.
+    pub fn new(seed: u64) -> Draw
+        ensures { result.state ≡ seed }
+    {
+        Draw { state: seed }
+    }
+
+    /// The next number, below `m`.
+    #[tactic(auto, unfolding(crate::specs::Draws::state_after))]
+    pub fn below(&mut self, m: u32) -> u32
+        requires { 1 ≤ m }
+        ensures value { result ≡ draw 1 self.old.state m }
+        ensures state { self.new.state ≡ state_after 1 self.old.state }
+    {
+        self.state = self.state.wrapping_mul(FACTOR).wrapping_add(SHIFT);
+        (self.state >> 33) as u32 % m
+    }
+}
