@@ -1,1 +1,5 @@
 pub mod Answers
+pub mod Crew
+pub mod Gathering
+pub mod Learning
+pub mod Working

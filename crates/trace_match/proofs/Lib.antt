@@ -1,7 +1,6 @@
 pub mod TraceLayers
 pub mod Points
 pub mod Ranks
-pub mod ChosenEnds
 pub mod LabelLists
 pub mod RouteNames
 pub mod Lawful

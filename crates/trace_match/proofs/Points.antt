@@ -4,7 +4,7 @@ use Rattle.std.proofs.lemmas.Bool.{cases_lt}
 use Rattle.std.proofs.lemmas.List.{get_or-drop, get_or-take, length-drop, length-take-le, get_or_default}
 use Rattle.matching.specs.declared.parts.Piece.{Piece}
 use Rattle.matching.specs.Match.{IsMatch, IsMatchedPiece}
-use Rattle.matching.specs.Pieces.{ArePieces, IsPiece, NoCandidates}
+use Rattle.matching.specs.Pieces.{ArePieces, NoCandidates}
 use Rattle.matching.specs.Places.{IsAt}
 use Rattle.matching.specs.Sequences.{Trellis}
 use Rattle.trellis.specs.declared.parts.Solved.{Solved}
@@ -56,14 +56,6 @@ point_lies t layers at (p ∷ pieces) i d are ge lt some =
     (λ behind. let later = point_lies t layers (p.last + 1) pieces i d are.4 behind lt some in (suc later.0, lies_later p pieces i later.0 later.1))
     (cases_lt i (p.last + 1)))
     (cases_lt i p.first)
-
--- a piece of a match is the longest from its first point on
-pub piece_is : {L : Type 0} (t : Trellis L) (layers : List L) (at : ℕ) (pieces : List Piece) (k : ℕ)
-    → ArePieces t layers at pieces → k < length pieces
-    → IsPiece t (drop (piece_at pieces k).first layers) ((piece_at pieces k).last + 1 - (piece_at pieces k).first)
-piece_is t layers at [] k are lt = absurd (omega (arith, lt))
-piece_is t layers at (p ∷ pieces) zero are lt = are.3
-piece_is t layers at (p ∷ pieces) (suc k) are lt = piece_is t layers (p.last + 1) pieces k are.4 (omega (arith, lt))
 
 -- and there are at most as many as points
 pub pieces_count : {L : Type 0} (t : Trellis L) (layers : List L) (at : ℕ) (pieces : List Piece) → ArePieces t layers at pieces → length pieces ≤ length layers - at

@@ -7,7 +7,7 @@ use Rattle.route_rebuild.specs.Numbers.{numbers}
 use Rattle.route_rebuild.specs.Routes.{piece_at}
 use Rattle.route_rebuild.proofs.RouteValue.{route_of-is}
 use Rattle.trace_match.specs.Match.{routed_over}
-use Rattle.trace_match.proofs.ChosenEnds.{chosen_asked}
+use Rattle.route_rebuild.proofs.ChosenEnds.{chosen_asked}
 use Rattle.trace_match.proofs.RouteNames.{route_edges}
 use Rattle.match_pool.proofs.routes.routed_piece.Goals as goal
 

@@ -1,0 +1,81 @@
+-- What a worker answers, and what its reader has learned.
+use Rattle.std.specs.Prelude.{◌≡◌, ◌+◌, ◌<◌, ◌≤◌, ◌^◌, ◌↔◌, ◌⊎◌, ℕ, Bool, true, List, [], ◌∷◌, ◌++◌, map, length, slice_index_or, All}
+use Rattle.std.specs.List.{list_any}
+use Rattle.bounded_search.specs.Known.{Extends}
+use Rattle.cost_model.specs.declared.params.Params.{Params}
+use Rattle.match_text.specs.declared.matched.MatchedTrace.{MatchedTrace}
+use Rattle.road_network.specs.Net.{Net}
+use Rattle.row_store.specs.Store.{Reading, knows}
+use Rattle.tickets.specs.Tickets.{Drawn, Opened, IsOpenTicket}
+use Rattle.trace_match.specs.Match.{asks, match_of}
+use Rattle.trace_reader.specs.declared.trace.Trace.{Trace}
+use Rattle.trace_reader.specs.Trace.{IsLawfulTrace}
+use Rattle.match_pool.specs.declared.worker.Done.{Done}
+
+-- what is matched: these traces, the first of which stands at this place of the file
+pub record Job : Type 0 where
+  pub network : Net
+  pub params : Params
+  pub first : ℕ
+  pub traces : List Trace
+
+abbrev pub job : Net → Params → ℕ → List Trace → Job
+job n p first traces = record { network = n; params = p; first = first; traces = traces }
+
+-- as many traces as a job may have, and where the first may stand
+pub record AreJobTraces (first : ℕ) (traces : List Trace) : Type 0 where
+  pub first_place : first ≤ 2 ^ 63
+  pub few : length traces ≤ 2 ^ 32
+  pub lawful : All IsLawfulTrace traces
+
+-- the ticket is one of these claims on the numbers of so many traces, and has not ended
+pub record CanDraw (count : ℕ) (claims : Opened) (ticket : Drawn) : Type 0 where
+  pub all : claims.count ≡ count
+  pub own : ticket.claims ≡ claims.name
+  pub opened : IsOpenTicket claims.count ticket
+
+-- the reader is of a store for this network and the bound of these options
+pub record IsReaderFor (n : Net) (p : Params) (reader : Reading) : Type 0 where
+  pub network : reader.store.network ≡ n
+  pub bound : reader.store.bound ≡ p.bound
+
+-- the reader is of the same store, and what it knew it knows
+pub record StaysReader (before after : Reading) : Type 0 where
+  pub store : after.store ≡ before.store
+  pub held : Extends before.places after.places
+
+-- what stands for a trace past the end
+abbrev pub no_trace : Trace
+no_trace = record { id = 0; fixes = [] }
+
+abbrev pub trace_at : Job → ℕ → Trace
+trace_at j k = slice_index_or j.traces k no_trace
+
+-- the match of the trace of this number
+abbrev pub matched_at : Job → ℕ → MatchedTrace
+matched_at j k = match_of j.network j.params (trace_at j k)
+
+-- the answer for the trace of this number, where `matched` has the matches by number
+abbrev pub done_by : ℕ → (ℕ → MatchedTrace) → ℕ → Done
+done_by first matched k = record { place = first + k; matched = matched k }
+
+-- whether the trace of this number asks for the row of node v
+abbrev pub asks_at : Job → ℕ → ℕ → Bool
+asks_at j v k = asks j.network j.params (trace_at j k) v
+
+-- the reader knows what it knew, and what the traces of these numbers ask for
+abbrev pub LearnsAsked : Job → List ℕ → Reading → Reading → Type 0
+LearnsAsked j numbers before after =
+    (v : ℕ) → (knows after v ≡ true) ↔ ((knows before v ≡ true) ⊎ (list_any (asks_at j v) numbers ≡ true))
+
+-- The ticket drew some numbers, in this order, and then one too great. The answers are those of the
+-- traces of these numbers, and what they ask for became known.
+pub record Works (j : Job) (reader : Reading) (ticket : Drawn) (done : List Done) (reader' : Reading)
+    (ticket' : Drawn) : Type 0 where
+  pub numbers : List ℕ
+  pub last : ℕ
+  pub drawn : ticket'.numbers ≡ ticket.numbers ++ (numbers ++ last ∷ [])
+  pub below : All (λ k. k < length j.traces) numbers
+  pub above : length j.traces ≤ last
+  pub answers : done ≡ map (done_by j.first (matched_at j)) numbers
+  pub learns : LearnsAsked j numbers reader reader'

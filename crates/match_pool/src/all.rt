@@ -1,0 +1,54 @@
+//! Many traces, matched by several workers. Serves programs; decided by `match_of` and `LearnAsked`.
+ghost use Rattle.std.specs.Prelude.{◌≡◌, ◌≤◌, IfOk, OnOk, length, map};
+ghost use Rattle.std.specs.List.{AllZip};
+ghost use Rattle.trace_match.specs.Ground.{IsGridFor};
+ghost use Rattle.trace_match.specs.Match.{match_of};
+ghost use Rattle.match_pool.specs.Learning.{AreReadersFor, LearnAsked};
+ghost use Rattle.match_pool.specs.Working.{AreJobTraces, StaysReader};
+
+use crate::crew::Crew;
+use crate::gate::Gate;
+use crate::gathering::gather;
+use cost_model::Params;
+use grid_index::Grid;
+use match_text::MatchedTrace;
+use polyline_geometry::List;
+use road_network::Network;
+use row_store::Reader;
+use std::alloc::{AllocError, Global};
+use std::thread::Threads;
+use tickets::Claims;
+use trace_reader::Trace;
+
+/// The matches of all traces, in their order, by one worker for each reader.
+///
+/// There are 1 to 64 readers. Each worker matches the traces whose numbers it draws from one word, with
+/// its reader, in a thread of its own where there is one. `first` is the place of the first trace in the
+/// file, from 0, by which the gate is told of the traces. Err says that memory was refused; the readers
+/// are there all the same.
+pub fn match_all<'s, R: Threads + Sync, G: Gate>(
+    rt: &R,
+    alloc: Global,
+    net: &Network,
+    grid: &Grid,
+    p: &Params,
+    first: u64,
+    traces: &[Trace],
+    readers: &mut List<Reader<'s>>,
+    gate: &G,
+) -> Result<List<MatchedTrace>, AllocError>
+    requires ground { IsGridFor net.now p.now grid.now }
+    requires traces { AreJobTraces first traces.now }
+    requires readers { AreReadersFor net.now p.now readers.old }
+    ensures matched { IfOk result (λ all. all ≡ map (match_of net.now p.now) traces.now) }
+    ensures readers { AllZip StaysReader readers.old readers.new }
+    ensures learns { OnOk result
+        (LearnAsked net.now p.now traces.now readers.old readers.new) }
+{
+    let seats = readers.len() as u32;
+    let (claims, tickets) = Claims::open(alloc, traces.len() as u64, seats)?;
+    let mut crew = Crew::hire(alloc, readers, tickets)?;
+    crew.run(rt, alloc, net, grid, p, first, traces, &claims, gate);
+    let turns = crew.dismiss(readers);
+    gather(alloc, claims, first, traces.len(), turns)
+}

@@ -1,0 +1,23 @@
+//! Who is told of each trace that is matched. Serves tests of `work`.
+
+use row_store::RowStore;
+
+/// Is told of each trace before and after it is matched. Both calls return.
+///
+/// `trace` is the place of the trace in the file, from 0, and `store` is where the worker's rows come
+/// from. A gate may make readers of its own on it, and look and offer through them.
+pub trait Gate: Sync {
+    fn begin(&self, trace: u64, store: &RowStore<'_>);
+
+    fn end(&self, trace: u64, store: &RowStore<'_>);
+}
+
+/// A gate that does nothing.
+#[derive(Clone, Copy)]
+pub struct OpenGate;
+
+impl Gate for OpenGate {
+    fn begin(&self, _trace: u64, _store: &RowStore<'_>) {}
+
+    fn end(&self, _trace: u64, _store: &RowStore<'_>) {}
+}

@@ -1,0 +1,63 @@
+//! What one worker does. Serves `match_all`; decided by `Works`.
+ghost use Rattle.std.specs.Prelude.{◌≡◌, ◌≤◌, IfOk, length};
+ghost use Rattle.trace_match.specs.Ground.{IsGridFor};
+ghost use Rattle.match_pool.specs.Working.{AreJobTraces, CanDraw, IsReaderFor, StaysReader, Works, job};
+
+use crate::answer::match_one;
+use crate::gate::Gate;
+use cost_model::Params;
+use grid_index::Grid;
+use match_text::MatchedTrace;
+use polyline_geometry::List;
+use road_network::Network;
+use row_store::Reader;
+use std::alloc::{AllocError, Global};
+use tickets::{Claims, Ticket};
+use trace_reader::Trace;
+
+/// The match of the trace at a place of the file, from 0.
+#[derive(Drop)]
+pub struct Done {
+    pub place: u64,
+    pub matched: MatchedTrace,
+}
+
+/// Matches each trace whose number the ticket draws, until there is none left. `first` is the place of
+/// the first trace in the file, from 0.
+///
+/// The rows are those of the reader. The gate is told of each trace before and after it is matched.
+/// Err says that memory was refused.
+pub fn work<'s, G: Gate>(
+    alloc: Global,
+    net: &Network,
+    grid: &Grid,
+    p: &Params,
+    first: u64,
+    traces: &[Trace],
+    claims: &Claims,
+    ticket: &mut Ticket,
+    reader: &mut Reader<'s>,
+    gate: &G,
+) -> Result<List<Done>, AllocError>
+    requires ground { IsGridFor net.now p.now grid.now }
+    requires traces { AreJobTraces first traces.now }
+    requires ticket { CanDraw (length traces.now) claims.now ticket.old }
+    requires reader { IsReaderFor net.now p.now reader.old }
+    ensures reader { StaysReader reader.old reader.new }
+    ensures claims { ticket.new.claims ≡ ticket.old.claims }
+    ensures works { IfOk result (λ done. Works (job net.now p.now first traces.now)
+        reader.old ticket.old done reader.new ticket.new) }
+{
+    let mut done = List::new(alloc);
+    while let Some(number) = claims.draw(ticket) {
+        let place = first + number;
+        gate.begin(place, reader.store());
+        let answer = match_one(alloc, net, grid, p, reader, &traces[number as usize])?;
+        gate.end(place, reader.store());
+        done.push(Done {
+            place,
+            matched: answer.matched,
+        })?;
+    }
+    Ok(done)
+}
