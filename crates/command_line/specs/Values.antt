@@ -6,7 +6,7 @@ use Rattle.decimal_text.specs.declared.number.NumberFault.{NumberFault}
 use Rattle.command_line.specs.declared.fault.WordsFault.{WordsFault}
 use Rattle.command_line.specs.declared.fault.WordsFault.TheVariants.{BadValue}
 use Rattle.command_line.specs.declared.value.ValueName.{ValueName}
-use Rattle.command_line.specs.declared.value.ValueName.TheVariants.{K, Radius, Sigma, Beta, Bound, Workers, Back, Gap}
+use Rattle.command_line.specs.declared.value.ValueName.TheVariants.{K, Radius, Sigma, Beta, Bound, Workers, Back, Gap, N, T, Seed}
 use Rattle.command_line.specs.declared.value.ValueRange.{ValueRange}
 
 abbrev pub name_of : ValueName → List ℕ
@@ -18,6 +18,9 @@ name_of Bound = codes "bound"
 name_of Workers = codes "workers"
 name_of Back = codes "back"
 name_of Gap = codes "gap"
+name_of N = codes "N"
+name_of T = codes "T"
+name_of Seed = codes "SEED"
 
 abbrev pub range_of : ValueName → ValueRange
 range_of K = record { least = 1; most = 32 }
@@ -28,6 +31,9 @@ range_of Bound = record { least = 0; most = 10_000_000 }
 range_of Workers = record { least = 1; most = 64 }
 range_of Back = record { least = 0; most = 100_000 }
 range_of Gap = record { least = 0; most = 4_294_967_295 }
+range_of N = record { least = 2; most = 100 }
+range_of T = record { least = 1; most = 2_000 }
+range_of Seed = record { least = 0; most = 4_294_967_295 }
 
 -- a number that is too small is refused as one that is too great, and as a misspelt one
 abbrev pub checked : ValueName → Result ℕ NumberFault → Result ℕ WordsFault

@@ -1,13 +1,18 @@
 -- What words ask for, with the bytes of its names.
 use Rattle.std.specs.Prelude.{ℕ, List, Option, Result}
+use Rattle.cost_model.specs.Options.{IsWithin}
 use Rattle.cost_model.specs.declared.params.Params.{Params}
+use Rattle.command_line.specs.Values.{range_of}
 use Rattle.command_line.specs.declared.fault.WordsFault.{WordsFault}
+use Rattle.command_line.specs.declared.value.ValueName.TheVariants.{N, T}
 use Rattle.command_line.specs.declared.work.Command.{Command}
 use Rattle.command_line.specs.declared.work.Work.{Work}
-use Rattle.command_line.specs.declared.work.Work.TheVariants.{Match}
+use Rattle.command_line.specs.declared.work.Work.TheVariants.{Match, Table, Town}
 
 pub data PlainWork : Type 0 where
   match_files : (network traces : List ℕ) → PlainWork
+  table_of_network : (network : List ℕ) → PlainWork
+  match_town : (side traces seed : ℕ) → PlainWork
 
 pub record PlainCommand : Type 0 where
   pub work : PlainWork
@@ -15,6 +20,16 @@ pub record PlainCommand : Type 0 where
 
 abbrev pub plain_work : Work → PlainWork
 plain_work (Match network traces) = match_files network.now traces.now
+plain_work (Table network) = table_of_network network.now
+plain_work (Town side traces seed) = match_town side traces seed
+
+-- the numbers of a work are in their ranges
+abbrev pub AreNumbersWithin : Work → Type 0
+AreNumbersWithin (Match network traces) = Unit {0}
+AreNumbersWithin (Table network) = Unit {0}
+AreNumbersWithin (Town side traces seed) =
+    IsWithin (range_of N).least (range_of N).most side
+    × IsWithin (range_of T).least (range_of T).most traces
 
 abbrev pub plain : Command → PlainCommand
 plain command = record { work = plain_work command.work; options = command.options }

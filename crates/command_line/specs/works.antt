@@ -1,1 +1,3 @@
 pub mod Match
+pub mod Table
+pub mod Town

@@ -4,7 +4,7 @@ ghost use Rattle.std.specs.Result.{result_map_both};
 ghost use Rattle.clap.specs.Words.{first_of, found_of, kind_of, rows_of, subcommand_rows_of};
 ghost use Rattle.cost_model.specs.Options.{IsAccepted};
 ghost use Rattle.command_line.specs.Syntax.{all_kinds};
-ghost use Rattle.command_line.specs.Work.{plain, plain_work};
+ghost use Rattle.command_line.specs.Work.{AreNumbersWithin, plain, plain_work};
 ghost use Rattle.command_line.specs.Words.{command_named, command_of, entered_of, work_of};
 
 use crate::fault::WordsFault;
@@ -12,6 +12,8 @@ use crate::read::read_options;
 use crate::syntax::program;
 use crate::work::{Command, Work};
 use crate::works::matching::read_match;
+use crate::works::table::read_table;
+use crate::works::towns::read_town;
 use clap::ArgMatches;
 use clap::error::ErrorKind;
 use std::alloc::Global;
@@ -24,6 +26,7 @@ pub fn read_command<'a>(alloc: Global, words: &'a [String]) -> Result<Command<'a
     ensures err { IfErr result (λ fault. (fault ≡ WordsFault.Memory)
         ⊎ (command_of (map string_bytes words.now) ≡ Err fault)) }
     ensures accepted { IfOk result (λ command. IsAccepted command.options) }
+    ensures within { IfOk result (λ command. AreNumbersWithin command.work) }
 {
     let matches = match program(alloc)?.try_get_matches_from(words) {
         Ok(matches) => matches,
@@ -48,6 +51,7 @@ fn command_in<'a>(matches: &ArgMatches<'a>) -> Result<Command<'a>, WordsFault>
     ensures value { result_map_both plain (λ fault. fault) result
         ≡ entered_of (subcommand_rows_of matches.now) }
     ensures accepted { IfOk result (λ command. IsAccepted command.options) }
+    ensures within { IfOk result (λ command. AreNumbersWithin command.work) }
 {
     match matches.subcommand() {
         Some((name, found)) => command_named(name, found),
@@ -60,6 +64,7 @@ fn command_named<'a>(name: &str, found: &ArgMatches<'a>) -> Result<Command<'a>, 
     ensures value { result_map_both plain (λ fault. fault) result
         ≡ command_named name.now (λ name. first_of name (rows_of (found_of found.now))) }
     ensures accepted { IfOk result (λ command. IsAccepted command.options) }
+    ensures within { IfOk result (λ command. AreNumbersWithin command.work) }
 {
     let options = read_options(found)?;
     let work = read_work(name, found)?;
@@ -67,11 +72,14 @@ fn command_named<'a>(name: &str, found: &ArgMatches<'a>) -> Result<Command<'a>, 
 }
 
 fn read_work<'a>(name: &str, found: &ArgMatches<'a>) -> Result<Work<'a>, WordsFault>
-    ensures { result_map_both plain_work (λ fault. fault) result
+    ensures value { result_map_both plain_work (λ fault. fault) result
         ≡ work_of all_kinds name.now (λ name. first_of name (rows_of (found_of found.now))) }
+    ensures within { IfOk result AreNumbersWithin }
 {
     match name {
         "match" => read_match(found),
+        "table" => read_table(found),
+        "town" => read_town(found),
         _ => Err(WordsFault::Usage),
     }
 }

@@ -25,10 +25,19 @@ fn refused_words(rt: HostRuntime) -> Result<(), Fail> {
         ("match a -b", WordsFault::Usage),
         ("match a b --help", WordsFault::Usage),
         ("help", WordsFault::Usage),
+        ("table", WordsFault::Usage),
+        ("table a b", WordsFault::Usage),
+        ("table a --table b", WordsFault::Usage),
         ("match a b --k 0", WordsFault::BadValue(ValueName::K)),
         ("match a b --k 33", WordsFault::BadValue(ValueName::K)),
         ("match a b --k x", WordsFault::BadValue(ValueName::K)),
         ("match a b --k=+3", WordsFault::BadValue(ValueName::K)),
+        ("town 20 200", WordsFault::Usage),
+        ("town 1 1 1", WordsFault::BadValue(ValueName::N)),
+        ("town 101 0 1", WordsFault::BadValue(ValueName::N)),
+        ("town 2 2001 x", WordsFault::BadValue(ValueName::T)),
+        ("town 2 1 4294967296", WordsFault::BadValue(ValueName::Seed)),
+        ("town 1 1 1 --k 0", WordsFault::BadValue(ValueName::K)),
         (
             "match --gap 4294967296 a b --radius 0",
             WordsFault::BadValue(ValueName::Radius),
@@ -53,6 +62,24 @@ fn accepted_words(rt: HostRuntime) -> Result<(), Fail> {
             k: 3,
             bound: 0,
             gap: 60,
+            ..Params::DEFAULT
+        },
+    };
+    assert_eq!(rt; read_command(rt.alloc(), words.as_slice()), Ok(command));
+    Ok(())
+}
+
+#[test]
+fn words_of_a_town(rt: HostRuntime) -> Result<(), Fail> {
+    let words = words(rt.alloc(), "town 20 --workers 7 200 01")?;
+    let command = Command {
+        work: Work::Town {
+            side: 20,
+            traces: 200,
+            seed: 1,
+        },
+        options: Params {
+            workers: 7,
             ..Params::DEFAULT
         },
     };

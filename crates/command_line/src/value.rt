@@ -4,7 +4,7 @@ ghost use Rattle.std.specs.Prelude.{◌≡◌};
 ghost use Rattle.command_line.specs.Values.{name_of, range_of};
 
 /// A value that words give as a number. An option is named as the field of `Params` that has its
-/// value.
+/// value, and an argument as the words name it.
 #[derive(Clone, Copy, PartialEq, Eq, Debug)]
 pub enum ValueName {
     K,
@@ -15,6 +15,12 @@ pub enum ValueName {
     Workers,
     Back,
     Gap,
+    /// How many rows and columns a town has.
+    N,
+    /// How many traces.
+    T,
+    /// What a generated input begins with.
+    Seed,
 }
 
 /// The numbers that a value may be.
@@ -52,6 +58,9 @@ impl ValueName {
             ValueName::Workers => "workers",
             ValueName::Back => "back",
             ValueName::Gap => "gap",
+            ValueName::N => "N",
+            ValueName::T => "T",
+            ValueName::Seed => "SEED",
         }
     }
 
@@ -68,6 +77,9 @@ impl ValueName {
             ValueName::Workers => (1, 64),
             ValueName::Back => (0, 100_000),
             ValueName::Gap => (0, u32::MAX),
+            ValueName::N => (2, 100),
+            ValueName::T => (1, 2_000),
+            ValueName::Seed => (0, u32::MAX),
         };
         ValueRange { least, most }
     }

@@ -19,4 +19,18 @@ pub enum Work<'a> {
         /// The name of the trace file.
         traces: &'a str,
     },
+    /// Write the table of the network of a file.
+    Table {
+        /// The name of the network file.
+        network: &'a str,
+    },
+    /// Match the traces of a generated town.
+    Town {
+        /// How many rows and columns of corners it has.
+        side: u32,
+        /// How many traces.
+        traces: u32,
+        /// What the generator begins with.
+        seed: u32,
+    },
 }

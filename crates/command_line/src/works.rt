@@ -1,2 +1,4 @@
 // The kinds of work, each in a file of its own.
 pub mod matching;
+pub mod table;
+pub mod towns;

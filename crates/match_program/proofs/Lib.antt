@@ -3,5 +3,7 @@ pub mod Asking
 pub mod Counting
 pub mod Jobs
 pub mod Lines
+pub mod TableRows
 pub mod Texts
+pub mod Towns
 pub mod Workers

@@ -1,10 +1,11 @@
 -- The table of lines has every line with which a plan of words may end.
-use Rattle.std.proofs.Common.{◌≡◌, ◌≢◌, ℕ, List, Some, None, Result, Ok, Err, refl, sym, ◌∙◌, ap, inl, inr}
+use Rattle.std.proofs.Common.{◌≡◌, ◌≢◌, ℕ, Bool, true, false, cond, length, List, Some, None, Result, Ok, Err, refl, sym, ◌∙◌, ap, inl, inr}
+use Rattle.std.specs.Prelude.{nat_lt}
 use Rattle.std.specs.declared.option.Option.{Option}
 use Rattle.std.specs.Result.{result_map_both}
 use Rattle.command_line.specs.FaultLine.{fault_line as words_fault_line}
 use Rattle.command_line.specs.Work.{PlainCommand, PlainWork}
-use Rattle.command_line.specs.Work.PlainWork.{match_files}
+use Rattle.command_line.specs.Work.PlainWork.{match_files, match_town, table_of_network}
 use Rattle.command_line.specs.Words.{command_of}
 use Rattle.command_line.specs.declared.fault.WordsFault.{WordsFault}
 use Rattle.cost_model.specs.declared.params.Params.{Params}
@@ -12,38 +13,55 @@ use Rattle.program_frame.specs.Jobs.{given_by}
 use Rattle.program_frame.specs.Plan.{Plan, IsLineOf, accepts, plan_of}
 use Rattle.program_frame.specs.Plan.Plan.{ends}
 use Rattle.program_frame.specs.Promises.{Covers}
-use Rattle.program_frame.specs.Refusals.{network_said, refusal_lines}
+use Rattle.program_frame.specs.Outcome.{done_with}
+use Rattle.program_frame.specs.Refusals.{network_said}
 use Rattle.program_frame.specs.Stream.{works_traces}
 use Rattle.road_network.specs.Net.{Net}
 use Rattle.trace_reader.specs.Fault.{fault_line}
 use Rattle.trace_reader.specs.Reading.{file_fault}
 use Rattle.trace_reader.specs.declared.fault.TraceFault.{TraceFault}
+use Rattle.table_file.specs.TableText.{text_limit}
+use Rattle.match_program.specs.RunLines.{run_lines}
 use Rattle.match_program.specs.Setting.{Setting}
 use Rattle.match_program.specs.Words.{asked_by, command_plan, work_plan}
-use Rattle.match_program.specs.commands.Matches.{match_plan, match_text}
+use Rattle.match_program.specs.commands.Matches.{match_text}
+use Rattle.match_program.specs.commands.Table.{table_said, table_too_long, text_of_network}
 
-traces_end : (texts ending bytes : List ℕ) (fault : Option TraceFault) (status : ℕ) (line : List ℕ) → file_fault bytes ≡ fault → status ≢ 0 → IsLineOf (ends (given_by None fault texts ending)) status line → refusal_lines status line
-traces_end texts ending bytes (Some fault) status line known refused is = inr (inr (sym is.0, (bytes, ap (λ f. line_in f) known ∙ ap (λ l. Some l) is.1)))
+traces_end : (texts ending bytes : List ℕ) (fault : Option TraceFault) (status : ℕ) (line : List ℕ) → file_fault bytes ≡ fault → status ≢ 0 → IsLineOf (ends (given_by None fault texts ending)) status line → run_lines status line
+traces_end texts ending bytes (Some fault) status line known refused is = inl (inr (inr (sym is.0, (bytes, ap (λ f. line_in f) known ∙ ap (λ l. Some l) is.1))))
   where
     line_in : Option TraceFault → Option (List ℕ)
     line_in None = None
     line_in (Some f) = Some (fault_line f)
 traces_end texts ending bytes None status line known refused is = absurd (refused (sym is.0))
 
-matches_end : (on : Setting) (name : List ℕ) (status : ℕ) (line : List ℕ) → status ≢ 0 → IsLineOf (works_traces name (match_text on)) status line → refusal_lines status line
+matches_end : (on : Setting) (name : List ℕ) (status : ℕ) (line : List ℕ) → status ≢ 0 → IsLineOf (works_traces name (match_text on)) status line → run_lines status line
 matches_end on name status line refused is = traces_end _ _ is.0 (file_fault is.0) status line refl refused is.1
 
-network_end : (bytes : List ℕ) (said : Result Net (List ℕ)) (next : Net → Plan) (status : ℕ) (line : List ℕ) → network_said bytes ≡ said → ((net : Net) → IsLineOf (next net) status line → refusal_lines status line) → IsLineOf (accepts 5 said next) status line → refusal_lines status line
+network_end : (bytes : List ℕ) (said : Result Net (List ℕ)) (next : Net → Plan) (status : ℕ) (line : List ℕ) → network_said bytes ≡ said → ((net : Net) → IsLineOf (next net) status line → run_lines status line) → IsLineOf (accepts 5 said next) status line → run_lines status line
 network_end bytes (Ok net) next status line known rest is = rest net is
-network_end bytes (Err fault) next status line known rest is = inr (inl (sym is.0, (bytes, known ∙ ap (λ l. Err l) is.1)))
+network_end bytes (Err fault) next status line known rest is = inl (inr (inl (sym is.0, (bytes, known ∙ ap (λ l. Err l) is.1))))
 
-work_end : (work : PlainWork) (options : Params) (status : ℕ) (line : List ℕ) → status ≢ 0 → IsLineOf (work_plan work options) status line → refusal_lines status line
+table_end : (network : List ℕ) (options : Params) (said : Result (List ℕ) (List ℕ)) (net : Net) (status : ℕ) (line : List ℕ) → table_said net options.bound ≡ said → status ≢ 0
+    → IsLineOf (accepts 8 said (λ text. ends (done_with text))) status line → run_lines status line
+table_end network options (Ok text) net status line known refused is = absurd (refused (sym is.0))
+table_end network options (Err said) net status line known refused is = inr (sym is.0, sym is.1 ∙ too_long_said (nat_lt text_limit (length (text_of_network net options.bound))) known)
+  where
+    too_long_said : (long : Bool) → cond {A = Result (List ℕ) (List ℕ)} long (Err table_too_long) (Ok (text_of_network net options.bound)) ≡ Err said → said ≡ table_too_long
+    too_long_said true e = cc
+    too_long_said false e = absurd cc
+
+work_end : (work : PlainWork) (options : Params) (status : ℕ) (line : List ℕ) → status ≢ 0 → IsLineOf (work_plan work options) status line → run_lines status line
 work_end (match_files network traces) options status line refused is =
     network_end is.0 (network_said is.0) (λ net. works_traces traces (match_text (record { network = net; params = options }))) status line refl (λ net. matches_end (record { network = net; params = options }) traces status line refused) is.1
+work_end (table_of_network network) options status line refused is =
+    network_end is.0 (network_said is.0) (λ net. accepts 8 (table_said net options.bound) (λ text. ends (done_with text))) status line refl
+    (λ net. table_end network options (table_said net options.bound) net status line refl refused) is.1
+work_end (match_town side traces seed) options status line refused is = absurd (refused (sym is.0))
 
-asked_end : (words : List (List ℕ)) (command : Result PlainCommand WordsFault) (status : ℕ) (line : List ℕ) → command_of words ≡ command → status ≢ 0 → IsLineOf (plan_of (result_map_both command_plan words_fault_line command)) status line → refusal_lines status line
+asked_end : (words : List (List ℕ)) (command : Result PlainCommand WordsFault) (status : ℕ) (line : List ℕ) → command_of words ≡ command → status ≢ 0 → IsLineOf (plan_of (result_map_both command_plan words_fault_line command)) status line → run_lines status line
 asked_end words (Ok command) status line known refused is = work_end command.work command.options status line refused is
-asked_end words (Err fault) status line known refused is = inl (sym is.0, (words, ap (result_map_both (λ command. command) words_fault_line) known ∙ ap (λ l. Err l) is.1))
+asked_end words (Err fault) status line known refused is = inl (inl (sym is.0, (words, ap (result_map_both (λ command. command) words_fault_line) known ∙ ap (λ l. Err l) is.1)))
 
-pub lines_covered : (words : List (List ℕ)) → Covers refusal_lines (asked_by words)
+pub lines_covered : (words : List (List ℕ)) → Covers run_lines (asked_by words)
 lines_covered words status line refused is = asked_end words (command_of words) status line refl refused is

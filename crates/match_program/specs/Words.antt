@@ -3,15 +3,19 @@ use Rattle.std.specs.Prelude.{ℕ, List, Result}
 use Rattle.std.specs.Result.{result_map_both}
 use Rattle.command_line.specs.FaultLine.{fault_line}
 use Rattle.command_line.specs.Work.{PlainCommand, PlainWork}
-use Rattle.command_line.specs.Work.PlainWork.{match_files}
+use Rattle.command_line.specs.Work.PlainWork.{match_files, match_town, table_of_network}
 use Rattle.command_line.specs.Words.{command_of}
 use Rattle.cost_model.specs.declared.params.Params.{Params}
 use Rattle.program_frame.specs.Plan.{Plan}
 use Rattle.match_program.specs.commands.Matches.{match_plan}
+use Rattle.match_program.specs.commands.Table.{table_plan}
+use Rattle.match_program.specs.commands.Towns.{town_plan}
 
 -- the plan of a work with these options: a row for each command
 abbrev pub work_plan : PlainWork → Params → Plan
 work_plan (match_files network traces) options = match_plan network traces options
+work_plan (table_of_network network) options = table_plan network options
+work_plan (match_town side traces seed) options = town_plan side traces seed options
 
 abbrev pub command_plan : PlainCommand → Plan
 command_plan command = work_plan command.work command.options

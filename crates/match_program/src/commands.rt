@@ -1,2 +1,4 @@
 // The commands, each in a file of its own.
 pub mod matches;
+pub mod table;
+pub mod towns;

@@ -3,10 +3,12 @@
 ghost use Rattle.std.specs.Prelude.{map, string_bytes};
 ghost use Rattle.program_frame.specs.Performs.{Performs};
 ghost use Rattle.program_frame.specs.Promises.{Promises};
-ghost use Rattle.program_frame.specs.Refusals.{refusal_lines};
+ghost use Rattle.match_program.specs.RunLines.{run_lines};
 ghost use Rattle.match_program.specs.Words.{asked_by};
 
 use crate::commands::matches::match_traces;
+use crate::commands::table::write_table;
+use crate::commands::towns::match_town;
 use command_line::{Work, read_command};
 use edge_io::{Shelf, Sink};
 use program_frame::{Stop, refuse_words, say, status_after};
@@ -31,12 +33,16 @@ fn perform<S: Shelf, K: Sink>(
         Work::Match { network, traces } => {
             match_traces(alloc, network, traces, command.options, shelf, out)
         }
+        Work::Table { network } => write_table(alloc, network, command.options, shelf, out),
+        Work::Town { side, traces, seed } => {
+            match_town(alloc, side, traces, seed, command.options, out)
+        }
     }
 }
 
 /// Runs the command that the words spell, and says on err why it ended early. The status says how
 /// it ended: 0 done, 1 want of memory, 2 words refused, 3 a file was not read, 4 a write failed,
-/// 5 network refused, 6 traces refused.
+/// 5 network refused, 6 traces refused, 8 table too long.
 pub fn run<R: Threads, S: Shelf, K: Sink, E: Sink>(
     _rt: &R,
     alloc: Global,
@@ -45,7 +51,7 @@ pub fn run<R: Threads, S: Shelf, K: Sink, E: Sink>(
     out: &mut K,
     err: &mut E,
 ) -> u8
-    ensures { Promises refusal_lines (asked_by (map string_bytes words.now))
+    ensures { Promises run_lines (asked_by (map string_bytes words.now))
         (S.state shelf.old) (S.state shelf.new)
         (K.state out.old) (K.state out.new)
         (E.state err.old) (E.state err.new) result }

@@ -1,8 +1,8 @@
 // `match NET TRACES`. Serves `read_work` and `program`; decided by `match_kind`.
-ghost use Rattle.std.specs.Prelude.{◌≡◌, codes};
+ghost use Rattle.std.specs.Prelude.{◌≡◌, codes, IfOk};
 ghost use Rattle.std.specs.Result.{result_map_both};
 ghost use Rattle.clap.specs.Words.{first_of, found_of, rows_of};
-ghost use Rattle.command_line.specs.Work.{plain_work};
+ghost use Rattle.command_line.specs.Work.{AreNumbersWithin, plain_work};
 ghost use Rattle.command_line.specs.works.Match.{match_of};
 
 use crate::fault::WordsFault;
@@ -20,9 +20,10 @@ pub const FORM: Form = Form {
 
 /// The work, with the names that the words give.
 pub fn read_match<'a>(found: &ArgMatches<'a>) -> Result<Work<'a>, WordsFault>
-    ensures { result_map_both plain_work (λ fault. fault) result
+    ensures value { result_map_both plain_work (λ fault. fault) result
         ≡ match_of (first_of (codes "NET") (rows_of (found_of found.now)))
         (first_of (codes "TRACES") (rows_of (found_of found.now))) }
+    ensures within { IfOk result AreNumbersWithin }
 {
     match (text_of(found, "NET"), text_of(found, "TRACES")) {
         (Some(network), Some(traces)) => Ok(Work::Match { network, traces }),

@@ -1,0 +1,30 @@
+// `table NET`. Serves `read_work` and `program`; decided by `table_kind`.
+ghost use Rattle.std.specs.Prelude.{◌≡◌, codes};
+ghost use Rattle.std.specs.Result.{result_map_both};
+ghost use Rattle.clap.specs.Words.{first_of, found_of, rows_of};
+ghost use Rattle.command_line.specs.Work.{plain_work};
+ghost use Rattle.command_line.specs.works.Table.{table_work};
+
+use crate::fault::WordsFault;
+use crate::read::text_of;
+use crate::syntax::Form;
+use crate::work::Work;
+use clap::ArgMatches;
+
+/// The command as words give it.
+pub const FORM: Form = Form {
+    name: "table",
+    options: &[],
+    arguments: &["NET"],
+};
+
+/// The work, with the name that the words give.
+pub fn read_table<'a>(found: &ArgMatches<'a>) -> Result<Work<'a>, WordsFault>
+    ensures { result_map_both plain_work (λ fault. fault) result
+        ≡ table_work (first_of (codes "NET") (rows_of (found_of found.now))) }
+{
+    match text_of(found, "NET") {
+        Some(network) => Ok(Work::Table { network }),
+        None => Err(WordsFault::Usage),
+    }
+}
