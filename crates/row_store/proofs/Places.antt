@@ -1,5 +1,5 @@
 -- Places of a reader, one for each node.
-use Rattle.std.proofs.Common.{◌≡◌, ◌≢◌, ◌↔◌, ℕ, zero, suc, ◌+◌, ◌<◌, List, [], ◌∷◌, ◌++◌, map, length, get_or, set, Option, Some, None, Result, Ok, Err, IfSome, IfOk, OnOk, OnErr, IsOk, IsErr, IsSome, get_or-set_same, IsTrue, Bool, Bor, is_some, true, true≢false, replicate, length-set, refl, sym, ap, ◌∙◌, subst, inl, inr, ◌⊎◌, ⊎_elim, arith}
+use Rattle.std.proofs.Common.{◌≡◌, ◌≢◌, ◌↔◌, ℕ, zero, suc, ◌+◌, ◌<◌, List, [], ◌∷◌, ◌++◌, map, length, get_or, set, Option, Some, None, Result, Ok, Err, IfSome, IfOk, OnOk, OnErr, IsOk, IsErr, IsSome, get_or-set_same, Bool, Bor, is_some, true, true≢false, replicate, length-set, refl, sym, ap, ◌∙◌, subst, inl, inr, ⊎_elim, arith}
 use Rattle.std.specs.Prelude.{slice_get, slice_index, slice_index_or}
 use native.Mathlib.Decide.{ℕ_discrete}
 use mathlib.Core.Logic.{dite}
@@ -7,7 +7,7 @@ use Rattle.std.specs.declared.alloc.Global.{Global as Heap}
 use Rattle.once_cell.specs.Once.{cell_name, Agrees}
 use Rattle.bounded_search.specs.Table.{TableRow, IsRow}
 use Rattle.bounded_search.specs.Known.{Extends, Adds, known_nodes}
-use Rattle.bounded_search.specs.Rows.{AsksAll, AsksOnly, RowsState}
+use Rattle.bounded_search.specs.Rows.{AsksAll}
 use Rattle.bounded_search.proofs.KnownNodes.{adds, inside}
 use Rattle.row_store.specs.declared.place.Place.{Place}
 use Rattle.row_store.specs.Places.{Fits, KeepsSight, StaysBlind, now_of}

@@ -1,7 +1,7 @@
 -- What a reader keeps for one node.
-use Rattle.std.specs.Prelude.{◌≡◌, ◌↔◌, ◌⊎◌, IsSome, ℕ, true, Option, Some, None}
+use Rattle.std.specs.Prelude.{◌≡◌, ◌↔◌, ◌⊎◌, IsSome, ℕ, true, Option, Some, None, length, slice_index}
 use Rattle.std.specs.Option.{IfSome}
-use Rattle.road_network.specs.Net.{Net}
+use Rattle.road_network.specs.Net.{HasNode, Net}
 use Rattle.bounded_search.specs.Table.{BoundedTable, TableRow, IsRow}
 use Rattle.row_store.specs.Store.{Stored}
 use Rattle.row_store.specs.declared.place.Place.{Place}
@@ -34,3 +34,10 @@ StaysBlind before after = (before ≡ None) × (after ≡ None)
 -- searches for rows of this store
 abbrev pub IsSearcherOf : Stored → BoundedTable → Type 0
 IsSearcherOf store t = t ≡ record { network = store.network; bound = store.bound }
+
+-- the place of node v of a store, and a searcher for the store's rows
+pub record IsPlaceOf (store : Stored) (v : ℕ) (t : BoundedTable) (p : Place) : Type 0 where
+  pub node : HasNode store.network v
+  pub cells-count : length store.cells ≡ length store.network.nodes
+  pub searcher : IsSearcherOf store t
+  pub fits : Fits store.network store.bound v (slice_index store.cells v) p

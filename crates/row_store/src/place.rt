@@ -1,9 +1,8 @@
 //! What a reader keeps for one node. Serves `Reader`; decided by `Fits`.
 ghost use Rattle.std.specs.Prelude.{◌≡◌, ◌<◌, slice_index, OnErr, OnOk, IfSome, Some, None, IsSome, length};
 ghost use Rattle.once_cell.specs.Once.{cell_name, Agrees};
-ghost use Rattle.road_network.specs.Net.{HasNode};
 ghost use Rattle.bounded_search.specs.Table.{IsRow};
-ghost use Rattle.row_store.specs.Places.{Fits, IsReady, IsSearcherOf, KeepsSight, StaysBlind};
+ghost use Rattle.row_store.specs.Places.{Fits, IsPlaceOf, IsReady, KeepsSight, StaysBlind};
 
 use crate::store::RowStore;
 use bounded_search::{Row, Searcher};
@@ -44,15 +43,9 @@ impl<'s> Place<'s> {
         searcher: &mut Searcher<'s>,
         n: NodeId,
     ) -> Result<(), AllocError>
-        requires node { HasNode store.now.network n.0
-            × (length store.now.cells ≡ length store.now.network.nodes) }
-        requires searcher { IsSearcherOf store.now searcher.old }
-        requires fits { Fits store.now.network store.now.bound n.0
-            (slice_index store.now.cells n.0) self.old }
+        requires place { IsPlaceOf store.now n.0 searcher.old self.old }
         requires none { self.old.note.known ≡ None }
-        ensures searcher { searcher.new ≡ searcher.old }
-        ensures fits { Fits store.now.network store.now.bound n.0
-            (slice_index store.now.cells n.0) self.new }
+        ensures place { IsPlaceOf store.now n.0 searcher.new self.new }
         ensures seen { OnOk result (IsSome self.new.note.known) }
         ensures err { OnErr result (self.new.note.known ≡ None) }
     {
@@ -74,14 +67,8 @@ impl<'s> Place<'s> {
         searcher: &mut Searcher<'s>,
         n: NodeId,
     ) -> Result<(), AllocError>
-        requires node { HasNode store.now.network n.0
-            × (length store.now.cells ≡ length store.now.network.nodes) }
-        requires searcher { IsSearcherOf store.now searcher.old }
-        requires fits { Fits store.now.network store.now.bound n.0
-            (slice_index store.now.cells n.0) self.old }
-        ensures searcher { searcher.new ≡ searcher.old }
-        ensures fits { Fits store.now.network store.now.bound n.0
-            (slice_index store.now.cells n.0) self.new }
+        requires { IsPlaceOf store.now n.0 searcher.old self.old }
+        ensures place { IsPlaceOf store.now n.0 searcher.new self.new }
         ensures seen { OnOk result (KeepsSight self.old.note.known self.new.note.known) }
         ensures err { OnErr result (StaysBlind self.old.note.known self.new.note.known) }
     {
@@ -105,14 +92,8 @@ impl<'s> Place<'s> {
         n: NodeId,
         row: Row,
     ) -> Result<(), AllocError>
-        requires node { HasNode store.now.network n.0
-            × (length store.now.cells ≡ length store.now.network.nodes) }
-        requires searcher { IsSearcherOf store.now searcher.old }
-        requires fits { Fits store.now.network store.now.bound n.0
-            (slice_index store.now.cells n.0) self.old }
-        ensures searcher { searcher.new ≡ searcher.old }
-        ensures fits { Fits store.now.network store.now.bound n.0
-            (slice_index store.now.cells n.0) self.new }
+        requires { IsPlaceOf store.now n.0 searcher.old self.old }
+        ensures place { IsPlaceOf store.now n.0 searcher.new self.new }
         ensures seen { OnOk result (KeepsSight self.old.note.known self.new.note.known) }
         ensures err { OnErr result (StaysBlind self.old.note.known self.new.note.known) }
     {
@@ -134,13 +115,8 @@ impl<'s> Place<'s> {
         searcher: &mut Searcher<'s>,
         n: NodeId,
     ) -> Result<(), AllocError>
-        requires node { HasNode store.now.network n.0 }
-        requires searcher { IsSearcherOf store.now searcher.old }
-        requires fits { Fits store.now.network store.now.bound n.0
-            (slice_index store.now.cells n.0) self.old }
-        ensures searcher { searcher.new ≡ searcher.old }
-        ensures fits { Fits store.now.network store.now.bound n.0
-            (slice_index store.now.cells n.0) self.new }
+        requires { IsPlaceOf store.now n.0 searcher.old self.old }
+        ensures place { IsPlaceOf store.now n.0 searcher.new self.new }
         ensures same { self.new.note.known ≡ self.old.note.known }
         ensures ready { OnOk result (IsReady self.new) }
     {

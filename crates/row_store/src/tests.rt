@@ -78,18 +78,35 @@ fn gives_whole<R: Rows>(rows: &mut R) -> Result<bool, AllocError>
 }
 
 /// Whether two readers see the row of node 1, and know what they have seen.
-fn is_seen_by_both(alloc: Global, store: &RowStore<'_>) -> Result<bool, AllocError>
-    requires { HasNode store.now.network 2 }
+fn is_seen_by_both(store: &RowStore<'_>) -> Result<bool, AllocError>
+    requires { HasNode store.now.network 1 }
 {
     let mut a = store.reader()?;
     let mut b = store.reader()?;
     let fresh = !a.known(NodeId(1));
     let first = is_table(a.look(NodeId(1))?);
     let second = is_table(b.look(NodeId(1))?);
-    let known = a.known(NodeId(1)) && !a.known(NodeId(0)) && a.store().network().edge_count() == 2;
+    let known = a.known(NodeId(1)) && !a.known(NodeId(0));
     let one = agree(&mut a, &mut b, NodeId(1)).entries() == whole().as_slice();
-    a.look(NodeId(2))?;
-    Ok(fresh && first && second && known && one && known_count(alloc, &[a, b])? == 2)
+    Ok(fresh && first && second && known && one)
+}
+
+/// For how many nodes two readers know a row that have looked at one and the same node, and one of
+/// them at another.
+fn known_to_two(alloc: Global, store: &RowStore<'_>) -> Result<u32, AllocError>
+    requires { HasNode store.now.network 2 }
+{
+    let mut a = store.reader()?;
+    let mut b = store.reader()?;
+    a.look(NodeId(1))?;
+    b.look(NodeId(1))?;
+    b.look(NodeId(2))?;
+    known_count(alloc, &[a, b])
+}
+
+/// How many edges the network has of the store that a reader is of.
+fn edges_of(store: &RowStore<'_>) -> Result<u32, AllocError> {
+    Ok(store.reader()?.store().network().edge_count())
 }
 
 /// Whether a row that one reader offers for node 1 is foreign to it and to another, and neither is
@@ -114,7 +131,9 @@ fn two_readers_see_the_row(rt: HostRuntime) -> io::Result<()> {
     let net = network(&rt, rt.alloc());
     assert!(rt; 2 < net.node_count());
     let store = RowStore::open(rt.alloc(), &net, BOUND)?;
-    assert!(rt; is_seen_by_both(rt.alloc(), &store)?);
+    assert!(rt; is_seen_by_both(&store)?);
+    assert_eq!(rt; known_to_two(rt.alloc(), &store)?, 2);
+    assert_eq!(rt; edges_of(&store)?, 2);
     Ok(())
 }
 

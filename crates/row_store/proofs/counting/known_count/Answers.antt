@@ -1,4 +1,4 @@
-use Rattle.std.proofs.Common.{rules, ◌≡◌, ℕ, Bool, ◌+◌, ◌≤◌, ap, sym, ◌∙◌, arith}
+use Rattle.std.proofs.Common.{rules, ℕ, Bool, ◌+◌, ◌≤◌, ap, sym, ◌∙◌, arith}
 use Rattle.row_store.specs.Store.{is_known_to_any}
 use Rattle.row_store.proofs.Counts.{count_few, count_no, count_yes}
 use Rattle.row_store.proofs.counting.known_count.Goals.{then-is_known_to_any, else-is_known_to_any}

@@ -1,11 +1,17 @@
-use Rattle.std.proofs.Common.{◌∙◌, length-set}
+use Rattle.std.proofs.Common.{ℕ, ◌<◌, ◌∙◌, subst, length-set}
 use Rattle.row_store.proofs.Places.{within, all_fit, fits_at, settled_seen, settled_err, known_there, known_not, on_ok, on_err, ok_or_none}
 use Rattle.row_store.proofs.reader.Reader.settle.Goals as goal
 
-pub look-requires-clause-fits : goal.look-requires-clause-fits
-look-requires-clause-fits c =
+pub look-requires : goal.look-requires
+look-requires c =
     let i = c.self.invariant in
-    fits_at _ _ _ _ i.fit (within _ _ _ _ c.self.view_is i.places_count c.requires) c.index_mut-place.ensures.value
+    let h = within _ _ _ _ c.self.view_is i.places_count c.requires in
+    record {
+      node = subst (λ (m : ℕ). c.args.n.0 < m) i.places_count h;
+      cells-count = i.cells_count;
+      searcher = i.searcher;
+      fits = fits_at _ _ _ _ i.fit h c.index_mut-place.ensures.value;
+    }
 
 pub invariant_of-self : goal.invariant_of-self
 invariant_of-self c =
@@ -13,8 +19,8 @@ invariant_of-self c =
     record {
       cells_count = i.cells_count;
       places_count = length-set _ _ _ ∙ i.places_count;
-      fit = all_fit _ _ _ _ c.look.ensures.fits i.fit;
-      searcher = c.look.ensures.searcher ∙ i.searcher;
+      fit = all_fit _ _ _ _ c.look.ensures.place.fits i.fit;
+      searcher = c.look.ensures.place.searcher;
     }
 
 pub returns-clause-seen : goal.returns-clause-seen

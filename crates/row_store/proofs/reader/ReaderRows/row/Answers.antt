@@ -1,4 +1,4 @@
-use Rattle.std.proofs.Common.{◌≡◌, length, ◌<◌, ◌∙◌, refl, sym, ap, subst, length-set}
+use Rattle.std.proofs.Common.{ℕ, ◌≡◌, length, ◌<◌, ◌∙◌, refl, sym, ap, subst, length-set}
 use Rattle.bounded_search.specs.Rows.{AsksAll}
 use Rattle.bounded_search.specs.Table.{IsRow}
 use Rattle.bounded_search.proofs.Asking.{asks_done, asks_err}
@@ -7,13 +7,19 @@ use Rattle.row_store.specs.declared.place.Place.{Place}
 use Rattle.row_store.proofs.Places.{if_err, sees_asks, some_is, read_back, within, all_fit, fits_at, same_reading, known_there, known_here}
 use Rattle.row_store.proofs.reader.ReaderRows.row.Goals as goal
 
-pub make_own-requires-clause-fits : goal.make_own-requires-clause-fits
-make_own-requires-clause-fits c =
+pub make_own-requires : goal.make_own-requires
+make_own-requires c =
     let i = c.self.invariant in
     let s = c.in_ok-settle.ensures.seen in
     let n = c.args.n.0 in
     let here = subst (λ (y : Stored). n < length y.network.nodes) (sym s.1.store) c.requires in
-    fits_at _ _ _ _ i.fit (within _ _ _ n c.self.view_is i.places_count here) c.index_mut.ensures.value
+    let h = within _ _ _ n c.self.view_is i.places_count here in
+    record {
+      node = subst (λ (m : ℕ). n < m) i.places_count h;
+      cells-count = i.cells_count;
+      searcher = i.searcher;
+      fits = fits_at _ _ _ _ i.fit h c.index_mut.ensures.value;
+    }
 
 pub invariant_of-self : goal.invariant_of-self
 invariant_of-self c =
@@ -21,8 +27,8 @@ invariant_of-self c =
     record {
       cells_count = i.cells_count;
       places_count = length-set _ _ _ ∙ i.places_count;
-      fit = all_fit _ _ _ _ c.make_own.ensures.fits i.fit;
-      searcher = c.make_own.ensures.searcher ∙ i.searcher;
+      fit = all_fit _ _ _ _ c.make_own.ensures.place.fits i.fit;
+      searcher = c.make_own.ensures.place.searcher;
     }
 
 pub invariant_of-self-2 : goal.invariant_of-self-2
@@ -31,8 +37,8 @@ invariant_of-self-2 c =
     record {
       cells_count = i.cells_count;
       places_count = length-set _ _ _ ∙ i.places_count;
-      fit = all_fit _ _ _ _ c.make_own.ensures.fits i.fit;
-      searcher = c.make_own.ensures.searcher ∙ i.searcher;
+      fit = all_fit _ _ _ _ c.make_own.ensures.place.fits i.fit;
+      searcher = c.make_own.ensures.place.searcher;
     }
 
 pub returns-in_err-make_own : goal.returns-in_err-make_own
