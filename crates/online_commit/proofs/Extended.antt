@@ -1,5 +1,5 @@
 -- A piece that took a point, as it is made. In this file layers and tables stand in the order of the points.
-use Rattle.std.proofs.Common.{◌≡◌, ℕ, ◌+◌, ◌-◌, ◌<◌, ◌≤◌, List, [], ◌∷◌, ◌++◌, Result, Ok, Err, IfOk, OnErr, sym, ap, ◌∙◌, subst, arith, length, get_or}
+use Rattle.std.proofs.Common.{◌≡◌, ℕ, ◌+◌, ◌-◌, ◌<◌, List, [], ◌∷◌, ◌++◌, Result, Ok, Err, IfOk, OnErr, sym, ap, ◌∙◌, subst, arith, length, get_or}
 use Rattle.std.proofs.lemmas.List.{length_push}
 use Rattle.cost_model.specs.declared.params.Params.{Params}
 use Rattle.road_network.specs.Net.{Net, IsLawful}
@@ -8,7 +8,7 @@ use Rattle.matching.specs.declared.parts.Layer.{Layer}
 use Rattle.std.specs.Prelude.{None, Some}
 use Rattle.online_commit.specs.declared.items.Item.{Item}
 use Rattle.online_commit.specs.Masks.{AreMasks, IsBehind, IsLiveMask, IsNotOne, IsOnly, mask_after, mask_at}
-use Rattle.online_commit.specs.Pieces.{IsExtended, MayGrow, Piece, session_with}
+use Rattle.online_commit.specs.Pieces.{IsAppended, IsExtended, MayGrow, Piece, session_with}
 use Rattle.online_commit.specs.Session.{IsFed, IsFedLayer, Session, points_of}
 use Rattle.online_commit.specs.Steps.{AreSettled, IsSession, TellsCells}
 use Rattle.online_commit.proofs.Anew.{BeginsAnew}
@@ -32,14 +32,6 @@ settled-same first layers mask mask' start items same h =
       ends = λ lt. subst IsNotOne (sym (same (start + length items) lt)) (h.ends lt);
       are = λ rank only. h.are rank (λ j ge lt. subst (λ m. IsOnly m (rank j)) (same j (omega (arith, lt, within))) (only j ge lt));
     }
-
--- the point was appended, and the masks that changed were written
-pub record IsAppended (old : Piece) (l : Layer) (cells : List Cell) (changed : List ℕ) (new : Piece) : Type 0 where
-  pub first : new.first ≡ old.first
-  pub layers : new.layers ≡ old.layers ++ l ∷ []
-  pub tables : new.tables ≡ old.tables ++ cells ∷ []
-  pub count : length new.masks ≡ length old.masks + 1
-  pub masks : (i : ℕ) → i ≤ length old.masks → mask_at new.masks i ≡ mask_after old.masks changed i
 
 pub extended-made : (old : Piece) (l : Layer) (cells : List Cell) (changed : List ℕ) (new : Piece) (items : List Item) → MayGrow old cells → IsAppended old l cells changed new
     → AreMasks (old.tables ++ cells ∷ []) (mask_after old.masks changed) (length old.tables + 1)

@@ -10,7 +10,7 @@ use Rattle.matching.specs.Local.{AreFirst}
 use Rattle.online_commit.specs.declared.feeding.OpenPiece.{OpenPiece}
 use Rattle.online_commit.specs.declared.items.Item.{Item}
 use Rattle.online_commit.specs.declared.items.Item.TheVariants.{Missing}
-use Rattle.online_commit.specs.Masks.{AreMasks, HasFewRanks, mask_at}
+use Rattle.online_commit.specs.Masks.{AreMasks, HasFewRanks, mask_after, mask_at}
 use Rattle.online_commit.specs.Session.{Session}
 use Rattle.online_commit.specs.Steps.{AreSettled}
 
@@ -60,6 +60,14 @@ pub record MayGrow (a : Piece) (cells : List Cell) : Type 0 where
   pub ranks : All HasFewRanks a.tables
   pub cells-few : HasFewRanks cells
   pub told : a.told ≤ length a.layers
+
+-- the point was appended, and the masks that changed were written
+pub record IsAppended (old : Piece) (l : Layer) (cells : List Cell) (changed : List ℕ) (new : Piece) : Type 0 where
+  pub first : new.first ≡ old.first
+  pub layers : new.layers ≡ old.layers ++ l ∷ []
+  pub tables : new.tables ≡ old.tables ++ cells ∷ []
+  pub count : length new.masks ≡ length old.masks + 1
+  pub masks : (i : ℕ) → i ≤ length old.masks → mask_at new.masks i ≡ mask_after old.masks changed i
 
 -- it took the point, and these are the items of the points that are committed by it
 pub record IsExtended (old : Piece) (l : Layer) (cells : List Cell) (new : Piece)

@@ -1,6 +1,6 @@
 -- One step of a session: what its parts do, in the words of the session. In this file layers and tables
 -- stand in the order of the points.
-use Rattle.std.specs.Prelude.{◌≡◌, ℕ, ◌+◌, ◌-◌, ◌<◌, ◌≤◌, List, [], ◌∷◌, ◌++◌, Option, Some, MatchOption, length, map, reverse, slice_index_or}
+use Rattle.std.specs.Prelude.{◌≡◌, ℕ, ◌+◌, ◌-◌, ◌<◌, ◌≤◌, List, [], ◌∷◌, ◌++◌, Option, Some, None, MatchOption, length, map, reverse, slice_index_or}
 use Rattle.std.specs.List.{All, range_with_len}
 use Rattle.cost_model.specs.declared.params.Params.{Params}
 use Rattle.cost_model.specs.Options.{IsAccepted}
@@ -49,6 +49,12 @@ TellsCells s l next =
     let t = trellis s.network s.params in
     MatchOption next (0 < length s.layers → PieceEndsBefore t (last_layer s) (last_cells s) l)
     (λ cells. (0 < length s.layers) × PieceGoesOn t (last_layer s) (last_cells s) l cells)
+
+-- a point that a session may take, and with which its open piece does not go on
+pub record EndsBefore (s : Session) (l : Layer) : Type 0 where
+  pub layer : IsFedLayer s.network s.params l
+  pub room : points_of s < 100_000
+  pub ends : TellsCells s l None
 
 -- a step to this point asks for the row of node v
 abbrev pub AsksStep : Session → Layer → ℕ → Type 0

@@ -5,10 +5,10 @@ ghost use Rattle.std.specs.List.{All};
 ghost use Rattle.bounded_search.specs.Rows.{AreRowsOf, AsksFor};
 ghost use Rattle.cost_model.specs.Options.{IsAccepted};
 ghost use Rattle.road_network.specs.Net.{Net};
-ghost use Rattle.online_commit.specs.Masks.{AreMasks, HasFewRanks, mask_after, mask_at, mask_written};
+ghost use Rattle.online_commit.specs.Masks.{AreMasks, HasFewRanks, mask_at, mask_written};
 ghost use Rattle.online_commit.specs.Session.{IsFedLayer};
 ghost use Rattle.online_commit.specs.Steps.{AsksStep, IsSession, TellsCells};
-ghost use Rattle.online_commit.specs.Pieces.{HasRoom, IsBegun, IsExtended, MayGrow, session_of, piece_of};
+ghost use Rattle.online_commit.specs.Pieces.{HasRoom, IsAppended, IsBegun, IsExtended, MayGrow, session_of, piece_of};
 
 use crate::items::Item;
 use crate::masks::changed_masks;
@@ -100,12 +100,8 @@ fn append_point(
     requires room { HasRoom piece.old }
     requires changed { length changed.now ≤ vec_len piece.old.masks + 1 }
     ensures ok { IsOk result }
-    ensures first { (piece.new.first ≡ piece.old.first) × (piece.new.told ≡ piece.old.told) }
-    ensures layers { piece.new.layers.items ≡ piece.old.layers.items ++ layer ∷ [] }
-    ensures tables { piece.new.tables.items ≡ piece.old.tables.items ++ cells ∷ [] }
-    ensures masks { (length piece.new.masks.items ≡ length piece.old.masks.items + 1)
-        × ((i : ℕ) → i ≤ length piece.old.masks.items
-        → mask_at piece.new.masks.items i ≡ mask_after piece.old.masks.items changed.now i) }
+    ensures told { piece.new.told ≡ piece.old.told }
+    ensures appended { IsAppended (piece_of piece.old) layer cells changed.now (piece_of piece.new) }
 {
     piece.layers.push(layer)?;
     piece.tables.push(cells)?;

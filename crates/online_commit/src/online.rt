@@ -1,10 +1,10 @@
 //! The session. Serves those who follow a trace; decided by `IsFed` and `IsFinished`.
-ghost use Rattle.std.specs.Prelude.{◌≡◌, ◌<◌, [], ◌++◌, None, IfOk, OnErr, OnOk};
+ghost use Rattle.std.specs.Prelude.{◌≡◌, ◌<◌, [], ◌++◌, IfOk, OnErr, OnOk};
 ghost use Rattle.bounded_search.specs.Rows.{AreRowsOf, AsksOnly};
 ghost use Rattle.cost_model.specs.Options.{IsAccepted};
 ghost use Rattle.matching.specs.PieceSteps.{AsksIn};
 ghost use Rattle.online_commit.specs.Session.{AsksFed, AsksFinished, IsFed, IsFedLayer, IsFinished, StandsFor, no_points_of, points_of};
-ghost use Rattle.online_commit.specs.Steps.{TellsCells};
+ghost use Rattle.online_commit.specs.Steps.{EndsBefore};
 
 use crate::closing::closing_items;
 use crate::feeding::{OpenPiece, begin, extend, next_cells, no_piece};
@@ -104,9 +104,7 @@ impl<'n> Online<'n> {
     /// Closes the open piece, if there is one, before a point with which it does not go on.
     fn begin_anew<R: Rows>(&mut self, layer: Layer, rows: &mut R) -> Result<List<Item>, AllocError>
         requires rows { AreRowsOf (R.state rows.old) self.old.network self.old.params.bound }
-        requires layer { IsFedLayer self.old.network self.old.params layer }
-        requires room { points_of self.old < 100_000 }
-        requires ends { TellsCells self.old layer None }
+        requires before { EndsBefore self.old layer }
         ensures fed { IfOk result (IsFed self.old layer self.new) }
         ensures err { OnErr result (self.new ≡ self.old) }
         ensures asks { AsksOnly (R.state rows.old) (R.state rows.new)

@@ -1,6 +1,10 @@
-//! Rows of points with what is handed out after each of them, worked out by hand.
+//! Rows of points with what is handed out after each of them, worked out by hand. Each call for a row is
+//! refused once, and the same point is fed again.
+ghost use Rattle.std.specs.Prelude.{◌≡◌, IfOk};
+ghost use Rattle.bounded_search.specs.Rows.{no_rows};
+
 use crate::{Item, Online};
-use bounded_search::OwnRows;
+use bounded_search::RefusingRows;
 use cost_model::Params;
 use matching::is_layer;
 use polyline_geometry::{List, Point};
@@ -36,6 +40,9 @@ type Seen = (i32, i32, u32, &'static [(u32, u64, u32)]);
 type Told = (u32, u32, u32, u64);
 
 const NEXT: Told = (4, 0, 0, 0);
+
+/// More calls than a point asks for rows.
+const MOST_CALLS: u64 = 10;
 
 struct Case {
     shows: &'static str,
@@ -184,24 +191,71 @@ fn in_numbers(item: &Item, into: &mut Vec<Told>) -> Result<(), AllocError> {
     Ok(())
 }
 
-/// The items of the next point, over rows of its own. None where it is no point of the network.
+/// Rows that refuse the call of this number.
+fn rows_refusing<'n>(
+    alloc: Global,
+    session: &Online<'n>,
+    call: u64,
+) -> Result<RefusingRows<'n>, AllocError>
+    ensures { IfOk result (λ rows. rows.rows ≡ no_rows session.now.network session.now.params.bound) }
+{
+    let mut refuse = List::new(alloc);
+    refuse.push(call)?;
+    RefusingRows::open(alloc, session.net, session.params.bound, refuse)
+}
+
+/// The items of the next point, over rows that refuse this call. None where it is no point of the
+/// network.
 fn fed(
     alloc: Global,
     session: &mut Online,
     layer: Layer,
+    call: u64,
 ) -> Result<Option<List<Item>>, AllocError> {
     let (net, p) = (session.net, session.params);
     if !is_layer(net, &p, &layer) || layer.candidates.len() > 32 || session.count() >= 100_000 {
         return Ok(None);
     }
-    let mut rows = OwnRows::open(alloc, net, p.bound)?;
+    let mut rows = rows_refusing(alloc, session, call)?;
     Ok(Some(session.feed(layer, &mut rows)?))
 }
 
-/// The items that are left, over rows of their own.
-fn ended(alloc: Global, session: &mut Online) -> Result<List<Item>, AllocError> {
-    let mut rows = OwnRows::open(alloc, session.net, session.params.bound)?;
+/// The items of the next point, which is fed again over rows that refuse a later call for as long as
+/// one is refused.
+fn fed_at_last(
+    alloc: Global,
+    session: &mut Online,
+    seen: &Seen,
+    refused: &mut u32,
+) -> Result<List<Item>, Fail> {
+    for call in 1..MOST_CALLS {
+        match fed(alloc, session, layer_of(alloc, seen)?, call) {
+            Ok(items) => return Ok(items.ok_or("no point")?),
+            Err(_) => *refused = refused.saturating_add(1),
+        }
+    }
+    Err("each call was refused")?
+}
+
+/// The items that are left, over rows that refuse this call.
+fn ended(alloc: Global, session: &mut Online, call: u64) -> Result<List<Item>, AllocError> {
+    let mut rows = rows_refusing(alloc, session, call)?;
     session.finish(&mut rows)
+}
+
+/// The items that are left, asked for again in the same way.
+fn ended_at_last(
+    alloc: Global,
+    session: &mut Online,
+    refused: &mut u32,
+) -> Result<List<Item>, Fail> {
+    for call in 1..MOST_CALLS {
+        match ended(alloc, session, call) {
+            Ok(items) => return Ok(items),
+            Err(_) => *refused = refused.saturating_add(1),
+        }
+    }
+    Err("each call was refused")?
 }
 
 fn append_told(items: &List<Item>, told: &mut Vec<Told>) -> Result<(), AllocError> {
@@ -211,25 +265,33 @@ fn append_told(items: &List<Item>, told: &mut Vec<Told>) -> Result<(), AllocErro
     Ok(())
 }
 
-/// What a session hands out for these points, in numbers.
-fn told_of(alloc: Global, net: &Network, points: &[Seen]) -> Result<Vec<Told>, Fail> {
+/// What a session hands out for these points, in numbers. The calls that were refused are counted.
+fn told_of(
+    alloc: Global,
+    net: &Network,
+    points: &[Seen],
+    refused: &mut u32,
+) -> Result<Vec<Told>, Fail> {
     let mut session = Online::open(alloc, net, &DEFAULTS);
     let mut told = Vec::new(alloc);
     for seen in points {
-        let items = fed(alloc, &mut session, layer_of(alloc, seen)?)?.ok_or("no point")?;
+        let items = fed_at_last(alloc, &mut session, seen, refused)?;
         append_told(&items, &mut told)?;
         told.push(NEXT)?;
     }
-    append_told(&ended(alloc, &mut session)?, &mut told)?;
+    let items = ended_at_last(alloc, &mut session, refused)?;
+    append_told(&items, &mut told)?;
     Ok(told)
 }
 
 #[test]
 fn what_is_handed_out(rt: HostRuntime) -> Result<(), Fail> {
+    let mut refused = 0;
     for case in &CASES {
         let net = read_network(rt.alloc(), case.network)?;
-        let told = told_of(rt.alloc(), &net, case.points)?;
+        let told = told_of(rt.alloc(), &net, case.points, &mut refused)?;
         assert_eq!(rt; told.as_slice(), case.told, "{}", case.shows);
     }
+    assert!(rt; refused > 0, "no call was refused");
     Ok(())
 }

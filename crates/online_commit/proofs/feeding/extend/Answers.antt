@@ -1,8 +1,8 @@
 use Rattle.std.proofs.Common.{◌≡◌, ◌+◌, ◌∷◌, [], ◌++◌, length, ap, ◌∙◌, subst}
 use Rattle.online_commit.specs.Masks.{AreMasks, mask_after}
-use Rattle.online_commit.specs.Pieces.{Piece, piece_of}
+use Rattle.online_commit.specs.Pieces.{IsAppended, Piece, piece_of}
 use Rattle.online_commit.specs.Steps.{AreSettled}
-use Rattle.online_commit.proofs.Extended.{IsAppended, extended-made}
+use Rattle.online_commit.proofs.Extended.{extended-made}
 use Rattle.online_commit.proofs.feeding.extend.Goals as goal
 
 -- the calls speak of what is lent to them, and `append_point` of the piece with room
@@ -24,12 +24,12 @@ returns-clause-ok c =
     (subst (λ ms. AreSettled old.first (c.deref-3.result.now ++ c.args.layer ∷ []) (mask_after ms changed) old.told items) c.deref-4.ensures.value
     (subst (λ cs. AreSettled old.first (c.deref-3.result.now ++ c.args.layer ∷ []) (mask_after c.deref-4.result.now cs) old.told items) c.deref-5.ensures.value c.in_ok-items.ensures)) in
     let appended : IsAppended mid c.args.layer c.args.cells c.deref-6.result.now new = record {
-      first = c.append_point.ensures.first.0;
-      layers = c.append_point.ensures.layers;
-      tables = c.append_point.ensures.tables;
-      count = c.append_point.ensures.masks.0;
-      masks = c.append_point.ensures.masks.1;
+      first = c.append_point.ensures.appended.first;
+      layers = c.append_point.ensures.appended.layers;
+      tables = c.append_point.ensures.appended.tables;
+      count = c.append_point.ensures.appended.count;
+      masks = c.append_point.ensures.appended.masks;
     } in
     extended-made old c.args.layer c.args.cells changed new items c.requires
     (subst (λ cs. IsAppended old c.args.layer c.args.cells cs new) c.deref-6.ensures.value (subst (λ a. IsAppended a c.args.layer c.args.cells c.deref-6.result.now new) room appended)) masks settled
-    (ap (λ k. k + c.len.result) (c.append_point.ensures.first.1 ∙ ap (λ a. a.told) room) ∙ ap (λ k. old.told + k) c.len.ensures)
+    (ap (λ k. k + c.len.result) (c.append_point.ensures.told ∙ ap (λ a. a.told) room) ∙ ap (λ k. old.told + k) c.len.ensures)
