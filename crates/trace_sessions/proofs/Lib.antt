@@ -1,0 +1,4 @@
+pub mod ItemLines
+pub mod FollowLines
+pub mod ItemEdges
+pub mod Written
