@@ -2,3 +2,4 @@ pub mod ItemLines
 pub mod FollowLines
 pub mod ItemEdges
 pub mod Written
+pub mod LinesStay
