@@ -1,0 +1,5 @@
+pub mod ItemLines
+pub mod FollowLines
+pub mod ItemEdges
+pub mod Written
+pub mod LinesStay
