@@ -1,0 +1,63 @@
+-- What is written of a trace while its points come: after the line of each point what the point makes
+-- certain, and after the line `finish` what is left. In this file layers stand in the order of the points.
+use Rattle.std.specs.Prelude.{◌≡◌, ℕ, suc, Bool, ◌||◌, not, List, [], ◌∷◌, ◌++◌, None, length, take, drop, codes, nat_eq}
+use Rattle.std.specs.List.{concat, filter, flat_map, range_with_len, starts_with}
+use Rattle.std.specs.Str.{bytes_eq}
+use Rattle.decimal_text.specs.Number.{decimal}
+use Rattle.cost_model.specs.declared.params.Params.{Params}
+use Rattle.road_network.specs.Net.{Net}
+use Rattle.trace_reader.specs.declared.trace.Trace.{Trace}
+use Rattle.matching.specs.declared.parts.Layer.{Layer}
+use Rattle.match_text.specs.MatchText.{end_line, line, lines_of, trace_line}
+use Rattle.trace_match.specs.Match.{layers_of, match_of}
+use Rattle.online_commit.specs.declared.items.Item.{Item}
+use Rattle.online_commit.specs.Items.{handed, items_of}
+use Rattle.trace_sessions.specs.ItemText.{item_lines}
+
+-- ---- what is handed out
+
+-- with point i, at the points up to it
+abbrev pub handed_at : Net → Params → List Layer → ℕ → List Item
+handed_at n p layers i =
+    drop (length (handed n p (take i layers))) (handed n p (take (suc i) layers))
+
+-- at the end
+abbrev pub left_of : Net → Params → List Layer → List Item
+left_of n p layers = drop (length (handed n p layers)) (items_of n p layers)
+
+-- ---- lines
+
+abbrev pub fix_line : ℕ → List ℕ
+fix_line i = line (codes "fix") (decimal i ∷ [])
+
+abbrev pub finish_line : List ℕ
+finish_line = line (codes "finish") []
+
+-- the line of point i and the lines of what it makes certain
+abbrev pub point_lines : Net → Params → List Layer → ℕ → List (List ℕ)
+point_lines n p layers i = fix_line i ∷ item_lines n None (handed_at n p layers i)
+
+-- the line `finish` and the lines of what is left
+abbrev pub last_lines : Net → Params → List Layer → List (List ℕ)
+last_lines n p layers = finish_line ∷ item_lines n None (left_of n p layers)
+
+abbrev pub follow_lines : Net → Params → Trace → List (List ℕ)
+follow_lines n p trace =
+    let layers = layers_of n p trace in
+    trace_line trace.id ∷ (flat_map (point_lines n p layers) (range_with_len 0 (length layers))
+    ++ (last_lines n p layers ++ end_line trace.id ∷ []))
+
+abbrev pub follow_text : Net → Params → Trace → List ℕ
+follow_text n p trace = concat (follow_lines n p trace)
+
+-- ---- its law
+
+-- the line is `fix I` or `finish`
+abbrev pub is_step_line : List ℕ → Bool
+is_step_line text = starts_with nat_eq text (codes "fix ") || bytes_eq text finish_line
+
+-- without these lines the follow text is the match text
+abbrev pub FollowIsMatch : Type 0
+FollowIsMatch =
+    (n : Net) (p : Params) (trace : Trace)
+    → filter (λ text. not (is_step_line text)) (follow_lines n p trace) ≡ lines_of (match_of n p trace)

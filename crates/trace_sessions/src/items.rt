@@ -1,0 +1,104 @@
+//! The lines of what is handed out. Serves those who follow traces; decided by `item_lines`.
+ghost use Rattle.std.specs.Prelude.{◌≡◌, ◌++◌, length, take, OnOk, OnErr};
+ghost use Rattle.std.specs.List.{concat};
+ghost use Rattle.road_network.specs.Net.{HasEdge};
+ghost use Rattle.trace_match.specs.Match.{label_on};
+ghost use Rattle.trace_sessions.specs.ItemText.{AreItemsOf, IsItemOf, item_line, item_lines, lead_of};
+
+use itoa::write_digits;
+use match_text::{Label, write_label, write_piece};
+use online_commit::Item;
+use polyline_geometry::List;
+use road_network::{Candidate, Network};
+use std::alloc::{AllocError, Global};
+use trace_match::routed;
+
+/// Appends the lines of these items, each after the id and a space if there is an id. After Err `into`
+/// is as before.
+///
+/// A line takes one append, or two with an id, and that of a piece one for each edge of its route.
+pub fn write_items(
+    alloc: Global,
+    net: &Network,
+    id: Option<u32>,
+    items: &[Item],
+    into: &mut List<u8>,
+) -> Result<(), AllocError>
+    requires { AreItemsOf net.now items.now }
+    ensures ok { OnOk result (into.new ≡ into.old ++ concat (item_lines net.now id items.now)) }
+    ensures err { OnErr result (into.new ≡ into.old) }
+{
+    let len = into.len();
+    let written = append_items(alloc, net, id, items, into);
+    if written.is_err() {
+        into.truncate(len);
+    }
+    written
+}
+
+// Appends the lines of these items. After Err some of them may stand at the end.
+fn append_items(
+    alloc: Global,
+    net: &Network,
+    id: Option<u32>,
+    items: &[Item],
+    into: &mut List<u8>,
+) -> Result<(), AllocError>
+    requires { AreItemsOf net.now items.now }
+    ensures ok { OnOk result (into.new ≡ into.old ++ concat (item_lines net.now id items.now)) }
+    ensures err { OnErr result (take (length into.old) into.new ≡ into.old) }
+{
+    for item in items {
+        write_lead(id, into)?;
+        write_item(alloc, net, item, into)?;
+    }
+    Ok(())
+}
+
+// Appends the id and a space, or nothing. After Err `into` is as before.
+fn write_lead(id: Option<u32>, into: &mut List<u8>) -> Result<(), AllocError>
+    ensures ok { OnOk result (into.new ≡ into.old ++ lead_of id) }
+    ensures err { OnErr result (into.new ≡ into.old) }
+{
+    let Some(id) = id else {
+        return Ok(());
+    };
+    let mut lead = [b' '; 24];
+    let start = write_digits(u64::from(id), &mut lead, 23);
+    into.extend_from_slice(&lead[start..])
+}
+
+// Appends the line of the item. After Err `into` is as before.
+fn write_item(
+    alloc: Global,
+    net: &Network,
+    item: &Item,
+    into: &mut List<u8>,
+) -> Result<(), AllocError>
+    requires { IsItemOf net.now item.now }
+    ensures ok { OnOk result (into.new ≡ into.old ++ item_line net.now item.now) }
+    ensures err { OnErr result (into.new ≡ into.old) }
+{
+    match item {
+        Item::At { index, candidate } => {
+            write_label(u64::from(*index), label_on(net, candidate), into)
+        }
+        Item::Missing(index) => write_label(u64::from(*index), Label::Missing, into),
+        Item::Closed { piece, route } => {
+            let piece = routed(alloc, net, *piece, route.as_slice())?;
+            write_piece(&piece, into)
+        }
+    }
+}
+
+// The candidate in the names of the network file.
+fn label_on(net: &Network, candidate: &Candidate) -> Label
+    requires { HasEdge net.now candidate.now.edge.0 }
+    ensures { result ≡ label_on net.now candidate.now }
+{
+    Label::On {
+        edge: net.name(candidate.edge),
+        offset: candidate.offset,
+        d2: candidate.d2,
+    }
+}

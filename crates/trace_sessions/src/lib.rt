@@ -1,0 +1,17 @@
+//! What is handed out of traces while their points still come, as lines.
+//!
+//! [`write_items`] appends the lines of items, `At` and `Missing` as the label line of a match text
+//! and `Closed` as its piece line. With an id each line begins with that id and a space.
+//!
+//! The follow text of a trace is defined by `follow_lines` in `specs/FollowText.antt`: a line `fix I`
+//! for each point, behind it the lines of what the point makes certain, and behind a line `finish` the
+//! lines of what is left. [`follow_is_match`] says that without these lines it is the match text.
+//!
+//! Read first: `item_lines` in `specs/ItemText.antt`, then `follow_lines` and `FollowIsMatch`.
+#![tactic(auto)]
+
+mod items;
+mod laws;
+
+pub use items::write_items;
+pub use laws::follow_is_match;
