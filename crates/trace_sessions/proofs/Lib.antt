@@ -1,0 +1,4 @@
+pub mod PieceCounts
+pub mod FollowedPoints
+pub mod FollowedText
+pub mod FollowedRows
