@@ -1,3 +1,8 @@
+pub mod ItemLines
+pub mod FollowLines
+pub mod ItemEdges
+pub mod Written
+pub mod LinesStay
 pub mod PieceCounts
 pub mod FollowedPoints
 pub mod FollowedText

@@ -6,9 +6,11 @@ use Rattle.std.specs.Str.{bytes_eq}
 use Rattle.decimal_text.specs.Number.{decimal}
 use Rattle.cost_model.specs.declared.params.Params.{Params}
 use Rattle.road_network.specs.Net.{Net}
+use Rattle.trace_reader.specs.declared.trace.Fix.{Fix}
 use Rattle.trace_reader.specs.declared.trace.Trace.{Trace}
 use Rattle.matching.specs.declared.parts.Layer.{Layer}
 use Rattle.match_text.specs.MatchText.{end_line, line, lines_of, trace_line}
+use Rattle.trace_match.specs.Laws.{with_more}
 use Rattle.trace_match.specs.Match.{layers_of, match_of}
 use Rattle.online_commit.specs.declared.items.Item.{Item}
 use Rattle.online_commit.specs.Items.{handed, items_of}
@@ -41,16 +43,20 @@ point_lines n p layers i = fix_line i ∷ item_lines n None (handed_at n p layer
 abbrev pub last_lines : Net → Params → List Layer → List (List ℕ)
 last_lines n p layers = finish_line ∷ item_lines n None (left_of n p layers)
 
+-- what is written before the trace ends
+abbrev pub lines_so_far : Net → Params → Trace → List (List ℕ)
+lines_so_far n p trace =
+    let layers = layers_of n p trace in
+    trace_line trace.id ∷ flat_map (point_lines n p layers) (range_with_len 0 (length layers))
+
 abbrev pub follow_lines : Net → Params → Trace → List (List ℕ)
 follow_lines n p trace =
-    let layers = layers_of n p trace in
-    trace_line trace.id ∷ (flat_map (point_lines n p layers) (range_with_len 0 (length layers))
-    ++ (last_lines n p layers ++ end_line trace.id ∷ []))
+    lines_so_far n p trace ++ (last_lines n p (layers_of n p trace) ++ end_line trace.id ∷ [])
 
 abbrev pub follow_text : Net → Params → Trace → List ℕ
 follow_text n p trace = concat (follow_lines n p trace)
 
--- ---- its law
+-- ---- its laws
 
 -- the line is `fix I` or `finish`
 abbrev pub is_step_line : List ℕ → Bool
@@ -61,3 +67,9 @@ abbrev pub FollowIsMatch : Type 0
 FollowIsMatch =
     (n : Net) (p : Params) (trace : Trace)
     → filter (λ text. not (is_step_line text)) (follow_lines n p trace) ≡ lines_of (match_of n p trace)
+
+-- whatever fixes follow, the follow text begins with the lines that were written
+abbrev pub WrittenLinesStay : Type 0
+WrittenLinesStay =
+    (n : Net) (p : Params) (trace : Trace) (more : List Fix)
+    → (rest : List (List ℕ)) × (follow_lines n p (with_more trace more) ≡ lines_so_far n p trace ++ rest)

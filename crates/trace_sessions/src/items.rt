@@ -13,6 +13,9 @@ use road_network::{Candidate, Network};
 use std::alloc::{AllocError, Global};
 use trace_match::routed;
 
+#[cfg(test)]
+mod tests;
+
 /// Appends the lines of these items, each after the id and a space if there is an id. After Err `into`
 /// is as before.
 ///

@@ -5,7 +5,8 @@
 //!
 //! The follow text of a trace is defined by `follow_lines` in `specs/FollowText.antt`: a line `fix I`
 //! for each point, behind it the lines of what the point makes certain, and behind a line `finish` the
-//! lines of what is left. [`follow_is_match`] says that without these lines it is the match text.
+//! lines of what is left. [`follow_is_match`] says that without these lines it is the match text, and
+//! [`written_lines_stay`] that a line once written stays, whatever points follow.
 //!
 //! Read first: `item_lines` in `specs/ItemText.antt`, then `follow_lines` and `FollowIsMatch`.
 #![tactic(auto)]
@@ -16,4 +17,4 @@ mod laws;
 
 pub use following::follow_trace;
 pub use items::write_items;
-pub use laws::follow_is_match;
+pub use laws::{follow_is_match, written_lines_stay};
