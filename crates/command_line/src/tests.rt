@@ -26,7 +26,10 @@ fn refused_words(rt: HostRuntime) -> Result<(), Fail> {
         ("match a b --help", WordsFault::Usage),
         ("help", WordsFault::Usage),
         ("follow a", WordsFault::Usage),
-        ("follow a b --workers 65", WordsFault::BadValue(ValueName::Workers)),
+        (
+            "follow a b --workers 65",
+            WordsFault::BadValue(ValueName::Workers),
+        ),
         ("table", WordsFault::Usage),
         ("table a b", WordsFault::Usage),
         ("table a --table b", WordsFault::Usage),

@@ -1,6 +1,6 @@
 -- A trace that is followed: what a session of its first points has handed out, and what the next point
 -- brings. In this file layers stand in the order of the points.
-use Rattle.std.proofs.Common.{◌≡◌, ◌⊎◌, ℕ, suc, ◌+◌, ◌<◌, ◌≤◌, List, [], ◌∷◌, ◌++◌, refl, sym, ◌∙◌, ap, subst, arith, add-one, append_assoc, length, map, take, drop, get_or, length-append}
+use Rattle.std.proofs.Common.{◌≡◌, ℕ, ◌+◌, ◌<◌, ◌≤◌, List, [], ◌∷◌, ◌++◌, refl, sym, ◌∙◌, ap, subst, arith, add-one, length, take, drop, get_or}
 use Rattle.std.specs.List.{All}
 use Rattle.std.proofs.lemmas.List.{drop_at, get_or-map, get_or_default, length-map, length-take-le, take-append-drop, take_all, take_at, take_more}
 use Rattle.std.proofs.lemmas.List.Elements.{All-drop, All-take}
@@ -16,7 +16,6 @@ use Rattle.matching.specs.CommittedValue.{closed_pieces}
 use Rattle.matching.specs.Layers.{trellis}
 use Rattle.matching.specs.Value.{solution}
 use Rattle.matching.proofs.CandidateLayers.{candidates_narrow, layer_of_candidates}
-use Rattle.trace_match.specs.Laws.{IsMatchText}
 use Rattle.trace_match.specs.Match.{layer_of, layers_of, match_of, place_of}
 use Rattle.trace_match.proofs.Lawful.{match_lawful}
 use Rattle.trace_match.proofs.TraceLayers.{matchable}

@@ -1,5 +1,5 @@
 -- What following a trace makes known.
-use Rattle.std.proofs.Common.{◌≡◌, ◌⊎◌, ℕ, ◌<◌, arith, true, List, [], ◌∷◌, ◌++◌, Result, Ok, OnOk, sym, ◌∙◌, ap, subst, ⊎_elim}
+use Rattle.std.proofs.Common.{◌≡◌, ◌⊎◌, ℕ, arith, true, List, [], ◌∷◌, ◌++◌, Result, Ok, OnOk, sym, ◌∙◌, ap, subst, ⊎_elim}
 use Rattle.std.specs.Prelude.{Contains}
 use Rattle.bounded_search.specs.Rows.{AreRowsOf, AsksAll, RowsState}
 use Rattle.bounded_search.proofs.Asking.{all_by, asks_known, only_then, still_of}
@@ -50,7 +50,7 @@ next_asked {first = first} {new = new} n p s fed l network params stands before 
     let one = by_session n p s fed network params before in
     let two = asks.only fed stands in
     let all = subst (λ r. OnOk r ((front : List Layer) (v : ℕ) → StandsFor s front → AsksPoints s.network s.params (front ++ l ∷ []) v
-        → AsksPoints s.network s.params front v ⊎ Contains new.known v)) is asks.all in
+    → AsksPoints s.network s.params front v ⊎ Contains new.known v)) is asks.all in
     let both : AsksAll first new (AsksPoints s.network s.params (fed ++ l ∷ [])) = record {
       only = only_then one.only two (λ v h. ⊎_elim (λ asked. asks-more s.network s.params fed (l ∷ []) (whole (trellis s.network s.params) fed) v asked) (λ asked. asked) h);
       all = λ v asked. ⊎_elim (λ earlier. two.keeps.known v (one.all v earlier)) (λ known. known) (all fed v stands asked);

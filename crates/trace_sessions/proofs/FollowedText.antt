@@ -1,11 +1,10 @@
 -- The follow text as far as it is written.
-use Rattle.std.proofs.Common.{◌≡◌, ℕ, zero, suc, ◌+◌, List, [], ◌∷◌, ◌++◌, None, refl, sym, ◌∙◌, ap, subst, arith, add-one, append-nil, append_assoc, length}
+use Rattle.std.proofs.Common.{◌≡◌, ℕ, zero, suc, ◌+◌, List, [], ◌∷◌, ◌++◌, None, sym, ◌∙◌, ap, arith, add-one, append-nil, append_assoc, length}
 use Rattle.std.specs.List.{concat, flat_map, range_with_len}
 use Rattle.std.proofs.lemmas.List.Concat.{flat_map-append}
 use Rattle.std.proofs.lemmas.List.Folds.{concat-append}
 use Rattle.cost_model.specs.declared.params.Params.{Params}
 use Rattle.road_network.specs.Net.{Net}
-use Rattle.matching.specs.declared.parts.Layer.{Layer}
 use Rattle.match_text.specs.MatchText.{end_line, trace_line}
 use Rattle.online_commit.specs.declared.items.Item.{Item}
 use Rattle.trace_match.specs.Match.{layers_of}

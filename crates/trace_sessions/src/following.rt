@@ -20,9 +20,6 @@ use std::alloc::{AllocError, Global};
 use trace_match::layer;
 use trace_reader::Trace;
 
-#[cfg(test)]
-mod tests;
-
 /// Appends the follow text of a trace, and answers how many pieces its match has. Exactly the rows
 /// that the trace asks for become known.
 ///

@@ -1,12 +1,11 @@
-use Rattle.std.proofs.Common.{◌≡◌, ◌≤◌, ◌+◌, ◌++◌, ◌∷◌, [], ◌∙◌, None, sym, ap, subst, arith, length}
-use Rattle.std.specs.List.{concat}
+use Rattle.std.proofs.Common.{◌≤◌, ◌+◌, ◌∙◌, sym, ap, subst, arith, length}
 use Rattle.std.proofs.lemmas.List.{length-map}
 use Rattle.bounded_search.specs.Rows.{AsksAll}
 use Rattle.bounded_search.proofs.Asking.{keeps_err, keeps_then}
 use Rattle.trace_match.specs.Match.{layer_of}
-use Rattle.online_commit.specs.Session.{AsksFed, AsksPoints}
+use Rattle.online_commit.specs.Session.{AsksPoints}
 use Rattle.trace_sessions.specs.Following.{pieces_among}
-use Rattle.trace_sessions.specs.ItemText.{AreItemsOf, item_lines}
+use Rattle.trace_sessions.specs.ItemText.{AreItemsOf}
 use Rattle.trace_sessions.proofs.FollowedPoints.{all_counted, all_fed, all_layers, can_feed, fed_count, few_followed, first_layers, last_left, left_lies, none_followed, turned}
 use Rattle.trace_sessions.proofs.FollowedRows.{all_asked, next_asked, none_asked}
 use Rattle.trace_sessions.proofs.FollowedText.{text_begins, text_ends, text_next}
