@@ -7,10 +7,11 @@ use Rattle.command_line.specs.declared.fault.WordsFault.{WordsFault}
 use Rattle.command_line.specs.declared.value.ValueName.TheVariants.{N, T}
 use Rattle.command_line.specs.declared.work.Command.{Command}
 use Rattle.command_line.specs.declared.work.Work.{Work}
-use Rattle.command_line.specs.declared.work.Work.TheVariants.{Match, Table, Town}
+use Rattle.command_line.specs.declared.work.Work.TheVariants.{Match, Follow, Table, Town}
 
 pub data PlainWork : Type 0 where
   match_files : (network traces : List ℕ) → PlainWork
+  follow_files : (network traces : List ℕ) → PlainWork
   table_of_network : (network : List ℕ) → PlainWork
   match_town : (side traces seed : ℕ) → PlainWork
 
@@ -20,12 +21,14 @@ pub record PlainCommand : Type 0 where
 
 abbrev pub plain_work : Work → PlainWork
 plain_work (Match network traces) = match_files network.now traces.now
+plain_work (Follow network traces) = follow_files network.now traces.now
 plain_work (Table network) = table_of_network network.now
 plain_work (Town side traces seed) = match_town side traces seed
 
 -- the numbers of a work are in their ranges
 abbrev pub AreNumbersWithin : Work → Type 0
 AreNumbersWithin (Match network traces) = Unit {0}
+AreNumbersWithin (Follow network traces) = Unit {0}
 AreNumbersWithin (Table network) = Unit {0}
 AreNumbersWithin (Town side traces seed) =
     IsWithin (range_of N).least (range_of N).most side

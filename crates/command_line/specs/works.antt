@@ -1,3 +1,4 @@
+pub mod Follow
 pub mod Match
 pub mod Table
 pub mod Town

@@ -11,6 +11,7 @@ use crate::fault::WordsFault;
 use crate::read::read_options;
 use crate::syntax::program;
 use crate::work::{Command, Work};
+use crate::works::following::read_follow;
 use crate::works::matching::read_match;
 use crate::works::table::read_table;
 use crate::works::towns::read_town;
@@ -78,6 +79,7 @@ fn read_work<'a>(name: &str, found: &ArgMatches<'a>) -> Result<Work<'a>, WordsFa
 {
     match name {
         "match" => read_match(found),
+        "follow" => read_follow(found),
         "table" => read_table(found),
         "town" => read_town(found),
         _ => Err(WordsFault::Usage),

@@ -25,6 +25,11 @@ fn refused_words(rt: HostRuntime) -> Result<(), Fail> {
         ("match a -b", WordsFault::Usage),
         ("match a b --help", WordsFault::Usage),
         ("help", WordsFault::Usage),
+        ("follow a", WordsFault::Usage),
+        (
+            "follow a b --workers 65",
+            WordsFault::BadValue(ValueName::Workers),
+        ),
         ("table", WordsFault::Usage),
         ("table a b", WordsFault::Usage),
         ("table a --table b", WordsFault::Usage),
@@ -62,6 +67,23 @@ fn accepted_words(rt: HostRuntime) -> Result<(), Fail> {
             k: 3,
             bound: 0,
             gap: 60,
+            ..Params::DEFAULT
+        },
+    };
+    assert_eq!(rt; read_command(rt.alloc(), words.as_slice()), Ok(command));
+    Ok(())
+}
+
+#[test]
+fn words_of_follow(rt: HostRuntime) -> Result<(), Fail> {
+    let words = words(rt.alloc(), "follow --back=500 a b")?;
+    let command = Command {
+        work: Work::Follow {
+            network: "a",
+            traces: "b",
+        },
+        options: Params {
+            back: 500,
             ..Params::DEFAULT
         },
     };

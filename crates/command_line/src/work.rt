@@ -19,6 +19,13 @@ pub enum Work<'a> {
         /// The name of the trace file.
         traces: &'a str,
     },
+    /// Follow the traces of a file, point by point, on the network of a file.
+    Follow {
+        /// The name of the network file.
+        network: &'a str,
+        /// The name of the trace file.
+        traces: &'a str,
+    },
     /// Write the table of the network of a file.
     Table {
         /// The name of the network file.

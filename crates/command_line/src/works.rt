@@ -1,4 +1,5 @@
 // The kinds of work, each in a file of its own.
+pub mod following;
 pub mod matching;
 pub mod table;
 pub mod towns;

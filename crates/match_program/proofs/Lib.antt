@@ -1,6 +1,7 @@
 pub mod Asked
 pub mod Asking
 pub mod Counting
+pub mod Follows
 pub mod Jobs
 pub mod Lines
 pub mod TableRows

@@ -5,7 +5,7 @@ use Rattle.std.specs.declared.option.Option.{Option}
 use Rattle.std.specs.Result.{result_map_both}
 use Rattle.command_line.specs.FaultLine.{fault_line as words_fault_line}
 use Rattle.command_line.specs.Work.{PlainCommand, PlainWork}
-use Rattle.command_line.specs.Work.PlainWork.{match_files, match_town, table_of_network}
+use Rattle.command_line.specs.Work.PlainWork.{follow_files, match_files, match_town, table_of_network}
 use Rattle.command_line.specs.Words.{command_of}
 use Rattle.command_line.specs.declared.fault.WordsFault.{WordsFault}
 use Rattle.cost_model.specs.declared.params.Params.{Params}
@@ -24,6 +24,7 @@ use Rattle.table_file.specs.TableText.{text_limit}
 use Rattle.match_program.specs.RunLines.{run_lines}
 use Rattle.match_program.specs.Setting.{Setting}
 use Rattle.match_program.specs.Words.{asked_by, command_plan, work_plan}
+use Rattle.match_program.specs.commands.Follow.{follow_job}
 use Rattle.match_program.specs.commands.Matches.{match_text}
 use Rattle.match_program.specs.commands.Table.{table_said, table_too_long, text_of_network}
 
@@ -37,6 +38,9 @@ traces_end texts ending bytes None status line known refused is = absurd (refuse
 
 matches_end : (on : Setting) (name : List ℕ) (status : ℕ) (line : List ℕ) → status ≢ 0 → IsLineOf (works_traces name (match_text on)) status line → run_lines status line
 matches_end on name status line refused is = traces_end _ _ is.0 (file_fault is.0) status line refl refused is.1
+
+follows_end : (on : Setting) (name : List ℕ) (status : ℕ) (line : List ℕ) → status ≢ 0 → IsLineOf (works_traces name (follow_job on)) status line → run_lines status line
+follows_end on name status line refused is = traces_end _ _ is.0 (file_fault is.0) status line refl refused is.1
 
 network_end : (bytes : List ℕ) (said : Result Net (List ℕ)) (next : Net → Plan) (status : ℕ) (line : List ℕ) → network_said bytes ≡ said → ((net : Net) → IsLineOf (next net) status line → run_lines status line) → IsLineOf (accepts 5 said next) status line → run_lines status line
 network_end bytes (Ok net) next status line known rest is = rest net is
@@ -54,6 +58,8 @@ table_end network options (Err said) net status line known refused is = inr (sym
 work_end : (work : PlainWork) (options : Params) (status : ℕ) (line : List ℕ) → status ≢ 0 → IsLineOf (work_plan work options) status line → run_lines status line
 work_end (match_files network traces) options status line refused is =
     network_end is.0 (network_said is.0) (λ net. works_traces traces (match_text (record { network = net; params = options }))) status line refl (λ net. matches_end (record { network = net; params = options }) traces status line refused) is.1
+work_end (follow_files network traces) options status line refused is =
+    network_end is.0 (network_said is.0) (λ net. works_traces traces (follow_job (record { network = net; params = options }))) status line refl (λ net. follows_end (record { network = net; params = options }) traces status line refused) is.1
 work_end (table_of_network network) options status line refused is =
     network_end is.0 (network_said is.0) (λ net. accepts 8 (table_said net options.bound) (λ text. ends (done_with text))) status line refl
     (λ net. table_end network options (table_said net options.bound) net status line refl refused) is.1

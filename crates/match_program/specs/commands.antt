@@ -1,3 +1,4 @@
+pub mod Follow
 pub mod Matches
 pub mod MatchesDone
 pub mod Table

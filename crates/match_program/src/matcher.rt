@@ -1,10 +1,12 @@
 // What traces are matched on: a network with the grid of its edges, and the options. Serves the
 // commands; decided by `match_of`.
-ghost use Rattle.std.specs.Prelude.{◌≡◌, ◌≤◌, true, IfOk};
+ghost use Rattle.std.specs.Prelude.{◌≡◌, ◌≤◌, ◌++◌, true, IfOk, OnOk};
 ghost use Rattle.bounded_search.specs.Rows.{AreRowsOf, AsksAs, no_rows};
 ghost use Rattle.cost_model.specs.Options.{IsAccepted};
 ghost use Rattle.trace_match.specs.Match.{asks};
 ghost use Rattle.trace_reader.specs.Trace.{IsLawfulTrace};
+ghost use Rattle.trace_sessions.specs.FollowText.{follow_text};
+ghost use Rattle.trace_sessions.specs.Following.{IsPieceCount};
 ghost use Rattle.match_program.specs.Matched.{IsMatchOf};
 
 use bounded_search::OwnRows;
@@ -12,10 +14,12 @@ use cost_model::Params;
 use grid_index::Grid;
 use match_pool::match_one;
 use match_text::MatchedTrace;
+use polyline_geometry::List;
 use road_network::Network;
 use std::alloc::{AllocError, Global};
 use std::marker::Model;
 use trace_reader::Trace;
+use trace_sessions::follow_trace;
 
 // The least side of a cell of the grid, in cm.
 const LEAST_SIDE: u32 = 10_000;
@@ -82,5 +86,33 @@ impl<'n> Matcher<'n> {
     {
         let answer = match_one(alloc, self.network, &self.grid, &self.params, rows, trace)?;
         Ok(answer.matched)
+    }
+
+    /// Appends the follow text of a trace, and says how many pieces its match has.
+    pub fn follow_trace(
+        &self,
+        alloc: Global,
+        rows: &mut OwnRows<'n>,
+        trace: &Trace,
+        into: &mut List<u8>,
+    ) -> Result<u64, AllocError>
+        requires rows { AreRowsOf rows.old self.now.network self.now.params.bound }
+        requires trace { IsLawfulTrace trace.now }
+        ensures text { OnOk result
+            (into.new ≡ into.old ++ follow_text self.now.network self.now.params trace.now) }
+        ensures pieces { IfOk result
+            (IsPieceCount self.now.network self.now.params trace.now) }
+        ensures asks { AsksAs rows.old
+            (λ _ v. asks self.now.network self.now.params trace.now v ≡ true) result rows.new }
+    {
+        follow_trace(
+            alloc,
+            self.network,
+            &self.grid,
+            &self.params,
+            rows,
+            trace,
+            into,
+        )
     }
 }

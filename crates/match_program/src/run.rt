@@ -6,6 +6,7 @@ ghost use Rattle.program_frame.specs.Promises.{Promises};
 ghost use Rattle.match_program.specs.RunLines.{run_lines};
 ghost use Rattle.match_program.specs.Words.{asked_by};
 
+use crate::commands::follow::follow_traces;
 use crate::commands::matches::match_traces;
 use crate::commands::table::write_table;
 use crate::commands::towns::match_town;
@@ -32,6 +33,9 @@ fn perform<S: Shelf, K: Sink>(
     match command.work {
         Work::Match { network, traces } => {
             match_traces(alloc, network, traces, command.options, shelf, out)
+        }
+        Work::Follow { network, traces } => {
+            follow_traces(alloc, network, traces, command.options, shelf, out)
         }
         Work::Table { network } => write_table(alloc, network, command.options, shelf, out),
         Work::Town { side, traces, seed } => {

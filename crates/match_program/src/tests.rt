@@ -6,6 +6,8 @@ use std::alloc::{AllocError, Global};
 use std::test::Fail;
 use std::thread::Threads;
 
+mod following;
+
 const MATCH: &[&str] = &["match", "net", "tra"];
 
 const STRAIGHT: &[u8] = b"edge,from,to,line\n10,1,2,0 0;10000 0\n11,2,3,10000 0;20000 0\n";

@@ -1,6 +1,8 @@
-//! Tests that cross crates: small traces, matched over own rows and over rows that refuse a call. What
+//! Tests that cross crates: small traces, matched and followed over own rows and over rows that refuse a call. What
 //! the program alone can show, `tests/cases` has.
 #![tactic(auto)]
 
+#[cfg(test)]
+mod following;
 #[cfg(test)]
 mod traces;

@@ -18,7 +18,7 @@ use std::alloc::{AllocError, Global};
 use std::test::Fail;
 use trace_reader::{Fix, Trace};
 
-const DEFAULTS: Params = Params {
+pub const DEFAULTS: Params = Params {
     k: 8,
     radius: 10_000,
     sigma: 1_000,
@@ -30,7 +30,7 @@ const DEFAULTS: Params = Params {
 };
 
 /// Two edges in a row.
-const ROW: &[u8] = b"edge,from,to,line\n10,1,2,0 0;10000 0\n11,2,3,10000 0;20000 0\n";
+pub const ROW: &[u8] = b"edge,from,to,line\n10,1,2,0 0;10000 0\n11,2,3,10000 0;20000 0\n";
 
 /// The greatest coordinate of a fix, in cm.
 const GREATEST: u32 = 1_000_000_000;
@@ -47,14 +47,14 @@ fn are_in_range(fixes: &[Fix]) -> bool
     fixes.iter().all(|fix| is_in_range(fix))
 }
 
-fn is_lawful(trace: &Trace) -> bool
+pub fn is_lawful(trace: &Trace) -> bool
     ensures { IsTrue result ↔ IsLawfulTrace trace.now }
 {
     1 <= trace.fixes.len() && trace.fixes.len() <= 100_000 && are_in_range(trace.fixes.as_slice())
 }
 
 /// Trace 7 with fixes at these places.
-fn trace_at(alloc: Global, places: &[(i32, i32)]) -> Result<Trace, AllocError> {
+pub fn trace_at(alloc: Global, places: &[(i32, i32)]) -> Result<Trace, AllocError> {
     let mut fixes = List::new(alloc);
     for (x, y) in places {
         fixes.push(Fix {
@@ -116,7 +116,7 @@ const ALONG: [(i32, i32); 2] = [(1_000, 300), (9_000, -300)];
 
 /// Two places on the first edge, the second one behind: the road leads on, and the third row that is
 /// asked for is the road's.
-const BEHIND: [(i32, i32); 2] = [(9_000, 0), (1_000, 0)];
+pub const BEHIND: [(i32, i32); 2] = [(9_000, 0), (1_000, 0)];
 
 /// Whether memory is refused where this call for a row is.
 fn is_refused(alloc: Global, net: &Network, call: u64) -> Result<bool, AllocError> {

@@ -3,3 +3,7 @@ pub mod FollowLines
 pub mod ItemEdges
 pub mod Written
 pub mod LinesStay
+pub mod PieceCounts
+pub mod FollowedPoints
+pub mod FollowedText
+pub mod FollowedRows

@@ -1,2 +1,3 @@
 pub mod ItemText
 pub mod FollowText
+pub mod Following

@@ -11,8 +11,10 @@
 //! Read first: `item_lines` in `specs/ItemText.antt`, then `follow_lines` and `FollowIsMatch`.
 #![tactic(auto)]
 
+mod following;
 mod items;
 mod laws;
 
+pub use following::follow_trace;
 pub use items::write_items;
 pub use laws::{follow_is_match, written_lines_stay};

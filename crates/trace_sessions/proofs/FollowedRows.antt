@@ -1,0 +1,73 @@
+-- What following a trace makes known.
+use Rattle.std.proofs.Common.{◌≡◌, ◌⊎◌, ℕ, arith, true, List, [], ◌∷◌, ◌++◌, Result, Ok, OnOk, sym, ◌∙◌, ap, subst, ⊎_elim}
+use Rattle.std.specs.Prelude.{Contains}
+use Rattle.bounded_search.specs.Rows.{AreRowsOf, AsksAll, RowsState}
+use Rattle.bounded_search.proofs.Asking.{all_by, asks_known, only_then, still_of}
+use Rattle.cost_model.specs.declared.params.Params.{Params}
+use Rattle.road_network.specs.Net.{Net}
+use Rattle.matching.specs.declared.parts.Layer.{Layer}
+use Rattle.matching.specs.Layers.{end_of, trellis}
+use Rattle.matching.specs.Value.{solution}
+use Rattle.matching.proofs.Asking.{is_asked_node-tells}
+use Rattle.matching.proofs.CommittedValues.{whole}
+use Rattle.trace_match.specs.Match.{asks, layers_of}
+use Rattle.trace_reader.specs.declared.trace.Trace.{Trace}
+use Rattle.online_commit.specs.Session.{AsksFed, AsksFinished, AsksPoints, Session, StandsFor}
+use Rattle.online_commit.proofs.Asking.{asks-more}
+
+-- no points ask for nothing
+no_asks : (n : Net) (p : Params) (v : ℕ) → AsksPoints n p [] v → ⊥
+unfolding solution
+no_asks n p v (q, (k, low, is), at) = absurd (omega (arith, low))
+
+pub none_asked : (n : Net) (p : Params) (rows : RowsState) → AsksAll rows rows (AsksPoints n p [])
+none_asked n p rows = asks_known (λ v asked. absurd (no_asks n p v asked))
+
+-- the rows are still those that the session takes
+pub session_rows : (n : Net) (p : Params) (s : Session) (first now : RowsState) (asked : ℕ → Type 0) → s.network ≡ n → s.params ≡ p → AreRowsOf first n p.bound → AsksAll first now asked
+    → AreRowsOf now s.network s.params.bound
+session_rows n p s first now asked network params are asks =
+    let still = still_of asks.only.keeps are in
+    record { network = still.network ∙ sym network; bound = still.bound ∙ sym (ap (λ (q : Params). q.bound) params) }
+
+-- the same, by the network and the options of the session
+by_session : {first now : RowsState} (n : Net) (p : Params) (s : Session) (layers : List Layer) → s.network ≡ n → s.params ≡ p → AsksAll first now (AsksPoints n p layers)
+    → AsksAll first now (AsksPoints s.network s.params layers)
+by_session {first = first} {now = now} n p s layers network params asks =
+    subst (λ (m : Net). AsksAll first now (AsksPoints m s.params layers)) (sym network)
+    (subst (λ (q : Params). AsksAll first now (AsksPoints n q layers)) (sym params) asks)
+
+by_names : {first now : RowsState} (n : Net) (p : Params) (s : Session) (layers : List Layer) → s.network ≡ n → s.params ≡ p → AsksAll first now (AsksPoints s.network s.params layers)
+    → AsksAll first now (AsksPoints n p layers)
+by_names {first = first} {now = now} n p s layers network params asks =
+    subst (λ (m : Net). AsksAll first now (AsksPoints m p layers)) network
+    (subst (λ (q : Params). AsksAll first now (AsksPoints s.network q layers)) params asks)
+
+-- one point more was fed
+pub next_asked : {A E : Type 0} {first old new : RowsState} {result : Result A E} {x : A} (n : Net) (p : Params) (s : Session) (fed : List Layer) (l : Layer) → s.network ≡ n → s.params ≡ p
+    → StandsFor s fed → AsksAll first old (AsksPoints n p fed) → AsksFed s l old result new → result ≡ Ok x → AsksAll first new (AsksPoints n p (fed ++ l ∷ []))
+next_asked {first = first} {new = new} n p s fed l network params stands before asks is =
+    let one = by_session n p s fed network params before in
+    let two = asks.only fed stands in
+    let all = subst (λ r. OnOk r ((front : List Layer) (v : ℕ) → StandsFor s front → AsksPoints s.network s.params (front ++ l ∷ []) v
+    → AsksPoints s.network s.params front v ⊎ Contains new.known v)) is asks.all in
+    let both : AsksAll first new (AsksPoints s.network s.params (fed ++ l ∷ [])) = record {
+      only = only_then one.only two (λ v h. ⊎_elim (λ asked. asks-more s.network s.params fed (l ∷ []) (whole (trellis s.network s.params) fed) v asked) (λ asked. asked) h);
+      all = λ v asked. ⊎_elim (λ earlier. two.keeps.known v (one.all v earlier)) (λ known. known) (all fed v stands asked);
+    } in
+    by_names n p s (fed ++ l ∷ []) network params both
+
+-- all points were fed, and the trace has ended
+pub all_asked : {first old new : RowsState} (n : Net) (p : Params) (trace : Trace) (s : Session) → s.network ≡ n → s.params ≡ p → StandsFor s (layers_of n p trace)
+    → AsksAll first old (AsksPoints n p (layers_of n p trace)) → AsksFinished s old new → AsksAll first new (λ v. asks n p trace v ≡ true)
+unfolding asks
+all_asked {first = first} {new = new} n p trace s network params stands before asked_last =
+    let layers = layers_of n p trace in
+    let one = by_session n p s layers network params before in
+    let two = asked_last.only layers stands in
+    let both : AsksAll first new (AsksPoints s.network s.params layers) = record {
+      only = only_then one.only two (λ v h. ⊎_elim (λ asked. asked) (λ asked. asked) h);
+      all = λ v asked. two.keeps.known v (one.all v asked);
+    } in
+    let tells = is_asked_node-tells (trellis n p) (end_of n) layers (solution (trellis n p) layers).pieces in
+    all_by (by_names n p s layers network params both) (λ v asked. (tells v).0 asked) (λ v is. (tells v).1 is)

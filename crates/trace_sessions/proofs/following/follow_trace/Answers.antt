@@ -1,0 +1,130 @@
+use Rattle.std.proofs.Common.{◌≤◌, ◌+◌, ◌∙◌, sym, ap, subst, arith, length}
+use Rattle.std.proofs.lemmas.List.{length-map}
+use Rattle.bounded_search.specs.Rows.{AsksAll}
+use Rattle.bounded_search.proofs.Asking.{keeps_err, keeps_then}
+use Rattle.trace_match.specs.Match.{layer_of}
+use Rattle.online_commit.specs.Session.{AsksPoints}
+use Rattle.trace_sessions.specs.Following.{pieces_among}
+use Rattle.trace_sessions.specs.ItemText.{AreItemsOf}
+use Rattle.trace_sessions.proofs.FollowedPoints.{all_counted, all_fed, all_layers, can_feed, fed_count, few_followed, first_layers, last_left, left_lies, none_followed, turned}
+use Rattle.trace_sessions.proofs.FollowedRows.{all_asked, next_asked, none_asked}
+use Rattle.trace_sessions.proofs.FollowedText.{text_begins, text_ends, text_next}
+use Rattle.trace_sessions.proofs.following.follow_trace.Goals as goal
+
+pub loop-fix-init : goal.loop-fix-init
+loop-fix-init g c = record {
+  followed = none_followed c.args.net.now c.args.p.now c.args.trace.now c.open-session.result c.open-session.ensures.opened c.open-session.ensures.stands;
+  text = text_begins c.args.net.now c.args.p.now c.args.trace.now c.args.into.now c.write_trace.new.into c.in_ok-write_trace.ensures.ok;
+  asked = none_asked c.args.net.now c.args.p.now (g.R.Rows.state c.args.rows.now);
+}
+
+pub feed-requires-clause-layer : goal.feed-requires-clause-layer
+feed-requires-clause-layer g c =
+    can_feed c.args.net.now c.args.p.now c.args.trace.now c.as_slice-fix-items.result.now c.loop-fix.fix-index _ c.in_ok-layer.layer c.loop-fix.session c.loop-fix.pieces
+    c.requires.ground.options c.requires.trace c.as_slice-fix-items.ensures c.loop-fix-test.true c.in_ok-layer.ensures c.loop-fix.invariant.followed
+
+pub returns-in_err-items-clause-asks : goal.returns-in_err-items-clause-asks
+returns-in_err-items-clause-asks g c = keeps_err (keeps_then c.loop-fix.invariant.asked.only.keeps c.feed.ensures.asks.keeps) c.from_residual-in_err-items.ensures.0
+
+pub returns-in_err-write_fix-clause-asks : goal.returns-in_err-write_fix-clause-asks
+returns-in_err-write_fix-clause-asks g c = keeps_err (keeps_then c.loop-fix.invariant.asked.only.keeps c.feed.ensures.asks.keeps) c.from_residual-in_err-write_fix.ensures.0
+
+pub write_items-requires : goal.write_items-requires
+write_items-requires g c =
+    let turn = turned c.args.net.now c.args.p.now c.args.trace.now c.as_slice-fix-items.result.now c.loop-fix.fix-index _ c.in_ok-layer.layer c.loop-fix.session c.feed.new.self c.loop-fix.pieces c.in_ok-items.items
+    c.known.ensures c.requires.ground.options c.requires.trace c.as_slice-fix-items.ensures c.loop-fix-test.true c.in_ok-layer.ensures c.loop-fix.invariant.followed c.in_ok-items.ensures.fed in
+    subst (AreItemsOf c.args.net.now) (sym c.as_slice.ensures) turn.lies
+
+pub returns-in_err-write_items-clause-asks : goal.returns-in_err-write_items-clause-asks
+returns-in_err-write_items-clause-asks g c = keeps_err (keeps_then c.loop-fix.invariant.asked.only.keeps c.feed.ensures.asks.keeps) c.from_residual-in_err-write_items.ensures.0
+
+pub overflow_add-pieces : goal.overflow_add-pieces
+overflow_add-pieces g c =
+    let turn = turned c.args.net.now c.args.p.now c.args.trace.now c.as_slice-fix-items.result.now c.loop-fix.fix-index _ c.in_ok-layer.layer c.loop-fix.session c.feed.new.self c.loop-fix.pieces c.in_ok-items.items
+    c.known.ensures c.requires.ground.options c.requires.trace c.as_slice-fix-items.ensures c.loop-fix-test.true c.in_ok-layer.ensures c.loop-fix.invariant.followed c.in_ok-items.ensures.fed in
+    let counted = c.count_pieces-pieces.ensures ∙ ap pieces_among c.as_slice-in-loop-fix.ensures in
+    let few = few_followed c.args.net.now c.args.p.now c.args.trace.now (c.loop-fix.fix-index + 1) c.feed.new.self (c.loop-fix.pieces + c.count_pieces-pieces.result) c.requires.ground.options c.requires.trace
+    (turn.followed c.count_pieces-pieces.result counted) in
+    let most = c.requires.trace.few in
+    omega (arith, few, most)
+
+pub loop-fix-preserved : goal.loop-fix-preserved
+loop-fix-preserved g c =
+    let n = c.args.net.now in
+    let p = c.args.p.now in
+    let trace = c.args.trace.now in
+    let i = c.loop-fix.fix-index in
+    let inv = c.loop-fix.invariant in
+    let layer = c.in_ok-layer.layer in
+    let turn = turned n p trace c.as_slice-fix-items.result.now i _ layer c.loop-fix.session c.feed.new.self c.loop-fix.pieces c.in_ok-items.items
+    c.known.ensures c.requires.ground.options c.requires.trace c.as_slice-fix-items.ensures c.loop-fix-test.true c.in_ok-layer.ensures inv.followed c.in_ok-items.ensures.fed in
+    let low = c.loop-fix-test.true in
+    let size = ap length c.as_slice-fix-items.ensures in
+    let point = c.count-point.ensures ∙ fed_count n p trace i c.loop-fix.session c.loop-fix.pieces inv.followed (omega (arith, low, size)) in
+    let first = g.R.Rows.state c.args.rows.now in
+    let now = g.R.Rows.state c.feed.new.rows in
+    record {
+      followed = turn.followed c.count_pieces-pieces.result (c.count_pieces-pieces.ensures ∙ ap pieces_among c.as_slice-in-loop-fix.ensures);
+      text = text_next n p trace i c.count-point.result c.as_slice.result.now c.args.into.now c.loop-fix.into c.write_fix.new.into c.write_items.new.into inv.text point (c.as_slice.ensures ∙ turn.next.are)
+          c.in_ok-write_fix.ensures c.in_ok-write_items.ensures.ok;
+      asked = subst (λ ls. AsksAll first now (AsksPoints n p ls)) (sym turn.layers)
+          (next_asked n p c.loop-fix.session (first_layers n p trace i) layer inv.followed.network inv.followed.params inv.followed.stands inv.asked c.feed.ensures.asks c.in_ok-items.was);
+    }
+
+pub write_items-requires-2 : goal.write_items-requires-2
+write_items-requires-2 g c =
+    let n = c.args.net.now in
+    let p = c.args.p.now in
+    let trace = c.args.trace.now in
+    let over = subst (λ fs. length fs ≤ c.loop-fix.fix-index) c.as_slice-fix-items.ensures c.loop-fix-test.false in
+    let left = last_left n p trace c.loop-fix.fix-index c.loop-fix.session c.finish.new.self c.loop-fix.pieces c.in_ok-items-2.items c.loop-fix.invariant.followed over c.in_ok-items-2.ensures.finished in
+    subst (AreItemsOf n) (sym c.as_slice-2.ensures) (left_lies n p trace c.in_ok-items-2.items c.known.ensures c.requires.ground.options c.requires.trace left)
+
+pub overflow_add-result : goal.overflow_add-result
+overflow_add-result g c =
+    let n = c.args.net.now in
+    let p = c.args.p.now in
+    let trace = c.args.trace.now in
+    let over = subst (λ fs. length fs ≤ c.loop-fix.fix-index) c.as_slice-fix-items.ensures c.loop-fix-test.false in
+    let left = last_left n p trace c.loop-fix.fix-index c.loop-fix.session c.finish.new.self c.loop-fix.pieces c.in_ok-items-2.items c.loop-fix.invariant.followed over c.in_ok-items-2.ensures.finished in
+    let counted = c.count_pieces.ensures ∙ ap pieces_among c.as_slice-3.ensures in
+    let few = (all_counted n p trace c.loop-fix.fix-index c.loop-fix.session c.loop-fix.pieces c.count_pieces.result c.in_ok-items-2.items c.requires.ground.options c.requires.trace c.loop-fix.invariant.followed over left counted).few in
+    let most = c.requires.trace.few in
+    omega (arith, few, most)
+
+pub returns-clause-text : goal.returns-clause-text
+returns-clause-text g c =
+    let n = c.args.net.now in
+    let p = c.args.p.now in
+    let trace = c.args.trace.now in
+    let i = c.loop-fix.fix-index in
+    let over = subst (λ fs. length fs ≤ i) c.as_slice-fix-items.ensures c.loop-fix-test.false in
+    let left = last_left n p trace i c.loop-fix.session c.finish.new.self c.loop-fix.pieces c.in_ok-items-2.items c.loop-fix.invariant.followed over c.in_ok-items-2.ensures.finished in
+    let size = ap length c.as_slice-fix-items.ensures in
+    let count = length-map trace.fixes (layer_of n p) in
+    let within = c.loop-fix.auto.fix-index-end in
+    text_ends n p trace i c.as_slice-2.result.now c.args.into.now c.loop-fix.into c.write_finish.new.into c.write_items-2.new.into c.write_end.new.into c.loop-fix.invariant.text
+    (omega (arith, over, size, count, within)) (c.as_slice-2.ensures ∙ left.are) c.in_ok-write_finish.ensures c.in_ok-write_items-2.ensures.ok c.in_ok-write_end.ensures.ok
+
+pub returns-clause-pieces : goal.returns-clause-pieces
+returns-clause-pieces g c =
+    let n = c.args.net.now in
+    let p = c.args.p.now in
+    let trace = c.args.trace.now in
+    let over = subst (λ fs. length fs ≤ c.loop-fix.fix-index) c.as_slice-fix-items.ensures c.loop-fix-test.false in
+    let left = last_left n p trace c.loop-fix.fix-index c.loop-fix.session c.finish.new.self c.loop-fix.pieces c.in_ok-items-2.items c.loop-fix.invariant.followed over c.in_ok-items-2.ensures.finished in
+    let counted = c.count_pieces.ensures ∙ ap pieces_among c.as_slice-3.ensures in
+    all_counted n p trace c.loop-fix.fix-index c.loop-fix.session c.loop-fix.pieces c.count_pieces.result c.in_ok-items-2.items c.requires.ground.options c.requires.trace c.loop-fix.invariant.followed over left counted
+
+pub returns-clause-asks : goal.returns-clause-asks
+returns-clause-asks g c =
+    let n = c.args.net.now in
+    let p = c.args.p.now in
+    let trace = c.args.trace.now in
+    let i = c.loop-fix.fix-index in
+    let inv = c.loop-fix.invariant in
+    let over = subst (λ fs. length fs ≤ i) c.as_slice-fix-items.ensures c.loop-fix-test.false in
+    let first = g.R.Rows.state c.args.rows.now in
+    let before = subst (λ ls. AsksAll first (g.R.Rows.state c.loop-fix.rows) (AsksPoints n p ls)) (all_layers n p trace i over) inv.asked in
+    let all = all_asked n p trace c.loop-fix.session inv.followed.network inv.followed.params (all_fed n p trace i c.loop-fix.session c.loop-fix.pieces inv.followed over) before c.finish.ensures.asks in
+    record { keeps = all.only.keeps; asks = all }

@@ -1,0 +1,90 @@
+//! A trace that is followed point by point. Serves `follow`; decided by `follow_text`.
+ghost use Rattle.std.specs.Prelude.{◌≡◌, ◌++◌, true, IfOk, OnOk};
+ghost use Rattle.bounded_search.specs.Rows.{AreRowsOf, AsksAs};
+ghost use Rattle.trace_match.specs.Ground.{IsGridFor};
+ghost use Rattle.trace_match.specs.Match.{asks};
+ghost use Rattle.trace_reader.specs.Trace.{IsLawfulTrace};
+ghost use Rattle.trace_sessions.specs.FollowText.{finish_line, fix_line, follow_text};
+ghost use Rattle.trace_sessions.specs.Following.{IsPieceCount, pieces_among};
+
+use crate::items::write_items;
+use bounded_search::Rows;
+use cost_model::Params;
+use decimal_text::write_unsigned;
+use grid_index::Grid;
+use match_text::{write_end, write_trace};
+use online_commit::{Item, Online};
+use polyline_geometry::List;
+use road_network::Network;
+use std::alloc::{AllocError, Global};
+use trace_match::layer;
+use trace_reader::Trace;
+
+/// Appends the follow text of a trace, and answers how many pieces its match has. Exactly the rows
+/// that the trace asks for become known.
+///
+/// `grid` is of this network, with cells of at least the radius, and `rows` are of this network and
+/// the bound of these options. Each point is matched as it comes: the candidates of one point at a
+/// time are found, and those of the points of the open piece are kept. Err says that memory was
+/// refused; what was known is still known then, and a part of the text may stand at the end.
+pub fn follow_trace<R: Rows>(
+    alloc: Global,
+    net: &Network,
+    grid: &Grid,
+    p: &Params,
+    rows: &mut R,
+    trace: &Trace,
+    into: &mut List<u8>,
+) -> Result<u64, AllocError>
+    requires ground { IsGridFor net.now p.now grid.now }
+    requires rows { AreRowsOf (R.state rows.old) net.now p.now.bound }
+    requires trace { IsLawfulTrace trace.now }
+    ensures text { OnOk result (into.new ≡ into.old ++ follow_text net.now p.now trace.now) }
+    ensures pieces { IfOk result (IsPieceCount net.now p.now trace.now) }
+    ensures asks { AsksAs (R.state rows.old) (λ _ v. asks net.now p.now trace.now v ≡ true)
+        result (R.state rows.new) }
+{
+    net.known();
+    write_trace(trace.id, into)?;
+    let mut session = Online::open(alloc, net, p);
+    let mut pieces = 0;
+    for fix in trace.fixes.as_slice() {
+        let point = session.count();
+        let layer = layer(alloc, net, grid, p, fix)?;
+        let items = session.feed(layer, rows)?;
+        write_fix(point, into)?;
+        write_items(alloc, net, None, items.as_slice(), into)?;
+        pieces += count_pieces(items.as_slice());
+    }
+    let items = session.finish(rows)?;
+    write_finish(into)?;
+    write_items(alloc, net, None, items.as_slice(), into)?;
+    write_end(trace.id, into)?;
+    Ok(pieces + count_pieces(items.as_slice()))
+}
+
+// Appends the line `fix I`. After Err a part of it may stand at the end.
+fn write_fix(point: u32, into: &mut List<u8>) -> Result<(), AllocError>
+    ensures { OnOk result (into.new ≡ into.old ++ fix_line point) }
+{
+    into.extend_from_slice(b"fix ")?;
+    write_unsigned(u64::from(point), into)?;
+    into.extend_from_slice(b"\n")
+}
+
+// Appends the line `finish`.
+fn write_finish(into: &mut List<u8>) -> Result<(), AllocError>
+    ensures { OnOk result (into.new ≡ into.old ++ finish_line) }
+{
+    into.extend_from_slice(b"finish\n")
+}
+
+// How many of these items are pieces.
+fn count_pieces(items: &[Item]) -> u64
+    ensures { result ≡ pieces_among items.now }
+{
+    items
+        .iter()
+        .filter(|item| matches!(item, Item::Closed { .. }))
+        .count() as u64
+}
