@@ -1,5 +1,5 @@
 -- No definition of a match looks at the number of workers.
-use Rattle.std.proofs.Common.{refl}
+use Rattle.std.proofs.Common.{refl, Some, None}
 use Rattle.command_line.specs.Work.PlainWork.{match_files, match_town, table_of_network}
 use Rattle.route_rebuild.specs.Routes.{route_of}
 use Rattle.trace_match.specs.Match.{asks, match_of}
@@ -7,6 +7,7 @@ use Rattle.match_program.specs.Workers.{WorkersChangeNothing}
 
 pub workers_change_nothing : WorkersChangeNothing
 unfolding match_of asks route_of
-workers_change_nothing (match_files network traces) options workers = refl
+workers_change_nothing (match_files network traces None) options workers = refl
+workers_change_nothing (match_files network traces (Some table)) options workers = refl
 workers_change_nothing (table_of_network network) options workers = refl
 workers_change_nothing (match_town side traces seed) options workers = refl

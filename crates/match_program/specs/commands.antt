@@ -1,5 +1,7 @@
 pub mod Matches
 pub mod MatchesDone
+pub mod Preload
+pub mod PreloadDone
 pub mod Table
 pub mod TableDone
 pub mod Towns

@@ -1,4 +1,5 @@
 // The commands, each in a file of its own.
 pub mod matches;
+pub mod preload;
 pub mod table;
 pub mod towns;
