@@ -1,5 +1,5 @@
 -- What words ask for, with the bytes of its names.
-use Rattle.std.specs.Prelude.{ℕ, List, Option, Result}
+use Rattle.std.specs.Prelude.{ℕ, List, Option, Result, option_map}
 use Rattle.cost_model.specs.Options.{IsWithin}
 use Rattle.cost_model.specs.declared.params.Params.{Params}
 use Rattle.command_line.specs.Values.{range_of}
@@ -10,7 +10,7 @@ use Rattle.command_line.specs.declared.work.Work.{Work}
 use Rattle.command_line.specs.declared.work.Work.TheVariants.{Match, Follow, Table, Town}
 
 pub data PlainWork : Type 0 where
-  match_files : (network traces : List ℕ) → PlainWork
+  match_files : (network traces : List ℕ) (table : Option (List ℕ)) → PlainWork
   follow_files : (network traces : List ℕ) → PlainWork
   table_of_network : (network : List ℕ) → PlainWork
   match_town : (side traces seed : ℕ) → PlainWork
@@ -20,14 +20,15 @@ pub record PlainCommand : Type 0 where
   pub options : Params
 
 abbrev pub plain_work : Work → PlainWork
-plain_work (Match network traces) = match_files network.now traces.now
+plain_work (Match network traces table) =
+    match_files network.now traces.now (option_map (λ name. name.now) table)
 plain_work (Follow network traces) = follow_files network.now traces.now
 plain_work (Table network) = table_of_network network.now
 plain_work (Town side traces seed) = match_town side traces seed
 
 -- the numbers of a work are in their ranges
 abbrev pub AreNumbersWithin : Work → Type 0
-AreNumbersWithin (Match network traces) = Unit {0}
+AreNumbersWithin (Match network traces table) = Unit {0}
 AreNumbersWithin (Follow network traces) = Unit {0}
 AreNumbersWithin (Table network) = Unit {0}
 AreNumbersWithin (Town side traces seed) =

@@ -20,6 +20,7 @@ fn refused_words(rt: HostRuntime) -> Result<(), Fail> {
         ("match a b c", WordsFault::Usage),
         ("follows a b", WordsFault::Usage),
         ("match a b --k 3 --k 4", WordsFault::Usage),
+        ("match a b --table c --table c", WordsFault::Usage),
         ("match a b --k", WordsFault::Usage),
         ("match a b --size 3", WordsFault::Usage),
         ("match a -b", WordsFault::Usage),
@@ -57,11 +58,12 @@ fn refused_words(rt: HostRuntime) -> Result<(), Fail> {
 
 #[test]
 fn accepted_words(rt: HostRuntime) -> Result<(), Fail> {
-    let words = words(rt.alloc(), "match a --k=3 --gap 60 --bound 0 -- -b")?;
+    let words = words(rt.alloc(), "match a --k=3 --table t --gap 60 --bound 0 -- -b")?;
     let command = Command {
         work: Work::Match {
             network: "a",
             traces: "-b",
+            table: Some("t"),
         },
         options: Params {
             k: 3,

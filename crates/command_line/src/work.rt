@@ -18,6 +18,8 @@ pub enum Work<'a> {
         network: &'a str,
         /// The name of the trace file.
         traces: &'a str,
+        /// The name of a file with a table that was computed beforehand, where there is one.
+        table: Option<&'a str>,
     },
     /// Follow the traces of a file, point by point, on the network of a file.
     Follow {

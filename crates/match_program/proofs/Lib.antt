@@ -4,7 +4,10 @@ pub mod Counting
 pub mod Follows
 pub mod Jobs
 pub mod Lines
+pub mod Preloads
+pub mod TableFiles
 pub mod TableRows
 pub mod Texts
 pub mod Towns
+pub mod TriedRows
 pub mod Workers

@@ -26,6 +26,7 @@ use Rattle.match_program.specs.Setting.{Setting}
 use Rattle.match_program.specs.Words.{asked_by, command_plan, work_plan}
 use Rattle.match_program.specs.commands.Follow.{follow_job}
 use Rattle.match_program.specs.commands.Matches.{match_text}
+use Rattle.match_program.specs.commands.Preload.{preloads, table_file_said}
 use Rattle.match_program.specs.commands.Table.{table_said, table_too_long, text_of_network}
 
 traces_end : (texts ending bytes : List ℕ) (fault : Option TraceFault) (status : ℕ) (line : List ℕ) → file_fault bytes ≡ fault → status ≢ 0 → IsLineOf (ends (given_by None fault texts ending)) status line → run_lines status line
@@ -49,15 +50,25 @@ network_end bytes (Err fault) next status line known rest is = inl (inr (inl (sy
 table_end : (network : List ℕ) (options : Params) (said : Result (List ℕ) (List ℕ)) (net : Net) (status : ℕ) (line : List ℕ) → table_said net options.bound ≡ said → status ≢ 0
     → IsLineOf (accepts 8 said (λ text. ends (done_with text))) status line → run_lines status line
 table_end network options (Ok text) net status line known refused is = absurd (refused (sym is.0))
-table_end network options (Err said) net status line known refused is = inr (sym is.0, sym is.1 ∙ too_long_said (nat_lt text_limit (length (text_of_network net options.bound))) known)
+table_end network options (Err said) net status line known refused is = inr (inl (sym is.0, sym is.1 ∙ too_long_said (nat_lt text_limit (length (text_of_network net options.bound))) known))
   where
     too_long_said : (long : Bool) → cond {A = Result (List ℕ) (List ℕ)} long (Err table_too_long) (Ok (text_of_network net options.bound)) ≡ Err said → said ≡ table_too_long
     too_long_said true e = cc
     too_long_said false e = absurd cc
 
+table_file_end : (net : Net) (bound : ℕ) (bytes : List ℕ) (said : Result (Unit {0}) (List ℕ)) (next : Plan) (status : ℕ) (line : List ℕ) → table_file_said net bound bytes ≡ said → (IsLineOf next status line → run_lines status line)
+    → IsLineOf (accepts 9 said (λ _. next)) status line → run_lines status line
+table_file_end net bound bytes (Ok done) next status line known rest is = rest is
+table_file_end net bound bytes (Err said) next status line known rest is = inr (inr (sym is.0, (net, bound, bytes, known ∙ ap (λ l. Err l) is.1)))
+
+preloads_end : (table : Option (List ℕ)) (net : Net) (bound : ℕ) (next : Plan) (status : ℕ) (line : List ℕ) → (IsLineOf next status line → run_lines status line) → IsLineOf (preloads table net bound next) status line → run_lines status line
+preloads_end None net bound next status line rest is = rest is
+preloads_end (Some name) net bound next status line rest is = table_file_end net bound is.0 (table_file_said net bound is.0) next status line refl rest is.1
+
 work_end : (work : PlainWork) (options : Params) (status : ℕ) (line : List ℕ) → status ≢ 0 → IsLineOf (work_plan work options) status line → run_lines status line
-work_end (match_files network traces) options status line refused is =
-    network_end is.0 (network_said is.0) (λ net. works_traces traces (match_text (record { network = net; params = options }))) status line refl (λ net. matches_end (record { network = net; params = options }) traces status line refused) is.1
+work_end (match_files network traces table) options status line refused is =
+    network_end is.0 (network_said is.0) (λ net. preloads table net options.bound (works_traces traces (match_text (record { network = net; params = options })))) status line refl
+    (λ net. preloads_end table net options.bound (works_traces traces (match_text (record { network = net; params = options }))) status line (matches_end (record { network = net; params = options }) traces status line refused)) is.1
 work_end (follow_files network traces) options status line refused is =
     network_end is.0 (network_said is.0) (λ net. works_traces traces (follow_job (record { network = net; params = options }))) status line refl (λ net. follows_end (record { network = net; params = options }) traces status line refused) is.1
 work_end (table_of_network network) options status line refused is =

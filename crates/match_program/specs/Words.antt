@@ -14,7 +14,7 @@ use Rattle.match_program.specs.commands.Towns.{town_plan}
 
 -- the plan of a work with these options: a row for each command
 abbrev pub work_plan : PlainWork → Params → Plan
-work_plan (match_files network traces) options = match_plan network traces options
+work_plan (match_files network traces table) options = match_plan network traces table options
 work_plan (follow_files network traces) options = follow_plan network traces options
 work_plan (table_of_network network) options = table_plan network options
 work_plan (match_town side traces seed) options = town_plan side traces seed options

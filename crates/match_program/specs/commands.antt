@@ -1,6 +1,8 @@
 pub mod Follow
 pub mod Matches
 pub mod MatchesDone
+pub mod Preload
+pub mod PreloadDone
 pub mod Table
 pub mod TableDone
 pub mod Towns

@@ -1,5 +1,6 @@
 // The commands, each in a file of its own.
 pub mod follow;
 pub mod matches;
+pub mod preload;
 pub mod table;
 pub mod towns;

@@ -1,7 +1,13 @@
 //! Laws on what a run writes. Each function is there for its clause and does nothing.
+ghost use Rattle.match_program.specs.TableFiles.{TableFilesChangeNothing};
 ghost use Rattle.match_program.specs.Workers.{WorkersChangeNothing};
 
 /// The outcome is the same for any number of workers in the options.
 pub fn workers_change_nothing()
     ensures { WorkersChangeNothing }
+{}
+
+/// The outcome of `match` with a table file is that without it, where the file is not refused.
+pub fn table_files_change_nothing()
+    ensures { TableFilesChangeNothing }
 {}

@@ -31,9 +31,11 @@ fn perform<S: Shelf, K: Sink>(
         Err(fault) => return Err(refuse_words(alloc, fault)),
     };
     match command.work {
-        Work::Match { network, traces } => {
-            match_traces(alloc, network, traces, command.options, shelf, out)
-        }
+        Work::Match {
+            network,
+            traces,
+            table,
+        } => match_traces(alloc, network, traces, table, command.options, shelf, out),
         Work::Follow { network, traces } => {
             follow_traces(alloc, network, traces, command.options, shelf, out)
         }
@@ -46,7 +48,7 @@ fn perform<S: Shelf, K: Sink>(
 
 /// Runs the command that the words spell, and says on err why it ended early. The status says how
 /// it ended: 0 done, 1 want of memory, 2 words refused, 3 a file was not read, 4 a write failed,
-/// 5 network refused, 6 traces refused, 8 table too long.
+/// 5 network refused, 6 traces refused, 8 table too long, 9 table file refused.
 pub fn run<R: Threads, S: Shelf, K: Sink, E: Sink>(
     _rt: &R,
     alloc: Global,

@@ -1,4 +1,4 @@
-// `match NET TRACES`. Serves `read_work` and `program`; decided by `match_kind`.
+// `match NET TRACES [--table FILE]`. Serves `read_work` and `program`; decided by `match_kind`.
 ghost use Rattle.std.specs.Prelude.{◌≡◌, codes, IfOk};
 ghost use Rattle.std.specs.Result.{result_map_both};
 ghost use Rattle.clap.specs.Words.{first_of, found_of, rows_of};
@@ -14,7 +14,7 @@ use clap::ArgMatches;
 /// The command as words give it.
 pub const FORM: Form = Form {
     name: "match",
-    options: &[],
+    options: &["table"],
     arguments: &["NET", "TRACES"],
 };
 
@@ -22,11 +22,16 @@ pub const FORM: Form = Form {
 pub fn read_match<'a>(found: &ArgMatches<'a>) -> Result<Work<'a>, WordsFault>
     ensures value { result_map_both plain_work (λ fault. fault) result
         ≡ match_of (first_of (codes "NET") (rows_of (found_of found.now)))
-        (first_of (codes "TRACES") (rows_of (found_of found.now))) }
+        (first_of (codes "TRACES") (rows_of (found_of found.now)))
+        (first_of (codes "table") (rows_of (found_of found.now))) }
     ensures within { IfOk result AreNumbersWithin }
 {
     match (text_of(found, "NET"), text_of(found, "TRACES")) {
-        (Some(network), Some(traces)) => Ok(Work::Match { network, traces }),
+        (Some(network), Some(traces)) => Ok(Work::Match {
+            network,
+            traces,
+            table: text_of(found, "table"),
+        }),
         _ => Err(WordsFault::Usage),
     }
 }

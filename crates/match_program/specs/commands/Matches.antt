@@ -1,4 +1,4 @@
--- `match NET TRACES`: what the bytes of a trace file give, matched on a network.
+-- `match NET TRACES [--table FILE]`: what the bytes of a trace file give, matched on a network.
 use Rattle.std.specs.Prelude.{◌≡◌, ℕ, Bool, List, length, count_by, Some, None}
 use Rattle.std.specs.declared.option.Option.{Option}
 use Rattle.std.specs.List.{flat_map, list_any, range_with_len, sum_by}
@@ -15,6 +15,7 @@ use Rattle.program_frame.specs.declared.stop.File.TheVariants.{Network}
 use Rattle.trace_match.specs.Match.{asks, match_of}
 use Rattle.trace_reader.specs.declared.trace.Trace.{Trace}
 use Rattle.match_program.specs.Setting.{Setting}
+use Rattle.match_program.specs.commands.Preload.{preloads}
 
 -- the texts of traces, in their order
 abbrev pub texts_of : Setting → List Trace → List ℕ
@@ -54,8 +55,10 @@ match_text on = record {
   stays = λ front back line is. absurd (no_line line is);
 }
 
--- the network is read and accepted, and then the traces are read and matched
-abbrev pub match_plan : (network traces : List ℕ) (options : Params) → Plan
-match_plan network traces options =
+-- the network is read and accepted, then the table file where there is one, and then the traces are
+-- read and matched
+abbrev pub match_plan : (network traces : List ℕ) (table : Option (List ℕ)) (options : Params) → Plan
+match_plan network traces table options =
     loads Network network network_limit 5 network_said
-    (λ net. works_traces traces (match_text (record { network = net; params = options })))
+    (λ net. preloads table net options.bound
+    (works_traces traces (match_text (record { network = net; params = options }))))

@@ -1,5 +1,5 @@
-// `match NET TRACES`. Serves `perform`; decided by `match_plan`.
-ghost use Rattle.std.specs.Prelude.{◌≡◌, ◌++◌, [], Ok, IfOk, OnOk};
+// `match NET TRACES [--table FILE]`. Serves `perform`; decided by `match_plan`.
+ghost use Rattle.std.specs.Prelude.{◌≡◌, ◌++◌, [], Ok, IfOk, OnOk, option_map};
 ghost use Rattle.bounded_search.specs.Rows.{AreRowsOf, no_rows};
 ghost use Rattle.cost_model.specs.Options.{IsAccepted};
 ghost use Rattle.program_frame.specs.Jobs.{IsBounded};
@@ -7,6 +7,7 @@ ghost use Rattle.program_frame.specs.Performs.{Performs};
 ghost use Rattle.match_program.specs.commands.Matches.{match_plan, match_text, texts_of};
 ghost use Rattle.match_program.specs.commands.MatchesDone.{ArePieces, AsksTraces, HasMatched};
 
+use crate::commands::preload::preload;
 use crate::matcher::Matcher;
 use bounded_search::OwnRows;
 use cost_model::Params;
@@ -15,6 +16,7 @@ use match_text::write_match;
 use polyline_geometry::List;
 use program_frame::{Job, Stop, Tally, load_network, work_traces};
 use road_network::Network;
+use row_store::RowStore;
 use std::alloc::{AllocError, Global};
 use trace_reader::Trace;
 
@@ -87,20 +89,27 @@ impl<'n> Job for MatchJob<'n> {
     }
 }
 
-/// Reads the network, and then the traces, which it matches batch by batch.
+/// Reads the network, then the table file where there is one, and then the traces, which it matches
+/// batch by batch.
 pub fn match_traces<S: Shelf, K: Sink>(
     alloc: Global,
     network: &str,
     traces: &str,
+    table: Option<&str>,
     options: Params,
     shelf: &mut S,
     out: &mut K,
 ) -> Result<(), Stop>
     requires { IsAccepted options }
-    ensures { Performs (Ok (match_plan network.now traces.now options))
+    ensures { Performs
+        (Ok (match_plan network.now traces.now (option_map (λ name. name.now) table.entry) options))
         (S.state shelf.old) (S.state shelf.new) (K.state out.old) (K.state out.new) result }
 {
     let roads = load_network(alloc, shelf, network)?;
+    let Ok(store) = RowStore::open(alloc, &roads, options.bound) else {
+        return Err(Stop::NoMemory);
+    };
+    preload(alloc, shelf, table, &roads, options.bound, &store)?;
     let Ok(job) = MatchJob::open(alloc, &roads, options) else {
         return Err(Stop::NoMemory);
     };
