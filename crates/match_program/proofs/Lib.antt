@@ -3,7 +3,8 @@ pub mod Asking
 pub mod Counting
 pub mod Jobs
 pub mod Lines
+pub mod Matches
+pub mod Sharing
 pub mod TableRows
-pub mod Texts
 pub mod Towns
 pub mod Workers
