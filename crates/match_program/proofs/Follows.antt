@@ -12,7 +12,7 @@ use Rattle.match_program.specs.commands.Follow.{follow_job, followed_of}
 use Rattle.match_program.specs.commands.Matches.{pieces_of}
 use Rattle.match_program.specs.commands.MatchesDone.{ArePieces}
 use Rattle.match_program.proofs.Counting.{pieces-append}
-use Rattle.match_program.proofs.Texts.{next_trace}
+use Rattle.match_program.proofs.FollowJobs.{next_trace}
 
 followed-append : (on : Setting) (front back : List Trace) → followed_of on (front ++ back) ≡ followed_of on front ++ followed_of on back
 followed-append on front back = flat_map-append (follow_text on.network on.params) front back

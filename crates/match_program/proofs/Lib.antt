@@ -1,13 +1,15 @@
 pub mod Asked
 pub mod Asking
 pub mod Counting
+pub mod FollowJobs
 pub mod Follows
 pub mod Jobs
 pub mod Lines
+pub mod Matches
 pub mod Preloads
+pub mod Sharing
 pub mod TableFiles
 pub mod TableRows
-pub mod Texts
 pub mod Towns
 pub mod TriedRows
 pub mod Workers

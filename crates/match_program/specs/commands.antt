@@ -1,4 +1,5 @@
 pub mod Follow
+pub mod FollowDone
 pub mod Matches
 pub mod MatchesDone
 pub mod Preload

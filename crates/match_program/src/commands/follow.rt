@@ -5,7 +5,8 @@ ghost use Rattle.cost_model.specs.Options.{IsAccepted};
 ghost use Rattle.program_frame.specs.Jobs.{IsBounded};
 ghost use Rattle.program_frame.specs.Performs.{Performs};
 ghost use Rattle.match_program.specs.commands.Follow.{follow_job, follow_plan, followed_of};
-ghost use Rattle.match_program.specs.commands.MatchesDone.{ArePieces, AsksTraces, HasMatched};
+ghost use Rattle.match_program.specs.commands.FollowDone.{AsksTraces, HasFollowed};
+ghost use Rattle.match_program.specs.commands.MatchesDone.{ArePieces};
 
 use crate::matcher::Matcher;
 use bounded_search::OwnRows;
@@ -52,7 +53,7 @@ impl<'n> FollowJob<'n> {
         requires { IsAccepted options }
         ensures matcher { IfOk result
             (λ job. job.matcher ≡ record { network = roads.now; params = options }) }
-        ensures begun { IfOk result (λ job. HasMatched job.matcher job.rows job.tally []) }
+        ensures begun { IfOk result (λ job. HasFollowed job.matcher job.rows job.tally []) }
     {
         let matcher = Matcher::open(alloc, roads, options)?;
         let rows = matcher.rows(alloc)?;
@@ -67,7 +68,7 @@ impl<'n> FollowJob<'n> {
 impl<'n> Job for FollowJob<'n> {
     ghost text = { λ job. follow_job job.matcher };
 
-    ghost has = { λ job traces. HasMatched job.matcher job.rows job.tally traces };
+    ghost has = { λ job traces. HasFollowed job.matcher job.rows job.tally traces };
 
     fn take(&mut self, alloc: Global, traces: &[Trace], into: &mut List<u8>) -> Result<(), Stop> {
         match write_followed(alloc, &self.matcher, &mut self.rows, traces, into) {

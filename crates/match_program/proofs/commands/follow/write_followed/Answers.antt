@@ -1,8 +1,9 @@
 use Rattle.std.proofs.Common.{◌≡◌, ◌++◌, refl, sym, subst, append-nil, arith}
 use Rattle.std.proofs.lemmas.List.{take_all}
 use Rattle.match_program.specs.commands.Follow.{followed_of}
-use Rattle.match_program.specs.commands.MatchesDone.{ArePieces, AsksTraces}
-use Rattle.match_program.proofs.Asking.{asks_next, asks_none}
+use Rattle.match_program.specs.commands.FollowDone.{AsksTraces}
+use Rattle.match_program.specs.commands.MatchesDone.{ArePieces}
+use Rattle.match_program.proofs.FollowJobs.{asks_next, asks_none}
 use Rattle.match_program.proofs.Follows.{followed_next, pieces_followed}
 use Rattle.match_program.proofs.commands.follow.write_followed.Goals as goal
 

@@ -1,6 +1,7 @@
 use Rattle.std.proofs.Common.{◌≡◌, ◌++◌, take}
 use Rattle.match_program.specs.commands.Follow.{followed_of}
-use Rattle.match_program.specs.commands.MatchesDone.{ArePieces, AsksTraces}
+use Rattle.match_program.specs.commands.FollowDone.{AsksTraces}
+use Rattle.match_program.specs.commands.MatchesDone.{ArePieces}
 use Rattle.match_program.proofs.commands.follow.write_followed.Given as goal
 
 abbrev pub invariant-loop-trace : goal.invariant-loop-trace

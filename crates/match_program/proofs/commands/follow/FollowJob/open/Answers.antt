@@ -1,5 +1,5 @@
 use Rattle.std.proofs.Common.{refl}
-use Rattle.match_program.proofs.Jobs.{begun}
+use Rattle.match_program.proofs.FollowJobs.{begun}
 use Rattle.match_program.proofs.commands.follow.FollowJob.open.Goals as goal
 
 pub returns-clause-begun : goal.returns-clause-begun

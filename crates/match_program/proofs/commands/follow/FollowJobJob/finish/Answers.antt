@@ -1,5 +1,5 @@
 use Rattle.std.proofs.Common.{◌≡◌, ◌++◌, ◌∙◌, OnOk, subst}
-use Rattle.match_program.proofs.Jobs.{total_is}
+use Rattle.match_program.proofs.FollowJobs.{total_is}
 use Rattle.match_program.proofs.commands.follow.FollowJobJob.finish.Goals as goal
 
 pub returns : goal.returns

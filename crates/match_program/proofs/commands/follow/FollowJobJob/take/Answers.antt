@@ -1,7 +1,7 @@
 use Rattle.std.proofs.Common.{refl}
 use Rattle.match_program.proofs.Counting.{fits_more}
 use Rattle.match_program.proofs.Follows.{followed_grows}
-use Rattle.match_program.proofs.Jobs.{bounded_back, matched_more}
+use Rattle.match_program.proofs.FollowJobs.{bounded_back, followed_more}
 use Rattle.match_program.proofs.commands.follow.FollowJobJob.take.Goals as goal
 
 pub write_followed-requires-clause-rows : goal.write_followed-requires-clause-rows
@@ -16,7 +16,7 @@ add-requires c =
 
 pub returns-in-Ok-clause-takes : goal.returns-in-Ok-clause-takes
 returns-in-Ok-clause-takes c before has bounded = (
-  matched_more c.args.self.now.matcher before c.args.traces.now c.args.self.now.rows c.write_followed.new.rows c.args.self.now.tally c.add.new.self c.in-Ok.pieces has c.in-Ok.ensures.pieces c.in-Ok.ensures.asks c.add.ensures,
+  followed_more c.args.self.now.matcher before c.args.traces.now c.args.self.now.rows c.write_followed.new.rows c.args.self.now.tally c.add.new.self c.in-Ok.pieces has c.in-Ok.ensures.pieces c.in-Ok.ensures.asks c.add.ensures,
   refl,
   followed_grows c.args.self.now.matcher before c.args.traces.now c.args.into.now c.write_followed.new.into c.in-Ok.ensures.text,
 )
