@@ -1,5 +1,5 @@
 -- A job of `follow`, before its first trace and after more, and what it makes known.
-use Rattle.std.proofs.Common.{◌≡◌, ◌⊎◌, ◌↔◌, ℕ, ◌+◌, ◌<◌, Bool, true, false, ◌||◌, List, [], ◌∷◌, ◌++◌, Contains, length, take, get_or, sym, ◌∙◌, ap, subst, inl, inr, ⊎_elim, arith, length-append}
+use Rattle.std.proofs.Common.{◌≡◌, ◌⊎◌, ◌↔◌, ℕ, ◌+◌, ◌<◌, Bool, true, false, ◌||◌, List, [], ◌∷◌, ◌++◌, Contains, length, take, get_or, refl, sym, ◌∙◌, ap, subst, inl, inr, ⊎_elim, arith, length-append}
 use Rattle.std.proofs.lemmas.List.{take_more}
 use Rattle.bounded_search.specs.Known.{IsKnownList}
 use Rattle.bounded_search.specs.Rows.{AreRowsOf, AsksAll, Keeps, RowsState, no_rows}
