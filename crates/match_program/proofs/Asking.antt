@@ -1,15 +1,13 @@
 -- What traces that are matched make known.
-use Rattle.std.proofs.Common.{◌≡◌, ◌⊎◌, ◌↔◌, ℕ, ◌+◌, ◌<◌, Bool, true, false, ◌||◌, List, [], ◌∷◌, ◌++◌, Contains, length, take, get_or, refl, sym, ◌∙◌, ap, subst, inl, inr, ⊎_elim, arith}
+use Rattle.std.proofs.Common.{◌≡◌, ◌⊎◌, ◌↔◌, ℕ, Bool, true, false, ◌||◌, List, ◌++◌, refl, sym, ◌∙◌, inl, inr, ⊎_elim}
 use Rattle.std.proofs.lemmas.List.Folds.{list_any-append}
-use Rattle.bounded_search.specs.Known.{IsKnownList}
-use Rattle.bounded_search.specs.Rows.{AreRowsOf, AsksAll, Keeps, RowsState}
-use Rattle.bounded_search.proofs.Counting.{count_listed}
+use Rattle.match_pool.specs.Learning.{LearnAsked}
+use Rattle.row_store.specs.Store.{Reading}
 use Rattle.trace_match.specs.Match.{asks}
 use Rattle.trace_reader.specs.declared.trace.Trace.{Trace}
 use Rattle.match_program.specs.Setting.{Setting}
-use Rattle.match_program.specs.commands.Matches.{is_asked_by, rows_of}
-use Rattle.match_program.specs.commands.MatchesDone.{AsksTraces, KnowsAsked, LearnsAsked}
-use Rattle.match_program.proofs.Texts.{next_trace}
+use Rattle.match_program.specs.commands.Matches.{is_asked_by}
+use Rattle.match_program.specs.commands.MatchesDone.{KnowAsked}
 
 one_of : (a b : Bool) → (a || b) ≡ true → (a ≡ true) ⊎ (b ≡ true)
 one_of true b is = inl refl
@@ -35,64 +33,10 @@ asked_parts on front back v = (
       ∙ ⊎_elim (first_of (is_asked_by on front v) (is_asked_by on back v)) (second_of (is_asked_by on front v) (is_asked_by on back v)) one,
 )
 
--- what more traces make known is added
-pub learns_then : (on : Setting) (front back : List Trace) (k0 k1 k2 : List ℕ) → LearnsAsked on front k0 k1 → LearnsAsked on back k1 k2 → LearnsAsked on (front ++ back) k0 k2
-learns_then on front back k0 k1 k2 one two v =
-    let parts = asked_parts on front back v in (
-      λ has.
-          ⊎_elim (λ now. ⊎_elim (λ old. inl old) (λ is. inr (parts.1 (inl is))) ((one v).0 now))
-          (λ is. inr (parts.1 (inr is))) ((two v).0 has),
-      λ either.
-          ⊎_elim (λ old. (two v).1 (inl ((one v).1 (inl old))))
-          (λ is. ⊎_elim (λ front_is. (two v).1 (inl ((one v).1 (inr front_is)))) (λ back_is. (two v).1 (inr back_is)) (parts.0 is)) either,
-    )
-
--- the next of some traces
-pub learns_more : (on : Setting) (traces : List Trace) (i : ℕ) (trace : Trace) (k0 k1 k2 : List ℕ) → i < length traces → trace ≡ get_or traces i trace → LearnsAsked on (take i traces) k0 k1 → LearnsAsked on (trace ∷ []) k1 k2 → LearnsAsked on (take (i + 1) traces) k0 k2
-learns_more on traces i trace k0 k1 k2 low is before one =
-    subst (λ t. LearnsAsked on t k0 k2) (sym (next_trace traces i trace low is)) (learns_then on (take i traces) (trace ∷ []) k0 k1 k2 before one)
-
 -- what more traces make known, behind those that made known what is
-pub asked_more : (on : Setting) (matched more : List Trace) (before after : List ℕ) → KnowsAsked on matched before → LearnsAsked on more before after → KnowsAsked on (matched ++ more) after
-asked_more on matched more before after knows learns v =
+pub asked_more : (on : Setting) (matched more : List Trace) (before after : List Reading) → KnowAsked on matched before → LearnAsked on.network on.params more before after → KnowAsked on (matched ++ more) after
+asked_more on matched more before after know learn v =
     let parts = asked_parts on matched more v in (
-      λ has. ⊎_elim (λ old. parts.1 (inl ((knows v).0 old))) (λ is. parts.1 (inr is)) ((learns v).0 has),
-      λ is. ⊎_elim (λ old. (learns v).1 (inl ((knows v).1 old))) (λ new. (learns v).1 (inr new)) (parts.0 is),
+      λ has. ⊎_elim (λ old. parts.1 (inl ((know v).0 old))) (λ is. parts.1 (inr is)) ((learn v).0 has),
+      λ is. ⊎_elim (λ old. (learn v).1 (inl ((know v).1 old))) (λ new. (learn v).1 (inr new)) (parts.0 is),
     )
-
--- no trace is matched, and no node known
-pub asked_none : (on : Setting) (known : List ℕ) → known ≡ [] → KnowsAsked on [] known
-asked_none on known none v = (λ has. let low = has.1 in absurd (let e : length known ≡ 0 = ap length none in omega (arith, low, e)), λ (is : false ≡ true). cc)
-
--- the rows after they were asked are those of the same network and bound
-pub rows_kept : (on : Setting) (old new : RowsState) → AreRowsOf old on.network on.params.bound → Keeps old new → AreRowsOf new on.network on.params.bound
-rows_kept on old new are keeps = record { network = keeps.network ∙ are.network; bound = keeps.bound ∙ are.bound }
-
-only_first : (b : Bool) → (b || false) ≡ true → b ≡ true
-only_first true is = refl
-only_first false is = is
-
--- what one trace asks for became known
-learns_one : (on : Setting) (trace : Trace) (old new : RowsState) → AsksAll old new (λ v. asks on.network on.params trace v ≡ true) → LearnsAsked on (trace ∷ []) old.known new.known
-learns_one on trace old new asked v =
-    let one = asks on.network on.params trace v in (
-      λ has. ⊎_elim (λ known. inl known) (λ is. inr (first_of one false is)) (asked.only.nothing_else v has),
-      λ either. ⊎_elim (asked.only.keeps.known v) (λ is. asked.all v (only_first one is)) either,
-    )
-
--- before the first trace
-pub asks_none : (on : Setting) (rows : RowsState) → AreRowsOf rows on.network on.params.bound → AsksTraces on [] rows rows
-asks_none on rows are = record { rows = are; learns = λ v. (λ has. inl has, λ either. ⊎_elim (λ has. has) (λ (is : false ≡ true). absurd (cc is)) either) }
-
--- the next of some traces was matched
-pub asks_next : (on : Setting) (traces : List Trace) (i : ℕ) (trace : Trace) (first old new : RowsState) → i < length traces → trace ≡ get_or traces i trace → AsksTraces on (take i traces) first old → AsksAll old new (λ v. asks on.network on.params trace v ≡ true) → AsksTraces on (take (i + 1) traces) first new
-asks_next on traces i trace first old new low is before asked = record {
-  rows = rows_kept on old new before.rows asked.only.keeps;
-  learns = learns_more on traces i trace first.known old.known new.known low is before.learns (learns_one on trace old new asked);
-}
-
--- how many rows are known, where exactly those that are asked for are
-pub counted_rows : (on : Setting) (matched : List Trace) (rows : RowsState) → AreRowsOf rows on.network on.params.bound → KnowsAsked on matched rows.known → IsKnownList rows.network rows.known → length rows.known ≡ rows_of on matched
-counted_rows on matched rows are knows listed =
-    let inside = subst (λ n. IsKnownList n rows.known) are.network listed in
-    count_listed (length on.network.nodes) rows.known (is_asked_by on matched) inside.rising inside.nodes (λ v low. knows v)

@@ -1,33 +1,18 @@
 -- The counts of traces that are matched.
-use Rattle.std.proofs.Common.{◌≡◌, ℕ, ◌+◌, ◌≤◌, ◌<◌, ◌^◌, List, [], ◌∷◌, ◌++◌, length, take, get_or, arith, ◌∙◌, ap, length-append}
+use Rattle.std.proofs.Common.{◌≡◌, ℕ, ◌+◌, List, ◌++◌, length, arith, length-append}
 use Rattle.std.proofs.lemmas.List.Sums.{sum_by-append}
-use Rattle.match_text.specs.declared.matched.MatchedTrace.{MatchedTrace}
-use Rattle.program_frame.specs.Jobs.{IsBounded, points_of}
+use Rattle.program_frame.specs.Jobs.{IsBounded}
 use Rattle.program_frame.specs.Total.{Adds, Fits}
 use Rattle.program_frame.specs.declared.total.Tally.{Tally}
 use Rattle.program_frame.proofs.PointCounts.{points-append}
 use Rattle.trace_match.specs.Match.{match_of}
 use Rattle.trace_reader.specs.declared.trace.Trace.{Trace}
-use Rattle.match_program.specs.Matched.{IsMatchOf}
 use Rattle.match_program.specs.Setting.{Setting}
 use Rattle.match_program.specs.commands.Matches.{pieces_of}
 use Rattle.match_program.specs.commands.MatchesDone.{ArePieces, Counts}
-use Rattle.match_program.proofs.Texts.{next_trace}
 
 pub pieces-append : (on : Setting) (front back : List Trace) → pieces_of on (front ++ back) ≡ pieces_of on front + pieces_of on back
 pieces-append on front back = sum_by-append (λ trace. length (match_of on.network on.params trace).pieces) front back
-
--- the pieces of one more trace
-pub pieces_next : (on : Setting) (traces : List Trace) (i : ℕ) (trace : Trace) (m : MatchedTrace) (pieces count : ℕ) → i < length traces → trace ≡ get_or traces i trace → IsMatchOf on trace m → ArePieces on (take i traces) pieces → count ≡ length m.pieces → ArePieces on (take (i + 1) traces) (pieces + count)
-pieces_next on traces i trace m pieces count low is matched before counted =
-    let next = next_trace traces i trace low is in
-    let one : count ≡ length (match_of on.network on.params trace).pieces = counted ∙ ap (λ x. length x.pieces) matched.value in
-    let all : pieces_of on (take (i + 1) traces) ≡ pieces_of on (take i traces) + pieces_of on (trace ∷ []) = ap (pieces_of on) next ∙ pieces-append on (take i traces) (trace ∷ []) in
-    let points : points_of (take (i + 1) traces) ≡ points_of (take i traces) + points_of (trace ∷ []) = ap points_of next ∙ points-append (take i traces) (trace ∷ []) in
-    record {
-      are = omega (arith, before.are, one, all);
-      few = omega (arith, matched.few, before.few, counted, points);
-    }
 
 -- the counts of more traces fit, and are those of all
 pub fits_more : (on : Setting) (before more : List Trace) (tally : Tally) (pieces : ℕ) → IsBounded (before ++ more) → Counts on before tally → ArePieces on more pieces → Fits more pieces tally

@@ -1,41 +1,46 @@
 -- A job of `match`, before its first trace and after more.
-use Rattle.std.proofs.Common.{◌≡◌, ℕ, ◌≤◌, ◌<◌, ◌^◌, List, [], ◌++◌, length, refl, sym, ◌∙◌, ap, subst, arith, append-nil, length-append}
+use Rattle.std.proofs.Common.{◌≡◌, ℕ, List, [], ◌++◌, Result, length, sym, ◌∙◌, ap, subst, arith, length-append}
+use Rattle.std.specs.List.{AllZip}
 use Rattle.std.proofs.lemmas.List.Concat.{flat_map-append}
-use Rattle.bounded_search.specs.Known.{IsKnownList}
-use Rattle.bounded_search.specs.Rows.{AreRowsOf, RowsState, no_rows}
+use Rattle.match_pool.specs.Learning.{LearnAsked}
+use Rattle.match_pool.specs.Working.{AreJobTraces, StaysReader}
 use Rattle.match_text.specs.MatchText.{text_of}
-use Rattle.program_frame.specs.Jobs.{Grows, IsBounded, points_of}
+use Rattle.program_frame.specs.Jobs.{Grows, IsBatch, IsBounded, points_of}
 use Rattle.program_frame.specs.Total.{Adds, total_line}
 use Rattle.program_frame.specs.declared.total.Tally.{Tally}
 use Rattle.program_frame.proofs.Bounds.{lawful_back}
-use Rattle.program_frame.proofs.PointCounts.{points-append}
+use Rattle.row_store.specs.Store.{Reading, Stored, count_known}
 use Rattle.trace_match.specs.Match.{match_of}
 use Rattle.trace_reader.specs.declared.trace.Trace.{Trace}
 use Rattle.match_program.specs.Setting.{Setting}
-use Rattle.match_program.specs.commands.Matches.{match_text, pieces_of, rows_of, texts_of, total_of}
-use Rattle.match_program.specs.commands.MatchesDone.{ArePieces, AsksTraces, Counts, HasMatched}
-use Rattle.match_program.proofs.Asking.{asked_more, asked_none, counted_rows}
+use Rattle.match_program.specs.Sharing.{ShareStore, fresh_readers}
+use Rattle.match_program.specs.commands.Matches.{match_text, pieces_of, texts_of, total_of}
+use Rattle.match_program.specs.commands.MatchesDone.{ArePieces, Counts, HasMatched, KnowAsked}
+use Rattle.match_program.proofs.Asking.{asked_more}
 use Rattle.match_program.proofs.Counting.{counts_more}
+use Rattle.match_program.proofs.Sharing.{know_nothing, rows_counted, share_on}
 
-pub bounded_back : (front back : List Trace) → IsBounded (front ++ back) → IsBounded back
-bounded_back front back all = record {
-  few = let few = all.few in omega (arith, few, length-append front back);
-  few_points = let few = all.few_points in omega (arith, few, points-append front back);
-  lawful = lawful_back front back all.lawful;
-}
-
-pub begun : (on : Setting) (rows : RowsState) (tally : Tally) → rows ≡ no_rows on.network on.params.bound → tally.traces ≡ 0 → tally.points ≡ 0 → tally.pieces ≡ 0 → HasMatched on rows tally []
-begun on rows tally fresh traces points pieces = record {
-  rows_are = record { network = ap (λ r. r.network) fresh; bound = ap (λ r. r.bound) fresh };
-  asked = asked_none on rows.known (ap (λ r. r.known) fresh);
+-- no trace was matched
+pub begun : (on : Setting) (store : Stored) (readers : List Reading) (tally : Tally) → readers ≡ fresh_readers on store → ShareStore on readers → tally.traces ≡ 0 → tally.points ≡ 0 → tally.pieces ≡ 0 → HasMatched on readers tally []
+begun on store readers tally fresh shared traces points pieces = record {
+  shared = shared;
+  asked = subst (KnowAsked on []) (sym fresh) (know_nothing on store);
   counts = record { traces_are = traces; points_are = points; pieces_are = record { are = pieces; few = omega (arith, pieces) } };
 }
 
+-- more traces may be matched, no more than a batch
+pub can_match : (on : Setting) (before more : List Trace) (readers : List Reading) (tally : Tally) → HasMatched on readers tally before → IsBounded (before ++ more) → IsBatch more → AreJobTraces tally.traces more
+can_match on before more readers tally has bounded batch = record {
+  first_place = (let few = bounded.few in omega (arith, few, has.counts.traces_are, length-append before more));
+  few = omega (arith, batch);
+  lawful = lawful_back before more bounded.lawful;
+}
+
 -- more traces were matched and counted
-pub matched_more : (on : Setting) (before more : List Trace) (rows rows' : RowsState) (tally tally' : Tally) (pieces : ℕ) → HasMatched on rows tally before → ArePieces on more pieces → AsksTraces on more rows rows' → Adds more pieces tally tally' → HasMatched on rows' tally' (before ++ more)
-matched_more on before more rows rows' tally tally' pieces has are asks adds = record {
-  rows_are = asks.rows;
-  asked = asked_more on before more rows.known rows'.known has.asked asks.learns;
+pub matched_more : (on : Setting) (before more : List Trace) (readers readers' : List Reading) (tally tally' : Tally) (pieces : ℕ) → HasMatched on readers tally before → ArePieces on more pieces → AllZip StaysReader readers readers' → LearnAsked on.network on.params more readers readers' → Adds more pieces tally tally' → HasMatched on readers' tally' (before ++ more)
+matched_more on before more readers readers' tally tally' pieces has are stay learn adds = record {
+  shared = share_on on readers readers' has.shared stay;
+  asked = asked_more on before more readers readers' has.asked learn;
   counts = counts_more on before more tally tally' pieces has.counts are adds;
 }
 
@@ -47,9 +52,9 @@ text_grows on before more old new grown = record {
 }
 
 -- the total line of what was counted
-pub total_is : (on : Setting) (taken : List Trace) (rows : RowsState) (tally : Tally) (count : ℕ) → HasMatched on rows tally taken → IsKnownList rows.network rows.known → count ≡ length rows.known → total_line tally.traces tally.points tally.pieces count ≡ total_of on taken
-total_is on taken rows tally count has listed counted =
+pub total_is : (on : Setting) (taken : List Trace) (readers : List Reading) (tally : Tally) (count : ℕ) → HasMatched on readers tally taken → count ≡ count_known readers → total_line tally.traces tally.points tally.pieces count ≡ total_of on taken
+total_is on taken readers tally count has counted =
     ap (λ n. total_line n tally.points tally.pieces count) has.counts.traces_are
     ∙ ap (λ n. total_line (length taken) n tally.pieces count) has.counts.points_are
     ∙ ap (λ n. total_line (length taken) (points_of taken) n count) has.counts.pieces_are.are
-    ∙ ap (total_line (length taken) (points_of taken) (pieces_of on taken)) (counted ∙ counted_rows on taken rows has.rows_are has.asked listed)
+    ∙ ap (total_line (length taken) (points_of taken) (pieces_of on taken)) (counted ∙ rows_counted on taken readers has.shared has.asked)

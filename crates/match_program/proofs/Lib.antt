@@ -3,10 +3,11 @@ pub mod Asking
 pub mod Counting
 pub mod Jobs
 pub mod Lines
+pub mod Matches
 pub mod Preloads
+pub mod Sharing
 pub mod TableFiles
 pub mod TableRows
-pub mod Texts
 pub mod Towns
 pub mod TriedRows
 pub mod Workers

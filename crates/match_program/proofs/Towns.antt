@@ -1,12 +1,12 @@
 -- What the matches of a town's traces come to.
 use Rattle.std.proofs.Common.{◌≡◌, ℕ, zero, suc, ◌+◌, ◌*◌, ◌≤◌, ◌<◌, ◌^◌, List, [], ◌∷◌, ◌++◌, All, length, take, get_or, Ok, Err, Result, refl, sym, ◌∙◌, ap, subst, arith}
-use Rattle.std.specs.List.{sum_by}
+use Rattle.std.specs.List.{AllZip, sum_by}
 use Rattle.std.specs.Result.{result_unwrap_or}
 use Rattle.std.proofs.lemmas.List.Elements.{All-head, All-tail, All-weaker}
 use Rattle.std.proofs.lemmas.List.Sums.{sum_by-append, sum_by-cons, sum_by_more, sum_by_more_le}
-use Rattle.bounded_search.specs.Known.{IsKnownList}
-use Rattle.bounded_search.specs.Rows.{RowsState, no_rows}
 use Rattle.cost_model.specs.declared.params.Params.{Params}
+use Rattle.match_pool.specs.Learning.{LearnAsked}
+use Rattle.match_pool.specs.Working.{StaysReader}
 use Rattle.match_text.specs.declared.matched.MatchedTrace.{MatchedTrace}
 use Rattle.match_text.specs.declared.matched.Routed.{Routed}
 use Rattle.program_frame.specs.Jobs.{IsBounded, points_of}
@@ -15,6 +15,7 @@ use Rattle.program_frame.specs.declared.total.Tally.{Tally}
 use Rattle.road_network.specs.Net.{Net}
 use Rattle.road_network.specs.NetworkFile.{network_of, no_net}
 use Rattle.road_network.specs.declared.fault.NetworkFault.{NetworkFault}
+use Rattle.row_store.specs.Store.{Reading, Stored, count_known}
 use Rattle.town.specs.Laws.{IsTownTrace}
 use Rattle.town.specs.Network.{network_text}
 use Rattle.town.specs.Traces.{town_trace_list, traces_text}
@@ -25,16 +26,16 @@ use Rattle.trace_reader.specs.Reader.{Closes, Ends}
 use Rattle.trace_reader.specs.declared.reader.TraceReader.{TraceReader}
 use Rattle.trace_reader.specs.Trace.{IsLawfulTrace}
 use Rattle.trace_reader.specs.declared.trace.Trace.{Trace}
-use Rattle.match_program.specs.Matched.{IsMatchOf}
+use Rattle.match_program.specs.Matched.{AreMatchesOf}
 use Rattle.match_program.specs.Setting.{Setting}
+use Rattle.match_program.specs.Sharing.{ShareStore, fresh_readers}
 use Rattle.match_program.specs.commands.Matches.{total_of}
-use Rattle.match_program.specs.commands.MatchesDone.{ArePieces, AsksTraces}
 use Rattle.match_program.specs.commands.Towns.{cost_line, cost_of, costs_of, network_in, town_text}
 use Rattle.match_program.specs.commands.TownsDone.{AreCosts, IsCost}
 use Rattle.match_program.specs.declared.commands.towns.Costs.{Costs}
-use Rattle.match_program.proofs.Counting.{fits_more, pieces_next}
+use Rattle.match_program.proofs.Counting.{fits_more}
 use Rattle.match_program.proofs.Jobs.{begun, matched_more, total_is}
-use Rattle.match_program.proofs.Texts.{next_trace}
+use Rattle.match_program.proofs.Matches.{matches_of, pieces_found, pieces_next}
 
 -- the network that was read
 pub network_read : (bytes : List ℕ) (net : Net) → network_of bytes ≡ Ok net → net ≡ network_in bytes
@@ -71,6 +72,13 @@ town_bounded n t seed traces two few some count are =
       lawful = All-weaker IsTownTrace IsLawfulTrace (λ trace h. h.lawful) list town.each;
     })
 
+pub town_few : (n t seed : ℕ) (traces : List Trace) → 2 ≤ n → n ≤ 100 → 1 ≤ t → t ≤ 2_000 → traces ≡ file_traces (traces_text n t seed) → length traces ≤ 2_000
+town_few n t seed traces two few some count are =
+    let town = traces_are_lawful n t seed two few some count in
+    let size = town.count in
+    let same : length traces ≡ length (town_trace_list n t seed) = ap (λ (l : List Trace). length l) (are ∙ town.says.are) in
+    omega (arith, size, same, count)
+
 -- the cost of one more piece
 pub cost_more : (pieces : List Routed) (i cost one : ℕ) (piece : Routed) → i < length pieces → piece ≡ get_or pieces i piece → one ≡ piece.cost
     → cost ≡ sum_by (λ p. p.cost) (take i pieces) → cost + one ≡ sum_by (λ p. p.cost) (take (i + 1) pieces)
@@ -79,50 +87,49 @@ cost_more pieces i cost one piece low is same before =
     let here : piece.cost ≡ (get_or pieces i piece).cost = ap (λ p. p.cost) is in
     omega (arith, more, here, before, same)
 
-costs-append : (on : Setting) (front back : List Trace) → costs_of on (front ++ back) ≡ costs_of on front + costs_of on back
-costs-append on front back = sum_by-append (λ trace. cost_of (match_of on.network on.params trace)) front back
+-- the costs of the matches are those of the traces
+costs_are : (on : Setting) (traces : List Trace) → sum_by cost_of (matches_of on traces) ≡ costs_of on traces
+costs_are on [] = refl
+costs_are on (trace ∷ traces) =
+    let one = match_of on.network on.params trace in
+    let first : sum_by cost_of (matches_of on (trace ∷ traces)) ≡ cost_of one + sum_by cost_of (matches_of on traces) = sum_by-cons cost_of one (matches_of on traces) in
+    let second : costs_of on (trace ∷ traces) ≡ cost_of one + costs_of on traces = sum_by-cons (λ (t : Trace). cost_of (match_of on.network on.params t)) trace traces in
+    omega (arith, first, second, costs_are on traces)
 
--- one more trace
-pub costs_next : (on : Setting) (traces : List Trace) (i : ℕ) (trace : Trace) (m : MatchedTrace) (old new : Costs) (count cost : ℕ)
-    → i < length traces → trace ≡ get_or traces i trace → IsMatchOf on trace m → AreCosts on (take i traces) old → count ≡ length m.pieces → IsCost m cost
-    → new ≡ record { pieces = old.pieces + count; cost = old.cost + cost } → AreCosts on (take (i + 1) traces) new
-costs_next on traces i trace m old new count cost low is matched before counted one are =
-    let next = next_trace traces i trace low is in
-    let here : cost ≡ cost_of (match_of on.network on.params trace) = one.is ∙ ap cost_of matched.value in
-    let all : costs_of on (take (i + 1) traces) ≡ costs_of on (take i traces) + costs_of on (trace ∷ []) = ap (costs_of on) next ∙ costs-append on (take i traces) (trace ∷ []) in
+-- one more match
+pub costs_next : (matches : List MatchedTrace) (i : ℕ) (m : MatchedTrace) (old new : Costs) (count cost : ℕ)
+    → i < length matches → m ≡ get_or matches i m → AreCosts (take i matches) old → count ≡ length m.pieces → IsCost m cost
+    → new ≡ record { pieces = old.pieces + count; cost = old.cost + cost } → AreCosts (take (i + 1) matches) new
+costs_next matches i m old new count cost low is before counted one are =
+    let more = sum_by_more cost_of matches i m low in
+    let here : cost ≡ cost_of (get_or matches i m) = one.is ∙ ap cost_of is in
     let small = one.small in
     let front = before.small in
-    subst (AreCosts on (take (i + 1) traces)) (sym are) (record {
-      pieces = pieces_next on traces i trace m old.pieces count low is matched before.pieces counted;
-      is = omega (arith, before.is, here, all);
+    subst (AreCosts (take (i + 1) matches)) (sym are) (record {
+      pieces_are = pieces_next matches i m old.pieces count low is before.pieces_are counted;
+      is = omega (arith, before.is, here, more);
       small = omega (arith, front, small, counted);
     })
 
--- one more trace has few pieces, beside those before
-pub room_next : (on : Setting) (traces : List Trace) (i : ℕ) (trace : Trace) (m : MatchedTrace) → IsBounded traces → i < length traces → trace ≡ get_or traces i trace → IsMatchOf on trace m → points_of (take i traces) + length m.pieces < 2 ^ 62
-room_next on traces i trace m bounded low is matched =
-    let all = sum_by_more_le (λ (t : Trace). length t.fixes) traces i trace low in
-    let here : length trace.fixes ≡ length (get_or traces i trace).fixes = ap (λ (t : Trace). length t.fixes) is in
-    let few = bounded.few_points in
-    omega (arith, all, here, few, matched.few)
-
 -- the text
-pub report_is : (on : Setting) (traces : List Trace) (fresh rows : RowsState) (tally : Tally) (costs : Costs) (count : ℕ) (first second third : List ℕ)
-    → fresh ≡ no_rows on.network on.params.bound → AsksTraces on traces fresh rows → AreCosts on traces costs
-    → (none : Tally) → Adds traces costs.pieces none tally → none.traces ≡ 0 → none.points ≡ 0 → none.pieces ≡ 0
-    → IsKnownList rows.network rows.known → count ≡ length rows.known
+pub report_is : (on : Setting) (traces : List Trace) (store : Stored) (fresh readers : List Reading) (matches : List MatchedTrace) (none tally : Tally) (costs : Costs) (count : ℕ) (first second third : List ℕ)
+    → fresh ≡ fresh_readers on store → ShareStore on fresh → AllZip StaysReader fresh readers → LearnAsked on.network on.params traces fresh readers
+    → AreMatchesOf on traces matches → AreCosts matches costs
+    → Adds traces costs.pieces none tally → none.traces ≡ 0 → none.points ≡ 0 → none.pieces ≡ 0 → count ≡ count_known readers
     → first ≡ [] → second ≡ first ++ total_line tally.traces tally.points tally.pieces count → third ≡ second ++ cost_line costs.cost → third ≡ town_text on traces
-report_is on traces fresh rows tally costs count first second third open_rows asks are none adds no_traces no_points no_pieces listed counted empty total cost =
-    let start = begun on fresh none open_rows no_traces no_points no_pieces in
-    let has = matched_more on [] traces fresh rows none tally costs.pieces start are.pieces asks adds in
-    let line = total_is on traces rows tally count has listed counted in
+report_is on traces store fresh readers matches none tally costs count first second third opened shared stay learn found are adds no_traces no_points no_pieces counted empty total cost =
+    let start = begun on store fresh none opened shared no_traces no_points no_pieces in
+    let pieces = pieces_found on traces matches costs.pieces found are.pieces_are in
+    let has = matched_more on [] traces fresh readers none tally costs.pieces start pieces stay learn adds in
+    let line = total_is on traces readers tally count has counted in
+    let sum : costs.cost ≡ costs_of on traces = are.is ∙ ap (sum_by cost_of) found.are ∙ costs_are on traces in
     cost
     ∙ ap (λ t. t ++ cost_line costs.cost) (total ∙ ap (λ t. t ++ total_line tally.traces tally.points tally.pieces count) empty ∙ line)
-    ∙ ap (λ c. total_of on traces ++ cost_line c) are.is
+    ∙ ap (λ c. total_of on traces ++ cost_line c) sum
 
-pub tally_fits : (on : Setting) (traces : List Trace) (none : Tally) (costs : Costs) → IsBounded traces → AreCosts on traces costs → none.traces ≡ 0 → none.points ≡ 0 → none.pieces ≡ 0 → Fits traces costs.pieces none
-tally_fits on traces none costs bounded are no_traces no_points no_pieces =
-    fits_more on [] traces none costs.pieces bounded (record { traces_are = no_traces; points_are = no_points; pieces_are = record { are = no_pieces; few = omega (arith, no_pieces) } }) are.pieces
+pub tally_fits : (on : Setting) (traces : List Trace) (matches : List MatchedTrace) (none : Tally) (costs : Costs) → IsBounded traces → AreMatchesOf on traces matches → AreCosts matches costs → none.traces ≡ 0 → none.points ≡ 0 → none.pieces ≡ 0 → Fits traces costs.pieces none
+tally_fits on traces matches none costs bounded found are no_traces no_points no_pieces =
+    fits_more on [] traces none costs.pieces bounded (record { traces_are = no_traces; points_are = no_points; pieces_are = record { are = no_pieces; few = omega (arith, no_pieces) } }) (pieces_found on traces matches costs.pieces found are.pieces_are)
 
 -- the text of a town, by the values that were made on the way
 pub town_is : (side count seed : ℕ) (options : Params) (on : Setting) (net : Net) (traces given : List Trace) → on ≡ record { network = net; params = options } → net ≡ network_in (network_text side) → given ≡ traces → traces ≡ file_traces (traces_text side count seed)

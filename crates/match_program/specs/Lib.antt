@@ -2,6 +2,7 @@ pub mod Matched
 pub mod MatcherInside
 pub mod RunLines
 pub mod Setting
+pub mod Sharing
 pub mod TableFiles
 pub mod Workers
 pub mod Words

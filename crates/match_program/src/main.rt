@@ -7,8 +7,8 @@
 //!   command, in a file of its own under `commands`.
 //! - The crate `program_frame` has what every command stands on: the files and their refusals, the
 //!   traces taken batch by batch, what is said on err, and the promises of a run.
-//! - `matcher` has the network, the grid of its edges and the options, and matches a trace by
-//!   the crate `match_pool`.
+//! - `matcher` has the network, the grid of its edges and the options, opens the store of rows and
+//!   its readers, and matches traces by the workers of the crate `match_pool`.
 //!
 //! Read the clause of `run` first, and then `specs/Words.antt` and `specs/commands/Matches.antt`.
 #![tactic(auto)]
@@ -19,6 +19,7 @@ mod matcher;
 mod run;
 
 use edge_io::{FileShelf, StreamSink};
+use match_pool::OpenGate;
 use program_frame::end_without_memory;
 use std::alloc::Global;
 use std::env;
@@ -47,7 +48,9 @@ fn main(rt: HostRuntime) -> ExitCode {
     };
     let mut shelf = FileShelf::new(alloc, rt);
     let mut out = StreamSink::new(rt.stdout());
-    let status = run::run(&rt, alloc, &words, &mut shelf, &mut out, &mut err);
+    let status = run::run(
+        &rt, alloc, &words, &mut shelf, &mut out, &mut err, &OpenGate,
+    );
     ExitCode::from(status)
 }
 

@@ -1,20 +1,21 @@
 // What traces are matched on: a network with the grid of its edges, and the options. Serves the
 // commands; decided by `match_of`.
-ghost use Rattle.std.specs.Prelude.{◌≡◌, ◌≤◌, true, IfOk};
-ghost use Rattle.bounded_search.specs.Rows.{AreRowsOf, AsksAs, no_rows};
+ghost use Rattle.std.specs.Prelude.{◌≡◌, ◌≤◌, IfOk};
 ghost use Rattle.cost_model.specs.Options.{IsAccepted};
-ghost use Rattle.trace_match.specs.Match.{asks};
-ghost use Rattle.trace_reader.specs.Trace.{IsLawfulTrace};
-ghost use Rattle.match_program.specs.Matched.{IsMatchOf};
+ghost use Rattle.match_pool.specs.Learning.{AreReadersFor};
+ghost use Rattle.match_pool.specs.Working.{AreJobTraces};
+ghost use Rattle.match_program.specs.Sharing.{IsStoreFor, MatchesBatch, ShareStore, fresh_readers};
 
-use bounded_search::OwnRows;
 use cost_model::Params;
 use grid_index::Grid;
-use match_pool::match_one;
+use match_pool::{Gate, match_all};
 use match_text::MatchedTrace;
+use polyline_geometry::List;
 use road_network::Network;
+use row_store::{Reader, RowStore};
 use std::alloc::{AllocError, Global};
 use std::marker::Model;
+use std::thread::Threads;
 use trace_reader::Trace;
 
 // The least side of a cell of the grid, in cm.
@@ -59,28 +60,55 @@ impl<'n> Matcher<'n> {
         })
     }
 
-    /// Rows of the network within the bound of the options. No node is known.
-    pub fn rows(&self, alloc: Global) -> Result<OwnRows<'n>, AllocError>
-        ensures { IfOk result
-            (λ rows. rows ≡ no_rows self.now.network self.now.params.bound) }
+    /// A store for the rows of the network within the bound of the options. No row is in it.
+    pub fn store(&self, alloc: Global) -> Result<RowStore<'n>, AllocError>
+        ensures { IfOk result (IsStoreFor self.now) }
     {
-        OwnRows::open(alloc, self.network, self.params.bound)
+        RowStore::open(alloc, self.network, self.params.bound)
     }
 
-    /// The match of a trace.
-    pub fn match_trace(
+    /// As many readers of a store as the options have workers, from 1 to 64. They know nothing.
+    pub fn readers<'s>(
         &self,
         alloc: Global,
-        rows: &mut OwnRows<'n>,
-        trace: &Trace,
-    ) -> Result<MatchedTrace, AllocError>
-        requires rows { AreRowsOf rows.old self.now.network self.now.params.bound }
-        requires trace { IsLawfulTrace trace.now }
-        ensures matched { IfOk result (IsMatchOf self.now trace.now) }
-        ensures asks { AsksAs rows.old
-            (λ _ v. asks self.now.network self.now.params trace.now v ≡ true) result rows.new }
+        store: &'s RowStore<'s>,
+    ) -> Result<List<Reader<'s>>, AllocError>
+        requires { IsStoreFor self.now store.now }
+        ensures fresh { IfOk result (λ readers. readers ≡ fresh_readers self.now store.now) }
+        ensures shared { IfOk result (ShareStore self.now) }
     {
-        let answer = match_one(alloc, self.network, &self.grid, &self.params, rows, trace)?;
-        Ok(answer.matched)
+        let mut readers = List::new(alloc);
+        for _ in 0..self.params.workers {
+            readers.push(store.reader()?)?;
+        }
+        Ok(readers)
+    }
+
+    /// The matches of some traces, in their order, by one worker for each reader. The first of the
+    /// traces stands at place `first` of the file, from 0.
+    pub fn match_batch<'s, R: Threads + Sync, G: Gate>(
+        &self,
+        rt: &R,
+        alloc: Global,
+        first: u64,
+        traces: &[Trace],
+        readers: &mut List<Reader<'s>>,
+        gate: &G,
+    ) -> Result<List<MatchedTrace>, AllocError>
+        requires traces { AreJobTraces first traces.now }
+        requires readers { AreReadersFor self.now.network self.now.params readers.old }
+        ensures { MatchesBatch self.now traces.now readers.old result readers.new }
+    {
+        match_all(
+            rt,
+            alloc,
+            self.network,
+            &self.grid,
+            &self.params,
+            first,
+            traces,
+            readers,
+            gate,
+        )
     }
 }

@@ -11,16 +11,19 @@ use crate::commands::table::write_table;
 use crate::commands::towns::match_town;
 use command_line::{Work, read_command};
 use edge_io::{Shelf, Sink};
+use match_pool::Gate;
 use program_frame::{Stop, refuse_words, say, status_after};
 use std::alloc::Global;
 use std::thread::Threads;
 
 // The work of the words, but for what is said on err.
-fn perform<S: Shelf, K: Sink>(
+fn perform<R: Threads + Sync, G: Gate, S: Shelf, K: Sink>(
+    rt: &R,
     alloc: Global,
     words: &[String],
     shelf: &mut S,
     out: &mut K,
+    gate: &G,
 ) -> Result<(), Stop>
     ensures { Performs (asked_by (map string_bytes words.now))
         (S.state shelf.old) (S.state shelf.new) (K.state out.old) (K.state out.new) result }
@@ -34,31 +37,43 @@ fn perform<S: Shelf, K: Sink>(
             network,
             traces,
             table,
-        } => match_traces(alloc, network, traces, table, command.options, shelf, out),
+        } => match_traces(
+            rt,
+            alloc,
+            network,
+            traces,
+            table,
+            command.options,
+            shelf,
+            out,
+            gate,
+        ),
         Work::Table { network } => write_table(alloc, network, command.options, shelf, out),
         Work::Town { side, traces, seed } => {
-            match_town(alloc, side, traces, seed, command.options, out)
+            match_town(rt, alloc, side, traces, seed, command.options, out, gate)
         }
     }
 }
 
 /// Runs the command that the words spell, and says on err why it ended early. The status says how
 /// it ended: 0 done, 1 want of memory, 2 words refused, 3 a file was not read, 4 a write failed,
-/// 5 network refused, 6 traces refused, 8 table too long, 9 table file refused.
-pub fn run<R: Threads, S: Shelf, K: Sink, E: Sink>(
-    _rt: &R,
+/// 5 network refused, 6 traces refused, 8 table too long, 9 table file refused. The gate is told of
+/// each trace that is matched.
+pub fn run<R: Threads + Sync, G: Gate, S: Shelf, K: Sink, E: Sink>(
+    rt: &R,
     alloc: Global,
     words: &[String],
     shelf: &mut S,
     out: &mut K,
     err: &mut E,
+    gate: &G,
 ) -> u8
     ensures { Promises run_lines (asked_by (map string_bytes words.now))
         (S.state shelf.old) (S.state shelf.new)
         (K.state out.old) (K.state out.new)
         (E.state err.old) (E.state err.new) result }
 {
-    let ended = perform(alloc, words, shelf, out);
+    let ended = perform(rt, alloc, words, shelf, out, gate);
     let put = say(&ended, err);
     status_after(&ended, put)
 }

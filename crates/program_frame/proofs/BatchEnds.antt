@@ -1,6 +1,5 @@
 -- What the write of a batch leaves.
-use Rattle.std.proofs.Common.{◌≡◌, ◌≢◌, ℕ, ◌<◌, List, [], ◌++◌, length, Some, None, Result, Ok, Err, refl, sym, ◌∙◌, ap, subst, inl, inr, arith, append-nil, append_assoc}
-use Rattle.std.specs.declared.option.Option.{Option}
+use Rattle.std.proofs.Common.{◌≡◌, ℕ, List, [], ◌++◌, length, Some, None, Result, Ok, Err, sym, ◌∙◌, ap, subst, inl, inr, arith, append-nil, append_assoc}
 use Rattle.std.specs.Io.KnownBytes.{Appends}
 use Rattle.edge_io.specs.Sink.{AppendsPrefix, Rose}
 use Rattle.edge_io.specs.State.{SinkState}
@@ -10,7 +9,7 @@ use Rattle.trace_reader.specs.declared.fault.TraceFault.{TraceFault}
 use Rattle.program_frame.specs.Batches.{Holds, Later, PutsBefore, WritesBatch, WritesFull, with_later}
 use Rattle.program_frame.specs.Jobs.{Grows, IsBounded, JobText, TakesTraces, given_by, refused_behind, traces_give}
 use Rattle.program_frame.specs.Outcome.{Outcome}
-use Rattle.program_frame.specs.Performs.{FailsToPut, PutsText}
+use Rattle.program_frame.specs.Performs.{FailsToPut}
 use Rattle.program_frame.specs.Refusals.{RefusesTraces}
 use Rattle.program_frame.specs.Streams.{HasFront, StopsAs}
 use Rattle.program_frame.specs.declared.stop.Refusal.{Refusal}
@@ -69,6 +68,7 @@ all_put {job} {has} {base} {out} {traces} {waiting} has' out' given left holds h
   written = whole_text out' given holds took grown;
   faults_are = same ∙ holds.faults_are;
   bounded = holds.bounded;
+  few = let e : length left ≡ 0 = ap length none in omega (arith, e);
 }
 
 -- the job refuses these traces, and the text up to there was put

@@ -1,12 +1,12 @@
 -- What a chunk of a trace file leaves.
-use Rattle.std.proofs.Common.{◌≡◌, ◌≢◌, ℕ, ◌<◌, ◌≤◌, ◌^◌, ◌⊎◌, zero, suc, IsSome, ◌==◌, Bool, true, List, [], ◌∷◌, ◌++◌, length, take, drop, Some, None, Result, Ok, Err, refl, sym, ◌∙◌, ap, subst, inl, inr, arith, append_assoc, append-nil, length-append}
+use Rattle.std.proofs.Common.{◌≡◌, ◌≢◌, ℕ, ◌+◌, ◌<◌, ◌≤◌, ◌^◌, ◌⊎◌, zero, suc, IsSome, ◌==◌, Bool, true, List, [], ◌∷◌, ◌++◌, length, take, drop, Some, None, Ok, refl, sym, ◌∙◌, ap, subst, inl, inr, arith, append_assoc, append-nil, length-append}
 use Rattle.std.specs.declared.option.Option.{Option}
 use Rattle.std.specs.Io.KnownBytes.{Appends}
 use Rattle.std.proofs.lemmas.Bool.Decides.{nat_tests}
 use Rattle.std.proofs.lemmas.List.{take-append-drop}
 use Rattle.edge_io.specs.Sink.{AppendsPrefix}
 use Rattle.edge_io.specs.State.{SinkState}
-use Rattle.trace_reader.specs.Reading.{closed, fault_in, file_fault, file_traces}
+use Rattle.trace_reader.specs.Reading.{closed, fault_in, file_traces}
 use Rattle.trace_reader.specs.Reader.{StandsFor, Takes, Fails}
 use Rattle.trace_reader.specs.declared.reader.TraceReader.{TraceReader}
 use Rattle.trace_reader.specs.declared.trace.Trace.{Trace}
@@ -14,8 +14,8 @@ use Rattle.trace_reader.specs.declared.fault.TraceFault.{TraceFault}
 use Rattle.trace_reader.specs.declared.fault.TraceFault.TheVariants as faults
 use Rattle.trace_reader.proofs.Laws.{closed-none, file_fault_known, file_traces_known, fault_in_long, fault_in-StandsFor}
 use Rattle.edge_io.proofs.KnownBytes.{appends_nothing}
-use Rattle.program_frame.specs.Batches.{Holds, IsBetween, Later, RefusesAt, TakesSome, WritesFull, with_later}
-use Rattle.program_frame.specs.Jobs.{IsBounded, JobText, bytes_give, traces_give}
+use Rattle.program_frame.specs.Batches.{Holds, IsBetween, Later, RefusesAt, WritesFull, with_later}
+use Rattle.program_frame.specs.Jobs.{IsBatch, IsBounded, JobText, bytes_give, traces_give}
 use Rattle.program_frame.specs.Streams.{HasFront, StopsAs, StopsAt}
 use Rattle.program_frame.specs.declared.stop.Stop.{Stop}
 use Rattle.program_frame.specs.declared.stop.Stop.TheVariants.{NoMemory}
@@ -36,8 +36,8 @@ length-StandsFor reader fed stands =
     not_more (length fed) 1_099_511_627_776 (λ long. no_fault_known (fault_in fed) (fault_in-StandsFor reader fed stands) (fault_in_long fed long))
 
 -- more traces wait
-pub waits_more : {job : JobText} {has : Has} {base out : SinkState} {traces waiting : List Trace} (more left : List Trace) → Holds job has base out traces waiting → left ≡ waiting ++ more → IsBounded (traces ++ more) → Holds job has base out (traces ++ more) left
-waits_more {job} {has} {base} {out} {traces} {waiting} more left holds grown bounded = record {
+pub waits_more : {job : JobText} {has : Has} {base out : SinkState} {traces waiting : List Trace} (more left : List Trace) → Holds job has base out traces waiting → left ≡ waiting ++ more → IsBounded (traces ++ more) → IsBatch left → Holds job has base out (traces ++ more) left
+waits_more {job} {has} {base} {out} {traces} {waiting} more left holds grown bounded few = record {
   taken = holds.taken;
   are = ap (λ t. t ++ more) holds.are ∙ append_assoc holds.taken waiting more ∙ ap (λ w. holds.taken ++ w) (sym grown);
   had = holds.had;
@@ -45,15 +45,16 @@ waits_more {job} {has} {base} {out} {traces} {waiting} more left holds grown bou
   written = holds.written;
   faults_are = holds.faults_are;
   bounded = bounded;
+  few = few;
 }
 
 -- bytes were taken
-pub takes_more : {job : JobText} {has : Has} {base out : SinkState} {fed : List ℕ} {reader : TraceReader} {waiting : List Trace} (chunk : List ℕ) (most n : ℕ) (after : TraceReader) (left : List Trace) → IsBetween job has base out fed reader waiting → Takes fed chunk most after waiting left n → Holds job has base out (closed (fed ++ take n chunk)) left
-takes_more {job} {has} {base} {out} {fed} chunk most n after left between takes =
+pub takes_more : {job : JobText} {has : Has} {base out : SinkState} {fed : List ℕ} {reader : TraceReader} {waiting : List Trace} (chunk : List ℕ) (most n : ℕ) (after : TraceReader) (left : List Trace) → IsBetween job has base out fed reader waiting → length waiting + most ≤ 256 → Takes fed chunk most after waiting left n → Holds job has base out (closed (fed ++ take n chunk)) left
+takes_more {job} {has} {base} {out} {fed} chunk most n after left between room takes =
     let closes = takes.closes in
     let short = length-StandsFor after (fed ++ take n chunk) takes.stands in
     let bounded : IsBounded (closed fed ++ closes.more) = subst IsBounded closes.due (bounded_closed (fed ++ take n chunk) (omega (arith, short))) in
-    subst (λ t. Holds job has base out t left) (sym closes.due) (waits_more closes.more left between.holds closes.grown bounded)
+    subst (λ t. Holds job has base out t left) (sym closes.due) (waits_more closes.more left between.holds closes.grown bounded (let most_are = takes.no_more in omega (arith, most_are, room)))
 
 -- at least one byte was taken
 pub takes_one : (fed chunk : List ℕ) (most n : ℕ) (after : TraceReader) (waiting left : List Trace) → 1 ≤ most → 1 ≤ length chunk → Takes fed chunk most after waiting left n → 1 ≤ n
@@ -65,12 +66,12 @@ takes_one fed chunk most zero after waiting left some long takes =
 takes_one fed chunk most (suc n) after waiting left some long takes = omega arith
 
 -- a fault was found, or memory ran out
-pub fails_held : {job : JobText} {has : Has} {base out : SinkState} {fed : List ℕ} {reader : TraceReader} {waiting : List Trace} (chunk : List ℕ) (fault : TraceFault) (left : List Trace) → IsBetween job has base out fed reader waiting → length chunk < 2 ^ 32 → (fails : Fails fed chunk waiting left fault) → Holds job has base out (closed fed ++ fails.more) left
-fails_held {job} {has} {base} {out} {fed} {reader} chunk fault left between few fails =
+pub fails_held : {job : JobText} {has : Has} {base out : SinkState} {fed : List ℕ} {reader : TraceReader} {waiting : List Trace} (chunk : List ℕ) (fault : TraceFault) (left : List Trace) → IsBetween job has base out fed reader waiting → length chunk < 2 ^ 32 → length left ≤ 256 → (fails : Fails fed chunk waiting left fault) → Holds job has base out (closed fed ++ fails.more) left
+fails_held {job} {has} {base} {out} {fed} {reader} chunk fault left between few few_left fails =
     let short = length-StandsFor reader fed between.stands in
     let all : IsBounded (closed (fed ++ chunk)) = bounded_closed (fed ++ chunk) (omega (arith, short, length-append fed chunk)) in
     let front : IsBounded (closed fed ++ fails.more) = bounded_front (closed fed ++ fails.more) fails.rest (subst IsBounded (fails.due ∙ sym (append_assoc (closed fed) fails.more fails.rest)) all) in
-    waits_more fails.more left between.holds fails.grown front
+    waits_more fails.more left between.holds fails.grown front (omega (arith, few_left))
 
 -- a fault is want of memory, or not
 pub is_memory : (fault : TraceFault) → (fault ≡ faults.Memory) ⊎ (fault ≢ faults.Memory)
@@ -171,6 +172,7 @@ begun job has base reader waiting had stands none = record {
     written = subst (Appends base.written base.written) (sym job.nothing) (appends_nothing base.written);
     faults_are = refl;
     bounded = bounded_closed [] (omega arith);
+    few = let e : length waiting ≡ 0 = ap length none in omega (arith, e);
   };
   room = let e : length waiting ≡ 0 = ap length none in omega (arith, e);
 }

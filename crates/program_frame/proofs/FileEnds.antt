@@ -1,7 +1,5 @@
 -- What the end of a trace file leaves.
-use Rattle.std.proofs.Common.{◌≡◌, ℕ, List, [], ◌++◌, Some, None, Result, Ok, Err, refl, sym, ◌∙◌, ap, subst, inl, inr, arith, append_assoc, append-nil}
-use Rattle.std.specs.declared.option.Option.{Option}
-use Rattle.std.specs.Io.KnownBytes.{Appends}
+use Rattle.std.proofs.Common.{◌≡◌, ℕ, ◌<◌, List, [], ◌++◌, length, Some, None, Result, Ok, Err, refl, sym, ◌∙◌, ap, subst, inl, inr, arith, append_assoc, append-nil, length-append}
 use Rattle.edge_io.specs.Sink.{AppendsPrefix, Rose}
 use Rattle.edge_io.specs.State.{SinkState}
 use Rattle.edge_io.proofs.KnownBytes.{appends_more, prefix_after}
@@ -11,30 +9,38 @@ use Rattle.trace_reader.specs.declared.reader.TraceReader.{TraceReader}
 use Rattle.trace_reader.specs.declared.trace.Trace.{Trace}
 use Rattle.trace_reader.specs.declared.fault.TraceFault.{TraceFault}
 use Rattle.program_frame.specs.Batches.{Holds, IsBetween, Later, RefusesAt, with_later}
-use Rattle.program_frame.specs.Jobs.{IsBounded, JobText, bytes_give, given_by, traces_give}
-use Rattle.program_frame.specs.Outcome.{Outcome, done_with}
-use Rattle.program_frame.specs.Performs.{PutLeaves, PutsText}
+use Rattle.program_frame.specs.Jobs.{IsBatch, IsBounded, JobText, bytes_give, given_by, traces_give}
+use Rattle.program_frame.specs.Outcome.{done_with}
+use Rattle.program_frame.specs.Performs.{PutLeaves}
 use Rattle.program_frame.specs.Streams.{EndsWith, StopsAs}
 use Rattle.program_frame.specs.declared.stop.Stop.{Stop}
 use Rattle.program_frame.specs.declared.stop.Stop.TheVariants.{Refused, NoMemory, Unread, Unwritten}
 use Rattle.program_frame.proofs.BatchEnds.{Has, all_taken, held_front, stops_with}
 use Rattle.program_frame.proofs.Bounds.{bounded_file, bounded_front}
 use Rattle.program_frame.proofs.ChunkEnds.{is_memory, length-StandsFor, waits_more}
+use Rattle.program_frame.proofs.TraceCounts.{closed_last}
+
+-- the end of the file closes at most two traces
+few_waiting : (fed : List ℕ) (waiting left more rest : List Trace) → length waiting < 256 → left ≡ waiting ++ more → file_traces fed ≡ closed fed ++ (more ++ rest) → IsBatch left
+few_waiting fed waiting left more rest room grown due =
+    let all : length (file_traces fed) ≡ length (closed fed ++ (more ++ rest)) = ap length due in
+    let size : length left ≡ length (waiting ++ more) = ap length grown in
+    omega (arith, room, all, size, closed_last fed, length-append (closed fed) (more ++ rest), length-append more rest, length-append waiting more)
 
 -- the file has no fault, and its last trace waits
 pub ends_held : {job : JobText} {has : Has} {base out : SinkState} {fed : List ℕ} {reader : TraceReader} {waiting : List Trace} (after : TraceReader) (left : List Trace) → IsBetween job has base out fed reader waiting → Ends fed after waiting left → Holds job has base out (file_traces fed) left
-ends_held {job} {has} {base} {out} {fed} {reader} after left between ends =
+ends_held {job} {has} {base} {out} {fed} {reader} {waiting} after left between ends =
     let short = length-StandsFor reader fed between.stands in
     let bounded : IsBounded (closed fed ++ ends.more) = subst IsBounded ends.due (bounded_file fed (omega (arith, short))) in
-    subst (λ t. Holds job has base out t left) (sym ends.due) (waits_more ends.more left between.holds ends.grown bounded)
+    subst (λ t. Holds job has base out t left) (sym ends.due) (waits_more ends.more left between.holds ends.grown bounded (few_waiting fed waiting left ends.more [] between.room ends.grown (ends.due ∙ ap (λ m. closed fed ++ m) (sym (append-nil ends.more)))))
 
 -- the file has a fault at its end
 pub faulty_held : {job : JobText} {has : Has} {base out : SinkState} {fed : List ℕ} {reader : TraceReader} {waiting : List Trace} (fault : TraceFault) (left : List Trace) → IsBetween job has base out fed reader waiting → (ends : EndsFaulty fed waiting left fault) → Holds job has base out (closed fed ++ ends.more) left
-faulty_held {job} {has} {base} {out} {fed} {reader} fault left between ends =
+faulty_held {job} {has} {base} {out} {fed} {reader} {waiting} fault left between ends =
     let short = length-StandsFor reader fed between.stands in
     let all : IsBounded (file_traces fed) = bounded_file fed (omega (arith, short)) in
     let front : IsBounded (closed fed ++ ends.more) = bounded_front (closed fed ++ ends.more) ends.rest (subst IsBounded (ends.due ∙ sym (append_assoc (closed fed) ends.more ends.rest)) all) in
-    waits_more ends.more left between.holds ends.grown front
+    waits_more ends.more left between.holds ends.grown front (few_waiting fed waiting left ends.more ends.rest between.room ends.grown ends.due)
 
 cut_file : {job : JobText} {has : Has} {base out : SinkState} {waiting : List Trace} (fed : List ℕ) (more : List Trace) → Holds job has base out (closed fed) waiting → file_traces fed ≡ closed fed ++ more → AppendsPrefix base.written out.written (bytes_give job fed).out
 cut_file {job} {has} {base} {out} fed more holds due =

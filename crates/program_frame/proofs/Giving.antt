@@ -1,7 +1,7 @@
 -- What is expected of traces of which the first were taken.
 use Rattle.std.proofs.Common.{◌≡◌, ℕ, List, [], ◌++◌, Some, None, refl, sym, ◌∙◌, ap, append_assoc, append-nil}
 use Rattle.std.specs.declared.option.Option.{Option}
-use Rattle.trace_reader.specs.Reading.{closed, file_fault, file_traces}
+use Rattle.trace_reader.specs.Reading.{closed, file_fault}
 use Rattle.trace_reader.specs.declared.trace.Trace.{Trace}
 use Rattle.trace_reader.specs.declared.fault.TraceFault.{TraceFault}
 use Rattle.trace_reader.proofs.Laws.{file_traces-append}

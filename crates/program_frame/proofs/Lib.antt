@@ -9,3 +9,4 @@ pub mod Reading
 pub mod RunEnds
 pub mod Stages
 pub mod Streaming
+pub mod TraceCounts

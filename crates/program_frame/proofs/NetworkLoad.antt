@@ -1,6 +1,5 @@
 -- A network that is accepted or refused.
-use Rattle.std.proofs.Common.{◌≡◌, ◌≢◌, ℕ, List, Result, Ok, Err, sym, ◌∙◌, ap}
-use Rattle.road_network.specs.Net.{Net}
+use Rattle.std.proofs.Common.{◌≡◌, ◌≢◌, ℕ, List, Err, sym, ◌∙◌, ap}
 use Rattle.road_network.specs.NetworkFile.{network_of}
 use Rattle.road_network.specs.declared.fault.NetworkFault.{NetworkFault}
 use Rattle.road_network.specs.declared.fault.NetworkFault.TheVariants.{Memory}

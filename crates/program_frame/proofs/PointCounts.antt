@@ -27,7 +27,7 @@ IsFewReading : ℕ → Reading → Type 0
 IsFewReading n (reads p) = IsFew n p.content
 IsFewReading n (refused closed fault) = points_of closed ≤ n
 
-by_choice : {A : Type 0} (P : A → Type 0) (b : Bool) (x y : A) → P x → P y → P (cond b x y)
+pub by_choice : {A : Type 0} (P : A → Type 0) (b : Bool) (x y : A) → P x → P y → P (cond b x y)
 by_choice P true x y f g = f
 by_choice P false x y f g = g
 

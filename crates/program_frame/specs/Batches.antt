@@ -9,14 +9,14 @@ use Rattle.trace_reader.specs.declared.reader.TraceReader.{TraceReader}
 use Rattle.trace_reader.specs.declared.trace.Trace.{Trace}
 use Rattle.trace_reader.specs.declared.fault.TraceFault.{TraceFault}
 use Rattle.trace_reader.specs.declared.fault.TraceFault.TheVariants.{Memory}
-use Rattle.program_frame.specs.Jobs.{IsBounded, JobText, bytes_give, traces_give}
+use Rattle.program_frame.specs.Jobs.{IsBatch, IsBounded, JobText, bytes_give, traces_give}
 use Rattle.program_frame.specs.Outcome.{Outcome}
 use Rattle.program_frame.specs.Performs.{FailsToPut}
 use Rattle.program_frame.specs.Streams.{StopsAs, StopsAt}
 use Rattle.program_frame.specs.declared.stop.Stop.{Stop}
 use Rattle.program_frame.specs.declared.stop.Stop.TheVariants.{Refused, NoMemory, Unread, Unwritten}
 
--- of these traces some were taken by the job and are written, and the others wait
+-- of these traces some were taken by the job and are written, and the others wait, no more than a batch
 pub record Holds (job : JobText) (has : List Trace → Type 0) (base out : SinkState)
     (traces waiting : List Trace) : Type 0 where
   pub taken : List Trace
@@ -26,6 +26,7 @@ pub record Holds (job : JobText) (has : List Trace → Type 0) (base out : SinkS
   pub written : Appends base.written out.written (job.texts taken)
   pub faults_are : out.faults ≡ base.faults
   pub bounded : IsBounded traces
+  pub few : IsBatch waiting
 
 -- between two chunks: the bytes so far stand in the reader, and fewer traces wait than make a batch
 pub record IsBetween (job : JobText) (has : List Trace → Type 0) (base out : SinkState)

@@ -1,5 +1,5 @@
 -- What a job makes of the traces of a file.
-use Rattle.std.specs.Prelude.{◌≡◌, ℕ, ◌<◌, ◌^◌, List, [], ◌++◌, length, All, Result, Ok, Err, Some, None}
+use Rattle.std.specs.Prelude.{◌≡◌, ℕ, ◌<◌, ◌≤◌, ◌^◌, List, [], ◌++◌, length, All, Result, Ok, Err, Some, None}
 use Rattle.std.specs.declared.option.Option.{Option}
 use Rattle.std.specs.List.{sum_by}
 use Rattle.trace_reader.specs.Fault.{fault_line}
@@ -60,9 +60,15 @@ pub record IsBounded (traces : List Trace) : Type 0 where
 abbrev pub HasTaken : (List Trace → Type 0) → Type 0
 HasTaken has = (taken : List Trace) × has taken
 
--- and these may follow
+-- no more traces than a job takes together: fewer than 256 that waited, and at most two that the end
+-- of the file closes
+abbrev pub IsBatch : List Trace → Type 0
+IsBatch traces = length traces ≤ 257
+
+-- and these may follow together
 abbrev pub CanTake : (List Trace → Type 0) → List Trace → Type 0
-CanTake has more = (before : List Trace) × has before × IsBounded (before ++ more)
+CanTake has more =
+    (before : List Trace) × has before × IsBounded (before ++ more) × IsBatch more
 
 -- a list grew by the text of these traces behind those before
 pub record Grows (job : JobText) (before more : List Trace) (old new : List ℕ) : Type 0 where

@@ -1,25 +1,17 @@
 -- What a job of `match` has done.
-use Rattle.std.specs.Prelude.{◌≡◌, ◌⊎◌, ◌↔◌, ℕ, ◌≤◌, List, true, length, Contains}
-use Rattle.bounded_search.specs.Rows.{AreRowsOf, RowsState}
+use Rattle.std.specs.Prelude.{◌≡◌, ◌↔◌, ℕ, ◌≤◌, List, true, length}
 use Rattle.program_frame.specs.Jobs.{points_of}
 use Rattle.program_frame.specs.declared.total.Tally.{Tally}
+use Rattle.row_store.specs.Store.{Reading, is_known_to_any}
 use Rattle.trace_reader.specs.declared.trace.Trace.{Trace}
 use Rattle.match_program.specs.Setting.{Setting}
+use Rattle.match_program.specs.Sharing.{ShareStore}
 use Rattle.match_program.specs.commands.Matches.{is_asked_by, pieces_of}
 
--- known is what was known before, and what these traces ask for
-abbrev pub LearnsAsked : Setting → List Trace → List ℕ → List ℕ → Type 0
-LearnsAsked on traces before after =
-    (v : ℕ) → Contains after v ↔ (Contains before v ⊎ (is_asked_by on traces v ≡ true))
-
--- known is what these traces ask for
-abbrev pub KnowsAsked : Setting → List Trace → List ℕ → Type 0
-KnowsAsked on traces known = (v : ℕ) → Contains known v ↔ (is_asked_by on traces v ≡ true)
-
--- the rows stay those of the setting, and what these traces ask for became known
-pub record AsksTraces (on : Setting) (traces : List Trace) (old new : RowsState) : Type 0 where
-  pub rows : AreRowsOf new on.network on.params.bound
-  pub learns : LearnsAsked on traces old.known new.known
+-- some reader knows what these traces ask for, and nothing else
+abbrev pub KnowAsked : Setting → List Trace → List Reading → Type 0
+KnowAsked on traces readers =
+    (v : ℕ) → (is_known_to_any readers v ≡ true) ↔ (is_asked_by on traces v ≡ true)
 
 -- the number of pieces of these traces, which is no more than that of their points
 pub record ArePieces (on : Setting) (traces : List Trace) (pieces : ℕ) : Type 0 where
@@ -32,9 +24,9 @@ pub record Counts (on : Setting) (traces : List Trace) (tally : Tally) : Type 0 
   pub points_are : tally.points ≡ points_of traces
   pub pieces_are : ArePieces on traces tally.pieces
 
--- these traces were matched and counted, and exactly what they ask for is known
-pub record HasMatched (on : Setting) (rows : RowsState) (tally : Tally) (traces : List Trace)
+-- these traces were matched and counted by readers of one store, and exactly what they ask for is known
+pub record HasMatched (on : Setting) (readers : List Reading) (tally : Tally) (traces : List Trace)
     : Type 0 where
-  pub rows_are : AreRowsOf rows on.network on.params.bound
-  pub asked : KnowsAsked on traces rows.known
+  pub shared : ShareStore on readers
+  pub asked : KnowAsked on traces readers
   pub counts : Counts on traces tally

@@ -1,97 +1,141 @@
 // `match NET TRACES [--table FILE]`. Serves `perform`; decided by `match_plan`.
-ghost use Rattle.std.specs.Prelude.{◌≡◌, ◌++◌, [], Ok, IfOk, OnOk, option_map};
-ghost use Rattle.bounded_search.specs.Rows.{AreRowsOf, no_rows};
+ghost use Rattle.std.specs.Prelude.{◌≡◌, ◌≤◌, ◌^◌, ◌++◌, [], All, Ok, IfOk, OnOk, option_map};
 ghost use Rattle.cost_model.specs.Options.{IsAccepted};
-ghost use Rattle.program_frame.specs.Jobs.{IsBounded};
+ghost use Rattle.match_pool.specs.Learning.{AreReadersFor};
+ghost use Rattle.match_pool.specs.Working.{AreJobTraces};
+ghost use Rattle.match_text.specs.MatchText.{IsLawful};
 ghost use Rattle.program_frame.specs.Performs.{Performs};
-ghost use Rattle.match_program.specs.commands.Matches.{match_plan, match_text, texts_of};
-ghost use Rattle.match_program.specs.commands.MatchesDone.{ArePieces, AsksTraces, HasMatched};
+ghost use Rattle.program_frame.specs.Stream.{works_traces};
+ghost use Rattle.match_program.specs.Matched.{pieces_in, text_of_matches};
+ghost use Rattle.match_program.specs.Sharing.{IsStoreFor, MatchesBatch, MatchesBatches};
+ghost use Rattle.match_program.specs.commands.Matches.{match_plan, match_text};
+ghost use Rattle.match_program.specs.commands.MatchesDone.{HasMatched};
 
 use crate::commands::preload::preload;
 use crate::matcher::Matcher;
-use bounded_search::OwnRows;
 use cost_model::Params;
 use edge_io::{Shelf, Sink};
-use match_text::write_match;
+use match_pool::Gate;
+use match_text::{MatchedTrace, write_match};
 use polyline_geometry::List;
 use program_frame::{Job, Stop, Tally, load_network, work_traces};
-use road_network::Network;
-use row_store::RowStore;
+use row_store::{Reader, RowStore, known_count};
 use std::alloc::{AllocError, Global};
+use std::thread::Threads;
 use trace_reader::Trace;
 
-// Matches traces with own rows, and counts them.
+// Matches traces batch by batch, and counts them. The readers are those of the workers, over all
+// batches.
 #[derive(Drop)]
-struct MatchJob<'n> {
-    matcher: Matcher<'n>,
-    rows: OwnRows<'n>,
+struct MatchJob<'s, F> {
+    matcher: &'s Matcher<'s>,
+    readers: List<Reader<'s>>,
+    match_batch: F,
     tally: Tally,
 }
 
-// Matches traces, appends their texts, and says how many pieces they have.
-fn write_matches<'n>(
+// Appends the texts of matches, and says how many pieces they have.
+fn write_matches(
     alloc: Global,
-    matcher: &Matcher<'n>,
-    rows: &mut OwnRows<'n>,
-    traces: &[Trace],
+    matches: &[MatchedTrace],
     into: &mut List<u8>,
 ) -> Result<u64, AllocError>
-    requires rows { AreRowsOf rows.old matcher.now.network matcher.now.params.bound }
-    requires traces { IsBounded traces.now }
-    ensures text { OnOk result (into.new ≡ into.old ++ texts_of matcher.now traces.now) }
-    ensures pieces { IfOk result (ArePieces matcher.now traces.now) }
-    ensures asks { OnOk result (AsksTraces matcher.now traces.now rows.old rows.new) }
+    requires lawful { All IsLawful matches.now }
+    requires few { pieces_in matches.now ≤ 2 ^ 62 }
+    ensures text { OnOk result (into.new ≡ into.old ++ text_of_matches matches.now) }
+    ensures pieces { IfOk result (λ pieces. pieces ≡ pieces_in matches.now) }
 {
     let mut pieces = 0;
-    for trace in traces {
-        let matched = matcher.match_trace(alloc, rows, trace)?;
-        write_match(alloc, &matched, into)?;
+    for matched in matches {
+        write_match(alloc, matched, into)?;
         pieces += matched.pieces.len() as u64;
     }
     Ok(pieces)
 }
 
-impl<'n> MatchJob<'n> {
-    fn open(alloc: Global, roads: &'n Network, options: Params) -> Result<Self, AllocError>
-        requires { IsAccepted options }
-        ensures matcher { IfOk result
-            (λ job. job.matcher ≡ record { network = roads.now; params = options }) }
-        ensures begun { IfOk result (λ job. HasMatched job.matcher job.rows job.tally []) }
-    {
-        let matcher = Matcher::open(alloc, roads, options)?;
-        let rows = matcher.rows(alloc)?;
-        Ok(MatchJob {
-            matcher,
-            rows,
-            tally: Tally::NONE,
-        })
+// The matches of a batch by this call, which is one of `match_batch` of the matcher.
+fn match_by<'s, F>(
+    call: &F,
+    _matcher: &Matcher<'_>,
+    first: u64,
+    traces: &[Trace],
+    readers: &mut List<Reader<'s>>,
+) -> Result<List<MatchedTrace>, AllocError>
+where
+    F: Fn(u64, &[Trace], &mut List<Reader<'s>>) -> Result<List<MatchedTrace>, AllocError>,
+    requires call { MatchesBatches F.Fn _matcher.now call.now }
+    requires traces { AreJobTraces first traces.now }
+    requires readers { AreReadersFor _matcher.now.network _matcher.now.params readers.old }
+    ensures { MatchesBatch _matcher.now traces.now readers.old result readers.new }
+{
+    call(first, traces, readers)
+}
+
+impl<'s, F> Job for MatchJob<'s, F>
+where
+    F: Fn(u64, &[Trace], &mut List<Reader<'s>>) -> Result<List<MatchedTrace>, AllocError>,
+{
+    ghost text = { λ job. match_text job.matcher.now };
+
+    ghost has = { λ job traces. HasMatched job.matcher.now job.readers job.tally traces
+        × MatchesBatches F.Fn job.matcher.now job.match_batch };
+
+    fn take(&mut self, alloc: Global, traces: &[Trace], into: &mut List<u8>) -> Result<(), Stop> {
+        let first = self.tally.traces;
+        let call = &self.match_batch;
+        let Ok(matches) = match_by(call, self.matcher, first, traces, &mut self.readers) else {
+            return Err(Stop::NoMemory);
+        };
+        let Ok(pieces) = write_matches(alloc, matches.as_slice(), into) else {
+            return Err(Stop::NoMemory);
+        };
+        self.tally.add(traces, pieces);
+        Ok(())
+    }
+
+    fn finish(&mut self, alloc: Global, into: &mut List<u8>) -> Result<(), AllocError> {
+        let rows = known_count(alloc, self.readers.as_slice())?;
+        self.tally.append_line(u64::from(rows), into)
     }
 }
 
-impl<'n> Job for MatchJob<'n> {
-    ghost text = { λ job. match_text job.matcher };
-
-    ghost has = { λ job traces. HasMatched job.matcher job.rows job.tally traces };
-
-    fn take(&mut self, alloc: Global, traces: &[Trace], into: &mut List<u8>) -> Result<(), Stop> {
-        match write_matches(alloc, &self.matcher, &mut self.rows, traces, into) {
-            Ok(pieces) => {
-                self.tally.add(traces, pieces);
-                Ok(())
-            }
-            Err(_) => Err(Stop::NoMemory),
-        }
-    }
-
-    fn finish(&mut self, _alloc: Global, into: &mut List<u8>) -> Result<(), AllocError> {
-        self.rows.known();
-        self.tally.append_line(u64::from(self.rows.count()), into)
-    }
+// Matches the traces of a file by workers over one store.
+fn match_file<'s, R: Threads + Sync, G: Gate, S: Shelf, K: Sink>(
+    rt: &R,
+    alloc: Global,
+    matcher: &'s Matcher<'s>,
+    store: &'s RowStore<'s>,
+    traces: &str,
+    shelf: &mut S,
+    out: &mut K,
+    gate: &G,
+) -> Result<(), Stop>
+    requires { IsStoreFor matcher.now store.now }
+    ensures { Performs (Ok (works_traces traces.now (match_text matcher.now)))
+        (S.state shelf.old) (S.state shelf.new) (K.state out.old) (K.state out.new) result }
+{
+    let Ok(readers) = matcher.readers(alloc, store) else {
+        return Err(Stop::NoMemory);
+    };
+    let match_batch = |first: u64, batch: &[Trace], readers: &mut List<Reader<'_>>|
+        requires { AreJobTraces first batch.now
+            × AreReadersFor matcher.now.network matcher.now.params readers.now }
+        ensures { MatchesBatch matcher.entry.now batch.now readers.entry.now result
+            readers.exit.now }
+    { matcher.match_batch(rt, alloc, first, batch, readers, gate) };
+    let job = MatchJob {
+        matcher,
+        readers,
+        match_batch,
+        tally: Tally::NONE,
+    };
+    work_traces(alloc, job, shelf, traces, out)
 }
 
 /// Reads the network, then the table file where there is one, and then the traces, which it matches
 /// batch by batch.
-pub fn match_traces<S: Shelf, K: Sink>(
+pub fn match_traces<R: Threads + Sync, G: Gate, S: Shelf, K: Sink>(
+    rt: &R,
     alloc: Global,
     network: &str,
     traces: &str,
@@ -99,6 +143,7 @@ pub fn match_traces<S: Shelf, K: Sink>(
     options: Params,
     shelf: &mut S,
     out: &mut K,
+    gate: &G,
 ) -> Result<(), Stop>
     requires { IsAccepted options }
     ensures { Performs
@@ -106,12 +151,12 @@ pub fn match_traces<S: Shelf, K: Sink>(
         (S.state shelf.old) (S.state shelf.new) (K.state out.old) (K.state out.new) result }
 {
     let roads = load_network(alloc, shelf, network)?;
-    let Ok(store) = RowStore::open(alloc, &roads, options.bound) else {
+    let Ok(matcher) = Matcher::open(alloc, &roads, options) else {
+        return Err(Stop::NoMemory);
+    };
+    let Ok(store) = matcher.store(alloc) else {
         return Err(Stop::NoMemory);
     };
     preload(alloc, shelf, table, &roads, options.bound, &store)?;
-    let Ok(job) = MatchJob::open(alloc, &roads, options) else {
-        return Err(Stop::NoMemory);
-    };
-    work_traces(alloc, job, shelf, traces, out)
+    match_file(rt, alloc, &matcher, &store, traces, shelf, out, gate)
 }

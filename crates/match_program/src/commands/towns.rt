@@ -1,6 +1,5 @@
 // `town N T SEED`. Serves `perform`; decided by `town_plan`.
 ghost use Rattle.std.specs.Prelude.{◌≡◌, ◌≤◌, ◌<◌, ◌^◌, ◌++◌, length, Ok, IfOk, OnOk};
-ghost use Rattle.bounded_search.specs.Rows.{AreRowsOf};
 ghost use Rattle.cost_model.specs.Options.{IsAccepted, IsWithin};
 ghost use Rattle.edge_io.specs.State.{ShelfState};
 ghost use Rattle.program_frame.specs.Jobs.{IsBounded};
@@ -8,20 +7,23 @@ ghost use Rattle.program_frame.specs.Performs.{Performs};
 ghost use Rattle.town.specs.Network.{network_text};
 ghost use Rattle.town.specs.Traces.{traces_text};
 ghost use Rattle.trace_reader.specs.Reading.{file_traces};
-ghost use Rattle.match_program.specs.commands.MatchesDone.{AsksTraces};
+ghost use Rattle.match_program.specs.Matched.{pieces_in};
+ghost use Rattle.match_program.specs.Sharing.{IsStoreFor};
 ghost use Rattle.match_program.specs.commands.Towns.{cost_line, network_in, town_plan, town_text};
 ghost use Rattle.match_program.specs.commands.TownsDone.{AreCosts, IsCost};
 
 use crate::matcher::Matcher;
-use bounded_search::OwnRows;
 use cost_model::Params;
 use edge_io::Sink;
 use itoa::Buffer;
+use match_pool::Gate;
 use match_text::MatchedTrace;
 use polyline_geometry::List;
 use program_frame::{Stop, Tally, put_text};
 use road_network::{Network, read_network};
+use row_store::{RowStore, known_count};
 use std::alloc::{AllocError, Global};
+use std::thread::Threads;
 use town::{town_network, town_traces};
 use trace_reader::{Trace, TraceReader};
 
@@ -74,25 +76,17 @@ fn add_costs(matched: &MatchedTrace) -> u128
     cost
 }
 
-// Matches the traces of a town.
-fn match_traces<'n>(
-    alloc: Global,
-    matcher: &Matcher<'n>,
-    rows: &mut OwnRows<'n>,
-    traces: &[Trace],
-) -> Result<Costs, AllocError>
-    requires rows { AreRowsOf rows.old matcher.now.network matcher.now.params.bound }
-    requires traces { IsBounded traces.now }
-    ensures costs { IfOk result (AreCosts matcher.now traces.now) }
-    ensures asks { OnOk result (AsksTraces matcher.now traces.now rows.old rows.new) }
+// What some matches come to.
+fn add_up(matches: &[MatchedTrace]) -> Costs
+    requires { pieces_in matches.now ≤ 2 ^ 62 }
+    ensures { AreCosts matches.now result }
 {
     let mut costs = Costs { pieces: 0, cost: 0 };
-    for trace in traces {
-        let matched = matcher.match_trace(alloc, rows, trace)?;
+    for matched in matches {
         costs.pieces += matched.pieces.len() as u64;
-        costs.cost += add_costs(&matched);
+        costs.cost += add_costs(matched);
     }
-    Ok(costs)
+    costs
 }
 
 // Appends the line of a sum of costs.
@@ -105,27 +99,38 @@ fn append_cost(cost: u128, into: &mut List<u8>) -> Result<(), AllocError>
 }
 
 // The text of a town.
-fn report(alloc: Global, matcher: &Matcher, traces: &[Trace]) -> Result<List<u8>, AllocError>
-    requires { IsBounded traces.now }
+fn report<'s, R: Threads + Sync, G: Gate>(
+    rt: &R,
+    alloc: Global,
+    matcher: &Matcher<'_>,
+    store: &'s RowStore<'s>,
+    traces: &[Trace],
+    gate: &G,
+) -> Result<List<u8>, AllocError>
+    requires store { IsStoreFor matcher.now store.now }
+    requires traces { IsBounded traces.now × (length traces.now ≤ 2_000) }
     ensures { IfOk result (λ text. text ≡ town_text matcher.now traces.now) }
 {
-    let mut rows = matcher.rows(alloc)?;
-    let costs = match_traces(alloc, matcher, &mut rows, traces)?;
+    let mut readers = matcher.readers(alloc, store)?;
+    let matches = matcher.match_batch(rt, alloc, 0, traces, &mut readers, gate)?;
+    let costs = add_up(matches.as_slice());
     let mut tally = Tally::NONE;
     tally.add(traces, costs.pieces);
-    rows.known();
+    let rows = known_count(alloc, readers.as_slice())?;
     let mut text = List::new(alloc);
-    tally.append_line(u64::from(rows.count()), &mut text)?;
+    tally.append_line(u64::from(rows), &mut text)?;
     append_cost(costs.cost, &mut text)?;
     Ok(text)
 }
 
-fn town_report(
+fn town_report<R: Threads + Sync, G: Gate>(
+    rt: &R,
     alloc: Global,
     side: u32,
     count: u32,
     seed: u32,
     options: Params,
+    gate: &G,
 ) -> Result<List<u8>, AllocError>
     requires within { IsWithin 2 100 side × IsWithin 1 2_000 count }
     requires options { IsAccepted options }
@@ -136,24 +141,27 @@ fn town_report(
     let network = open_network(alloc, side)?;
     let traces = read_traces(alloc, side, count, seed)?;
     let matcher = Matcher::open(alloc, &network, options)?;
-    report(alloc, &matcher, traces.as_slice())
+    let store = matcher.store(alloc)?;
+    report(rt, alloc, &matcher, &store, traces.as_slice(), gate)
 }
 
 /// Makes the files of a town, and matches its traces on its network. No file is read.
-pub fn match_town<K: Sink>(
+pub fn match_town<R: Threads + Sync, G: Gate, K: Sink>(
+    rt: &R,
     alloc: Global,
     side: u32,
     count: u32,
     seed: u32,
     options: Params,
     out: &mut K,
+    gate: &G,
 ) -> Result<(), Stop>
     requires within { IsWithin 2 100 side × IsWithin 1 2_000 count }
     requires options { IsAccepted options }
     ensures { (shelf : ShelfState) → Performs (Ok (town_plan side count seed options))
         shelf shelf (K.state out.old) (K.state out.new) result }
 {
-    let Ok(text) = town_report(alloc, side, count, seed, options) else {
+    let Ok(text) = town_report(rt, alloc, side, count, seed, options, gate) else {
         return Err(Stop::NoMemory);
     };
     put_text(out, text.as_slice())

@@ -1,36 +1,24 @@
-use Rattle.std.proofs.Common.{◌≡◌, ◌++◌, refl, sym, subst, append-nil, arith}
+use Rattle.std.proofs.Common.{◌≡◌, ◌++◌, refl, sym, subst, append-nil}
 use Rattle.std.proofs.lemmas.List.{take_all}
-use Rattle.match_program.specs.commands.Matches.{texts_of}
-use Rattle.match_program.specs.commands.MatchesDone.{ArePieces, AsksTraces}
-use Rattle.match_program.proofs.Asking.{asks_next, asks_none}
-use Rattle.match_program.proofs.Counting.{pieces_next}
-use Rattle.match_program.proofs.Texts.{texts_next}
+use Rattle.match_program.specs.Matched.{pieces_in, text_of_matches}
+use Rattle.match_program.proofs.Matches.{pieces_next, texts_next}
 use Rattle.match_program.proofs.commands.matches.write_matches.Goals as goal
 
-pub loop-trace-init : goal.loop-trace-init
-loop-trace-init c = record {
-  text = sym (append-nil c.args.into.now);
-  pieces = record { are = refl; few = omega arith };
-  asks = asks_none c.args.matcher.now c.args.rows.now c.requires.rows;
-}
+pub loop-matched-init : goal.loop-matched-init
+loop-matched-init c = record { text = sym (append-nil c.args.into.now); pieces = refl }
 
-pub loop-trace-preserved : goal.loop-trace-preserved
-loop-trace-preserved c =
-    let inv = c.loop-trace.invariant in
+pub loop-matched-preserved : goal.loop-matched-preserved
+loop-matched-preserved c =
+    let inv = c.loop-matched.invariant in
     record {
-      text = texts_next c.args.matcher.now c.args.traces.now c.loop-trace.trace-index c.trace-item.result c.in_ok-matched.matched c.args.into.now c.loop-trace.into c.write_match.new.into c.loop-trace-test.true c.trace-item.is c.in_ok-matched.ensures.matched inv.text c.in_ok-write_match.ensures.ok;
-      pieces = pieces_next c.args.matcher.now c.args.traces.now c.loop-trace.trace-index c.trace-item.result c.in_ok-matched.matched c.loop-trace.pieces c.len.result c.loop-trace-test.true c.trace-item.is c.in_ok-matched.ensures.matched inv.pieces c.len.ensures;
-      asks = asks_next c.args.matcher.now c.args.traces.now c.loop-trace.trace-index c.trace-item.result c.args.rows.now c.loop-trace.rows c.match_trace.new.rows c.loop-trace-test.true c.trace-item.is inv.asks c.in_ok-matched.ensures.asks.asks;
+      text = texts_next c.args.matches.now c.loop-matched.matched-index c.matched-item.result c.args.into.now c.loop-matched.into c.write_match.new.into c.loop-matched-test.true c.matched-item.is inv.text c.in_ok-write_match.ensures.ok;
+      pieces = pieces_next c.args.matches.now c.loop-matched.matched-index c.matched-item.result c.loop-matched.pieces c.len.result c.loop-matched-test.true c.matched-item.is inv.pieces c.len.ensures;
     }
 
 pub returns-clause-text : goal.returns-clause-text
 returns-clause-text c =
-    subst (λ t. c.loop-trace.into ≡ c.args.into.now ++ texts_of c.args.matcher.now t) (take_all c.loop-trace.trace-index c.args.traces.now c.loop-trace-test.false) c.loop-trace.invariant.text
+    subst (λ m. c.loop-matched.into ≡ c.args.into.now ++ text_of_matches m) (take_all c.loop-matched.matched-index c.args.matches.now c.loop-matched-test.false) c.loop-matched.invariant.text
 
 pub returns-clause-pieces : goal.returns-clause-pieces
 returns-clause-pieces c =
-    subst (λ t. ArePieces c.args.matcher.now t c.loop-trace.pieces) (take_all c.loop-trace.trace-index c.args.traces.now c.loop-trace-test.false) c.loop-trace.invariant.pieces
-
-pub returns-clause-asks : goal.returns-clause-asks
-returns-clause-asks c =
-    subst (λ t. AsksTraces c.args.matcher.now t c.args.rows.now c.loop-trace.rows) (take_all c.loop-trace.trace-index c.args.traces.now c.loop-trace-test.false) c.loop-trace.invariant.asks
+    subst (λ m. c.loop-matched.pieces ≡ pieces_in m) (take_all c.loop-matched.matched-index c.args.matches.now c.loop-matched-test.false) c.loop-matched.invariant.pieces

@@ -1,11 +1,9 @@
 use Rattle.std.proofs.Common.{◌≡◌, ◌++◌, take}
-use Rattle.match_program.specs.commands.Matches.{texts_of}
-use Rattle.match_program.specs.commands.MatchesDone.{ArePieces, AsksTraces}
+use Rattle.match_program.specs.Matched.{pieces_in, text_of_matches}
 use Rattle.match_program.proofs.commands.matches.write_matches.Given as goal
 
-abbrev pub invariant-loop-trace : goal.invariant-loop-trace
-invariant-loop-trace l = record {
-  text : l.into ≡ l.initial.into ++ texts_of l.matcher (take l.trace-index l.traces);
-  pieces : ArePieces l.matcher (take l.trace-index l.traces) l.pieces;
-  asks : AsksTraces l.matcher (take l.trace-index l.traces) l.initial.rows l.rows;
+abbrev pub invariant-loop-matched : goal.invariant-loop-matched
+invariant-loop-matched l = record {
+  text : l.into ≡ l.initial.into ++ text_of_matches (take l.matched-index l.matches);
+  pieces : l.pieces ≡ pieces_in (take l.matched-index l.matches);
 }

@@ -1,4 +1,4 @@
-use Rattle.std.proofs.Common.{refl, ◌∙◌}
+use Rattle.std.proofs.Common.{◌∙◌}
 use Rattle.program_frame.proofs.Stages.{ends_performs, memory_performs}
 use Rattle.match_program.proofs.commands.towns.match_town.Goals as goal
 

@@ -1,7 +1,6 @@
-use Rattle.std.proofs.Common.{◌++◌, ◌∙◌, sym, subst}
+use Rattle.std.proofs.Common.{◌++◌, subst}
 use Rattle.std.proofs.lemmas.Result.{err_from_is_err_and}
 use Rattle.trace_reader.specs.Reading.{closed, file_traces}
-use Rattle.program_frame.specs.Jobs.{bytes_give}
 use Rattle.program_frame.specs.Performs.{PutLeaves}
 use Rattle.program_frame.proofs.FileEnds.{ending_put, ends_held, faulty_held, faulty_stops, write_ends}
 use Rattle.program_frame.proofs.batches.Batches.finish.Goals as goal

@@ -1,5 +1,5 @@
 use Rattle.std.proofs.Common.{Some, [], ap, append-nil}
-use Rattle.program_frame.specs.Batches.{Later, with_later}
+use Rattle.program_frame.specs.Batches.{with_later}
 use Rattle.program_frame.specs.Jobs.{traces_give}
 use Rattle.program_frame.proofs.BatchEnds.{refused_all, stops_with}
 use Rattle.program_frame.proofs.batches.Batches.refuse.Goals as goal

@@ -10,12 +10,12 @@ write_full-requires g c =
     let base = c.requires.ready.0 in
     let fed = c.requires.ready.1 in
     let between = c.requires.ready.2 in
-    (base, closed (fed ++ take c.in-Ok.taken c.args.chunk.now), takes_more c.args.chunk.now _ c.in-Ok.taken c.feed_some.new.self c.feed_some.new.into between (c.in-Ok.ensures.fed fed between.stands))
+    (base, closed (fed ++ take c.in-Ok.taken c.args.chunk.now), takes_more c.args.chunk.now _ c.in-Ok.taken c.feed_some.new.self c.feed_some.new.into between (let room = between.room in omega (arith, room, c.len.ensures)) (c.in-Ok.ensures.fed fed between.stands))
 
 pub returns-in_err-write_full-in-Ok-clause-takes : goal.returns-in_err-write_full-in-Ok-clause-takes
 returns-in_err-write_full-in-Ok-clause-takes g c base fed between =
     let p = err_from_is_err_and c.from_residual.result c.from_residual.ensures.1 in
-    let holds = takes_more c.args.chunk.now _ c.in-Ok.taken c.feed_some.new.self c.feed_some.new.into between (c.in-Ok.ensures.fed fed between.stands) in
+    let holds = takes_more c.args.chunk.now _ c.in-Ok.taken c.feed_some.new.self c.feed_some.new.into between (let room = between.room in omega (arith, room, c.len.ensures)) (c.in-Ok.ensures.fed fed between.stands) in
     rw (p.1, p.2) (stops_in (g.J.Job.text c.args.self.now.job) base (g.K.Sink.state c.write_full.new.out) fed c.args.chunk.now c.in-Ok.taken _ (c.in_err-write_full-in-Ok.ensures.writes base (closed (fed ++ take c.in-Ok.taken c.args.chunk.now)) holds))
 
 pub refuse-requires : goal.refuse-requires
@@ -23,8 +23,9 @@ refuse-requires g c =
     let base = c.requires.ready.0 in
     let fed = c.requires.ready.1 in
     let between = c.requires.ready.2 in
+    let short = (c.in-Err.ensures.fed fed between.stands).1 in
     let fails = (c.in-Err.ensures.fed fed between.stands).0 in
-    (base, closed fed ++ fails.more, fails_held c.args.chunk.now c.in-Err.fault c.feed_some.new.into between c.requires.sizes.1 fails)
+    (base, closed fed ++ fails.more, fails_held c.args.chunk.now c.in-Err.fault c.feed_some.new.into between c.requires.sizes.1 (let room = between.room in omega (arith, room, short, c.len.ensures)) fails)
 
 pub returns-in_ok-write_full-in-Ok-clause-some : goal.returns-in_ok-write_full-in-Ok-clause-some
 returns-in_ok-write_full-in-Ok-clause-some g c =
@@ -37,12 +38,13 @@ returns-in_ok-write_full-in-Ok-clause-some g c =
 pub returns-in_ok-write_full-in-Ok-clause-takes : goal.returns-in_ok-write_full-in-Ok-clause-takes
 returns-in_ok-write_full-in-Ok-clause-takes g c base fed between =
     let takes = c.in-Ok.ensures.fed fed between.stands in
-    let holds = takes_more c.args.chunk.now _ c.in-Ok.taken c.feed_some.new.self c.feed_some.new.into between takes in
+    let holds = takes_more c.args.chunk.now _ c.in-Ok.taken c.feed_some.new.self c.feed_some.new.into between (let room = between.room in omega (arith, room, c.len.ensures)) takes in
     let writes = c.in_ok-write_full-in-Ok.ensures.writes base (closed (fed ++ take c.in-Ok.taken c.args.chunk.now)) holds in
     some_taken (g.J.Job.text c.args.self.now.job) (g.J.Job.has c.write_full.new.self.job) base (g.K.Sink.state c.write_full.new.out) fed c.args.chunk.now c.in-Ok.taken c.write_full.new.self.reader c.write_full.new.self.waiting (subst (λ r. StandsFor r (fed ++ take c.in-Ok.taken c.args.chunk.now)) (sym c.in_ok-write_full-in-Ok.ensures.reader) takes.stands) writes
 
 pub returns-in-Err-clause-takes : goal.returns-in-Err-clause-takes
 returns-in-Err-clause-takes g c base fed between =
+    let short = (c.in-Err.ensures.fed fed between.stands).1 in
     let fails = (c.in-Err.ensures.fed fed between.stands).0 in
-    let holds = fails_held c.args.chunk.now c.in-Err.fault c.feed_some.new.into between c.requires.sizes.1 fails in
+    let holds = fails_held c.args.chunk.now c.in-Err.fault c.feed_some.new.into between c.requires.sizes.1 (let room = between.room in omega (arith, room, short, c.len.ensures)) fails in
     fails_stops (g.K.Sink.state c.refuse.new.out) c.args.chunk.now c.in-Err.fault c.feed_some.new.into c.refuse.result between fails (c.refuse.ensures.refuses base (closed fed ++ fails.more) holds)

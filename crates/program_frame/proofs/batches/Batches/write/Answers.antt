@@ -1,5 +1,5 @@
 use Rattle.std.proofs.lemmas.Result.{err_from_is_err_and}
-use Rattle.program_frame.proofs.BatchEnds.{handed, write_done, write_stops, write_unput}
+use Rattle.program_frame.proofs.BatchEnds.{handed, write_stops, write_unput}
 use Rattle.program_frame.proofs.batches.Batches.write.Goals as goal
 
 pub returns-in_err-put_text-in-Ok-clause-writes : goal.returns-in_err-put_text-in-Ok-clause-writes
