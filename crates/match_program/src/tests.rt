@@ -1,6 +1,7 @@
 use crate::run::run;
 use decimal_text::write_unsigned;
 use edge_io::{MemoryShelf, MemorySink};
+use match_pool::OpenGate;
 use polyline_geometry::List;
 use std::alloc::{AllocError, Global};
 use std::test::Fail;
@@ -133,12 +134,12 @@ fn words(alloc: Global, all: &[&str]) -> Result<Vec<String>, AllocError> {
 }
 
 // Whether a run gives what the case wants.
-fn is_as_wanted<R: Threads>(rt: &R, alloc: Global, case: &Case) -> Result<bool, AllocError> {
+fn is_as_wanted<R: Threads + Sync>(rt: &R, alloc: Global, case: &Case) -> Result<bool, AllocError> {
     let mut shelf = shelf(alloc, STRAIGHT, case.traces, case.fail[0])?;
     let mut out = MemorySink::new(alloc, numbers(alloc, case.fail[1])?);
     let mut err = MemorySink::new(alloc, numbers(alloc, case.fail[2])?);
     let words = words(alloc, case.words)?;
-    let status = run(rt, alloc, &words, &mut shelf, &mut out, &mut err);
+    let status = run(rt, alloc, &words, &mut shelf, &mut out, &mut err, &OpenGate);
     Ok(status == case.status && out.bytes() == case.out && err.bytes() == case.err)
 }
 
@@ -178,7 +179,7 @@ fn many_texts(alloc: Global, count: u64) -> Result<List<u8>, AllocError> {
 
 // Whether a run of `match` with these failing calls of the shelf ends with this status, line and
 // text.
-fn ends_so<R: Threads>(
+fn ends_so<R: Threads + Sync>(
     rt: &R,
     alloc: Global,
     mut shelf: MemoryShelf,
@@ -189,7 +190,7 @@ fn ends_so<R: Threads>(
     let mut out = MemorySink::new(alloc, List::new(alloc));
     let mut err = MemorySink::new(alloc, List::new(alloc));
     let words = words(alloc, MATCH)?;
-    let ended = run(rt, alloc, &words, &mut shelf, &mut out, &mut err);
+    let ended = run(rt, alloc, &words, &mut shelf, &mut out, &mut err, &OpenGate);
     Ok(ended == status && out.bytes() == text && err.bytes() == line)
 }
 
@@ -281,7 +282,11 @@ const TABLE_CASES: [TableCase; 4] = [
 ];
 
 // Whether a run with this table file gives what the case wants.
-fn tries_table<R: Threads>(rt: &R, alloc: Global, case: &TableCase) -> Result<bool, AllocError> {
+fn tries_table<R: Threads + Sync>(
+    rt: &R,
+    alloc: Global,
+    case: &TableCase,
+) -> Result<bool, AllocError> {
     let mut files = List::new(alloc);
     files.push((bytes(alloc, b"net")?, bytes(alloc, STRAIGHT)?))?;
     files.push((bytes(alloc, b"tab")?, bytes(alloc, case.table)?))?;
@@ -293,7 +298,7 @@ fn tries_table<R: Threads>(rt: &R, alloc: Global, case: &TableCase) -> Result<bo
         alloc,
         &["match", "net", "tra", "--table", "tab", "--bound", "0"],
     )?;
-    let status = run(rt, alloc, &words, &mut shelf, &mut out, &mut err);
+    let status = run(rt, alloc, &words, &mut shelf, &mut out, &mut err, &OpenGate);
     Ok(status == case.status && out.bytes() == case.out && err.bytes() == case.err)
 }
 
