@@ -1,10 +1,9 @@
 -- A table file that is read and accepted, or refused.
-use Rattle.std.proofs.Common.{◌≡◌, ◌≢◌, ◌⊎◌, ℕ, List, [], ◌∷◌, length, Option, Some, None, Result, Ok, Err, refl, sym, ◌∙◌, ap, subst, inl, inr}
-use Rattle.std.specs.Result.{result_map_both}
+use Rattle.std.proofs.Common.{◌≡◌, ℕ, List, ◌∷◌, length, Option, Some, None, Result, Ok, Err, sym, ◌∙◌, ap, subst}
 use Rattle.bounded_search.specs.Table.{TableRow}
 use Rattle.command_line.specs.Options.{and_then}
 use Rattle.edge_io.specs.State.{ShelfState, SinkState}
-use Rattle.program_frame.specs.Loads.{Accepts, Refuses}
+use Rattle.program_frame.specs.Loads.{Refuses}
 use Rattle.program_frame.specs.Performs.{Performs}
 use Rattle.program_frame.specs.Plan.{Plan}
 use Rattle.program_frame.specs.declared.stop.Refusal.{Refusal}
@@ -14,10 +13,8 @@ use Rattle.program_frame.specs.declared.stop.Stop.TheVariants.{Refused, NoMemory
 use Rattle.program_frame.proofs.Stages.{loads_fails, loads_performs}
 use Rattle.road_network.specs.Net.{Net}
 use Rattle.table_file.specs.Reading.{table_of}
-use Rattle.table_file.specs.declared.fault.TableFault.{TableFault}
-use Rattle.table_file.specs.declared.fault.TableFault.TheVariants.{Memory}
-use Rattle.match_program.specs.commands.Preload.{preloads, row_said, rows_in, rows_said, table_fault_line, table_file_said}
-use Rattle.match_program.specs.commands.PreloadDone.{Preloads, RefusesText}
+use Rattle.match_program.specs.commands.Preload.{preloads, row_said, rows_said}
+use Rattle.match_program.specs.commands.PreloadDone.{Preloads}
 
 -- ---- the text
 
@@ -33,24 +30,6 @@ called net bound bytes nodes edges text call =
     ∙ ap (λ n. table_of bound (length net.nodes) n text) call.edges_are
     ∙ ap (table_of bound (length net.nodes) (length net.edges)) call.text_is
 
-known_fault : (is : Result (List TableRow) TableFault) (fault : TableFault) → (fault ≡ Memory) ⊎ (is ≡ Err fault) → fault ≢ Memory → is ≡ Err fault
-known_fault is fault (inl memory) other = absurd (other memory)
-known_fault is fault (inr known) other = known
-
--- a text that is refused
-pub text_refused : (net : Net) (bound : ℕ) (bytes : List ℕ) (nodes edges : ℕ) (text : List ℕ) (fault : TableFault) (stop : Stop) → IsCallFor net bytes nodes edges text
-    → (fault ≡ Memory) ⊎ (table_of bound nodes edges text ≡ Err fault) → RefusesText fault stop → Refuses Table (rows_in net bound bytes) stop
-text_refused net bound bytes nodes edges text fault (Refused refusal line) call known refuses =
-    let is = known_fault (table_of bound nodes edges text) fault known refuses.0 in
-    (refuses.1, ap (result_map_both (λ rows. rows) table_fault_line) (sym (called net bound bytes nodes edges text call) ∙ is) ∙ ap (λ l. Err l) (sym refuses.2))
-text_refused net bound bytes nodes edges text fault NoMemory call known refuses = tt
-text_refused net bound bytes nodes edges text fault (Unread file) call known refuses = absurd refuses
-text_refused net bound bytes nodes edges text fault Unwritten call known refuses = absurd refuses
-
--- a text that has rows
-pub text_read : (net : Net) (bound : ℕ) (bytes : List ℕ) (rows : List TableRow) → table_of bound (length net.nodes) (length net.edges) bytes ≡ Ok rows → rows_in net bound bytes ≡ Ok rows
-text_read net bound bytes rows is = ap (result_map_both (λ rows. rows) table_fault_line) is
-
 -- ---- one part accepted or refused before the next
 
 -- a refusal of the first part is one of both
@@ -59,11 +38,6 @@ first_refuses {A} {B} refusal said next (Refused r line) refuses = (refuses.0, a
 first_refuses refusal said next NoMemory refuses = tt
 first_refuses refusal said next (Unread file) refuses = absurd refuses
 first_refuses refusal said next Unwritten refuses = absurd refuses
-
--- where the first part is accepted, both are as the second
-pub then_accepts : {A B : Type 0} (refusal : Refusal) (said : Result A (List ℕ)) (next : A → Result B (List ℕ)) (value : A) (result : Result B Stop) → said ≡ Ok value → Accepts refusal (next value) result → Accepts refusal (and_then said next) result
-then_accepts {A} {B} refusal said next value result is accepts =
-    subst (λ (s : Result B (List ℕ)). Accepts refusal s result) (sym (ap (λ (s : Result A (List ℕ)). and_then s next) is)) accepts
 
 -- ---- the rows
 
@@ -76,14 +50,6 @@ rows_left net bound row all left rest next is before =
 pub rows_refused : (net : Net) (bound : ℕ) (row : TableRow) (all left rest : List TableRow) (stop : Stop) → left ≡ row ∷ rest → rows_said net bound left ≡ rows_said net bound all → Refuses Table (row_said net bound row) stop → Refuses Table (rows_said net bound all) stop
 rows_refused net bound row all left rest stop next before refuses =
     subst (λ (s : Result (Unit {0}) (List ℕ)). Refuses Table s stop) (sym (ap (rows_said net bound) next) ∙ before) (first_refuses Table (row_said net bound row) (λ _. rows_said net bound rest) stop refuses)
-
-nothing_left : (rows : List TableRow) → length rows ≡ 0 → rows ≡ []
-nothing_left [] none = refl
-nothing_left (row ∷ rows) none = absurd cc
-
--- no row is left
-pub rows_accepted : (net : Net) (bound : ℕ) (all left : List TableRow) → length left ≡ 0 → rows_said net bound left ≡ rows_said net bound all → rows_said net bound all ≡ Ok tt
-rows_accepted net bound all left none before = sym before ∙ ap (rows_said net bound) (nothing_left left none)
 
 -- ---- the plan
 

@@ -286,7 +286,11 @@ const TABLE_CASES: [TableCase; 4] = [
 ];
 
 // Whether a run with this table file gives what the case wants.
-fn tries_table<R: Threads>(rt: &R, alloc: Global, case: &TableCase) -> Result<bool, AllocError> {
+fn tries_table<R: Threads + Sync>(
+    rt: &R,
+    alloc: Global,
+    case: &TableCase,
+) -> Result<bool, AllocError> {
     let mut files = List::new(alloc);
     files.push((bytes(alloc, b"net")?, bytes(alloc, STRAIGHT)?))?;
     files.push((bytes(alloc, b"tab")?, bytes(alloc, case.table)?))?;
@@ -298,7 +302,7 @@ fn tries_table<R: Threads>(rt: &R, alloc: Global, case: &TableCase) -> Result<bo
         alloc,
         &["match", "net", "tra", "--table", "tab", "--bound", "0"],
     )?;
-    let status = run(rt, alloc, &words, &mut shelf, &mut out, &mut err);
+    let status = run(rt, alloc, &words, &mut shelf, &mut out, &mut err, &OpenGate);
     Ok(status == case.status && out.bytes() == case.out && err.bytes() == case.err)
 }
 
