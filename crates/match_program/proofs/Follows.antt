@@ -3,7 +3,6 @@ use Rattle.std.proofs.Common.{◌≡◌, ℕ, ◌+◌, ◌<◌, List, [], ◌∷
 use Rattle.std.proofs.lemmas.List.Concat.{flat_map-append}
 use Rattle.program_frame.specs.Jobs.{Grows, points_of}
 use Rattle.program_frame.proofs.PointCounts.{points-append}
-use Rattle.trace_match.specs.Match.{match_of}
 use Rattle.trace_reader.specs.declared.trace.Trace.{Trace}
 use Rattle.trace_sessions.specs.FollowText.{follow_text}
 use Rattle.trace_sessions.specs.Following.{IsPieceCount}

@@ -12,7 +12,8 @@ use trace_reader::Trace;
 use trace_sessions::follow_trace;
 
 /// What is written of two places on the first edge, the second one behind.
-const FOLLOWED: &[u8] = b"trace 7\nfix 0\nfix 1\nat 0 edge 10 offset 9000 d2 0\nat 1 edge 11 offset 0 d2 81000000\nfinish\npiece 0 1 cost 47500 route 10 11\nend 7\n";
+const FOLLOWED: &[u8] =
+    b"trace 7\nfix 0\nfix 1\nat 0 edge 10 offset 9000 d2 0\nat 1 edge 11 offset 0 d2 81000000\nfinish\npiece 0 1 cost 47500 route 10 11\nend 7\n";
 
 /// Follows a trace, and says whether its text and the number of its pieces are the wanted ones. False
 /// where it is none that a file can have.

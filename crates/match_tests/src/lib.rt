@@ -1,5 +1,5 @@
-//! Tests that cross crates: small traces, matched and followed over own rows and over rows that refuse a call. What
-//! the program alone can show, `tests/cases` has.
+//! Tests that cross crates: small traces, matched and followed over own rows and over rows that refuse
+//! a call. What the program alone can show, `tests/cases` has.
 #![tactic(auto)]
 
 #[cfg(test)]

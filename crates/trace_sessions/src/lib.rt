@@ -8,6 +8,9 @@
 //! lines of what is left. [`follow_is_match`] says that without these lines it is the match text, and
 //! [`written_lines_stay`] that a line once written stays, whatever points follow.
 //!
+//! [`follow_trace`] appends the follow text of a trace: it feeds one point after the other to a session,
+//! and writes what the session hands out.
+//!
 //! Read first: `item_lines` in `specs/ItemText.antt`, then `follow_lines` and `FollowIsMatch`.
 #![tactic(auto)]
 

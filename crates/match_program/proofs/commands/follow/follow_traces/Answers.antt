@@ -1,4 +1,4 @@
-use Rattle.std.proofs.Common.{Ok, ap, subst}
+use Rattle.std.proofs.Common.{Ok, subst}
 use Rattle.std.proofs.lemmas.Result.{err_from_is_err_and}
 use Rattle.program_frame.specs.Performs.{Performs}
 use Rattle.program_frame.specs.Stream.{works_traces}
