@@ -1,3 +1,4 @@
+mod following;
 mod gates;
 
 use crate::run::run;
@@ -8,8 +9,6 @@ use polyline_geometry::List;
 use std::alloc::{AllocError, Global};
 use std::test::Fail;
 use std::thread::Threads;
-
-mod following;
 
 const MATCH: &[&str] = &["match", "net", "tra"];
 

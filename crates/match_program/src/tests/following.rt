@@ -1,6 +1,7 @@
 use super::{shelf, words};
 use crate::run::run;
 use edge_io::MemorySink;
+use match_pool::OpenGate;
 use polyline_geometry::List;
 use std::alloc::{AllocError, Global};
 use std::test::Fail;
@@ -44,12 +45,12 @@ const ROWS: [Row; 3] = [
 ];
 
 // Whether a run gives what the row wants.
-fn is_as_wanted<R: Threads>(rt: &R, alloc: Global, row: &Row) -> Result<bool, AllocError> {
+fn is_as_wanted<R: Threads + Sync>(rt: &R, alloc: Global, row: &Row) -> Result<bool, AllocError> {
     let mut shelf = shelf(alloc, row.network, row.traces, &[])?;
     let mut out = MemorySink::new(alloc, List::new(alloc));
     let mut err = MemorySink::new(alloc, List::new(alloc));
     let words = words(alloc, &["follow", "net", "--radius", "500", "tra"])?;
-    let status = run(rt, alloc, &words, &mut shelf, &mut out, &mut err);
+    let status = run(rt, alloc, &words, &mut shelf, &mut out, &mut err, &OpenGate);
     Ok(status == row.status && out.bytes() == row.out && err.bytes() == row.err)
 }
 
