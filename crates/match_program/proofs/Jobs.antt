@@ -1,5 +1,5 @@
 -- A job of `match`, before its first trace and after more.
-use Rattle.std.proofs.Common.{◌≡◌, ℕ, List, [], ◌++◌, Result, length, sym, ◌∙◌, ap, subst, arith, length-append}
+use Rattle.std.proofs.Common.{◌≡◌, ℕ, List, [], ◌++◌, length, sym, ◌∙◌, ap, subst, arith, length-append}
 use Rattle.std.specs.List.{AllZip}
 use Rattle.std.proofs.lemmas.List.Concat.{flat_map-append}
 use Rattle.match_pool.specs.Learning.{LearnAsked}
@@ -15,7 +15,7 @@ use Rattle.trace_reader.specs.declared.trace.Trace.{Trace}
 use Rattle.match_program.specs.Setting.{Setting}
 use Rattle.match_program.specs.Sharing.{ShareStore, fresh_readers}
 use Rattle.match_program.specs.commands.Matches.{match_text, pieces_of, texts_of, total_of}
-use Rattle.match_program.specs.commands.MatchesDone.{ArePieces, Counts, HasMatched, KnowAsked}
+use Rattle.match_program.specs.commands.MatchesDone.{ArePieces, HasMatched, KnowAsked}
 use Rattle.match_program.proofs.Asking.{asked_more}
 use Rattle.match_program.proofs.Counting.{counts_more}
 use Rattle.match_program.proofs.Sharing.{know_nothing, rows_counted, share_on}

@@ -1,5 +1,5 @@
 -- Readers of one store, before and after traces are matched.
-use Rattle.std.proofs.Common.{◌≡◌, ◌↔◌, ℕ, zero, suc, ◌≤◌, Bool, true, false, ◌||◌, List, [], ◌∷◌, All, Option, Some, None, is_some, IfOk, OnOk, Result, Ok, Err, length, replicate, true≢false, refl, sym, ◌∙◌, ap, arith}
+use Rattle.std.proofs.Common.{◌≡◌, ◌↔◌, ℕ, zero, suc, Bool, true, false, ◌||◌, List, [], ◌∷◌, All, Option, None, is_some, IfOk, OnOk, Result, Ok, Err, length, replicate, true≢false, refl, sym, ◌∙◌, ap, arith}
 use Rattle.std.specs.List.{AllZip, count_by, range_with_len}
 use Rattle.std.specs.Prelude.{slice_index_or}
 use Rattle.std.specs.declared.alloc.AllocError.{AllocError}

@@ -1,9 +1,9 @@
 -- What the matches of a town's traces come to.
-use Rattle.std.proofs.Common.{◌≡◌, ℕ, zero, suc, ◌+◌, ◌*◌, ◌≤◌, ◌<◌, ◌^◌, List, [], ◌∷◌, ◌++◌, All, length, take, get_or, Ok, Err, Result, refl, sym, ◌∙◌, ap, subst, arith}
+use Rattle.std.proofs.Common.{◌≡◌, ℕ, ◌+◌, ◌*◌, ◌≤◌, ◌<◌, List, [], ◌∷◌, ◌++◌, All, length, take, get_or, Ok, refl, sym, ◌∙◌, ap, subst, arith}
 use Rattle.std.specs.List.{AllZip, sum_by}
 use Rattle.std.specs.Result.{result_unwrap_or}
 use Rattle.std.proofs.lemmas.List.Elements.{All-head, All-tail, All-weaker}
-use Rattle.std.proofs.lemmas.List.Sums.{sum_by-append, sum_by-cons, sum_by_more, sum_by_more_le}
+use Rattle.std.proofs.lemmas.List.Sums.{sum_by-cons, sum_by_more}
 use Rattle.cost_model.specs.declared.params.Params.{Params}
 use Rattle.match_pool.specs.Learning.{LearnAsked}
 use Rattle.match_pool.specs.Working.{StaysReader}
@@ -14,7 +14,6 @@ use Rattle.program_frame.specs.Total.{Adds, Fits, total_line}
 use Rattle.program_frame.specs.declared.total.Tally.{Tally}
 use Rattle.road_network.specs.Net.{Net}
 use Rattle.road_network.specs.NetworkFile.{network_of, no_net}
-use Rattle.road_network.specs.declared.fault.NetworkFault.{NetworkFault}
 use Rattle.row_store.specs.Store.{Reading, Stored, count_known}
 use Rattle.town.specs.Laws.{IsTownTrace}
 use Rattle.town.specs.Network.{network_text}

@@ -1,5 +1,5 @@
 -- Readers of one store, and what matching by them leaves.
-use Rattle.std.specs.Prelude.{◌≡◌, ◌≤◌, ℕ, List, All, Result, IfOk, OnOk, None, length, replicate}
+use Rattle.std.specs.Prelude.{◌≡◌, ℕ, List, All, Result, IfOk, OnOk, None, length, replicate}
 use Rattle.std.specs.List.{AllZip}
 use Rattle.std.specs.declared.alloc.AllocError.{AllocError}
 use Rattle.match_pool.specs.Learning.{AreReadersFor, LearnAsked}

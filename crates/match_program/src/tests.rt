@@ -1,3 +1,5 @@
+mod gates;
+
 use crate::run::run;
 use decimal_text::write_unsigned;
 use edge_io::{MemoryShelf, MemorySink};
