@@ -1,5 +1,5 @@
 -- A job of `follow`, before its first trace and after more, and what it makes known.
-use Rattle.std.proofs.Common.{◌≡◌, ◌⊎◌, ◌↔◌, ℕ, ◌+◌, ◌<◌, Bool, true, false, ◌||◌, List, [], ◌∷◌, ◌++◌, Contains, length, take, get_or, refl, sym, ◌∙◌, ap, subst, inl, inr, ⊎_elim, arith, length-append}
+use Rattle.std.proofs.Common.{◌≡◌, ℕ, ◌+◌, ◌<◌, Bool, true, false, ◌||◌, List, [], ◌∷◌, ◌++◌, length, take, get_or, refl, sym, ◌∙◌, ap, subst, inl, inr, ⊎_elim, arith, length-append}
 use Rattle.std.proofs.lemmas.List.{take_more}
 use Rattle.bounded_search.specs.Known.{IsKnownList}
 use Rattle.bounded_search.specs.Rows.{AreRowsOf, AsksAll, Keeps, RowsState, no_rows}
@@ -15,7 +15,7 @@ use Rattle.match_program.specs.Setting.{Setting}
 use Rattle.match_program.specs.commands.FollowDone.{AsksTraces, HasFollowed, KnowsAsked, LearnsAsked}
 use Rattle.match_program.specs.commands.Matches.{is_asked_by, pieces_of, rows_of, total_of}
 use Rattle.match_program.specs.commands.MatchesDone.{ArePieces}
-use Rattle.match_program.proofs.Asking.{asked_parts, first_of, one_of}
+use Rattle.match_program.proofs.Asking.{asked_parts, first_of}
 use Rattle.match_program.proofs.Counting.{counts_more}
 
 -- one more trace of a list

@@ -1,6 +1,5 @@
 -- The outcome of `match` with a table file is that without it.
 use Rattle.std.proofs.Common.{◌≡◌, ◌≢◌, ℕ, List, Option, Some, None, Result, Ok, Err, sym, ap}
-use Rattle.cost_model.specs.declared.params.Params.{Params}
 use Rattle.program_frame.specs.Outcome.{Outcome, refused_with, seen}
 use Rattle.program_frame.specs.Plan.{Plan, accepts, and_then, outcome_of}
 use Rattle.program_frame.specs.Refusals.{network_limit, network_said}
