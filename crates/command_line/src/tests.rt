@@ -58,7 +58,10 @@ fn refused_words(rt: HostRuntime) -> Result<(), Fail> {
 
 #[test]
 fn accepted_words(rt: HostRuntime) -> Result<(), Fail> {
-    let words = words(rt.alloc(), "match a --k=3 --table t --gap 60 --bound 0 -- -b")?;
+    let words = words(
+        rt.alloc(),
+        "match a --k=3 --table t --gap 60 --bound 0 -- -b",
+    )?;
     let command = Command {
         work: Work::Match {
             network: "a",

@@ -23,10 +23,7 @@ fn are_lawful(traces: &[Trace]) -> bool
 }
 
 /// Four readers of a store, which know nothing.
-fn four_readers<'s>(
-    alloc: Global,
-    store: &'s RowStore<'s>,
-) -> Result<List<Reader<'s>>, AllocError>
+fn four_readers<'s>(alloc: Global, store: &'s RowStore<'s>) -> Result<List<Reader<'s>>, AllocError>
     requires { store.now.bound ≡ DEFAULTS.bound }
     ensures { IfOk result (AreReadersFor store.now.network DEFAULTS) }
 {

@@ -10,7 +10,9 @@ both a b store p q (suc zero) d h = q
 both a b store p q (suc (suc k)) d h = absurd (omega arith)
 
 pub known_count-requires : goal.known_count-requires
-known_count-requires c =
-    (c.args.store.now, both _ _ _
-        (c.in_ok-look.ensures.seen.store ∙ c.in_ok-a.ensures.0)
-        (c.in_ok-look-3.ensures.seen.store ∙ c.in_ok-look-2.ensures.seen.store ∙ c.in_ok-b.ensures.0))
+known_count-requires c = (
+  c.args.store.now,
+  both _ _ _
+      (c.in_ok-look.ensures.seen.store ∙ c.in_ok-a.ensures.0)
+      (c.in_ok-look-3.ensures.seen.store ∙ c.in_ok-look-2.ensures.seen.store ∙ c.in_ok-b.ensures.0),
+)
