@@ -1,2 +1,4 @@
 pub mod ItemText
 pub mod FollowText
+pub mod Sessions
+pub mod SessionsInside

@@ -8,11 +8,18 @@
 //! lines of what is left. [`follow_is_match`] says that without these lines it is the match text, and
 //! [`written_lines_stay`] that a line once written stays, whatever points follow.
 //!
-//! Read first: `item_lines` in `specs/ItemText.antt`, then `follow_lines` and `FollowIsMatch`.
+//! [`Sessions`] keeps the sessions of many traces at once, one for each id. `Keeps` in
+//! `specs/Sessions.antt` says for which ids and fixes they stand. What [`Sessions::feed`] and
+//! [`Sessions::close`] hand out depends on the fixes of their id alone.
+//!
+//! Read first: `item_lines` in `specs/ItemText.antt`, then `follow_lines` and `FollowIsMatch`; and
+//! `Keeps`, `TakesFix` and `Closes`.
 #![tactic(auto)]
 
 mod items;
 mod laws;
+mod sessions;
 
 pub use items::write_items;
 pub use laws::{follow_is_match, written_lines_stay};
+pub use sessions::{SessionFault, Sessions};
