@@ -24,6 +24,9 @@ use std::marker::Model;
 use trace_match::layer;
 use trace_reader::Fix;
 
+#[cfg(test)]
+mod tests;
+
 /// Why a call of [`Sessions`] changed nothing.
 #[derive(Clone, Copy, Debug, PartialEq, Eq)]
 pub enum SessionFault {
