@@ -7,3 +7,5 @@ pub mod PieceCounts
 pub mod FollowedPoints
 pub mod FollowedText
 pub mod FollowedRows
+pub mod SessionPairs
+pub mod SessionFixes

@@ -11,13 +11,20 @@
 //! [`follow_trace`] appends the follow text of a trace: it feeds one point after the other to a session,
 //! and writes what the session hands out.
 //!
-//! Read first: `item_lines` in `specs/ItemText.antt`, then `follow_lines` and `FollowIsMatch`.
+//! [`Sessions`] keeps the sessions of many traces at once, one for each id. `Keeps` in
+//! `specs/Sessions.antt` says for which ids and fixes they stand. What [`Sessions::feed`] and
+//! [`Sessions::close`] hand out depends on the fixes of their id alone.
+//!
+//! Read first: `item_lines` in `specs/ItemText.antt`, then `follow_lines` and `FollowIsMatch`; and
+//! `Keeps`, `TakesFix` and `Closes`.
 #![tactic(auto)]
 
 mod following;
 mod items;
 mod laws;
+mod sessions;
 
 pub use following::follow_trace;
 pub use items::write_items;
 pub use laws::{follow_is_match, written_lines_stay};
+pub use sessions::{SessionFault, Sessions};

@@ -1,0 +1,220 @@
+//! Many sessions at once. Serves those who follow interleaved traces; decided by `TakesFix` and `Closes`.
+ghost use Rattle.std.specs.Prelude.{◌≡◌, ◌<◌, ◌⊎◌, List, [], None, nat_eq, length, slice_get, IfOk, IfErr, IfSome, OnErr};
+ghost use Rattle.std.specs.List.{IsDistinct};
+ghost use Rattle.std.specs.Map.{keys_of, lookup};
+ghost use Rattle.polyline_geometry.specs.Plane.{InRange};
+ghost use Rattle.bounded_search.specs.Rows.{AreRowsOf};
+ghost use Rattle.trace_match.specs.Ground.{IsGridFor};
+ghost use Rattle.trace_match.specs.Match.{place_of};
+ghost use Rattle.online_commit.specs.Session.{AsksFed, AsksFinished, IsFedLayer, Session, points_of};
+ghost use Rattle.trace_sessions.specs.declared.sessions.SessionFault.TheVariants.{Memory, NotOpen};
+ghost use Rattle.trace_sessions.specs.Sessions.{AsksClosed, AsksFedTo, Closes, IsCloseFault, IsFeedFault, Keeps, Pair, TakesFix, length_of};
+ghost use Rattle.trace_sessions.specs.SessionsInside.{FeedsAt, FinishesAt, session_at, session_in};
+
+use bounded_search::Rows;
+use cost_model::Params;
+use grid_index::Grid;
+use indexmap::IndexMap;
+use matching::Layer;
+use online_commit::{Item, Online};
+use polyline_geometry::List;
+use road_network::Network;
+use std::alloc::{AllocError, Global};
+use std::marker::Model;
+use trace_match::layer;
+use trace_reader::Fix;
+
+#[cfg(test)]
+mod tests;
+
+/// Why a call of [`Sessions`] changed nothing.
+#[derive(Clone, Copy, Debug, PartialEq, Eq)]
+pub enum SessionFault {
+    /// The id has 100,000 points.
+    TooLong(u32),
+    /// The id has no session.
+    NotOpen(u32),
+    /// There was no memory for what was asked.
+    Memory,
+}
+
+impl From<AllocError> for SessionFault {
+    ghost from_gives = { λ _ fault. fault ≡ Memory };
+
+    fn from(_: AllocError) -> SessionFault {
+        SessionFault::Memory
+    }
+}
+
+/// The sessions of traces whose points are interleaved, one for each id. A contract sees the sessions
+/// by id, and `Keeps` says for which ids and fixes they stand.
+#[derive(Drop)]
+pub struct Sessions<'n> {
+    alloc: Global,
+    net: &'n Network,
+    grid: &'n Grid<'n>,
+    params: Params,
+    sessions: IndexMap<u32, Online<'n>>,
+}
+
+impl<'n> Model for Sessions<'n> {
+    ghost use Rattle.trace_sessions.specs.Sessions.{SessionsState};
+    ghost use Rattle.trace_sessions.specs.SessionsInside.{shown_sessions, IsKept};
+
+    ghost Value = { SessionsState };
+
+    ghost view = { shown_sessions };
+
+    ghost invariant = { IsKept };
+}
+
+// Feeds the session of the id, or else this newly opened one, which is kept where it took the point.
+fn feed_session<'n, R: Rows>(
+    sessions: &mut IndexMap<u32, Online<'n>>,
+    id: u32,
+    opened: Online<'n>,
+    layer: Layer,
+    rows: &mut R,
+) -> Result<List<Item>, AllocError>
+    requires rows { let s = session_at sessions.old.entries id opened in
+        AreRowsOf (R.state rows.old) s.network s.params.bound }
+    requires layer { let s = session_at sessions.old.entries id opened in
+        IsFedLayer s.network s.params layer × (points_of s < 100_000) }
+    ensures fed { IfOk result (FeedsAt sessions.old.entries id opened.entry layer sessions.new.entries) }
+    ensures unique { IsDistinct nat_eq (keys_of sessions.new.entries) }
+    ensures err { OnErr result (sessions.new.entries ≡ sessions.old.entries) }
+    ensures asks { AsksFed (session_at sessions.old.entries id opened.entry) layer
+        (R.state rows.old) result (R.state rows.new) }
+{
+    match sessions.get_mut(&id) {
+        Some(session) => session.feed(layer, rows),
+        None => {
+            let mut session = opened;
+            let items = session.feed(layer, rows)?;
+            sessions.insert(id, session)?;
+            Ok(items)
+        }
+    }
+}
+
+// Finishes the session of the id and takes it out.
+fn finish_session<'n, R: Rows>(
+    sessions: &mut IndexMap<u32, Online<'n>>,
+    id: u32,
+    rows: &mut R,
+) -> Result<List<Item>, SessionFault>
+    requires rows { IfSome (lookup (nat_eq id) sessions.old.entries)
+        (λ s. AreRowsOf (R.state rows.old) s.network s.params.bound) }
+    ensures finished { IfOk result (FinishesAt sessions.old.entries id sessions.new.entries) }
+    ensures unique { IsDistinct nat_eq (keys_of sessions.new.entries) }
+    ensures fault { IfErr result (λ fault. (fault ≡ Memory)
+        ⊎ ((fault ≡ NotOpen id) × (lookup (nat_eq id) sessions.old.entries ≡ None))) }
+    ensures err { OnErr result (sessions.new.entries ≡ sessions.old.entries) }
+    ensures asks { (d : Session) → AsksFinished (session_at sessions.old.entries id d)
+        (R.state rows.old) (R.state rows.new) }
+{
+    let Some(session) = sessions.get_mut(&id) else {
+        return Err(SessionFault::NotOpen(id));
+    };
+    let items = session.finish(rows)?;
+    sessions.shift_remove(&id);
+    Ok(items)
+}
+
+impl<'n> Sessions<'n> {
+    /// No sessions. `grid` is of this network, with cells of at least the radius. Takes no memory.
+    pub fn open(alloc: Global, net: &'n Network, grid: &'n Grid<'n>, p: &Params) -> Sessions<'n>
+        requires { IsGridFor net.now p.now grid.now }
+        ensures network { result.network ≡ net.now }
+        ensures params { result.params ≡ p.now }
+        ensures none { Keeps result [] }
+    {
+        Sessions {
+            alloc,
+            net,
+            grid,
+            params: *p,
+            sessions: IndexMap::new(alloc),
+        }
+    }
+
+    /// How many ids have a session.
+    pub fn count(&self) -> u64
+        ensures { (pairs : List Pair) → Keeps self.now pairs → result ≡ length pairs }
+    {
+        self.sessions.len() as u64
+    }
+
+    /// The id whose session stands at this place, from 0, in order of first appearance.
+    pub fn id_at(&self, place: u64) -> Option<u32>
+        ensures { (pairs : List Pair) → Keeps self.now pairs
+            → result ≡ slice_get (keys_of pairs) place }
+    {
+        match self.sessions.get_index(place as usize) {
+            Some((id, _)) => Some(*id),
+            None => None,
+        }
+    }
+
+    /// How many points the id has, or None where it has no session.
+    pub fn length(&self, id: u32) -> Option<u32>
+        ensures { (pairs : List Pair) → Keeps self.now pairs → result ≡ length_of pairs id }
+    {
+        match self.sessions.get(&id) {
+            Some(session) => Some(session.count()),
+            None => None,
+        }
+    }
+
+    // How many points the id has, 0 where it has no session.
+    fn points(&self, id: u32) -> u32
+        ensures { result ≡ points_of (session_in self.now id) }
+    {
+        match self.sessions.get(&id) {
+            Some(session) => session.count(),
+            None => 0,
+        }
+    }
+
+    /// Takes the next point of the id, whose session is opened with its first point, and gives the
+    /// items that are committed by it. `TooLong` says that the id has 100,000 points; after a fault
+    /// the sessions are as before.
+    ///
+    /// Rows become known as by [`Online::feed`] on the points of this id.
+    pub fn feed<R: Rows>(
+        &mut self,
+        id: u32,
+        fix: Fix,
+        rows: &mut R,
+    ) -> Result<List<Item>, SessionFault>
+        requires rows { AreRowsOf (R.state rows.old) self.old.network self.old.params.bound }
+        requires place { InRange (place_of fix) }
+        ensures fed { IfOk result (TakesFix self.old id fix self.new) }
+        ensures fault { IfErr result (IsFeedFault self.old id) }
+        ensures err { OnErr result (self.new ≡ self.old) }
+        ensures asks { AsksFedTo self.old id fix (R.state rows.old) result (R.state rows.new) }
+    {
+        if self.points(id) >= 100_000 {
+            return Err(SessionFault::TooLong(id));
+        }
+        let layer = layer(self.alloc, self.net, self.grid, &self.params, &fix)?;
+        let opened = Online::open(self.alloc, self.net, &self.params);
+        let items = feed_session(&mut self.sessions, id, opened, layer, rows)?;
+        Ok(items)
+    }
+
+    /// Ends the trace of the id, gives the items that are left, and takes its session out; the others
+    /// keep their order. `NotOpen` says that the id has no session; after a fault the sessions are as
+    /// before. Takes time for each session that stands behind that of the id.
+    ///
+    /// Rows become known as by [`Online::finish`] on the points of this id.
+    pub fn close<R: Rows>(&mut self, id: u32, rows: &mut R) -> Result<List<Item>, SessionFault>
+        requires rows { AreRowsOf (R.state rows.old) self.old.network self.old.params.bound }
+        ensures closed { IfOk result (Closes self.old id self.new) }
+        ensures fault { IfErr result (IsCloseFault self.old id) }
+        ensures err { OnErr result (self.new ≡ self.old) }
+        ensures asks { AsksClosed self.old id (R.state rows.old) (R.state rows.new) }
+    {
+        finish_session(&mut self.sessions, id, rows)
+    }
+}
