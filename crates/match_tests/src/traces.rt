@@ -11,7 +11,7 @@ use bounded_search::{OwnRows, RefusingRows, Rows};
 use cost_model::Params;
 use grid_index::Grid;
 use match_pool::{Answer, match_one};
-use match_text::{Label, Routed};
+use match_text::{Label, MatchedTrace, Routed};
 use polyline_geometry::List;
 use road_network::{Network, read_network};
 use std::alloc::{AllocError, Global};
@@ -82,7 +82,7 @@ fn match_trace<R: Rows>(
     Ok(Some(match_one(alloc, net, &grid, &DEFAULTS, rows, trace)?))
 }
 
-fn on_first(offset: u32, d2: u64) -> Label {
+pub fn on_first(offset: u32, d2: u64) -> Label {
     Label::On {
         edge: 10,
         offset,
@@ -98,13 +98,12 @@ fn is_along_first(piece: &Routed) -> bool {
 }
 
 /// Whether the match is that of two fixes along the first edge.
-fn is_wanted(answer: &Answer) -> bool {
+pub fn is_wanted(matched: &MatchedTrace) -> bool {
     let labels = [on_first(1_000, 90_000), on_first(9_000, 90_000)];
-    answer.matched.id == 7
-        && answer.matched.labels.as_slice() == labels.as_slice()
-        && answer.matched.pieces.len() == 1
-        && answer
-            .matched
+    matched.id == 7
+        && matched.labels.as_slice() == labels.as_slice()
+        && matched.pieces.len() == 1
+        && matched
             .pieces
             .as_slice()
             .iter()
@@ -112,7 +111,7 @@ fn is_wanted(answer: &Answer) -> bool {
 }
 
 /// Two places beside the first edge, one after the other.
-const ALONG: [(i32, i32); 2] = [(1_000, 300), (9_000, -300)];
+pub const ALONG: [(i32, i32); 2] = [(1_000, 300), (9_000, -300)];
 
 /// Two places on the first edge, the second one behind: the road leads on, and the third row that is
 /// asked for is the road's.
@@ -133,7 +132,7 @@ fn two_fixes_on_one_edge(rt: HostRuntime) -> Result<(), Fail> {
     let mut rows = OwnRows::open(rt.alloc(), &net, DEFAULTS.bound)?;
     let trace = trace_at(rt.alloc(), &ALONG)?;
     let answer = match_trace(rt.alloc(), &net, &mut rows, &trace)?.ok_or("no match")?;
-    assert!(rt; is_wanted(&answer));
+    assert!(rt; is_wanted(&answer.matched));
     assert_eq!(rt; rows.count(), 2);
     Ok(())
 }

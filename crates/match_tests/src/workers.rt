@@ -1,18 +1,23 @@
-//! The traces of a town, matched by four workers over one store.
-ghost use Rattle.std.specs.Prelude.{◌≡◌, ◌↔◌, IfOk, IsTrue};
+//! Traces matched by workers over one store.
+ghost use Rattle.std.specs.Prelude.{◌≡◌, ◌≤◌, ◌↔◌, ◌^◌, IfOk, IfSome, IsTrue};
 ghost use Rattle.std.specs.List.{All};
 ghost use Rattle.match_pool.specs.Learning.{AreReadersFor};
+ghost use Rattle.match_pool.specs.Working.{CanDraw};
+ghost use Rattle.road_network.specs.Net.{HasNode};
 ghost use Rattle.trace_reader.specs.Trace.{IsLawfulTrace};
 
-use crate::traces::{DEFAULTS, is_lawful};
+use crate::traces::{ALONG, DEFAULTS, ROW, is_lawful, is_wanted, on_first, trace_at};
+use bounded_search::{Entry, Row};
 use grid_index::Grid;
-use match_pool::{OpenGate, match_all};
+use match_pool::{OpenGate, match_all, work};
+use match_text::MatchedTrace;
 use polyline_geometry::List;
-use road_network::{Network, NodeId, read_network};
+use road_network::{EdgeId, Network, NodeId, read_network};
 use row_store::{Reader, RowStore, Sight};
 use std::alloc::{AllocError, Global};
 use std::test::Fail;
 use std::thread::Threads;
+use tickets::{Claims, Ticket};
 use town::{town_network, town_traces};
 use trace_reader::{Trace, TraceReader};
 
@@ -22,17 +27,63 @@ fn are_lawful(traces: &[Trace]) -> bool
     traces.iter().all(|trace| is_lawful(trace))
 }
 
-/// Four readers of a store, which know nothing.
-fn four_readers<'s>(alloc: Global, store: &'s RowStore<'s>) -> Result<List<Reader<'s>>, AllocError>
-    requires { store.now.bound ≡ DEFAULTS.bound }
+/// So many readers of a store, which know nothing.
+fn readers_of<'s>(
+    alloc: Global,
+    store: &'s RowStore<'s>,
+    count: u32,
+) -> Result<List<Reader<'s>>, AllocError>
+    requires bound { store.now.bound ≡ DEFAULTS.bound }
+    requires count { (1 ≤ count) × (count ≤ 64) }
     ensures { IfOk result (AreReadersFor store.now.network DEFAULTS) }
 {
     let mut readers = List::new(alloc);
-    readers.push(store.reader()?)?;
-    readers.push(store.reader()?)?;
-    readers.push(store.reader()?)?;
-    readers.push(store.reader()?)?;
+    for _ in 0..count {
+        readers.push(store.reader()?)?;
+    }
     Ok(readers)
+}
+
+/// The matches of traces by one worker for each of so many readers, and the readers. None where they
+/// are no traces that a file can have.
+fn matched_by<'s, R: Threads + Sync>(
+    rt: &R,
+    alloc: Global,
+    net: &Network,
+    store: &'s RowStore<'s>,
+    traces: &[Trace],
+    count: u32,
+) -> Result<Option<(List<MatchedTrace>, List<Reader<'s>>)>, AllocError>
+    requires store { (store.now.network ≡ net.now) × (store.now.bound ≡ DEFAULTS.bound) }
+    requires count { (1 ≤ count) × (count ≤ 64) }
+{
+    if traces.len() > 200 || !are_lawful(traces) {
+        return Ok(None);
+    }
+    let grid = Grid::build(alloc, net, DEFAULTS.radius)?;
+    let mut readers = readers_of(alloc, store, count)?;
+    let all = match_all(
+        rt,
+        alloc,
+        net,
+        &grid,
+        &DEFAULTS,
+        0,
+        traces,
+        &mut readers,
+        &OpenGate,
+    )?;
+    Ok(Some((all, readers)))
+}
+
+/// Whether a reader knows a row.
+fn knows_any(reader: &Reader<'_>) -> bool {
+    for n in 0..reader.store().network().node_count() {
+        if reader.known(NodeId(n)) {
+            return true;
+        }
+    }
+    false
 }
 
 /// Whether each row that a reader knows is that of its node.
@@ -47,7 +98,7 @@ fn knows_no_foreign_row(reader: &mut Reader<'_>) -> Result<bool, AllocError> {
     Ok(true)
 }
 
-/// Whether four workers match all these traces, and none of their readers knows a foreign row.
+/// Whether four workers match 200 traces, and none of their readers knows a foreign row.
 fn are_matched<R: Threads + Sync>(
     rt: &R,
     alloc: Global,
@@ -57,28 +108,162 @@ fn are_matched<R: Threads + Sync>(
 ) -> Result<bool, AllocError>
     requires { (store.now.network ≡ net.now) × (store.now.bound ≡ DEFAULTS.bound) }
 {
-    if traces.len() != 200 || !are_lawful(traces) {
+    let Some((all, readers)) = matched_by(rt, alloc, net, store, traces, 4)? else {
         return Ok(false);
-    }
-    let grid = Grid::build(alloc, net, DEFAULTS.radius)?;
-    let mut readers = four_readers(alloc, store)?;
-    let all = match_all(
-        rt,
-        alloc,
-        net,
-        &grid,
-        &DEFAULTS,
-        0,
-        traces,
-        &mut readers,
-        &OpenGate,
-    )?;
+    };
     for mut reader in readers.into_vec() {
         if !knows_no_foreign_row(&mut reader)? {
             return Ok(false);
         }
     }
     Ok(all.len() == 200)
+}
+
+/// Traces 1 and 2 of one place on the first edge.
+fn two_traces(alloc: Global) -> Result<List<Trace>, AllocError> {
+    let mut traces = List::new(alloc);
+    for id in 1..3 {
+        let mut trace = trace_at(alloc, &[(1_000, 0)])?;
+        trace.id = id;
+        traces.push(trace)?;
+    }
+    Ok(traces)
+}
+
+/// Whether this is the match of the trace of this id of these two.
+fn is_on_first(matched: &MatchedTrace, id: u32) -> bool {
+    let labels = [on_first(1_000, 0)];
+    matched.id == id
+        && matched.labels.as_slice() == labels.as_slice()
+        && matched.pieces.len() == 1
+        && matched.pieces.as_slice().iter().all(|piece| piece.cost == 0
+            && piece.route.as_slice() == [10].as_slice())
+}
+
+/// Whether two workers match the two traces and learn no row, and one worker matches no traces.
+fn are_two_matched<R: Threads + Sync>(
+    rt: &R,
+    alloc: Global,
+    net: &Network,
+    store: &RowStore<'_>,
+) -> Result<bool, AllocError>
+    requires { (store.now.network ≡ net.now) × (store.now.bound ≡ DEFAULTS.bound) }
+{
+    let traces = two_traces(alloc)?;
+    let Some((two, readers)) = matched_by(rt, alloc, net, store, traces.as_slice(), 2)? else {
+        return Ok(false);
+    };
+    let Some((none, _)) = matched_by(rt, alloc, net, store, &[], 1)? else {
+        return Ok(false);
+    };
+    let known = readers.as_slice().iter().any(|reader| knows_any(reader));
+    let [first, second] = two.as_slice() else {
+        return Ok(false);
+    };
+    Ok(none.len() == 0 && !known && is_on_first(first, 1) && is_on_first(second, 2))
+}
+
+/// Claims on so many numbers with one ticket. None where the list of tickets has none.
+fn one_ticket(alloc: Global, count: u64) -> Result<Option<(Claims, Ticket)>, AllocError>
+    requires { count ≤ 2 ^ 32 }
+    ensures { IfOk result (λ o. IfSome o (λ r. CanDraw count r.0 r.1)) }
+{
+    let (claims, mut tickets) = Claims::open(alloc, count, 1)?;
+    match tickets.pop() {
+        None => Ok(None),
+        Some(ticket) => Ok(Some((claims, ticket))),
+    }
+}
+
+/// Whether a worker that draws the two traces, the first of which stands at place 5, says 5 and 6.
+fn are_numbered_from_5(
+    alloc: Global,
+    net: &Network,
+    store: &RowStore<'_>,
+) -> Result<bool, AllocError>
+    requires { (store.now.network ≡ net.now) × (store.now.bound ≡ DEFAULTS.bound) }
+{
+    let traces = two_traces(alloc)?;
+    if traces.len() != 2 || !are_lawful(traces.as_slice()) {
+        return Ok(false);
+    }
+    let grid = Grid::build(alloc, net, DEFAULTS.radius)?;
+    let mut reader = store.reader()?;
+    let Some((claims, mut ticket)) = one_ticket(alloc, 2)? else {
+        return Ok(false);
+    };
+    let done = work(
+        alloc,
+        net,
+        &grid,
+        &DEFAULTS,
+        5,
+        traces.as_slice(),
+        &claims,
+        &mut ticket,
+        &mut reader,
+        &OpenGate,
+    )?;
+    let [first, second] = done.as_slice() else {
+        return Ok(false);
+    };
+    Ok(first.place == 5 && second.place == 6)
+}
+
+fn entry(node: u32, distance: u32, last: Option<EdgeId>) -> Entry {
+    Entry {
+        node: NodeId(node),
+        distance,
+        last,
+    }
+}
+
+/// Entries after `1:0:-` with which a row is not that of node 1.
+fn wrong() -> [Option<Entry>; 4] {
+    [
+        None,
+        Some(entry(2, 10_000, Some(EdgeId(7)))),
+        Some(entry(9, 5, Some(EdgeId(0)))),
+        Some(entry(2, 4_294_967_295, Some(EdgeId(1)))),
+    ]
+}
+
+/// The row with `1:0:-` and this entry.
+fn offered(alloc: Global, more: Option<Entry>) -> Result<Option<Row>, AllocError>
+    ensures { IfOk result (λ o. IfSome o (λ row. row.origin ≡ 1)) }
+{
+    let mut entries = List::new(alloc);
+    entries.push(entry(1, 0, None))?;
+    if let Some(entry) = more {
+        entries.push(entry)?;
+    }
+    Ok(Row::of(NodeId(1), entries))
+}
+
+/// Puts a row into the empty cell of node 1.
+fn plant(store: &RowStore<'_>, row: Row) -> Result<(), AllocError>
+    requires node { HasNode store.now.network 1 }
+    requires origin { row.origin ≡ 1 }
+{
+    store.reader()?.offer(NodeId(1), row)?;
+    Ok(())
+}
+
+/// Whether two workers match a trace that asks for the row of node 1 as if its cell were empty.
+fn is_matched_all_the_same<R: Threads + Sync>(
+    rt: &R,
+    alloc: Global,
+    net: &Network,
+    store: &RowStore<'_>,
+) -> Result<bool, AllocError>
+    requires { (store.now.network ≡ net.now) × (store.now.bound ≡ DEFAULTS.bound) }
+{
+    let mut traces = List::new(alloc);
+    traces.push(trace_at(alloc, &ALONG)?)?;
+    let Some((all, _)) = matched_by(rt, alloc, net, store, traces.as_slice(), 2)? else {
+        return Ok(false);
+    };
+    Ok(all.len() == 1 && all.as_slice().iter().all(|matched| is_wanted(matched)))
 }
 
 // A worker whose reader takes a row from the store unchecked, or that puts a wrong one there, fails here.
@@ -92,5 +277,27 @@ fn no_row_of_the_town_is_foreign(rt: HostRuntime) -> Result<(), Fail> {
     reader.finish(&mut traces)?;
     let store = RowStore::open(alloc, &net, DEFAULTS.bound)?;
     assert!(rt; are_matched(&rt, alloc, &net, &store, traces.as_slice())?);
+    Ok(())
+}
+
+#[test]
+fn two_traces_are_matched_in_order(rt: HostRuntime) -> Result<(), Fail> {
+    let net = read_network(rt.alloc(), ROW)?;
+    let store = RowStore::open(rt.alloc(), &net, DEFAULTS.bound)?;
+    assert!(rt; are_two_matched(&rt, rt.alloc(), &net, &store)?);
+    assert!(rt; are_numbered_from_5(rt.alloc(), &net, &store)?);
+    Ok(())
+}
+
+#[test]
+fn a_foreign_row_misleads_nobody(rt: HostRuntime) -> Result<(), Fail> {
+    let net = read_network(rt.alloc(), ROW)?;
+    for more in wrong() {
+        assert!(rt; 1 < net.node_count());
+        let store = RowStore::open(rt.alloc(), &net, DEFAULTS.bound)?;
+        let row = offered(rt.alloc(), more)?.ok_or("no row")?;
+        plant(&store, row)?;
+        assert!(rt; is_matched_all_the_same(&rt, rt.alloc(), &net, &store)?);
+    }
     Ok(())
 }
