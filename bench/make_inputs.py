@@ -9,6 +9,8 @@
   country-net.csv, country-traces.csv   16,907 nodes and 55,465 edges (towns, villages, winding roads, motorways with ramps), 200
                                         traces of 900 points, one a second, and 400 of 45 points, one a minute
   long-net.csv, long-traces.csv         one edge of 1,000,000 points, and 20 traces of 100 points beside it
+  roads-net.csv                         two roads of 1,000 km, 4 m apart, that never meet
+  roads-half.csv, roads-whole.csv       a trace of 50,000 points between them, and one of 100,000
 """
 import math
 import os
@@ -230,6 +232,15 @@ def long_edge(folder, points=1_000_000):
                 f.write(f"{trace},{x + draw.below(4001) - 2000},{y + draw.below(4001) - 2000}\n")
 
 
+def two_roads(folder):
+    with open(os.path.join(folder, "roads-net.csv"), "w") as f:
+        f.write("edge,from,to,line\n1,1,2,0 0;100000000 0\n2,3,4,0 400;100000000 400\n")
+    for name, count in (("roads-half.csv", 50_000), ("roads-whole.csv", 100_000)):
+        with open(os.path.join(folder, name), "w") as f:
+            f.write("trace,x,y\n")
+            f.writelines(f"1,{1000 * i + 500},200\n" for i in range(count))
+
+
 def main():
     folder = sys.argv[1]
     os.makedirs(folder, exist_ok=True)
@@ -237,6 +248,7 @@ def main():
     town_traces(os.path.join(folder, "town-traces.csv"), 100, 2000, 1)
     city(folder)
     country.write_country(folder)
+    two_roads(folder)
     long_edge(folder)
 
 

@@ -15,6 +15,7 @@ import subprocess
 import time
 
 ONE_WORKER = ["--workers", "1"]
+ONE_KILOMETRE = ["--bound", "100000"]
 JOBS = [
     # name, file whose lines are counted, words
     ("load network", "city-net.csv", ["match", "city-net.csv", "no-traces.csv", *ONE_WORKER]),
@@ -25,7 +26,22 @@ JOBS = [
     ("match country", "country-traces.csv", ["match", "country-net.csv", "country-traces.csv", *ONE_WORKER]),
     ("country k 1", "country-traces.csv", ["match", "country-net.csv", "country-traces.csv", "--k", "1", *ONE_WORKER]),
     ("long edge", "long-traces.csv", ["match", "long-net.csv", "long-traces.csv", *ONE_WORKER]),
+    ("city 2 threads", "city-traces.csv", ["match", "city-net.csv", "city-traces.csv", "--workers", "2"]),
+    ("city 4 threads", "city-traces.csv", ["match", "city-net.csv", "city-traces.csv", "--workers", "4"]),
+    ("match small", "city-small-traces.csv", ["match", "city-net.csv", "city-small-traces.csv", *ONE_WORKER]),
+    ("follow small", "city-small-traces.csv", ["follow", "city-net.csv", "city-small-traces.csv", *ONE_WORKER]),
+    ("half roads", "roads-half.csv", ["follow", "roads-net.csv", "roads-half.csv", *ONE_WORKER]),
+    ("whole roads", "roads-whole.csv", ["follow", "roads-net.csv", "roads-whole.csv", *ONE_WORKER]),
+    ("table", "city-net.csv", ["table", "city-net.csv", *ONE_KILOMETRE]),
+    ("with table", "city-small-traces.csv",
+     ["match", "city-net.csv", "city-small-traces.csv", "--table", "city-table.txt", *ONE_KILOMETRE, *ONE_WORKER]),
 ]
+
+
+def write_table(program, folder):
+    """The table of the city by the first program, for the jobs that read one."""
+    with open(os.path.join(folder, "city-table.txt"), "wb") as f:
+        subprocess.run(program + ["table", "city-net.csv", *ONE_KILOMETRE], cwd=folder, stdout=f, check=True)
 
 
 def write_small_inputs(folder):
@@ -75,6 +91,8 @@ def main():
     programs = [[os.path.abspath(w) if os.path.exists(w) else w for w in shlex.split(p)] for p in args.programs]
     for place, program in enumerate(programs, 1):
         print(f"program {place}: {shlex.join(program)}")
+    if not wanted or "with table" in wanted:
+        write_table(programs[0], folder)
     print(f"{'job':14} {'program':18} {'seconds':>8} {'per s':>9} {'cpu s':>8} {'ratio':>6} {'per cpu s':>10} "
           f"{'peak MB':>8} {'ratio':>6}  answer")
     for name, counted, words in JOBS:
