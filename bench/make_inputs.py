@@ -5,10 +5,12 @@
   city-net.csv, city-traces.csv         about 50,000 nodes and 140,000 edges (curved lines of 3 to 6 points, one-way streets,
                                         a river with nine bridges), and 2,000 traces of 200 points with times and noise
   city-small-traces.csv                 the first 200 of these traces
+  city-small-stream.csv                 the points of these 200 traces as they come in one stream, those of each trace in their order
   city-points.csv                       the points of the city's traces, each as a trace of its own
   country-net.csv, country-traces.csv   16,907 nodes and 55,465 edges (towns, villages, winding roads, motorways with ramps), 200
                                         traces of 900 points, one a second, and 400 of 45 points, one a minute
   long-net.csv, long-traces.csv         one edge of 1,000,000 points, and 20 traces of 100 points beside it
+  ids-half.csv, ids-whole.csv           50,000, and 100,000, traces of one point beside one of the two roads
   roads-net.csv                         two roads of 1,000 km, 4 m apart, that never meet
   roads-half.csv, roads-whole.csv       a trace of 50,000 points between them, and one of 100,000
 """
@@ -202,15 +204,35 @@ def city(folder, side=224, count=2000, length=200, seed=7):
         small.write("trace,x,y,time\n")
         points.write("trace,x,y\n")
         number = 0
+        first = []
         for trace in range(count):
             rows = driver.trace(trace, length)
             f.writelines(rows)
             if trace < count // 10:
                 small.writelines(rows)
+                first.append(rows)
             for row in rows:
                 _, x, y, _ = row.split(",")
                 points.write(f"{number},{x},{y}\n")
                 number += 1
+    interleave(os.path.join(folder, "city-small-stream.csv"), first, random.Random(seed))
+
+
+def interleave(path, traces, rng):
+    """The rows of these traces in one stream, those of each trace in their order."""
+    turns = [trace for trace, rows in enumerate(traces) for _ in rows]
+    rng.shuffle(turns)
+    rest = [iter(rows) for rows in traces]
+    with open(path, "w") as f:
+        f.write("trace,x,y,time\n")
+        f.writelines(next(rest[trace]) for trace in turns)
+
+
+def many_ids(folder):
+    for name, count in (("ids-half.csv", 50_000), ("ids-whole.csv", 100_000)):
+        with open(os.path.join(folder, name), "w") as f:
+            f.write("trace,x,y\n")
+            f.writelines(f"{i},{i},200\n" for i in range(count))
 
 
 # ---- the long edge
@@ -249,6 +271,7 @@ def main():
     city(folder)
     country.write_country(folder)
     two_roads(folder)
+    many_ids(folder)
     long_edge(folder)
 
 

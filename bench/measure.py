@@ -5,7 +5,7 @@ that make_inputs.py wrote to FOLDER.
 Each row is one job of one program: seconds and processor seconds (the least of R runs; the second is steadier on a busy
 machine), points a second and a processor second (edges for `load network`), peak memory in MB (the greatest of the runs), and
 the ratios of processor seconds and memory to the first program. `same` says that output, error output and exit status are
-those of the first program.
+those of the first program. The live program does the jobs of `follow` alone.
 """
 import argparse
 import hashlib
@@ -30,6 +30,10 @@ JOBS = [
     ("city 4 threads", "city-traces.csv", ["match", "city-net.csv", "city-traces.csv", "--workers", "4"]),
     ("match small", "city-small-traces.csv", ["match", "city-net.csv", "city-small-traces.csv", *ONE_WORKER]),
     ("follow small", "city-small-traces.csv", ["follow", "city-net.csv", "city-small-traces.csv", *ONE_WORKER]),
+    ("follow city", "city-traces.csv", ["follow", "city-net.csv", "city-traces.csv", *ONE_WORKER]),
+    ("streams small", "city-small-stream.csv", ["streams", "city-net.csv", "city-small-stream.csv", *ONE_WORKER]),
+    ("half ids", "ids-half.csv", ["streams", "roads-net.csv", "ids-half.csv", *ONE_WORKER]),
+    ("many ids", "ids-whole.csv", ["streams", "roads-net.csv", "ids-whole.csv", *ONE_WORKER]),
     ("half roads", "roads-half.csv", ["follow", "roads-net.csv", "roads-half.csv", *ONE_WORKER]),
     ("whole roads", "roads-whole.csv", ["follow", "roads-net.csv", "roads-whole.csv", *ONE_WORKER]),
     ("table", "city-net.csv", ["table", "city-net.csv", *ONE_KILOMETRE]),
@@ -73,7 +77,14 @@ def run(command, folder):
     return seconds, usage.ru_utime + usage.ru_stime, usage.ru_maxrss * 1024, status, digest.hexdigest()
 
 
+def is_live(binary):
+    """Whether it is the live program, whose words are those of `follow` without its name."""
+    return os.path.basename(binary[-1]) in ("live_program", "fmm_live")
+
+
 def measure(binary, words, folder, repeat):
+    if is_live(binary):
+        words = words[1:]
     runs = [run(binary + words, folder) for _ in range(repeat)]
     return min(r[0] for r in runs), min(r[1] for r in runs), max(r[2] for r in runs), runs[0][3], runs[0][4]
 
@@ -101,6 +112,8 @@ def main():
         count = lines_of(os.path.join(folder, counted))
         first = None
         for place, program in enumerate(programs, 1):
+            if is_live(program) and words[0] != "follow":
+                continue
             seconds, cpu, peak, status, digest = measure(program, words, folder, args.repeat)
             first = first or (cpu, peak, digest)
             answer = ("" if status == 0 else f"status {status} ") + ("same" if digest == first[2] else "another answer")

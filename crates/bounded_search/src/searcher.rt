@@ -4,6 +4,7 @@ ghost use Rattle.road_network.specs.Net.{HasNode};
 ghost use Rattle.bounded_search.specs.Table.{IsRow};
 
 use crate::dijkstra::Workspace;
+use crate::places::place_between;
 use crate::table_row::Row;
 use polyline_geometry::List;
 use road_network::{Network, NodeId};
@@ -78,6 +79,7 @@ impl<'n> Searcher<'n> {
         match self.workspace.entries(alloc, network, bound, origin) {
             Ok(entries) => Ok(Row {
                 origin,
+                middle: place_between(&entries, 0, entries.len(), origin).unwrap_or(0),
                 entries: List::from_vec(entries),
             }),
             Err(error) => {

@@ -2,6 +2,8 @@ pub mod Order
 pub mod Found
 pub mod Taken
 pub mod BestLists
+pub mod EdgeBoxes
+pub mod Shared
 pub mod Visiting
 pub mod Reached
 pub mod Visited

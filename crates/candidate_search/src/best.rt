@@ -71,12 +71,24 @@ fn place_for(found: &[NearEdge], near: NearEdge) -> usize
     place
 }
 
+/// Takes the memory for k edges and one more, where none is found yet.
+fn make_room(found: &mut Vec<NearEdge>, k: usize) -> Result<(), AllocError>
+    ensures { found.new.items ≡ found.old.items }
+{
+    if found.is_empty() {
+        found.reserve(k.saturating_add(1))
+    } else {
+        Ok(())
+    }
+}
+
 /// Puts one more edge at its place, and drops what is then beyond the first k.
 fn put(found: &mut Vec<NearEdge>, k: usize, near: NearEdge) -> Result<(), AllocError>
     requires apart { AreApart found.old.items }
     requires others { All (λ c. c.edge.0 ≡ near.edge.0 → ⊥) found.old.items }
     ensures { OnOk result (Puts k found.old.items found.new.items near) }
 {
+    make_room(found, k)?;
     let place = place_for(found.as_slice(), near);
     found.insert(place, near)?;
     found.truncate(k);

@@ -6,9 +6,16 @@
 //! point's own on, and only the k nearest edges so far are kept, so that a segment is measured only
 //! where its box is nearer than the farthest that is kept. No root is taken of the segments before the
 //! nearest: the network keeps the offsets of their points.
+//!
+//! [`candidates_plain_all`] answers the same for many points, by a scan of all edges that neighbouring
+//! points share.
 #![tactic(auto)]
 
+mod all_points;
 mod best;
+mod boxes;
+#[cfg(test)]
+mod many_points_tests;
 mod nearest;
 mod search;
 #[cfg(test)]
@@ -16,4 +23,5 @@ mod tests;
 mod visit;
 mod wanted;
 
+pub use all_points::candidates_plain_all;
 pub use search::{candidates, candidates_plain};

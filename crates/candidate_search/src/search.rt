@@ -11,12 +11,12 @@ use crate::visit::{look_at_cells, look_at_wide};
 use crate::wanted::Search;
 use cost_model::Params;
 use grid_index::Grid;
-use polyline_geometry::{List, Point, snap_on};
+use polyline_geometry::{List, Point, offset_on};
 use road_network::{Candidate, EdgeId, Network};
 use std::alloc::{AllocError, Global};
 
 /// What the options say of a search.
-fn search_for(p: &Params, at: Point) -> Search
+pub(crate) fn search_for(p: &Params, at: Point) -> Search
     requires options { IsAccepted p.now }
     requires at_in { InRange at }
     ensures at { result.at ≡ at }
@@ -36,17 +36,12 @@ fn candidate_of(net: &Network, search: Search, near: NearEdge) -> Candidate
     ensures { result ≡ candidate_at net.now search.at near.edge.0 }
 {
     net.known();
-    let before = net.offsets(near.edge)[near.segment as usize];
-    let snap = snap_on(
-        net.line(near.edge),
-        before,
-        search.at,
-        near.segment as usize,
-    );
+    let segment = near.segment as usize;
+    let before = net.offsets(near.edge)[segment];
     Candidate {
         edge: near.edge,
-        d2: snap.d2,
-        offset: snap.offset,
+        d2: near.d2,
+        offset: offset_on(net.line(near.edge), before, search.at, segment),
     }
 }
 
@@ -83,7 +78,7 @@ fn nearest_edges(
 {
     net.known();
     grid.known();
-    let mut found = Vec::with_capacity(alloc, search.k.saturating_add(1))?;
+    let mut found = Vec::new(alloc);
     look_at_cells(
         net,
         grid,

@@ -124,10 +124,13 @@ fn look_at_cell(
 {
     grid.known();
     net.known();
+    let runs = grid.runs_at(column, row);
+    if runs.is_empty() {
+        return Ok(());
+    }
     if grid.cell_distance2(search.at, column, row) >= limit_for(found.as_slice(), search) {
         return Ok(());
     }
-    let runs = grid.runs_at(column, row);
     for run in runs {
         look_at_run_once(net, grid, found, search, *run, column, row)?;
     }

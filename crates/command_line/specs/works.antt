@@ -1,4 +1,5 @@
 pub mod Follow
 pub mod Match
+pub mod Streams
 pub mod Table
 pub mod Town

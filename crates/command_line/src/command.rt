@@ -13,6 +13,7 @@ use crate::syntax::program;
 use crate::work::{Command, Work};
 use crate::works::following::read_follow;
 use crate::works::matching::read_match;
+use crate::works::streaming::read_streams;
 use crate::works::table::read_table;
 use crate::works::towns::read_town;
 use clap::ArgMatches;
@@ -82,6 +83,7 @@ fn read_work<'a>(name: &str, found: &ArgMatches<'a>) -> Result<Work<'a>, WordsFa
         "follow" => read_follow(found),
         "table" => read_table(found),
         "town" => read_town(found),
+        "streams" => read_streams(found),
         _ => Err(WordsFault::Usage),
     }
 }

@@ -8,7 +8,7 @@ ghost use Rattle.command_line.specs.Syntax.{option_rule, program};
 ghost use Rattle.command_line.specs.Values.{name_of};
 
 use crate::value::ValueName;
-use crate::works::{following, matching, table, towns};
+use crate::works::{following, matching, streaming, table, towns};
 use clap::{Arg, Command};
 use std::alloc::{AllocError, Global};
 
@@ -23,7 +23,13 @@ pub struct Form {
 }
 
 /// Every command.
-const FORMS: [Form; 4] = [matching::FORM, following::FORM, table::FORM, towns::FORM];
+const FORMS: [Form; 5] = [
+    matching::FORM,
+    following::FORM,
+    table::FORM,
+    towns::FORM,
+    streaming::FORM,
+];
 
 /// What a word behind the command is.
 #[derive(Clone, Copy, PartialEq, Eq, Debug)]

@@ -27,6 +27,7 @@ fn refused_words(rt: HostRuntime) -> Result<(), Fail> {
         ("match a b --help", WordsFault::Usage),
         ("help", WordsFault::Usage),
         ("follow a", WordsFault::Usage),
+        ("streams a", WordsFault::Usage),
         (
             "follow a b --workers 65",
             WordsFault::BadValue(ValueName::Workers),
@@ -80,19 +81,22 @@ fn accepted_words(rt: HostRuntime) -> Result<(), Fail> {
 }
 
 #[test]
-fn words_of_follow(rt: HostRuntime) -> Result<(), Fail> {
-    let words = words(rt.alloc(), "follow --back=500 a b")?;
-    let command = Command {
-        work: Work::Follow {
-            network: "a",
-            traces: "b",
-        },
-        options: Params {
-            back: 500,
-            ..Params::DEFAULT
-        },
+fn words_of_following(rt: HostRuntime) -> Result<(), Fail> {
+    let network = "a";
+    let traces = "b";
+    let rows = [
+        ("follow --back=500 a b", Work::Follow { network, traces }),
+        ("streams a b --back 500", Work::Streams { network, traces }),
+    ];
+    let options = Params {
+        back: 500,
+        ..Params::DEFAULT
     };
-    assert_eq!(rt; read_command(rt.alloc(), words.as_slice()), Ok(command));
+    for (line, work) in rows {
+        let words = words(rt.alloc(), line)?;
+        let command = Command { work, options };
+        assert_eq!(rt; read_command(rt.alloc(), words.as_slice()), Ok(command));
+    }
     Ok(())
 }
 

@@ -28,6 +28,14 @@ pub enum Work<'a> {
         /// The name of the trace file.
         traces: &'a str,
     },
+    /// Follow interleaved traces: each part of a trace in the file goes on where the part before it with
+    /// the same id ended.
+    Streams {
+        /// The name of the network file.
+        network: &'a str,
+        /// The name of the trace file.
+        traces: &'a str,
+    },
     /// Write the table of the network of a file.
     Table {
         /// The name of the network file.

@@ -1,5 +1,6 @@
 // The kinds of work, each in a file of its own.
 pub mod following;
 pub mod matching;
+pub mod streaming;
 pub mod table;
 pub mod towns;

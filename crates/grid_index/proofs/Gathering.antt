@@ -7,8 +7,6 @@ use Rattle.std.proofs.lemmas.List.{get_or_default, get_or-map, length-map}
 use Rattle.std.proofs.lemmas.List.Elements.{All-push, Contains-push, Contains-append_left}
 use Rattle.polyline_geometry.specs.declared.plane.Point.{Point}
 use Rattle.polyline_geometry.specs.Boxes.{InBox, InSquare, LineMeetsSquare}
-use Rattle.std.specs.List.Sorted.{IsPermutation}
-use Rattle.std.proofs.lemmas.List.Sorted.{All-permutation, Contains-permutation}
 use Rattle.road_network.specs.declared.EdgeId.{EdgeId}
 use Rattle.polyline_geometry.specs.Plane.{distance2}
 use Rattle.road_network.specs.Net.{Net, HasEdge, edge_line}

@@ -10,7 +10,7 @@ use Rattle.grid_index.specs.declared.runs.Run.{Run}
 use Rattle.grid_index.specs.GridOf.{GridOf, StandsFor}
 use Rattle.grid_index.specs.Runs.{IsBelow, IsRunOf}
 
-≤ℤ_twice : (a b c : ℤ) → a ≤ℤ b → b ≤ℤ c → a ≤ℤ c
+pub ≤ℤ_twice : (a b c : ℤ) → a ≤ℤ b → b ≤ℤ c → a ≤ℤ c
 ≤ℤ_twice (pos a) (pos b) (pos c) h k = omega (arith, ints, h, k)
 ≤ℤ_twice (pos a) (pos b) (negsuc c) h k = absurd (omega (arith, ints, k))
 ≤ℤ_twice (pos a) (negsuc b) c h k = absurd (omega (arith, ints, h))
@@ -22,7 +22,7 @@ pub below_twice : (a b c : Point) → IsBelow a b → IsBelow b c → IsBelow a 
 below_twice a b c h k = record { x = ≤ℤ_twice a.x b.x c.x h.x k.x; y = ≤ℤ_twice a.y b.y c.y h.y k.y }
 
 -- what lies between two coordinates lies between any that hold both
-between_within : (low high a b z : ℤ) → low ≤ℤ a → low ≤ℤ b → a ≤ℤ high → b ≤ℤ high → IsBetween a b z → IsBetween low high z
+pub between_within : (low high a b z : ℤ) → low ≤ℤ a → low ≤ℤ b → a ≤ℤ high → b ≤ℤ high → IsBetween a b z → IsBetween low high z
 between_within low high a b z la lb ah bh is =
     ⊎_elim
     (λ up. inl (≤ℤ_twice low a z la up.0, ≤ℤ_twice z b high up.1 bh))

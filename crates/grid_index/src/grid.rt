@@ -53,12 +53,16 @@ fn runs_expected(net: &Network) -> usize {
     runs
 }
 
-/// How many slots a row of the table has, so that there are about twice as many as runs.
-fn width_for(net: &Network) -> u32
-    ensures some { 1 ≤ result }
-    ensures few { result ≤ 2_048 }
+/// How many slots a row of the table has, as a power of 2, so that there are about as many as runs.
+fn width_bits_for(net: &Network) -> u32
+    ensures { result ≤ 11 }
 {
-    (runs_expected(net) / 2).isqrt().clamp(1, 1_024) as u32 * 2
+    (runs_expected(net) / 2)
+        .isqrt()
+        .clamp(1, 1_024)
+        .ilog2()
+        .min(10)
+        + 1
 }
 
 /// The edges that stand in a list, once each and by rising number.
@@ -87,8 +91,13 @@ impl<'n> Grid<'n> {
         ensures network { IfOk result (λ grid. grid.net ≡ net.now) }
         ensures side { IfOk result (λ grid. grid.side ≡ side) }
     {
-        let width = width_for(net);
-        let table = Table::of(alloc, net, Layout { side, width })?;
+        let width_bits = width_bits_for(net);
+        let layout = Layout {
+            side,
+            width: 1 << width_bits,
+            width_bits,
+        };
+        let table = Table::of(alloc, net, layout)?;
         Ok(Grid { net, table })
     }
 

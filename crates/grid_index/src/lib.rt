@@ -25,4 +25,4 @@ mod tests;
 
 pub use cells::Cells;
 pub use grid::Grid;
-pub use runs::Run;
+pub use runs::{Run, high_corner, low_corner};

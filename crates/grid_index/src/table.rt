@@ -78,12 +78,12 @@ impl Table {
         })
     }
 
-    /// The runs at the cell of a column and a row.
+    /// The runs at the cell of a column and a row. A remainder by a power of 2 takes no division.
     pub(crate) fn runs_at(&self, column: u32, row: u32) -> &[Run]
         requires { HasParts self.now }
         ensures { (net : Net) → result.now ≡ runs_at (grid_of net self.now) column row }
     {
-        let slot = slot(column, row, self.layout.width) as usize;
+        let slot = slot(column, row, 1 << self.layout.width_bits) as usize;
         &self.members[self.starts[slot]..self.starts[slot + 1]]
     }
 

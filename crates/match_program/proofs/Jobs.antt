@@ -17,7 +17,7 @@ use Rattle.match_program.specs.Sharing.{ShareStore, fresh_readers}
 use Rattle.match_program.specs.commands.Matches.{match_text, pieces_of, texts_of, total_of}
 use Rattle.match_program.specs.commands.MatchesDone.{ArePieces, HasMatched, KnowAsked}
 use Rattle.match_program.proofs.Asking.{asked_more}
-use Rattle.match_program.proofs.Counting.{counts_more}
+use Rattle.follow_work.proofs.Counting.{counts_more}
 use Rattle.match_program.proofs.Sharing.{know_nothing, rows_counted, share_on}
 
 -- no trace was matched

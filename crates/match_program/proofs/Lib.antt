@@ -1,8 +1,5 @@
 pub mod Asked
 pub mod Asking
-pub mod Counting
-pub mod FollowJobs
-pub mod Follows
 pub mod Jobs
 pub mod Lines
 pub mod Matches
@@ -13,3 +10,6 @@ pub mod TableRows
 pub mod Towns
 pub mod TriedRows
 pub mod Workers
+pub mod StreamJobs
+pub mod StreamTakes
+pub mod StreamTotals

@@ -1,11 +1,11 @@
 -- The table of lines has every line with which a plan of words may end.
-use Rattle.std.proofs.Common.{◌≡◌, ◌≢◌, ℕ, Bool, true, false, cond, length, List, Some, None, Result, Ok, Err, refl, sym, ◌∙◌, ap, inl, inr}
-use Rattle.std.specs.Prelude.{nat_lt}
+use Rattle.std.proofs.Common.{◌≡◌, ◌≢◌, ℕ, Bool, true, false, cond, length, List, [], Some, None, Result, Ok, Err, refl, sym, ◌∙◌, ap, inl, inr}
+use Rattle.std.specs.Prelude.{nat_lt, option_map}
 use Rattle.std.specs.declared.option.Option.{Option}
 use Rattle.std.specs.Result.{result_map_both}
 use Rattle.command_line.specs.FaultLine.{fault_line as words_fault_line}
 use Rattle.command_line.specs.Work.{PlainCommand, PlainWork}
-use Rattle.command_line.specs.Work.PlainWork.{follow_files, match_files, match_town, table_of_network}
+use Rattle.command_line.specs.Work.PlainWork.{follow_files, match_files, match_town, stream_files, table_of_network}
 use Rattle.command_line.specs.Words.{command_of}
 use Rattle.command_line.specs.declared.fault.WordsFault.{WordsFault}
 use Rattle.cost_model.specs.declared.params.Params.{Params}
@@ -18,15 +18,17 @@ use Rattle.program_frame.specs.Refusals.{network_said}
 use Rattle.program_frame.specs.Stream.{works_traces}
 use Rattle.road_network.specs.Net.{Net}
 use Rattle.trace_reader.specs.Fault.{fault_line}
-use Rattle.trace_reader.specs.Reading.{file_fault}
+use Rattle.trace_reader.specs.Reading.{file_fault, file_traces}
 use Rattle.trace_reader.specs.declared.fault.TraceFault.{TraceFault}
+use Rattle.trace_sessions.specs.StreamText.{full_id, points_in}
 use Rattle.table_file.specs.TableText.{text_limit}
 use Rattle.match_program.specs.RunLines.{run_lines}
 use Rattle.match_program.specs.Setting.{Setting}
 use Rattle.match_program.specs.Words.{asked_by, command_plan, work_plan}
-use Rattle.match_program.specs.commands.Follow.{follow_job}
+use Rattle.follow_work.specs.Follow.{follow_job}
 use Rattle.match_program.specs.commands.Matches.{match_text}
 use Rattle.match_program.specs.commands.Preload.{preloads, table_file_said}
+use Rattle.match_program.specs.commands.Streams.{streams_job, too_long_line}
 use Rattle.match_program.specs.commands.Table.{table_said, table_too_long, text_of_network}
 
 traces_end : (texts ending bytes : List ℕ) (fault : Option TraceFault) (status : ℕ) (line : List ℕ) → file_fault bytes ≡ fault → status ≢ 0 → IsLineOf (ends (given_by None fault texts ending)) status line → run_lines status line
@@ -43,6 +45,11 @@ matches_end on name status line refused is = traces_end _ _ is.0 (file_fault is.
 follows_end : (on : Setting) (name : List ℕ) (status : ℕ) (line : List ℕ) → status ≢ 0 → IsLineOf (works_traces name (follow_job on)) status line → run_lines status line
 follows_end on name status line refused is = traces_end _ _ is.0 (file_fault is.0) status line refl refused is.1
 
+streams_end : (on : Setting) (texts ending bytes : List ℕ) (full : Option ℕ) (status : ℕ) (line : List ℕ) → status ≢ 0
+    → IsLineOf (ends (given_by (option_map too_long_line full) (file_fault bytes) texts ending)) status line → run_lines status line
+streams_end on texts ending bytes None status line refused is = traces_end texts ending bytes (file_fault bytes) status line refl refused is
+streams_end on texts ending bytes (Some id) status line refused is = inr (inl (sym is.0, (id, sym is.1)))
+
 network_end : (bytes : List ℕ) (said : Result Net (List ℕ)) (next : Net → Plan) (status : ℕ) (line : List ℕ) → network_said bytes ≡ said → ((net : Net) → IsLineOf (next net) status line → run_lines status line) → IsLineOf (accepts 5 said next) status line → run_lines status line
 network_end bytes (Ok net) next status line known rest is = rest net is
 network_end bytes (Err fault) next status line known rest is = inl (inr (inl (sym is.0, (bytes, known ∙ ap (λ l. Err l) is.1))))
@@ -50,7 +57,7 @@ network_end bytes (Err fault) next status line known rest is = inl (inr (inl (sy
 table_end : (network : List ℕ) (options : Params) (said : Result (List ℕ) (List ℕ)) (net : Net) (status : ℕ) (line : List ℕ) → table_said net options.bound ≡ said → status ≢ 0
     → IsLineOf (accepts 8 said (λ text. ends (done_with text))) status line → run_lines status line
 table_end network options (Ok text) net status line known refused is = absurd (refused (sym is.0))
-table_end network options (Err said) net status line known refused is = inr (inl (sym is.0, sym is.1 ∙ too_long_said (nat_lt text_limit (length (text_of_network net options.bound))) known))
+table_end network options (Err said) net status line known refused is = inr (inr (inl (sym is.0, sym is.1 ∙ too_long_said (nat_lt text_limit (length (text_of_network net options.bound))) known)))
   where
     too_long_said : (long : Bool) → cond {A = Result (List ℕ) (List ℕ)} long (Err table_too_long) (Ok (text_of_network net options.bound)) ≡ Err said → said ≡ table_too_long
     too_long_said true e = cc
@@ -59,7 +66,7 @@ table_end network options (Err said) net status line known refused is = inr (inl
 table_file_end : (net : Net) (bound : ℕ) (bytes : List ℕ) (said : Result (Unit {0}) (List ℕ)) (next : Plan) (status : ℕ) (line : List ℕ) → table_file_said net bound bytes ≡ said → (IsLineOf next status line → run_lines status line)
     → IsLineOf (accepts 9 said (λ _. next)) status line → run_lines status line
 table_file_end net bound bytes (Ok done) next status line known rest is = rest is
-table_file_end net bound bytes (Err said) next status line known rest is = inr (inr (sym is.0, (net, bound, bytes, known ∙ ap (λ l. Err l) is.1)))
+table_file_end net bound bytes (Err said) next status line known rest is = inr (inr (inr (sym is.0, (net, bound, bytes, known ∙ ap (λ l. Err l) is.1))))
 
 preloads_end : (table : Option (List ℕ)) (net : Net) (bound : ℕ) (next : Plan) (status : ℕ) (line : List ℕ) → (IsLineOf next status line → run_lines status line) → IsLineOf (preloads table net bound next) status line → run_lines status line
 preloads_end None net bound next status line rest is = rest is
@@ -74,6 +81,9 @@ work_end (follow_files network traces) options status line refused is =
 work_end (table_of_network network) options status line refused is =
     network_end is.0 (network_said is.0) (λ net. accepts 8 (table_said net options.bound) (λ text. ends (done_with text))) status line refl
     (λ net. table_end network options (table_said net options.bound) net status line refl refused) is.1
+work_end (stream_files network traces) options status line refused is =
+    network_end is.0 (network_said is.0) (λ net. works_traces traces (streams_job (record { network = net; params = options }))) status line refl
+    (λ net more. streams_end (record { network = net; params = options }) _ _ more.0 (full_id [] (points_in (file_traces more.0))) status line refused more.1) is.1
 work_end (match_town side traces seed) options status line refused is = absurd (refused (sym is.0))
 
 asked_end : (words : List (List ℕ)) (command : Result PlainCommand WordsFault) (status : ℕ) (line : List ℕ) → command_of words ≡ command → status ≢ 0 → IsLineOf (plan_of (result_map_both command_plan words_fault_line command)) status line → run_lines status line

@@ -32,7 +32,7 @@ use Rattle.match_program.specs.commands.Matches.{total_of}
 use Rattle.match_program.specs.commands.Towns.{cost_line, cost_of, costs_of, network_in, town_text}
 use Rattle.match_program.specs.commands.TownsDone.{AreCosts, IsCost}
 use Rattle.match_program.specs.declared.commands.towns.Costs.{Costs}
-use Rattle.match_program.proofs.Counting.{fits_more}
+use Rattle.follow_work.proofs.Counting.{fits_more}
 use Rattle.match_program.proofs.Jobs.{begun, matched_more, total_is}
 use Rattle.match_program.proofs.Matches.{matches_of, pieces_found, pieces_next}
 

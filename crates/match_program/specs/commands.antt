@@ -1,9 +1,10 @@
-pub mod Follow
-pub mod FollowDone
 pub mod Matches
 pub mod MatchesDone
 pub mod Preload
 pub mod PreloadDone
+pub mod Streams
+pub mod StreamTexts
+pub mod StreamsDone
 pub mod Table
 pub mod TableDone
 pub mod Towns

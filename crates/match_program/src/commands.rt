@@ -2,5 +2,6 @@
 pub mod follow;
 pub mod matches;
 pub mod preload;
+pub mod streams;
 pub mod table;
 pub mod towns;

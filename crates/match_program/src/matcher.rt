@@ -1,14 +1,11 @@
 // What traces are matched on: a network with the grid of its edges, and the options. Serves the
 // commands; decided by `match_of`.
-ghost use Rattle.std.specs.Prelude.{◌≡◌, ◌≤◌, ◌++◌, true, IfOk, OnOk};
-ghost use Rattle.bounded_search.specs.Rows.{AreRowsOf, AsksAs, no_rows};
+ghost use Rattle.std.specs.Prelude.{◌≡◌, ◌≤◌, [], IfOk};
+ghost use Rattle.bounded_search.specs.Rows.{no_rows};
 ghost use Rattle.cost_model.specs.Options.{IsAccepted};
 ghost use Rattle.match_pool.specs.Learning.{AreReadersFor};
 ghost use Rattle.match_pool.specs.Working.{AreJobTraces};
-ghost use Rattle.trace_match.specs.Match.{asks};
-ghost use Rattle.trace_reader.specs.Trace.{IsLawfulTrace};
-ghost use Rattle.trace_sessions.specs.FollowText.{follow_text};
-ghost use Rattle.trace_sessions.specs.Following.{IsPieceCount};
+ghost use Rattle.trace_sessions.specs.Sessions.{Keeps};
 ghost use Rattle.match_program.specs.Sharing.{IsStoreFor, MatchesBatch, ShareStore, fresh_readers};
 
 use bounded_search::OwnRows;
@@ -23,7 +20,7 @@ use std::alloc::{AllocError, Global};
 use std::marker::Model;
 use std::thread::Threads;
 use trace_reader::Trace;
-use trace_sessions::follow_trace;
+use trace_sessions::Sessions;
 
 // The least side of a cell of the grid, in cm.
 const LEAST_SIDE: u32 = 10_000;
@@ -127,31 +124,12 @@ impl<'n> Matcher<'n> {
         OwnRows::open(alloc, self.network, self.params.bound)
     }
 
-    /// Appends the follow text of a trace, and says how many pieces its match has.
-    pub fn follow_trace(
-        &self,
-        alloc: Global,
-        rows: &mut OwnRows<'n>,
-        trace: &Trace,
-        into: &mut List<u8>,
-    ) -> Result<u64, AllocError>
-        requires rows { AreRowsOf rows.old self.now.network self.now.params.bound }
-        requires trace { IsLawfulTrace trace.now }
-        ensures text { OnOk result
-            (into.new ≡ into.old ++ follow_text self.now.network self.now.params trace.now) }
-        ensures pieces { IfOk result
-            (IsPieceCount self.now.network self.now.params trace.now) }
-        ensures asks { AsksAs rows.old
-            (λ _ v. asks self.now.network self.now.params trace.now v ≡ true) result rows.new }
+    /// Sessions of the network by these options. No id has one.
+    pub fn sessions<'m>(&'m self, alloc: Global) -> Sessions<'m>
+        ensures network { result.network ≡ self.now.network }
+        ensures params { result.params ≡ self.now.params }
+        ensures none { Keeps result [] }
     {
-        follow_trace(
-            alloc,
-            self.network,
-            &self.grid,
-            &self.params,
-            rows,
-            trace,
-            into,
-        )
+        Sessions::open(alloc, self.network, &self.grid, &self.params)
     }
 }

@@ -8,6 +8,7 @@ ghost use Rattle.match_program.specs.Words.{asked_by};
 
 use crate::commands::follow::follow_traces;
 use crate::commands::matches::match_traces;
+use crate::commands::streams::stream_traces;
 use crate::commands::table::write_table;
 use crate::commands::towns::match_town;
 use command_line::{Work, read_command};
@@ -51,6 +52,9 @@ fn perform<R: Threads + Sync, G: Gate, S: Shelf, K: Sink>(
         ),
         Work::Follow { network, traces } => {
             follow_traces(alloc, network, traces, command.options, shelf, out)
+        }
+        Work::Streams { network, traces } => {
+            stream_traces(alloc, network, traces, command.options, shelf, out)
         }
         Work::Table { network } => write_table(alloc, network, command.options, shelf, out),
         Work::Town { side, traces, seed } => {

@@ -1,4 +1,3 @@
-mod following;
 mod gates;
 
 use crate::run::run;
@@ -245,71 +244,5 @@ fn nothing_is_read_behind_a_fault(rt: HostRuntime) -> Result<(), Fail> {
             TWO_TEXTS
         )?
     );
-    Ok(())
-}
-
-// A table file for `match` at bound 0, where the row of a node lists the node alone, and what the run
-// must give for no traces.
-struct TableCase {
-    table: &'static [u8],
-    status: u8,
-    out: &'static [u8],
-    err: &'static [u8],
-}
-
-const TABLE_CASES: [TableCase; 4] = [
-    TableCase {
-        table: b"fmm-table 1 bound 0 nodes 3 edges 2\nrow 1 1:0:-\nend rows 1\n",
-        status: 0,
-        out: b"total traces 0 points 0 pieces 0 rows 0\n",
-        err: b"",
-    },
-    TableCase {
-        table: b"fmm-table 1 bound 1 nodes 3 edges 2\n",
-        status: 9,
-        out: b"",
-        err: b"table line 1: bad line\n",
-    },
-    TableCase {
-        table: b"",
-        status: 9,
-        out: b"",
-        err: b"table: cut\n",
-    },
-    TableCase {
-        table: b"fmm-table 1 bound 0 nodes 3 edges 2\nrow 1 1:0:- 2:9:1\nend rows 1\n",
-        status: 9,
-        out: b"",
-        err: b"refused table origin 2: Row\n",
-    },
-];
-
-// Whether a run with this table file gives what the case wants.
-fn tries_table<R: Threads + Sync>(
-    rt: &R,
-    alloc: Global,
-    case: &TableCase,
-) -> Result<bool, AllocError> {
-    let mut files = List::new(alloc);
-    files.push((bytes(alloc, b"net")?, bytes(alloc, STRAIGHT)?))?;
-    files.push((bytes(alloc, b"tab")?, bytes(alloc, case.table)?))?;
-    files.push((bytes(alloc, b"tra")?, bytes(alloc, b"trace,x,y\n")?))?;
-    let mut shelf = MemoryShelf::new(alloc, files, List::new(alloc));
-    let mut out = MemorySink::new(alloc, List::new(alloc));
-    let mut err = MemorySink::new(alloc, List::new(alloc));
-    let words = words(
-        alloc,
-        &["match", "net", "tra", "--table", "tab", "--bound", "0"],
-    )?;
-    let status = run(rt, alloc, &words, &mut shelf, &mut out, &mut err, &OpenGate);
-    Ok(status == case.status && out.bytes() == case.out && err.bytes() == case.err)
-}
-
-#[test]
-fn table_files_are_tried(rt: HostRuntime) -> Result<(), Fail> {
-    for case in &TABLE_CASES {
-        let wanted = tries_table(&rt, rt.alloc(), case)?;
-        assert!(rt; wanted);
-    }
     Ok(())
 }

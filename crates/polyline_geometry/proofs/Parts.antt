@@ -1,6 +1,6 @@
 -- A part of a signed number, rounded down.
-use Rattle.std.proofs.Common.{◌≡◌, ℕ, zero, suc, ◌+◌, ◌*◌, ◌/◌, ◌<◌, ◌≤◌, inl, inr, subst, arith, mul-le-mul, ℤ, pos, negsuc, ◌*ℤ◌, ◌≤ℤ◌, neg_ℤ, ⊎_elim}
-use Rattle.std.proofs.Math.Nat.{div-le_of_le-mul, div-lt_iff_lt-mul, mul_comm}
+use Rattle.std.proofs.Common.{◌≡◌, ℕ, zero, suc, ◌+◌, ◌*◌, ◌/◌, ◌<◌, ◌≤◌, inl, inr, ◌-◌, ap, ◌∙◌, subst, arith, mul-le-mul, ℤ, pos, negsuc, ◌*ℤ◌, ◌≤ℤ◌, neg_ℤ, ⊎_elim}
+use Rattle.std.proofs.Math.Nat.{div-le_of_le-mul, div-lt_iff_lt-mul, le-div_iff_mul-le, mul_comm}
 use Rattle.std.proofs.lemmas.Int.{ints}
 use Rattle.std.specs.Int.{int_div_euclid}
 use Rattle.std.specs.Int.RustNames.{unsigned_abs}
@@ -10,6 +10,24 @@ pub div_le : (k t n : ℕ) → t ≤ n → k * t / n ≤ k
 div_le k t n le =
     let m : k * t ≤ k * n = mul-le-mul (omega arith) le in
     div-le_of_le-mul n (omega (arith, m, mul_comm k n))
+
+-- the quotient is the number whose product is at most m, and no farther below it than n
+pub is_quotient : (m n q : ℕ) → q * n ≤ m → m - q * n < n → q ≡ m / n
+is_quotient m n q low high =
+    let some : 0 < n = omega (arith, high) in
+    let up : q ≤ m / n = (le-div_iff_mul-le some).1 low in
+    let down : m / n < q + 1 = (div-lt_iff_lt-mul some).1 (omega (arith, low, high)) in
+    omega (arith, up, down)
+
+pub floor_above : (x : ℤ) (n q : ℕ) → pos 0 ≤ℤ x → q ≡ unsigned_abs x / n → pos q ≡ int_div_euclid x (pos n)
+floor_above (pos m) n q h e = ap pos e
+floor_above (negsuc k) n q h e = absurd (omega (arith, ints, h))
+
+pub floor_below : (x : ℤ) (n q : ℕ) → x ≤ℤ negsuc 0 → q ≡ (unsigned_abs x - 1) / n → negsuc q ≡ int_div_euclid x (pos n)
+floor_below (pos m) n q h e = absurd (omega (arith, ints, h))
+floor_below (negsuc k) n q h e =
+    let s : unsigned_abs (negsuc k) - 1 ≡ k = omega arith in
+    ap negsuc (e ∙ ap (λ v. v / n) s)
 
 -- the quotient of what is below 0, by how far it is below
 below_zero : (k m n : ℕ) → 0 < n → m ≤ (k + 1) * n → (negsuc k ≤ℤ int_div_euclid (neg_ℤ (pos m)) (pos n)) × (int_div_euclid (neg_ℤ (pos m)) (pos n) ≤ℤ pos 0)

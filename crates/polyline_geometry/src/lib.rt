@@ -6,7 +6,8 @@
 //! - [`snap_segment`] and [`snap_line`] bring a point onto a segment or a line, and answer a
 //!   [`Snap`]: the squared distance to the snapped point, and how far along the line that lies.
 //! - [`nearest_segment`] and [`snap_on`] are the two halves of a snap to a line, for callers that
-//!   look at a part of a line or keep the lengths of its fronts.
+//!   look at a part of a line or keep the lengths of its fronts. [`offset_on`] is the second half for
+//!   those that keep the squared distance too.
 //! - [`nearest_in_box`] is the place of a box that is nearest to a point.
 //! - [`List`] is a vector that contracts see as the plain list of its items.
 //!
@@ -20,13 +21,14 @@ mod list;
 mod nearest_place;
 mod offsets;
 mod plane;
+mod quotient;
 mod segment;
 mod square_root;
 #[cfg(test)]
 mod tests;
 
 pub use laws::snap_is_the_nearest;
-pub use line::{NearSegment, line_length, nearest_segment, snap_line, snap_on};
+pub use line::{NearSegment, line_length, nearest_segment, offset_on, snap_line, snap_on};
 pub use list::List;
 pub use nearest_place::nearest_in_box;
 pub use offsets::extend_offsets;

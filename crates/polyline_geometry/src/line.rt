@@ -6,7 +6,7 @@ ghost use Rattle.polyline_geometry.specs.Nearest.{AreFar, IsLengthBefore, IsNear
 
 use crate::nearest_place::nearest_in_box;
 use crate::plane::{Point, Snap, distance2, straight};
-use crate::segment::{snap_distance2, snap_segment};
+use crate::segment::{snap_distance2, snap_offset, snap_segment};
 
 /// The sum of the segments of a line.
 fn sum_of_segments(line: &[Point]) -> u64
@@ -121,6 +121,19 @@ pub fn snap_on(line: &[Point], before: u32, p: Point, segment: usize) -> Snap
         d2: snap.d2,
         offset: before + snap.offset,
     }
+}
+
+/// How far along a line a point snaps to, by the segment that it snaps to. The earlier segments have
+/// the length `before` together.
+pub fn offset_on(line: &[Point], before: u32, p: Point, segment: usize) -> u32
+    requires line { IsLine line.now }
+    requires length { line_length line.now ≤ 100_000_000 }
+    requires p_in { InRange p }
+    requires before { IsLengthBefore line.now segment before }
+    ensures { result ≡ line_length (take (suc segment) line.now)
+        + (segment_snap line.now p segment).offset }
+{
+    before + snap_offset(line[segment], line[segment + 1], p)
 }
 
 /// The snap of a point to a line.

@@ -1,12 +1,13 @@
 //! The snap of a point to a segment. Serves `snap_segment` and `nearest_segment`; decided by
 //! `snap_segment`.
-ghost use Rattle.std.specs.Prelude.{◌≡◌, ℕ, ◌*◌, ◌/◌, ◌^◌, ◌<◌, ◌≤◌, pos, ◌+ℤ◌, ◌-ℤ◌, ◌*ℤ◌};
+ghost use Rattle.std.specs.Prelude.{◌≡◌, ℕ, ◌*◌, ◌/◌, ◌-◌, ◌^◌, ◌<◌, ◌≤◌, pos, negsuc, ◌≤ℤ◌, ◌+ℤ◌, ◌-ℤ◌, ◌*ℤ◌};
 ghost use Rattle.std.specs.Int.{int_div_euclid};
 ghost use Rattle.std.specs.Int.RustNames.{unsigned_abs};
 ghost use Rattle.polyline_geometry.specs.Plane.{InRange, along, distance2, dot, share, snap_segment, snapped};
 ghost use Rattle.polyline_geometry.specs.Parts.{IsPartOf, IsShare};
 
 use crate::plane::{Point, Snap, distance2, straight};
+use crate::quotient::quotient;
 
 /// Below this length a difference of coordinates, times a share below [`FEW`], fits 64 bits.
 const SHORT: u64 = 1 << 21;
@@ -78,15 +79,25 @@ fn narrow_product(z: i64, t: u64) -> i64
     z * t as i64
 }
 
+/// A number from 0 on, and how far another is below -1.
+fn folded(x: i64) -> u64
+    ensures above { pos 0 ≤ℤ x → result ≡ unsigned_abs x }
+    ensures below { x ≤ℤ negsuc 0 → result ≡ unsigned_abs x - 1 }
+{
+    if x < 0 { (-1 - x) as u64 } else { x as u64 }
+}
+
 /// `t` of `n` of `z`, rounded towards minus infinity, in 64 bits.
+#[tactic(auto, using(crate::proofs::Parts::floor_above, crate::proofs::Parts::floor_below))]
 fn narrow_part(z: i64, t: u64, n: u64) -> i64
     requires z_small { unsigned_abs z ≤ 2 ^ 21 }
     requires t_small { t < 2 ^ 42 }
     requires n_some { 0 < n }
-    requires n_in { n ≤ 8_000_000_000_000_000_000 }
     ensures { result ≡ int_div_euclid (z *ℤ pos t) (pos n) }
 {
-    narrow_product(z, t).div_euclid(n as i64)
+    let product = narrow_product(z, t);
+    let part = quotient(folded(product), n) as i64;
+    if product < 0 { -1 - part } else { part }
 }
 
 /// The product of a difference and a share.
@@ -194,7 +205,7 @@ fn part_of_length(length: u32, t: u64, n: u64) -> u32
     ensures within { result ≤ length }
 {
     if t <= u64::from(u32::MAX) {
-        (u64::from(length) * t / n) as u32
+        quotient(u64::from(length) * t, n) as u32
     } else {
         (u128::from(length) * u128::from(t) / u128::from(n)) as u32
     }

@@ -10,3 +10,4 @@ pub mod RunEnds
 pub mod Stages
 pub mod Streaming
 pub mod TraceCounts
+pub mod WholeReading

@@ -12,3 +12,4 @@ pub mod Stops
 pub mod Stream
 pub mod Streams
 pub mod Total
+pub mod WholeTraces

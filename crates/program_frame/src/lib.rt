@@ -5,7 +5,8 @@
 //! - `files` reads a file whole, `texts` puts a text, `load` reads the network and says what is
 //!   refused of words and files.
 //! - `jobs` has the trait of what is done with traces, `stream` reads their file in chunks, and
-//!   `batches` holds the traces that wait; `total` counts them.
+//!   `batches` holds the traces that wait; `total` counts them. `whole_traces` reads all traces of a
+//!   file and holds them.
 //!
 //! Read `specs/Plan.antt` first, then `specs/Performs.antt`, `specs/Jobs.antt` and
 //! `specs/Promises.antt`. The clause to read first is that of `work_traces`.
@@ -19,6 +20,7 @@ mod stop;
 mod stream;
 mod texts;
 mod total;
+mod whole_traces;
 
 pub use files::read_file;
 pub use jobs::Job;
@@ -27,3 +29,4 @@ pub use stop::{File, Refusal, Stop, end_without_memory, refuse, say, status_afte
 pub use stream::work_traces;
 pub use texts::put_text;
 pub use total::Tally;
+pub use whole_traces::load_traces;

@@ -10,9 +10,11 @@ use crate::stop::{File, Stop};
 use edge_io::{Shelf, Sink, Taken};
 use std::alloc::Global;
 
-const TRACE_LIMIT: u64 = 1_099_511_627_776;
+/// The most bytes of a trace file.
+pub const TRACE_LIMIT: u64 = 1_099_511_627_776;
 
-const CHUNK: u64 = 65_536;
+/// The most bytes of one read.
+pub const CHUNK: u64 = 65_536;
 
 // Reads a file to its end, to the first byte above the limit or to its first fault.
 fn take_file<J: Job + Drop, S: Shelf, K: Sink>(

@@ -34,9 +34,32 @@ impl<'s> Place<'s> {
         }
     }
 
-    /// Puts the row that is searched for into an empty cell, and looks at what it then holds.
+    /// Puts the node's row into an empty cell, and looks at what it then holds.
     ///
-    /// The row that this exchange put there is right by the search; any other is checked.
+    /// The row that this exchange put there is right; any other is checked.
+    fn put(
+        &mut self,
+        store: &'s RowStore<'s>,
+        searcher: &mut Searcher<'s>,
+        n: NodeId,
+        made: Box<Row>,
+    )
+        requires place { IsPlaceOf store.now n.0 searcher.old self.old }
+        requires none { self.old.note.known ≡ None }
+        requires right { IsRow store.now.network store.now.bound n.0 made.value }
+        ensures place { IsPlaceOf store.now n.0 searcher.new self.new }
+        ensures seen { IsSome self.new.note.known }
+    {
+        let cell = &store.cells[n.0 as usize];
+        let first = cell.set_as(made, &mut self.note).is_ok();
+        let Some(row) = cell.get_as(&mut self.note) else {
+            unreachable!()
+        };
+        self.right = first || searcher.check(n, row);
+        self.seen = Some(row);
+    }
+
+    /// Puts the row that is searched for into an empty cell, and looks at what it then holds.
     fn fill(
         &mut self,
         store: &'s RowStore<'s>,
@@ -49,14 +72,8 @@ impl<'s> Place<'s> {
         ensures seen { OnOk result (IsSome self.new.note.known) }
         ensures err { OnErr result (self.new.note.known ≡ None) }
     {
-        let cell = &store.cells[n.0 as usize];
         let made = Box::new(store.alloc, searcher.row(n)?)?;
-        let first = cell.set_as(made, &mut self.note).is_ok();
-        let Some(row) = cell.get_as(&mut self.note) else {
-            unreachable!()
-        };
-        self.right = first || searcher.check(n, row);
-        self.seen = Some(row);
+        self.put(store, searcher, n, made);
         Ok(())
     }
 
@@ -105,6 +122,28 @@ impl<'s> Place<'s> {
         let held = cell.get_or_init_as(move || offered, &mut self.note);
         self.right = searcher.check(n, held);
         self.seen = Some(held);
+        Ok(())
+    }
+
+    /// Offers the node's row, which was found right before, to the cell, and looks at what it then holds.
+    pub fn offer_right(
+        &mut self,
+        store: &'s RowStore<'s>,
+        searcher: &mut Searcher<'s>,
+        n: NodeId,
+        row: Row,
+    ) -> Result<(), AllocError>
+        requires place { IsPlaceOf store.now n.0 searcher.old self.old }
+        requires right { IsRow store.now.network store.now.bound n.0 row }
+        ensures place { IsPlaceOf store.now n.0 searcher.new self.new }
+        ensures seen { OnOk result (KeepsSight self.old.note.known self.new.note.known) }
+        ensures err { OnErr result (StaysBlind self.old.note.known self.new.note.known) }
+    {
+        if self.seen.is_some() {
+            return Ok(());
+        }
+        let made = Box::new(store.alloc, row)?;
+        self.put(store, searcher, n, made);
         Ok(())
     }
 

@@ -102,6 +102,19 @@ impl<'s> Reader<'s> {
         place.offer(store, &mut self.searcher, n, row)
     }
 
+    /// Makes the row of the cell of n known, which is this one if the cell was empty.
+    fn settle_right(&mut self, n: NodeId, row: Row) -> Result<(), AllocError>
+        requires node { HasNode self.old.store.network n.0 }
+        requires right { IsRow self.old.store.network self.old.store.bound n.0 row }
+        ensures seen { OnOk result ((row : TableRow) × Sees self.old n.0 row self.new) }
+        ensures err { OnErr result (self.new ≡ self.old) }
+        ensures again { IsKnown self.old n.0 → IsOk result }
+    {
+        let store = self.store;
+        let place = &mut self.places[n.0 as usize];
+        place.offer_right(store, &mut self.searcher, n, row)
+    }
+
     /// What is known for node n.
     fn sight(&self, n: NodeId) -> Sight<'s>
         requires { (HasNode self.now.store.network n.0) × IsKnown self.now n.0 }
@@ -160,6 +173,21 @@ impl<'s> Reader<'s> {
         ensures again { IsKnown self.old n.0 → IsOk result }
     {
         self.settle_with(n, row)?;
+        Ok(self.seen(n))
+    }
+
+    /// Offers the row of n, which was found right before, to the cell of n. It is not checked again. The
+    /// answer is the row that the cell holds for good, which is another one if the cell was set before.
+    ///
+    /// Err says that memory was refused. At a node that is known this takes none.
+    pub fn offer_right(&mut self, n: NodeId, row: Row) -> Result<&'s Row, AllocError>
+        requires node { HasNode self.old.store.network n.0 }
+        requires right { IsRow self.old.store.network self.old.store.bound n.0 row }
+        ensures seen { IfOk result (λ r. Sees self.old n.0 r.now self.new) }
+        ensures err { OnErr result (self.new ≡ self.old) }
+        ensures again { IsKnown self.old n.0 → IsOk result }
+    {
+        self.settle_right(n, row)?;
         Ok(self.seen(n))
     }
 

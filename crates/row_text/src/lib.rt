@@ -14,6 +14,7 @@
 
 mod digits;
 pub mod laws;
+mod numbers;
 mod reading;
 #[cfg(test)]
 mod tests;

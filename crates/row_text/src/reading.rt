@@ -3,11 +3,15 @@ ghost use Rattle.std.specs.Prelude.{◌≡◌, ◌+◌, IfOk, length};
 ghost use Rattle.match_text.specs.Reading.{seen};
 ghost use Rattle.row_text.specs.Reading.{entries_at, entry_at, last_at, row_at};
 
+use crate::numbers::number_behind;
 use bounded_search::{Entry, Row};
 use match_text::front::{after, short_number_after};
 use polyline_geometry::List;
 use road_network::{EdgeId, NodeId};
 use std::alloc::{AllocError, Global};
+
+// Room for the entries of a usual row, which is given back where they are fewer.
+const USUAL_ENTRIES: usize = 256;
 
 // The last edge after a colon, and what stands after it.
 #[tactic(auto, unfolding(crate::specs::Reading::last_at))]
@@ -17,7 +21,7 @@ fn last(text: &[u8]) -> Option<(Option<EdgeId>, &[u8])>
     if let Some(rest) = after(text, b":-") {
         return Some((None, rest));
     }
-    let (edge, rest) = short_number_after(text, b":")?;
+    let (edge, rest) = number_behind(text, b':')?;
     Some((Some(EdgeId(edge)), rest))
 }
 
@@ -26,8 +30,8 @@ fn last(text: &[u8]) -> Option<(Option<EdgeId>, &[u8])>
 fn entry(text: &[u8]) -> Option<(Entry, &[u8])>
     ensures { seen result ≡ entry_at text.now }
 {
-    let (node, rest) = short_number_after(text, b" ")?;
-    let (distance, rest) = short_number_after(rest, b":")?;
+    let (node, rest) = number_behind(text, b' ')?;
+    let (distance, rest) = number_behind(rest, b':')?;
     let (last, rest) = last(rest)?;
     let entry = Entry {
         node: NodeId(node),
@@ -41,7 +45,7 @@ fn entry(text: &[u8]) -> Option<(Entry, &[u8])>
 fn entries(alloc: Global, text: &[u8]) -> Result<Option<(List<Entry>, &[u8])>, AllocError>
     ensures { IfOk result (λ read. seen read ≡ entries_at (length text.now + 1) text.now) }
 {
-    let mut entries = List::new(alloc);
+    let mut entries = List::from_vec(Vec::with_capacity(alloc, USUAL_ENTRIES)?);
     let mut rest = text;
     while let Some((entry, next)) = entry(rest) {
         entries.push(entry)?;
@@ -50,7 +54,16 @@ fn entries(alloc: Global, text: &[u8]) -> Result<Option<(List<Entry>, &[u8])>, A
     let Some(rest) = after(rest, b"\n") else {
         return Ok(None);
     };
-    Ok(Some((entries, rest)))
+    Ok(Some((fitted(entries), rest)))
+}
+
+// The same entries, in no more memory than they take.
+fn fitted(entries: List<Entry>) -> List<Entry>
+    ensures { result ≡ entries }
+{
+    let mut items = entries.into_vec();
+    items.shrink_to_fit();
+    List::from_vec(items)
 }
 
 /// The row whose line is at the front of the text, and what stands after the line.

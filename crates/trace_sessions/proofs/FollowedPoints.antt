@@ -46,7 +46,7 @@ pub record IsNextHanded (n : Net) (p : Params) (trace : Trace) (i : ℕ) (items 
   pub grown : handed n p (first_layers n p trace (i + 1)) ≡ handed n p (first_layers n p trace i) ++ items
   pub are : items ≡ handed_at n p (layers_of n p trace) i
 
-drop_behind : (front back : List Item) → drop (length front) (front ++ back) ≡ back
+pub drop_behind : (front back : List Item) → drop (length front) (front ++ back) ≡ back
 drop_behind front back = drop_at front back (length front) refl
 
 count_layers : (n : Net) (p : Params) (trace : Trace) → length (layers_of n p trace) ≡ length trace.fixes
@@ -129,10 +129,10 @@ told_behind n p trace i =
 told_lies : (n : Net) (p : Params) (trace : Trace) → IsLawful n → IsAccepted p → IsLawfulTrace trace → AreItemsOf n (items_of n p (layers_of n p trace))
 told_lies n p trace lawful accepted trace_lawful = items_edges n p (layers_of n p trace) lawful (matchable n p trace (layers_of n p trace) accepted trace_lawful refl)
 
-lies_behind : (n : Net) (front back : List Item) → AreItemsOf n (front ++ back) → AreItemsOf n back
+pub lies_behind : (n : Net) (front back : List Item) → AreItemsOf n (front ++ back) → AreItemsOf n back
 lies_behind n front back all = subst (AreItemsOf n) (drop_at front back (length front) refl) (All-drop (IsItemOf n) (length front) (front ++ back) all)
 
-lies_before : (n : Net) (front back : List Item) → AreItemsOf n (front ++ back) → AreItemsOf n front
+pub lies_before : (n : Net) (front back : List Item) → AreItemsOf n (front ++ back) → AreItemsOf n front
 lies_before n front back all = subst (AreItemsOf n) (take_at front back (length front) refl) (All-take (IsItemOf n) (length front) (front ++ back) all)
 
 pub next_lies : (n : Net) (p : Params) (trace : Trace) (i : ℕ) (items : List Item) → IsLawful n → IsAccepted p → IsLawfulTrace trace → IsNextHanded n p trace i items → AreItemsOf n items

@@ -9,3 +9,9 @@ pub mod FollowedText
 pub mod FollowedRows
 pub mod SessionPairs
 pub mod SessionFixes
+pub mod StreamPoints
+pub mod StreamAlone
+pub mod CallsAlone
+pub mod StreamTakes
+pub mod StreamLines
+pub mod StreamEnds

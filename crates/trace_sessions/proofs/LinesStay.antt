@@ -33,7 +33,7 @@ same_lines f g i (suc k) same =
 
 -- ---- the lines of a point
 
-same_handed : (n : Net) (p : Params) (layers more : List Layer) (i : ℕ) → i < length layers → handed_at n p (layers ++ more) i ≡ handed_at n p layers i
+pub same_handed : (n : Net) (p : Params) (layers more : List Layer) (i : ℕ) → i < length layers → handed_at n p (layers ++ more) i ≡ handed_at n p layers i
 same_handed n p layers more i lt =
     ap (λ fed. drop (length (handed n p fed)) (handed n p (take (suc i) (layers ++ more)))) (take-append-le i layers more (omega (arith, lt)))
     ∙ ap (λ fed. drop (length (handed n p (take i layers))) (handed n p fed)) (take-append-le (suc i) layers more (omega (arith, lt)))

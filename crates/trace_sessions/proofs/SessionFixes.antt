@@ -59,7 +59,7 @@ pub stands-in : (n : Net) (p : Params) (id : ℕ) (es : List (ℕ × Session)) (
 stands-in n p id es pairs d own h =
     in_case n p d own (lookup (nat_eq id) es) (lookup (nat_eq id) pairs) (kept-lookup n p id es pairs h.each)
 
-count_of : (n : Net) (p : Params) (s : Session) (fixes : List Fix) → IsSessionOf n p s fixes → points_of s ≡ length fixes
+pub count_of : (n : Net) (p : Params) (s : Session) (fixes : List Fix) → IsSessionOf n p s fixes → points_of s ≡ length fixes
 count_of n p s fixes is = is.stands.count ∙ length-map fixes (layer_of n p)
 
 one_more : (n : Net) (p : Params) (fixes : List Fix) (fix : Fix) (l : Layer) → l ≡ layer_of n p fix → layers n p (fixes ++ fix ∷ []) ≡ layers n p fixes ++ l ∷ []

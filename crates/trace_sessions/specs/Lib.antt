@@ -3,3 +3,7 @@ pub mod FollowText
 pub mod Following
 pub mod Sessions
 pub mod SessionsInside
+pub mod StreamText
+pub mod Calls
+pub mod Streaming
+pub mod StreamingInside

@@ -63,8 +63,8 @@ pub fn follow_trace<R: Rows>(
     Ok(pieces + count_pieces(items.as_slice()))
 }
 
-// Appends the line `fix I`. After Err a part of it may stand at the end.
-fn write_fix(point: u32, into: &mut List<u8>) -> Result<(), AllocError>
+/// Appends the line `fix I`. After Err a part of it may stand at the end.
+pub fn write_fix(point: u32, into: &mut List<u8>) -> Result<(), AllocError>
     ensures { OnOk result (into.new ≡ into.old ++ fix_line point) }
 {
     into.extend_from_slice(b"fix ")?;
@@ -72,15 +72,15 @@ fn write_fix(point: u32, into: &mut List<u8>) -> Result<(), AllocError>
     into.extend_from_slice(b"\n")
 }
 
-// Appends the line `finish`.
-fn write_finish(into: &mut List<u8>) -> Result<(), AllocError>
+/// Appends the line `finish`.
+pub fn write_finish(into: &mut List<u8>) -> Result<(), AllocError>
     ensures { OnOk result (into.new ≡ into.old ++ finish_line) }
 {
     into.extend_from_slice(b"finish\n")
 }
 
-// How many of these items are pieces.
-fn count_pieces(items: &[Item]) -> u64
+/// How many of these items are pieces.
+pub fn count_pieces(items: &[Item]) -> u64
     ensures { result ≡ pieces_among items.now }
 {
     items

@@ -58,8 +58,8 @@ fn append_items(
     Ok(())
 }
 
-// Appends the id and a space, or nothing. After Err `into` is as before.
-fn write_lead(id: Option<u32>, into: &mut List<u8>) -> Result<(), AllocError>
+/// Appends the id and a space, or nothing. After Err `into` is as before.
+pub fn write_lead(id: Option<u32>, into: &mut List<u8>) -> Result<(), AllocError>
     ensures ok { OnOk result (into.new ≡ into.old ++ lead_of id) }
     ensures err { OnErr result (into.new ≡ into.old) }
 {

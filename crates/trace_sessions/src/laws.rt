@@ -1,5 +1,7 @@
-//! Laws of the follow text. Each function is there for its clause and does nothing.
+//! Laws of what is written of traces and of calls on sessions. Each function is there for its clause and does nothing.
+ghost use Rattle.trace_sessions.specs.Calls.{IdsAreAnsweredAlone};
 ghost use Rattle.trace_sessions.specs.FollowText.{FollowIsMatch, WrittenLinesStay};
+ghost use Rattle.trace_sessions.specs.StreamText.{IdsAreFollowedAlone};
 
 /// The follow text without its lines `fix I` and `finish` is the match text of the same trace.
 pub fn follow_is_match()
@@ -9,4 +11,14 @@ pub fn follow_is_match()
 /// The lines that were written of some points stay, whatever points follow.
 pub fn written_lines_stay()
     ensures { WrittenLinesStay }
+{}
+
+/// The lines of an id in a stream, without the id, are the follow text of its points alone.
+pub fn ids_are_followed_alone()
+    ensures { IdsAreFollowedAlone }
+{}
+
+/// What calls of `feed` and `close` hand out for an id is what its own calls alone hand out.
+pub fn ids_are_answered_alone()
+    ensures { IdsAreAnsweredAlone }
 {}

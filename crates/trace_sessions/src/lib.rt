@@ -15,8 +15,12 @@
 //! `specs/Sessions.antt` says for which ids and fixes they stand. What [`Sessions::feed`] and
 //! [`Sessions::close`] hand out depends on the fixes of their id alone.
 //!
+//! [`Sessions::stream`] takes the points of a fragment and appends their lines, and [`Sessions::close_all`]
+//! those of the end. [`ids_are_followed_alone`] says that the lines of an id are the follow text of its
+//! points alone, and [`ids_are_answered_alone`] the same of calls.
+//!
 //! Read first: `item_lines` in `specs/ItemText.antt`, then `follow_lines` and `FollowIsMatch`; and
-//! `Keeps`, `TakesFix` and `Closes`.
+//! `Keeps`, `TakesFix` and `Closes`; `stream_lines` and `closing_lines` in `specs/StreamText.antt`.
 #![tactic(auto)]
 
 mod following;
@@ -26,5 +30,7 @@ mod sessions;
 
 pub use following::follow_trace;
 pub use items::write_items;
-pub use laws::{follow_is_match, written_lines_stay};
+pub use laws::{
+    follow_is_match, ids_are_answered_alone, ids_are_followed_alone, written_lines_stay,
+};
 pub use sessions::{SessionFault, Sessions};

@@ -4,6 +4,8 @@ ghost use Rattle.std.specs.List.{IsDistinct};
 ghost use Rattle.std.specs.Map.{keys_of, lookup};
 ghost use Rattle.polyline_geometry.specs.Plane.{InRange};
 ghost use Rattle.bounded_search.specs.Rows.{AreRowsOf};
+ghost use Rattle.cost_model.specs.Options.{IsAccepted};
+ghost use Rattle.road_network.specs.Net.{IsLawful};
 ghost use Rattle.trace_match.specs.Ground.{IsGridFor};
 ghost use Rattle.trace_match.specs.Match.{place_of};
 ghost use Rattle.online_commit.specs.Session.{AsksFed, AsksFinished, IsFedLayer, Session, points_of};
@@ -24,6 +26,7 @@ use std::marker::Model;
 use trace_match::layer;
 use trace_reader::Fix;
 
+mod streaming;
 #[cfg(test)]
 mod tests;
 
@@ -164,6 +167,14 @@ impl<'n> Sessions<'n> {
             Some(session) => Some(session.count()),
             None => None,
         }
+    }
+
+    // What always holds of sessions.
+    fn known(&self)
+        ensures lawful { IsLawful self.now.network }
+        ensures accepted { IsAccepted self.now.params }
+    {
+        self.net.known();
     }
 
     // How many points the id has, 0 where it has no session.

@@ -1,18 +1,18 @@
 -- `match NET TRACES [--table FILE]`: what the bytes of a trace file give, matched on a network.
-use Rattle.std.specs.Prelude.{◌≡◌, ℕ, Bool, List, length, count_by, Some, None}
+use Rattle.std.specs.Prelude.{ℕ, List}
 use Rattle.std.specs.declared.option.Option.{Option}
-use Rattle.std.specs.List.{flat_map, list_any, range_with_len, sum_by}
+use Rattle.std.specs.List.{flat_map}
 use Rattle.std.proofs.Common.{refl}
 use Rattle.std.proofs.lemmas.List.Concat.{flat_map-append}
 use Rattle.cost_model.specs.declared.params.Params.{Params}
 use Rattle.match_text.specs.MatchText.{text_of}
-use Rattle.program_frame.specs.Jobs.{JobText, points_of}
+pub use Rattle.follow_work.specs.Totals.{is_asked_by, no_line, no_refusal, pieces_of, rows_of, total_of}
+use Rattle.program_frame.specs.Jobs.{JobText}
 use Rattle.program_frame.specs.Plan.{Plan, loads}
 use Rattle.program_frame.specs.Refusals.{network_limit, network_said}
 use Rattle.program_frame.specs.Stream.{works_traces}
-use Rattle.program_frame.specs.Total.{total_line}
 use Rattle.program_frame.specs.declared.stop.File.TheVariants.{Network}
-use Rattle.trace_match.specs.Match.{asks, match_of}
+use Rattle.trace_match.specs.Match.{match_of}
 use Rattle.trace_reader.specs.declared.trace.Trace.{Trace}
 use Rattle.match_program.specs.Setting.{Setting}
 use Rattle.match_program.specs.commands.Preload.{preloads}
@@ -20,28 +20,6 @@ use Rattle.match_program.specs.commands.Preload.{preloads}
 -- the texts of traces, in their order
 abbrev pub texts_of : Setting → List Trace → List ℕ
 texts_of on traces = flat_map (λ trace. text_of (match_of on.network on.params trace)) traces
-
-abbrev pub pieces_of : Setting → List Trace → ℕ
-pieces_of on traces = sum_by (λ trace. length (match_of on.network on.params trace).pieces) traces
-
--- whether one of these traces asks for the row of node v
-abbrev pub is_asked_by : Setting → List Trace → ℕ → Bool
-is_asked_by on traces v = list_any (λ trace. asks on.network on.params trace v) traces
-
--- how many nodes of the network the traces ask for, each once
-abbrev pub rows_of : Setting → List Trace → ℕ
-rows_of on traces = count_by (is_asked_by on traces) (range_with_len 0 (length on.network.nodes))
-
-abbrev pub total_of : Setting → List Trace → List ℕ
-total_of on traces =
-    total_line (length traces) (points_of traces) (pieces_of on traces) (rows_of on traces)
-
-abbrev pub no_refusal : Option (List ℕ)
-no_refusal = None
-
--- nothing is no line
-pub no_line : (line : List ℕ) → no_refusal ≡ Some line → ⊥
-no_line line is = cc
 
 -- the texts of the traces, and then the total line; nothing is refused but by the file
 abbrev pub match_text : Setting → JobText

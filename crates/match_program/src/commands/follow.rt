@@ -1,90 +1,14 @@
 // `follow NET TRACES`. Serves `perform`; decided by `follow_plan`.
-ghost use Rattle.std.specs.Prelude.{◌≡◌, ◌++◌, [], Ok, IfOk, OnOk};
-ghost use Rattle.bounded_search.specs.Rows.{AreRowsOf};
+ghost use Rattle.std.specs.Prelude.{Ok};
 ghost use Rattle.cost_model.specs.Options.{IsAccepted};
-ghost use Rattle.program_frame.specs.Jobs.{IsBounded};
+ghost use Rattle.follow_work.specs.Follow.{follow_plan};
 ghost use Rattle.program_frame.specs.Performs.{Performs};
-ghost use Rattle.match_program.specs.commands.Follow.{follow_job, follow_plan, followed_of};
-ghost use Rattle.match_program.specs.commands.FollowDone.{AsksTraces, HasFollowed};
-ghost use Rattle.match_program.specs.commands.MatchesDone.{ArePieces};
 
-use crate::matcher::Matcher;
-use bounded_search::OwnRows;
 use cost_model::Params;
 use edge_io::{Shelf, Sink};
-use polyline_geometry::List;
-use program_frame::{Job, Stop, Tally, load_network, work_traces};
-use road_network::Network;
-use std::alloc::{AllocError, Global};
-use trace_reader::Trace;
-
-// Follows traces with own rows, one after the other, and counts them.
-#[derive(Drop)]
-struct FollowJob<'n> {
-    matcher: Matcher<'n>,
-    rows: OwnRows<'n>,
-    tally: Tally,
-}
-
-// Follows traces, appends their texts, and says how many pieces their matches have.
-fn write_followed<'n>(
-    alloc: Global,
-    matcher: &Matcher<'n>,
-    rows: &mut OwnRows<'n>,
-    traces: &[Trace],
-    into: &mut List<u8>,
-) -> Result<u64, AllocError>
-    requires rows { AreRowsOf rows.old matcher.now.network matcher.now.params.bound }
-    requires traces { IsBounded traces.now }
-    ensures text { OnOk result (into.new ≡ into.old ++ followed_of matcher.now traces.now) }
-    ensures pieces { IfOk result (ArePieces matcher.now traces.now) }
-    ensures asks { OnOk result (AsksTraces matcher.now traces.now rows.old rows.new) }
-{
-    let mut pieces = 0;
-    for trace in traces {
-        let count = matcher.follow_trace(alloc, rows, trace, into)?;
-        pieces += count;
-    }
-    Ok(pieces)
-}
-
-impl<'n> FollowJob<'n> {
-    fn open(alloc: Global, roads: &'n Network, options: Params) -> Result<Self, AllocError>
-        requires { IsAccepted options }
-        ensures matcher { IfOk result
-            (λ job. job.matcher ≡ record { network = roads.now; params = options }) }
-        ensures begun { IfOk result (λ job. HasFollowed job.matcher job.rows job.tally []) }
-    {
-        let matcher = Matcher::open(alloc, roads, options)?;
-        let rows = matcher.rows(alloc)?;
-        Ok(FollowJob {
-            matcher,
-            rows,
-            tally: Tally::NONE,
-        })
-    }
-}
-
-impl<'n> Job for FollowJob<'n> {
-    ghost text = { λ job. follow_job job.matcher };
-
-    ghost has = { λ job traces. HasFollowed job.matcher job.rows job.tally traces };
-
-    fn take(&mut self, alloc: Global, traces: &[Trace], into: &mut List<u8>) -> Result<(), Stop> {
-        match write_followed(alloc, &self.matcher, &mut self.rows, traces, into) {
-            Ok(pieces) => {
-                self.tally.add(traces, pieces);
-                Ok(())
-            }
-            Err(_) => Err(Stop::NoMemory),
-        }
-    }
-
-    fn finish(&mut self, _alloc: Global, into: &mut List<u8>) -> Result<(), AllocError> {
-        self.rows.known();
-        self.tally.append_line(u64::from(self.rows.count()), into)
-    }
-}
+use follow_work::FollowJob;
+use program_frame::{Stop, load_network, work_traces};
+use std::alloc::Global;
 
 /// Reads the network, and then the traces, which it follows point by point.
 pub fn follow_traces<S: Shelf, K: Sink>(

@@ -87,6 +87,7 @@ fn offer_row(
 ) -> Result<(), Stop>
     requires networks { (searcher.old.network ≡ roads.now)
         × (reader.old.store.network ≡ roads.now) }
+    requires bounds { reader.old.store.bound ≡ searcher.old.bound }
     requires node { HasNode roads.now row.origin }
     ensures same { (searcher.new ≡ searcher.old) × (reader.new.store ≡ reader.old.store) }
     ensures said { Accepts Refusal.Table (row_said roads.now searcher.old.bound row) result }
@@ -96,7 +97,7 @@ fn offer_row(
     if !searcher.check(origin, &row) {
         return Err(refuse_row(alloc, roads.node_name(origin)));
     }
-    match reader.offer(origin, row) {
+    match reader.offer_right(origin, row) {
         Ok(_) => Ok(()),
         Err(_) => Err(Stop::NoMemory),
     }
@@ -112,6 +113,7 @@ fn offer_rows(
 ) -> Result<(), Stop>
     requires networks { (searcher.old.network ≡ roads.now)
         × (reader.old.store.network ≡ roads.now) }
+    requires bounds { reader.old.store.bound ≡ searcher.old.bound }
     requires nodes { All (λ row. HasNode roads.now row.origin) rows }
     ensures { Accepts Refusal.Table (rows_said roads.now searcher.old.bound rows) result }
 {
@@ -130,7 +132,7 @@ fn accept_table(
     store: &RowStore<'_>,
 ) -> Result<(), Stop>
     requires bound { bound ≤ 10_000_000 }
-    requires store { store.now.network ≡ roads.now }
+    requires store { (store.now.network ≡ roads.now) × (store.now.bound ≡ bound) }
     ensures { Accepts Refusal.Table (table_file_said roads.now bound text.items) result }
 {
     let rows = read_rows(alloc, roads, bound, text)?;
@@ -152,7 +154,7 @@ fn load_table<S: Shelf>(
     store: &RowStore<'_>,
 ) -> Result<(), Stop>
     requires bound { bound ≤ 10_000_000 }
-    requires store { store.now.network ≡ roads.now }
+    requires store { (store.now.network ≡ roads.now) × (store.now.bound ≡ bound) }
     ensures { Loads Refusal.Table File.Table name.now text_limit (table_file_said roads.now bound)
         (S.state shelf.old) (S.state shelf.new) result }
 {
@@ -173,7 +175,7 @@ pub fn preload<S: Shelf>(
     store: &RowStore<'_>,
 ) -> Result<(), Stop>
     requires bound { bound ≤ 10_000_000 }
-    requires store { store.now.network ≡ roads.now }
+    requires store { (store.now.network ≡ roads.now) × (store.now.bound ≡ bound) }
     ensures { Preloads (option_map (λ name. name.now) table.entry) roads.now bound
         (S.state shelf.old) (S.state shelf.new) result }
 {

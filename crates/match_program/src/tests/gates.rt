@@ -6,7 +6,7 @@ use super::{STRAIGHT, many_texts, many_traces, numbers, shelf, words};
 use crate::run::run;
 use bounded_search::{Entry, Row};
 use edge_io::MemorySink;
-use match_pool::{Gate, OpenGate};
+use match_pool::Gate;
 use polyline_geometry::List;
 use road_network::{EdgeId, NodeId};
 use row_store::{RowStore, Sight};
@@ -84,26 +84,6 @@ impl Gate for Holder {
             self.ended.fetch_add(1, SeqCst);
         }
     }
-}
-
-#[test]
-fn one_text_for_any_number_of_workers(rt: HostRuntime) -> Result<(), Fail> {
-    let alloc = rt.alloc();
-    let traces = many_traces(alloc, 4)?;
-    let text = whole_text(alloc, 4, FOUR)?;
-    for workers in ["1", "2", "7", "64"] {
-        assert!(rt;
-            gives(
-                &rt,
-                alloc,
-                workers,
-                traces.as_slice(),
-                text.as_slice(),
-                &OpenGate
-            )?
-        );
-    }
-    Ok(())
 }
 
 // Workers that run one after the other fail here: the second trace never ends while the first is held.

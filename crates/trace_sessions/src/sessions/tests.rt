@@ -1,6 +1,6 @@
 //! Two traces whose points are interleaved, worked out by hand.
 use super::{SessionFault, Sessions};
-use bounded_search::OwnRows;
+use bounded_search::RefusingRows;
 use cost_model::Params;
 use grid_index::Grid;
 use online_commit::Item;
@@ -46,14 +46,17 @@ fn append_told(items: &List<Item>, told: &mut Vec<Told>) -> Result<(), AllocErro
     Ok(())
 }
 
-/// A point at this x for an id, or its end, over rows of its own.
+/// A point at this x for an id, or its end, over rows of its own, which refuse this call.
 fn call(
     alloc: Global,
     sessions: &mut Sessions,
     id: u32,
     x: Option<u16>,
+    refused: u64,
 ) -> Result<List<Item>, SessionFault> {
-    let mut rows = OwnRows::open(alloc, sessions.net, sessions.params.bound)?;
+    let mut refuse = List::new(alloc);
+    refuse.push(refused)?;
+    let mut rows = RefusingRows::open(alloc, sessions.net, sessions.params.bound, refuse)?;
     match x {
         Some(x) => {
             let fix = Fix {
@@ -75,7 +78,7 @@ fn told_by(
 ) -> Result<Vec<Told>, Fail> {
     let mut told = Vec::new(alloc);
     for (id, x) in calls {
-        match call(alloc, sessions, *id, *x) {
+        match call(alloc, sessions, *id, *x, 0) {
             Ok(items) => append_told(&items, &mut told)?,
             Err(_) => return Err("a call was refused".into()),
         }
@@ -89,12 +92,15 @@ fn ids_have_sessions_of_their_own(rt: HostRuntime) -> Result<(), Fail> {
     let net = read_network(alloc, NETWORK)?;
     let grid = Grid::build(alloc, &net, 10_000)?;
     let mut sessions = Sessions::open(alloc, &net, &grid, &NEAR);
-    let refused = call(alloc, &mut sessions, 5, None);
+    let refused = call(alloc, &mut sessions, 5, None, 0);
     assert!(rt; matches!(refused, Err(SessionFault::NotOpen(5))));
-    let feeds = [(1, Some(1_000)), (2, Some(9_000)), (1, Some(2_000))];
-    let told = told_by(alloc, &mut sessions, &feeds)?;
-    let labels = [(0, 0, 0, 1_000), (0, 0, 0, 9_000), (0, 1, 0, 2_000)];
+    let told = told_by(alloc, &mut sessions, &[(1, Some(1_000)), (2, Some(9_000))])?;
+    let labels = [(0, 0, 0, 1_000), (0, 0, 0, 9_000)];
     assert_eq!(rt; told.as_slice(), labels.as_slice());
+    let refused = call(alloc, &mut sessions, 1, Some(2_000), 1);
+    assert!(rt; matches!(refused, Err(SessionFault::Memory)));
+    let told = told_by(alloc, &mut sessions, &[(1, Some(2_000))])?;
+    assert_eq!(rt; told.as_slice(), [(0, 1, 0, 2_000)].as_slice());
     assert_eq!(rt; sessions.count(), 2);
     assert_eq!(rt;
         (sessions.id_at(0), sessions.id_at(1), sessions.id_at(2)),

@@ -10,14 +10,14 @@ use Rattle.road_network.specs.Net.{edge_line}
 use Rattle.road_network.specs.Near.{candidate}
 use Rattle.candidate_search.proofs.search.candidate_of.Goals as goal
 
-pub bounds-offsets-near : goal.bounds-offsets-near
-bounds-offsets-near c =
+pub bounds-offsets-segment : goal.bounds-offsets-segment
+bounds-offsets-segment c =
     let line = edge_line c.args.net.now c.args.near.edge.0 in
     let n = ap length c.offsets.ensures ∙ length-line_offsets line in
     omega (arith, n, c.requires.1.before_end)
 
-pub snap_on-snap-requires-clause-before : goal.snap_on-snap-requires-clause-before
-snap_on-snap-requires-clause-before c =
+pub offset_on-requires-clause-before : goal.offset_on-requires-clause-before
+offset_on-requires-clause-before c =
     let line = c.line.result.now in
     let s = c.args.near.segment in
     let n = ap length c.line.ensures in
@@ -34,7 +34,11 @@ returns c =
     let near = c.args.near in
     let line = edge_line c.args.net.now near.edge.0 in
     let s : NearSegment = record { segment = near.segment; d2 = near.d2 } in
-    let t : Snap = c.snap_on-snap.result in
-    let here = subst (λ l. t ≡ after (line_length (take (suc near.segment) l)) (segment_snap l at near.segment)) c.line.ensures c.snap_on-snap.ensures in
+    let offset = subst (λ l. c.offset_on.result ≡ line_length (take (suc near.segment) l) + (segment_snap l at near.segment).offset) c.line.ensures c.offset_on.ensures in
+    let t : Snap = record { d2 = near.d2; offset = c.offset_on.result } in
+    let here : t ≡ after (line_length (take (suc near.segment) line)) (segment_snap line at near.segment)
+    = ap (λ v. let u : Snap = record { d2 = v; offset = c.offset_on.result } in u) c.requires.1.d2_is
+    ∙ ap (λ v. let u : Snap = record { d2 = (segment_snap line at near.segment).d2; offset = v } in u) offset
+    in
     let is : t ≡ snap_line line at = here ∙ sym (whole_near line at s (c.known.ensures.lines near.edge.0 c.requires.0) c.requires.1) in
     ap (candidate near.edge.0) is

@@ -4,7 +4,7 @@ use Rattle.candidate_search.proofs.Visited.{HoldsSquare, all_seen, none_best}
 use Rattle.candidate_search.proofs.search.nearest_edges.Goals as goal
 
 pub look_at_cells-requires-clause-best : goal.look_at_cells-requires-clause-best
-look_at_cells-requires-clause-best c = none_best c.args.net.now c.args.search c.in_ok-found.found.items c.in_ok-found.ensures.items
+look_at_cells-requires-clause-best c = none_best c.args.net.now c.args.search c.new-found.result.items c.new-found.ensures.items
 
 pub returns : goal.returns
 returns c =

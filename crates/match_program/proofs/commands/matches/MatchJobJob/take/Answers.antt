@@ -1,7 +1,7 @@
 use Rattle.std.proofs.Common.{◌++◌, ap, refl, ◌∙◌, arith}
 use Rattle.program_frame.proofs.PointCounts.{points-append}
 use Rattle.match_program.specs.Matched.{pieces_in, text_of_matches}
-use Rattle.match_program.proofs.Counting.{fits_more}
+use Rattle.follow_work.proofs.Counting.{fits_more}
 use Rattle.match_program.proofs.Jobs.{can_match, matched_more, text_grows}
 use Rattle.match_program.proofs.Matches.{pieces_found, texts_written}
 use Rattle.match_program.proofs.commands.matches.MatchJobJob.take.Goals as goal

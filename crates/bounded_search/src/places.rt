@@ -1,0 +1,70 @@
+//! Where a node stands among entries by rising node number. Serves `Row::find` and `check_row`; decided by `IsPlaceOf`.
+ghost use Rattle.std.specs.Prelude.{◌≡◌, ◌<◌, ◌≤◌, ℕ, length, None, MatchOption};
+ghost use Rattle.bounded_search.specs.Finding.{AllAbove, AllBelow, IsPlaceOf};
+ghost use Rattle.bounded_search.specs.Table.{RisesFrom, entry_in};
+
+use crate::table_row::Entry;
+use road_network::NodeId;
+
+/// The place of a node that stands nowhere before `first`, and nowhere from `past` on.
+pub fn place_between(entries: &[Entry], first: usize, past: usize, n: NodeId) -> Option<usize>
+    requires rising { RisesFrom 0 entries.now }
+    requires places { (first ≤ past) × (past ≤ length entries.now) }
+    requires below { AllBelow entries.now first n.0 }
+    requires above { AllAbove entries.now past n.0 }
+    ensures { MatchOption result (entry_in entries.now n.0 ≡ None) (IsPlaceOf entries.now n.0) }
+{
+    let mut low = first;
+    let mut count = past - first;
+    while count > 1 {
+        let half = count / 2;
+        low = if entries[low + half].node <= n {
+            low + half
+        } else {
+            low
+        };
+        count -= half;
+    }
+    if count == 0 {
+        return None;
+    }
+    if entries[low].node != n {
+        return None;
+    }
+    Some(low)
+}
+
+/// The place of a node, looked for from another place: where nodes rise strictly, two nodes stand no
+/// farther from each other than their numbers differ. Where no number between them is missing, they
+/// stand just as far from each other: so the farthest place is looked at first.
+pub fn place_from(entries: &[Entry], start: usize, n: NodeId) -> Option<usize>
+    requires rising { RisesFrom 0 entries.now }
+    requires start { start < length entries.now }
+    ensures { MatchOption result (entry_in entries.now n.0 ≡ None) (IsPlaceOf entries.now n.0) }
+{
+    let here = entries[start].node.0;
+    if n.0 < here {
+        let first = start - start.min((here - n.0) as usize);
+        if entries[first].node == n {
+            return Some(first);
+        }
+        place_between(entries, first, start, n)
+    } else {
+        let last = start + (entries.len() - 1 - start).min((n.0 - here) as usize);
+        if entries[last].node == n {
+            return Some(last);
+        }
+        place_between(entries, start, last + 1, n)
+    }
+}
+
+/// The place of a node, looked for from `middle` where that is a place.
+pub fn place_near(entries: &[Entry], middle: usize, n: NodeId) -> Option<usize>
+    requires { RisesFrom 0 entries.now }
+    ensures { MatchOption result (entry_in entries.now n.0 ≡ None) (IsPlaceOf entries.now n.0) }
+{
+    if middle < entries.len() {
+        return place_from(entries, middle, n);
+    }
+    place_between(entries, 0, entries.len(), n)
+}

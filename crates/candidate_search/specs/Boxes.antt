@@ -1,0 +1,56 @@
+-- The boxes of edges, by which edges that are far from all of some points are passed over.
+use Rattle.std.specs.Prelude.{ℕ, ◌≡◌, ◌<◌, ◌&&◌, Bool, List, map, ℤ}
+use Rattle.std.specs.Int.Signed.{le_z}
+use Rattle.std.specs.List.{All, AllPairs}
+use Rattle.polyline_geometry.specs.declared.plane.Point.{Point}
+use Rattle.polyline_geometry.specs.Boxes.{InSquare}
+use Rattle.polyline_geometry.specs.Plane.{InRange}
+use Rattle.road_network.specs.Net.{Net, HasEdge, edge_line}
+use Rattle.road_network.specs.Near.{all_snaps, candidate_at, within}
+use Rattle.grid_index.specs.Runs.{IsBelow}
+use Rattle.candidate_search.specs.declared.boxes.Corners.{Corners}
+use Rattle.candidate_search.specs.declared.boxes.EdgeBox.{EdgeBox}
+
+-- the place lies between the corners
+pub record IsInside (c : Corners) (q : Point) : Type 0 where
+  pub above : IsBelow c.low q
+  pub below : IsBelow q c.high
+
+-- these places lie between the corners, which are in range
+pub record AreCorners (points : List Point) (c : Corners) : Type 0 where
+  pub low_in : InRange c.low
+  pub high_in : InRange c.high
+  pub each : All (IsInside c) points
+
+-- the square of half side `reach` round each place between the first corners lies between the second
+abbrev pub AreGrown : ℕ → Corners → Corners → Type 0
+AreGrown reach c d = (at q : Point) → IsInside c at → InSquare at reach q → IsInside d q
+
+-- the numbers from `low` up to `high` and those from `first` up to `last` overlap
+abbrev pub overlap : ℤ → ℤ → ℤ → ℤ → Bool
+overlap low high first last = le_z low last && le_z first high
+
+-- the two boxes have a place in common
+abbrev pub touches : Corners → Corners → Bool
+touches c d =
+    overlap c.low.x c.high.x d.low.x d.high.x && overlap c.low.y c.high.y d.low.y d.high.y
+
+-- the box of an edge of the network
+pub record IsEdgeBox (net : Net) (b : EdgeBox) : Type 0 where
+  pub has : HasEdge net b.edge.0
+  pub line : All (IsInside b.corners) (edge_line net b.edge.0)
+
+-- boxes of edges, by rising number
+pub record AreBoxes (net : Net) (boxes : List EdgeBox) : Type 0 where
+  pub rising : AllPairs (λ a b. a.edge.0 < b.edge.0) boxes
+  pub each : All (IsEdgeBox net) boxes
+
+-- the edges of these boxes within the radius of a point are all edges that are
+abbrev pub AreEnough : Net → ℕ → List EdgeBox → Point → Type 0
+AreEnough net radius boxes at =
+    within radius (map (λ b. candidate_at net at b.edge.0) boxes) ≡ within radius (all_snaps net at)
+
+-- boxes of all edges that are near one of the points
+pub record AreBoxesFor (net : Net) (radius : ℕ) (boxes : List EdgeBox) (points : List Point) : Type 0 where
+  pub are : AreBoxes net boxes
+  pub enough : All (AreEnough net radius boxes) points

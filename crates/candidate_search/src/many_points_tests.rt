@@ -1,0 +1,33 @@
+use crate::candidates_plain_all;
+use cost_model::Params;
+use polyline_geometry::Point;
+use road_network::read_network;
+use std::test::Fail;
+
+/// Two edges that go from left to right, one of them higher up.
+const TWO_ROADS: &[u8] = b"edge,from,to,line\n1,1,2,0 0;10000 0\n2,3,4,0 400;10000 400\n";
+
+#[test]
+fn each_point_has_its_own_list(rt: HostRuntime) -> Result<(), Fail> {
+    let alloc = rt.alloc();
+    let net = read_network(alloc, TWO_ROADS)?;
+    let points = [
+        Point { x: 1_000, y: 100 },
+        Point { x: 2_000, y: 300 },
+        Point {
+            x: 5_000,
+            y: -10_000,
+        },
+        Point { x: 90_000, y: 0 },
+    ];
+    let wanted: [&[u32]; 4] = [&[0, 1], &[1, 0], &[0], &[]];
+    let lists = candidates_plain_all(alloc, &net, &Params::DEFAULT, &points)?;
+    assert_eq!(rt; lists.len(), wanted.len());
+    for (list, edges) in lists.as_slice().iter().zip(wanted) {
+        assert_eq!(rt; list.len(), edges.len());
+        for (candidate, edge) in list.as_slice().iter().zip(edges) {
+            assert_eq!(rt; candidate.edge.0, *edge);
+        }
+    }
+    Ok(())
+}

@@ -1,0 +1,5 @@
+pub mod Rows
+pub mod Case
+pub mod Cells
+pub mod Pieces
+pub mod Verdicts

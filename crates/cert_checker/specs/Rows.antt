@@ -1,0 +1,37 @@
+-- Which rows of a certificate are right, and the first that is not.
+use Rattle.std.specs.Prelude.{ℕ, ◌+◌, ◌==◌, ◌&&◌, Bool, nat_le, nat_lt, if◌then◌else◌, List, [], ◌∷◌, length, Option, Some, None}
+use Rattle.std.specs.Option.{option_eq}
+use Rattle.std.specs.Cmp.Lexicographic.{pointwise}
+use Rattle.road_network.specs.Net.{Net}
+use Rattle.bounded_search.specs.declared.table_row.Entry.{Entry}
+use Rattle.bounded_search.specs.RowValue.{row_of}
+use Rattle.bounded_search.specs.Table.{TableRow}
+
+abbrev pub is_same_entry : Entry → Entry → Bool
+is_same_entry x y =
+    (x.node.0 == y.node.0)
+    && ((x.distance == y.distance)
+    && option_eq (λ e f. e.0 == f.0) x.last y.last)
+
+-- whether a row is that of its origin, which is a node of the network
+abbrev pub is_right_row : Net → ℕ → TableRow → Bool
+is_right_row n bound row =
+    nat_lt row.origin (length n.nodes)
+    && pointwise is_same_entry row.entries (row_of n bound row.origin).entries
+
+-- and whose origin is not below `least`
+abbrev pub is_next_row : Net → ℕ → ℕ → TableRow → Bool
+is_next_row n bound least row = nat_le least row.origin && is_right_row n bound row
+
+-- the first of these rows, the first of which is number k, that is not right, or whose origin is
+-- below `least` or not above the one before it
+abbrev pub bad_row_from : Net → ℕ → ℕ → ℕ → List TableRow → Option ℕ
+bad_row_from n bound least k [] = None
+bad_row_from n bound least k (row ∷ rows) =
+    if is_next_row n bound least row
+    then bad_row_from n bound (row.origin + 1) (k + 1) rows
+    else Some k
+
+-- the number of the first row that is not right, or whose origin is not above the one before it
+abbrev pub first_bad_row : Net → ℕ → List TableRow → Option ℕ
+first_bad_row n bound rows = bad_row_from n bound 0 0 rows

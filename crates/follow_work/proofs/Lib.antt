@@ -1,0 +1,4 @@
+pub mod Asking
+pub mod Counting
+pub mod FollowJobs
+pub mod Follows

@@ -1,0 +1,22 @@
+use Rattle.std.proofs.Common.{refl}
+use Rattle.follow_work.proofs.Counting.{fits_more}
+use Rattle.follow_work.proofs.Follows.{followed_grows}
+use Rattle.follow_work.proofs.FollowJobs.{bounded_back, followed_more}
+use Rattle.follow_work.proofs.job.FollowJobJob.take.Goals as goal
+
+pub write_followed-requires-clause-rows : goal.write_followed-requires-clause-rows
+write_followed-requires-clause-rows c = c.requires.1.rows_are
+
+pub write_followed-requires-clause-traces : goal.write_followed-requires-clause-traces
+write_followed-requires-clause-traces c = bounded_back c.requires.0 c.args.traces.now c.requires.2
+
+pub add-requires : goal.add-requires
+add-requires c =
+    fits_more c.args.self.now.follower c.requires.0 c.args.traces.now c.args.self.now.tally c.in-Ok.pieces c.requires.2 c.requires.1.counts c.in-Ok.ensures.pieces
+
+pub returns-in-Ok-clause-takes : goal.returns-in-Ok-clause-takes
+returns-in-Ok-clause-takes c before has bounded = (
+  followed_more c.args.self.now.follower before c.args.traces.now c.args.self.now.rows c.write_followed.new.rows c.args.self.now.tally c.add.new.self c.in-Ok.pieces has c.in-Ok.ensures.pieces c.in-Ok.ensures.asks c.add.ensures,
+  refl,
+  followed_grows c.args.self.now.follower before c.args.traces.now c.args.into.now c.write_followed.new.into c.in-Ok.ensures.text,
+)

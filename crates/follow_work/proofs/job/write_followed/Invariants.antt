@@ -1,0 +1,12 @@
+use Rattle.std.proofs.Common.{◌≡◌, ◌++◌, take}
+use Rattle.follow_work.specs.Follow.{followed_of}
+use Rattle.follow_work.specs.FollowDone.{AsksTraces}
+use Rattle.follow_work.specs.Counts.{ArePieces}
+use Rattle.follow_work.proofs.job.write_followed.Given as goal
+
+abbrev pub invariant-loop-trace : goal.invariant-loop-trace
+invariant-loop-trace l = record {
+  text : l.into ≡ l.initial.into ++ followed_of l.follower (take l.trace-index l.traces);
+  pieces : ArePieces l.follower (take l.trace-index l.traces) l.pieces;
+  asks : AsksTraces l.follower (take l.trace-index l.traces) l.initial.rows l.rows;
+}

@@ -1,0 +1,98 @@
+// What traces are followed on: a network with the grid of its edges, and the options. Serves the job;
+// decided by `follow_text`.
+ghost use Rattle.std.specs.Prelude.{◌≡◌, ◌++◌, true, IfOk, OnOk};
+ghost use Rattle.bounded_search.specs.Rows.{AreRowsOf, AsksAs, no_rows};
+ghost use Rattle.cost_model.specs.Options.{IsAccepted};
+ghost use Rattle.trace_match.specs.Match.{asks};
+ghost use Rattle.trace_reader.specs.Trace.{IsLawfulTrace};
+ghost use Rattle.trace_sessions.specs.FollowText.{follow_text};
+ghost use Rattle.trace_sessions.specs.Following.{IsPieceCount};
+
+use bounded_search::OwnRows;
+use cost_model::Params;
+use grid_index::Grid;
+use polyline_geometry::List;
+use road_network::Network;
+use std::alloc::{AllocError, Global};
+use std::marker::Model;
+use trace_reader::Trace;
+use trace_sessions::follow_trace;
+
+// The least side of a cell of the grid, in cm.
+const LEAST_SIDE: u32 = 10_000;
+
+/// A network with the grid of its edges, and the options that traces are followed by.
+#[derive(Drop)]
+pub struct Follower<'n> {
+    network: &'n Network,
+    grid: Grid<'n>,
+    params: Params,
+}
+
+impl<'n> Model for Follower<'n> {
+    ghost use Rattle.follow_work.specs.Setting.{Setting};
+
+    ghost Value = { Setting };
+
+    ghost use Rattle.follow_work.specs.FollowerInside.{setting_of, IsLaidOut};
+
+    ghost view = { setting_of };
+
+    ghost invariant = { IsLaidOut };
+}
+
+impl<'n> Follower<'n> {
+    /// Lays out the grid of a network.
+    pub fn open(
+        alloc: Global,
+        network: &'n Network,
+        params: Params,
+    ) -> Result<Follower<'n>, AllocError>
+        requires { IsAccepted params }
+        ensures { IfOk result
+            (λ follower. follower ≡ record { network = network.now; params = params }) }
+    {
+        let grid = Grid::build(alloc, network, params.radius.max(LEAST_SIDE))?;
+        Ok(Follower {
+            network,
+            grid,
+            params,
+        })
+    }
+
+    /// Rows of the network within the bound of the options. No node is known.
+    pub fn rows(&self, alloc: Global) -> Result<OwnRows<'n>, AllocError>
+        ensures { IfOk result
+            (λ rows. rows ≡ no_rows self.now.network self.now.params.bound) }
+    {
+        OwnRows::open(alloc, self.network, self.params.bound)
+    }
+
+    /// Appends the follow text of a trace, and says how many pieces its match has.
+    pub fn follow_trace(
+        &self,
+        alloc: Global,
+        rows: &mut OwnRows<'n>,
+        trace: &Trace,
+        into: &mut List<u8>,
+    ) -> Result<u64, AllocError>
+        requires rows { AreRowsOf rows.old self.now.network self.now.params.bound }
+        requires trace { IsLawfulTrace trace.now }
+        ensures text { OnOk result
+            (into.new ≡ into.old ++ follow_text self.now.network self.now.params trace.now) }
+        ensures pieces { IfOk result
+            (IsPieceCount self.now.network self.now.params trace.now) }
+        ensures asks { AsksAs rows.old
+            (λ _ v. asks self.now.network self.now.params trace.now v ≡ true) result rows.new }
+    {
+        follow_trace(
+            alloc,
+            self.network,
+            &self.grid,
+            &self.params,
+            rows,
+            trace,
+            into,
+        )
+    }
+}

@@ -1,0 +1,86 @@
+// The job of `follow`. Serves the programs that follow traces; decided by `follow_job`.
+ghost use Rattle.std.specs.Prelude.{◌≡◌, ◌++◌, [], IfOk, OnOk};
+ghost use Rattle.bounded_search.specs.Rows.{AreRowsOf};
+ghost use Rattle.cost_model.specs.Options.{IsAccepted};
+ghost use Rattle.program_frame.specs.Jobs.{IsBounded};
+ghost use Rattle.follow_work.specs.Counts.{ArePieces};
+ghost use Rattle.follow_work.specs.Follow.{follow_job, followed_of};
+ghost use Rattle.follow_work.specs.FollowDone.{AsksTraces, HasFollowed};
+
+use crate::follower::Follower;
+use bounded_search::OwnRows;
+use cost_model::Params;
+use polyline_geometry::List;
+use program_frame::{Job, Stop, Tally};
+use road_network::Network;
+use std::alloc::{AllocError, Global};
+use trace_reader::Trace;
+
+/// Follows traces with own rows, one after the other, and counts them.
+#[derive(Drop)]
+pub struct FollowJob<'n> {
+    follower: Follower<'n>,
+    rows: OwnRows<'n>,
+    tally: Tally,
+}
+
+// Follows traces, appends their texts, and says how many pieces their matches have.
+fn write_followed<'n>(
+    alloc: Global,
+    follower: &Follower<'n>,
+    rows: &mut OwnRows<'n>,
+    traces: &[Trace],
+    into: &mut List<u8>,
+) -> Result<u64, AllocError>
+    requires rows { AreRowsOf rows.old follower.now.network follower.now.params.bound }
+    requires traces { IsBounded traces.now }
+    ensures text { OnOk result (into.new ≡ into.old ++ followed_of follower.now traces.now) }
+    ensures pieces { IfOk result (ArePieces follower.now traces.now) }
+    ensures asks { OnOk result (AsksTraces follower.now traces.now rows.old rows.new) }
+{
+    let mut pieces = 0;
+    for trace in traces {
+        let count = follower.follow_trace(alloc, rows, trace, into)?;
+        pieces += count;
+    }
+    Ok(pieces)
+}
+
+impl<'n> FollowJob<'n> {
+    /// No trace was followed.
+    pub fn open(alloc: Global, roads: &'n Network, options: Params) -> Result<Self, AllocError>
+        requires { IsAccepted options }
+        ensures follower { IfOk result
+            (λ job. job.follower ≡ record { network = roads.now; params = options }) }
+        ensures begun { IfOk result (λ job. HasFollowed job.follower job.rows job.tally []) }
+    {
+        let follower = Follower::open(alloc, roads, options)?;
+        let rows = follower.rows(alloc)?;
+        Ok(FollowJob {
+            follower,
+            rows,
+            tally: Tally::NONE,
+        })
+    }
+}
+
+impl<'n> Job for FollowJob<'n> {
+    ghost text = { λ job. follow_job job.follower };
+
+    ghost has = { λ job traces. HasFollowed job.follower job.rows job.tally traces };
+
+    fn take(&mut self, alloc: Global, traces: &[Trace], into: &mut List<u8>) -> Result<(), Stop> {
+        match write_followed(alloc, &self.follower, &mut self.rows, traces, into) {
+            Ok(pieces) => {
+                self.tally.add(traces, pieces);
+                Ok(())
+            }
+            Err(_) => Err(Stop::NoMemory),
+        }
+    }
+
+    fn finish(&mut self, _alloc: Global, into: &mut List<u8>) -> Result<(), AllocError> {
+        self.rows.known();
+        self.tally.append_line(u64::from(self.rows.count()), into)
+    }
+}

@@ -1,0 +1,9 @@
+pub mod Closings
+pub mod Endings
+pub mod Feeding
+pub mod Promising
+pub mod Puts
+pub mod Reading
+pub mod Taking
+pub mod Wholes
+pub mod Writing

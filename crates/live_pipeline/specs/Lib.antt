@@ -1,0 +1,4 @@
+pub mod Feeding
+pub mod Living
+pub mod Matching
+pub mod Reading

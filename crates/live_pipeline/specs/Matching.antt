@@ -1,0 +1,60 @@
+-- What a matcher makes of the traces that it takes.
+use Rattle.std.specs.Prelude.{◌≡◌, ◌≢◌, List, [], Result, Ok, Err, None, IfErr, IsErr}
+use Rattle.edge_io.specs.State.{SinkState}
+use Rattle.program_frame.specs.Batches.{WritesBatch}
+use Rattle.program_frame.specs.Jobs.{CanTake, HasTaken, JobText}
+use Rattle.program_frame.specs.Performs.{PutsText}
+use Rattle.program_frame.specs.Refusals.{RefusesTraces}
+use Rattle.program_frame.specs.declared.stop.File.TheVariants.{Traces}
+use Rattle.program_frame.specs.declared.stop.Stop.{Stop}
+use Rattle.program_frame.specs.declared.stop.Stop.TheVariants.{NoMemory, Unread}
+use Rattle.trace_reader.specs.declared.trace.Trace.{Trace as ATrace}
+use Rattle.trace_reader.specs.declared.fault.TraceFault.TheVariants as faults
+use Rattle.trace_relay.specs.Order.{Parts}
+use Rattle.trace_relay.specs.Pieces.{IsLast, whole_of}
+use Rattle.trace_relay.specs.declared.part.Part.{Part}
+use Rattle.trace_relay.specs.declared.part.Part.TheVariants as parts
+
+-- a job that refuses no traces
+abbrev pub NeverRefuses : JobText → Type 0
+NeverRefuses job = (traces : List ATrace) → job.refusal traces ≡ None
+
+-- these traces may be handed to the job, where nothing has stopped yet
+abbrev pub MayTake : (List ATrace → Type 0) → Result (Unit {0}) Stop → List ATrace → Type 0
+MayTake has (Ok done) traces = CanTake has traces
+MayTake has (Err stop) traces = Unit {0}
+
+-- a matcher took these traces and then this last part, and wrote the text of the traces, or stopped
+pub record HasMatched (job : JobText) (has : List ATrace → Type 0) (out out' : SinkState)
+    (took : List Part) (last : Part) (ended : Result (Unit {0}) Stop) : Type 0 where
+  pub traces : List ATrace
+  pub is_last : IsLast last
+  pub took_are : took ≡ whole_of traces last
+  pub writes : WritesBatch job has out out' traces [] ended
+
+-- the same of a job that may have changed, and of a pass
+pub record HasTakenAll (job job' : JobText) (has : List ATrace → Type 0) (out out' : SinkState)
+    (before after : Parts) (last : Part) (ended : Result (Unit {0}) Stop) : Type 0 where
+  pub same_job : job' ≡ job
+  pub relay : after.relay ≡ before.relay
+  pub matched : HasMatched job has out out' after.parts last ended
+
+-- a last part behind which a run may end
+abbrev pub MayEnd : (List ATrace → Type 0) → Part → Result (Unit {0}) Stop → Type 0
+MayEnd has (parts.Trace trace) ended = ⊥
+MayEnd has parts.End (Ok done) = HasTaken has
+MayEnd has parts.End (Err stop) = Unit {0}
+MayEnd has (parts.Fault fault) ended = fault ≢ faults.Memory
+MayEnd has parts.ReadFailed ended = Unit {0}
+MayEnd has parts.NoMemory ended = Unit {0}
+
+-- how the work ends with a last part: with the text behind all traces where the file has ended well
+abbrev pub EndsWithPart : JobText → (List ATrace → Type 0) → SinkState → SinkState → Part
+    → Result (Unit {0}) Stop → Type 0
+EndsWithPart job has out out' (parts.Trace trace) ended = ⊥
+EndsWithPart job has out out' parts.End ended =
+    (taken : List ATrace) → has taken → PutsText out out' (job.ending taken) ended
+EndsWithPart job has out out' (parts.Fault fault) ended =
+    IfErr ended (RefusesTraces fault) × IsErr ended × (out' ≡ out)
+EndsWithPart job has out out' parts.ReadFailed ended = (ended ≡ Err (Unread Traces)) × (out' ≡ out)
+EndsWithPart job has out out' parts.NoMemory ended = (ended ≡ Err NoMemory) × (out' ≡ out)

@@ -1,0 +1,16 @@
+// The end of a relay. Serves `live_traces`; decided by the rule of the relay.
+ghost use Rattle.std.specs.Prelude.{◌≡◌, ◌⊎◌, []};
+ghost use Rattle.trace_relay.specs.Pieces.{IsWhole};
+
+use trace_relay::{PutPass, Relay, TakePass};
+
+/// Closes a relay of which a last part was taken. What was taken is then what was put, in order and
+/// each once.
+pub fn close_whole(relay: Relay, put: PutPass, take: TakePass)
+    requires relay { (put.relay ≡ relay.name) × (take.relay ≡ relay.name) }
+    requires put { (put.parts ≡ []) ⊎ IsWhole put.parts }
+    requires taken { IsWhole take.parts }
+    ensures { take.parts ≡ put.parts }
+{
+    relay.close(put, take);
+}

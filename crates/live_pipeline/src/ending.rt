@@ -1,0 +1,64 @@
+// The end of a run, after the last part. Serves `live_traces`; decided by `Brings` and `HasMatched`.
+ghost use Rattle.std.specs.Prelude.{◌≡◌, [], List as ListOf, ℕ, Ok};
+ghost use Rattle.edge_io.specs.State.{ShelfState, SinkState};
+ghost use Rattle.program_frame.specs.Batches.{WritesBatch};
+ghost use Rattle.program_frame.specs.Stream.{works_traces};
+ghost use Rattle.trace_reader.specs.declared.trace.Trace.{Trace as ATrace};
+ghost use Rattle.live_pipeline.specs.Living.{LivePerforms};
+ghost use Rattle.live_pipeline.specs.Matching.{EndsWithPart, MayEnd, NeverRefuses};
+ghost use Rattle.live_pipeline.specs.Reading.{Brings};
+
+use edge_io::Sink;
+use polyline_geometry::List;
+use program_frame::{File, Job, Stop, put_text, refuse_traces};
+use std::alloc::Global;
+use trace_relay::Part;
+
+// What a last part says, where nothing else has stopped the work.
+fn end_with<J: Job, K: Sink>(
+    alloc: Global,
+    job: &mut J,
+    last: Part,
+    out: &mut K,
+) -> Result<(), Stop>
+    requires { MayEnd (J.has job.old) last (Ok tt) }
+    ensures { EndsWithPart (J.text job.old) (J.has job.old) (K.state out.old) (K.state out.new)
+        last result }
+{
+    match last {
+        Part::End => {
+            let mut text = List::new(alloc);
+            match job.finish(alloc, &mut text) {
+                Ok(()) => put_text(out, text.as_slice()),
+                Err(_) => Err(Stop::NoMemory),
+            }
+        }
+        Part::Fault(fault) => Err(refuse_traces(alloc, fault)),
+        Part::ReadFailed => Err(Stop::Unread(File::Traces)),
+        Part::NoMemory => Err(Stop::NoMemory),
+        Part::Trace(_) => unreachable!(),
+    }
+}
+
+/// Ends the work: a matcher that has stopped decides, and else the last part.
+pub fn end_traces<J: Job, K: Sink>(
+    alloc: Global,
+    job: &mut J,
+    last: Part,
+    ended: Result<(), Stop>,
+    out: &mut K,
+) -> Result<(), Stop>
+    requires calm { NeverRefuses (J.text job.old) }
+    requires may { MayEnd (J.has job.old) last ended }
+    ensures { (name : ListOf ℕ) (shelf shelf' : ShelfState) (base : SinkState)
+        (traces : ListOf ATrace)
+        → Brings name shelf shelf' traces last
+        → WritesBatch (J.text job.old) (J.has job.old) base (K.state out.old) traces [] ended
+        → LivePerforms (Ok (works_traces name (J.text job.old))) shelf shelf' base (K.state out.new)
+        result }
+{
+    match ended {
+        Ok(()) => end_with(alloc, job, last, out),
+        Err(stop) => Err(stop),
+    }
+}

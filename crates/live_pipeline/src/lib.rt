@@ -1,0 +1,26 @@
+//! The traces of a file, read in one thread and worked on in another.
+//!
+//! [`live_traces`] does what `work_traces` of the crate `program_frame` does, with a reader in a thread of
+//! its own: `reader` reads the file in chunks and puts each trace that closes on a relay, `matcher` takes
+//! the traces, hands them to a job and writes their text. Then the reader is taken in and the relay is
+//! closed, and so the traces that were written are those that were read, in order and each once. Where no
+//! second thread can be had, both are done in turn.
+//!
+//! Read the clause of `live_traces` first, then `Brings` in `specs/Reading.antt`, `specs/Matching.antt`
+//! and `specs/Living.antt`.
+#![tactic(auto)]
+
+mod closing;
+mod ending;
+mod feeder;
+mod matcher;
+mod pipeline;
+mod read_done;
+mod reader;
+
+pub use closing::close_whole;
+pub use ending::end_traces;
+pub use matcher::match_parts;
+pub use pipeline::live_traces;
+pub use read_done::ReadDone;
+pub use reader::read_traces;

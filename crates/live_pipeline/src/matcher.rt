@@ -1,0 +1,84 @@
+// The matcher: traces from the relay, their text on out. Serves `live_traces`; decided by `HasMatched`.
+ghost use Rattle.std.specs.Prelude.{◌≡◌, ◌++◌, ◌∷◌, [], List as ListOf};
+ghost use Rattle.edge_io.specs.State.{SinkState};
+ghost use Rattle.program_frame.specs.Batches.{Holds, WritesBatch};
+ghost use Rattle.program_frame.specs.Jobs.{CanTake, IsBounded};
+ghost use Rattle.trace_reader.specs.declared.trace.Trace.{Trace as ATrace};
+ghost use Rattle.live_pipeline.specs.Matching.{HasTakenAll, MayTake, NeverRefuses};
+
+use edge_io::Sink;
+use polyline_geometry::List;
+use program_frame::{Job, Stop, put_text};
+use std::alloc::Global;
+use std::sync::Wait;
+use trace_reader::Trace;
+use trace_relay::{Part, Relay, TakePass};
+
+// Hands a trace to the job, and writes its text.
+fn write_trace<J: Job, K: Sink>(
+    alloc: Global,
+    job: &mut J,
+    trace: Trace,
+    out: &mut K,
+) -> Result<(), Stop>
+    requires calm { NeverRefuses (J.text job.old) }
+    requires may { CanTake (J.has job.old) (trace ∷ []) }
+    ensures text { J.text job.new ≡ J.text job.old }
+    ensures writes { (base : SinkState) (traces : ListOf ATrace)
+        → Holds (J.text job.old) (J.has job.old) base (K.state out.old) traces (trace ∷ [])
+        → WritesBatch (J.text job.old) (J.has job.new) base (K.state out.new) traces [] result }
+{
+    let mut text = List::new(alloc);
+    let traces = [trace];
+    job.take(alloc, &traces, &mut text)?;
+    put_text(out, text.as_slice())
+}
+
+// Hands a trace to the job and writes its text, where nothing has stopped yet.
+fn write_next<J: Job, K: Sink>(
+    alloc: Global,
+    ended: Result<(), Stop>,
+    job: &mut J,
+    trace: Trace,
+    out: &mut K,
+) -> Result<(), Stop>
+    requires calm { NeverRefuses (J.text job.old) }
+    requires may { MayTake (J.has job.old) ended (trace ∷ []) }
+    ensures text { J.text job.new ≡ J.text job.old }
+    ensures writes { (base : SinkState) (traces : ListOf ATrace) → IsBounded (traces ++ trace ∷ [])
+        → WritesBatch (J.text job.old) (J.has job.old) base (K.state out.old) traces [] ended
+        → WritesBatch (J.text job.old) (J.has job.new) base (K.state out.new)
+        (traces ++ trace ∷ []) [] result }
+{
+    match ended {
+        Ok(()) => write_trace(alloc, job, trace, out),
+        Err(stop) => Err(stop),
+    }
+}
+
+/// Takes traces and writes their text, one by one, until there is a last part. Once the job or a put has
+/// stopped it takes on, and drops what it takes.
+pub fn match_parts<R: Wait, J: Job, K: Sink>(
+    rt: &R,
+    alloc: Global,
+    relay: &Relay,
+    job: &mut J,
+    pass: &mut TakePass,
+    out: &mut K,
+) -> (Part, Result<(), Stop>)
+    requires own { pass.old.relay ≡ relay.now.name }
+    requires first { pass.old.parts ≡ [] }
+    requires calm { NeverRefuses (J.text job.old) }
+    requires begun { J.has job.old [] }
+    ensures { HasTakenAll (J.text job.old) (J.text job.new) (J.has job.new)
+        (K.state out.old) (K.state out.new) pass.old pass.new result.0 result.1 }
+{
+    let mut ended = Ok(());
+    for _ in rt.forever() {
+        match relay.take(rt, pass) {
+            Part::Trace(trace) => ended = write_next(alloc, ended, job, trace, out),
+            last => return (last, ended),
+        }
+    }
+    unreachable!()
+}

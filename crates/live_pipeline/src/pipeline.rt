@@ -1,0 +1,148 @@
+// Reader and matcher, in two threads or in turn. Serves the programs; decided by `works_traces`.
+ghost use Rattle.std.specs.Prelude.{◌≡◌, [], Ok, MatchOption, string_bytes};
+ghost use Rattle.program_frame.specs.Stream.{works_traces};
+ghost use Rattle.live_pipeline.specs.Living.{LivePerforms};
+ghost use Rattle.live_pipeline.specs.Matching.{HasTakenAll, NeverRefuses};
+ghost use Rattle.live_pipeline.specs.Reading.{Keeps};
+
+use crate::closing::close_whole;
+use crate::ending::end_traces;
+use crate::matcher::match_parts;
+use crate::read_done::{ReadDone, ReadPromise};
+use crate::reader::read_traces;
+use edge_io::{Shelf, Sink};
+use program_frame::{Job, Stop, work_traces};
+use std::alloc::Global;
+use std::snapshot::Snapshot;
+use std::sync::Wait;
+use std::sync::atomic::{AtomicBool, Ordering};
+use std::thread;
+use std::thread::Threads;
+use trace_relay::{Part, PutPass, Relay, TakePass};
+
+// How many parts wait at most between reader and matcher.
+const CAPACITY: u32 = 64;
+
+// Starts the reader beside the matcher, where a thread can be had, and takes it in.
+fn run_both<R: Threads + Wait + Sync, J: Job + Drop, S: Shelf + Send + Drop, K: Sink>(
+    rt: &R,
+    alloc: Global,
+    relay: &Relay,
+    name: &String,
+    shelf: S,
+    put: PutPass,
+    take: TakePass,
+    job: J,
+    out: &mut K,
+) -> (ReadDone<S>, TakePass, J, Option<(Part, Result<(), Stop>)>)
+    requires put { (put.relay ≡ relay.now.name) × (put.parts ≡ []) }
+    requires take { (take.relay ≡ relay.now.name) × (take.parts ≡ []) }
+    requires calm { NeverRefuses (J.text job) }
+    requires begun { J.has job [] }
+    ensures done { Keeps S.state (string_bytes name.now) shelf put result.0 }
+    ensures matched { MatchOption result.3
+        ((result.1 ≡ take) × (result.2 ≡ job) × (K.state out.new ≡ K.state out.old))
+        (λ m. HasTakenAll (J.text job) (J.text result.2) (J.has result.2)
+        (K.state out.old) (K.state out.new) take result.1 m.0 m.1) }
+{
+    let refused = AtomicBool::new(false);
+    let flag = &refused;
+    let (done, taken, left, matched, _out) = thread::scope(
+        thread::scope_env(),
+        rt,
+        move |scope| -> (
+            ReadDone<S>,
+            TakePass,
+            J,
+            Option<(Part, Result<(), Stop>)>,
+            &mut K,
+        )
+            requires put { (put.relay ≡ relay.now.name) × (put.parts ≡ []) }
+            requires take { (take.relay ≡ relay.now.name) × (take.parts ≡ []) }
+            requires calm { NeverRefuses (J.text job) }
+            requires begun { J.has job [] }
+            ensures done { Keeps S.state (string_bytes name.entry.now) shelf put result.0 }
+            ensures matched { MatchOption result.3
+                ((result.1 ≡ take) × (result.2 ≡ job) × (K.state result.4.now ≡ K.state out.entry.now))
+                (λ m. HasTakenAll (J.text job) (J.text result.2) (J.has result.2)
+                (K.state out.entry.now) (K.state result.4.now) take result.1 m.0 m.1) }
+            ensures lent { result.4.ghost_name ≡ out.entry.ghost_name }
+        {
+            let promise = ReadPromise {
+                shelf: Snapshot::of(&shelf),
+                pass: Snapshot::of(&put),
+                name: Snapshot::of(name),
+            };
+            let reader = move || -> ReadDone<S>
+                requires { (put.relay ≡ relay.now.name) × (put.parts ≡ []) }
+                ensures { Keeps S.state (string_bytes name.entry.now) shelf put result }
+            {
+                let mut shelf = shelf;
+                let mut pass = put;
+                if flag.load(Ordering::SeqCst) {
+                    return ReadDone::Unread { shelf, pass };
+                }
+                read_traces(rt, alloc, relay, name, &mut shelf, &mut pass);
+                ReadDone::Read { shelf, pass }
+            };
+            match scope.spawn_with(promise, reader) {
+                Ok(handle) => {
+                    let mut take = take;
+                    let mut job = job;
+                    let matched = match_parts(rt, alloc, relay, &mut job, &mut take, &mut *out);
+                    (handle.join(rt), take, job, Some(matched), out)
+                }
+                Err(refusal) => {
+                    flag.store(true, Ordering::SeqCst);
+                    ((refusal.value)(), take, job, None, out)
+                }
+            }
+        },
+    );
+    (done, taken, left, matched)
+}
+
+/// Hands the traces of a file to a job and writes their text, as `work_traces` does, while another
+/// thread reads. Each trace is written as soon as it is read and matched. Where no thread or no memory
+/// for a relay can be had, that is no fault: the traces are then read and matched in turn, or memory is
+/// wanting.
+pub fn live_traces<R: Threads + Wait + Sync, J: Job + Drop, S: Shelf + Send + Drop, K: Sink>(
+    rt: &R,
+    alloc: Global,
+    job: J,
+    shelf: S,
+    name: &String,
+    out: &mut K,
+) -> (Result<(), Stop>, S)
+    requires calm { NeverRefuses (J.text job) }
+    requires begun { J.has job [] }
+    ensures { LivePerforms (Ok (works_traces (string_bytes name.now) (J.text job)))
+        (S.state shelf) (S.state result.1) (K.state out.old) (K.state out.new) result.0 }
+{
+    let Ok((relay, put, take)) = Relay::open(alloc, CAPACITY) else {
+        return (Err(Stop::NoMemory), shelf);
+    };
+    let (done, mut take, mut job, matched) = run_both(
+        rt, alloc, &relay, name, shelf, put, take, job, &mut *out,
+    );
+    match (matched, done) {
+        (Some((last, ended)), ReadDone::Read { shelf, pass }) => {
+            close_whole(relay, pass, take);
+            (end_traces(alloc, &mut job, last, ended, out), shelf)
+        }
+        (Some(_), ReadDone::Unread { shelf: _, pass }) => {
+            // What was taken was put, and so something was.
+            close_whole(relay, pass, take);
+            unreachable!()
+        }
+        (None, ReadDone::Read { shelf, pass }) => {
+            let (last, ended) = match_parts(rt, alloc, &relay, &mut job, &mut take, &mut *out);
+            close_whole(relay, pass, take);
+            (end_traces(alloc, &mut job, last, ended, out), shelf)
+        }
+        (None, ReadDone::Unread { mut shelf, pass: _ }) => {
+            let ended = work_traces(alloc, job, &mut shelf, name, out);
+            (ended, shelf)
+        }
+    }
+}

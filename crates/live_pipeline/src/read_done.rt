@@ -1,0 +1,28 @@
+// What the reader's thread gives back, and what it promises of it. Serves `live_traces`; decided by
+// `Keeps`.
+use edge_io::Shelf;
+use std::snapshot::Snapshot;
+use std::thread::Promise;
+use trace_relay::PutPass;
+
+/// The shelf and the pass of a reader, after it has read, or where it has not begun.
+#[derive(Drop)]
+pub enum ReadDone<S> {
+    Read { shelf: S, pass: PutPass },
+    Unread { shelf: S, pass: PutPass },
+}
+
+/// The promise of a reader that was given this shelf, this pass and the file of this name.
+#[derive(Drop)]
+pub struct ReadPromise<S> {
+    pub shelf: Snapshot<S>,
+    pub pass: Snapshot<PutPass>,
+    pub name: Snapshot<String>,
+}
+
+impl<S: Shelf> Promise<ReadDone<S>> for ReadPromise<S> {
+    ghost use Rattle.std.specs.Prelude.{string_bytes};
+    ghost use Rattle.live_pipeline.specs.Reading.{Keeps};
+
+    ghost kept_by = { λ p done. Keeps S.state (string_bytes p.name.value) p.shelf.value p.pass.value done };
+}

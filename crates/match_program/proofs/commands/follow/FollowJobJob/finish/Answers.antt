@@ -1,7 +1,0 @@
-use Rattle.std.proofs.Common.{◌≡◌, ◌++◌, ◌∙◌, OnOk, subst}
-use Rattle.match_program.proofs.FollowJobs.{total_is}
-use Rattle.match_program.proofs.commands.follow.FollowJobJob.finish.Goals as goal
-
-pub returns : goal.returns
-returns c taken has =
-    subst (λ t. OnOk c.append_line.result (c.append_line.new.into ≡ c.args.into.now ++ t)) (total_is c.args.self.now.matcher taken c.args.self.now.rows c.args.self.now.tally c.from.result has c.known.ensures (c.from.ensures ∙ c.count.ensures)) c.append_line.ensures

@@ -1,0 +1,301 @@
+-- The lines of a proof and the proofs of a text, read one after the other.
+use Rattle.std.proofs.Common.{◌≡◌, ℕ, zero, suc, ◌+◌, ◌^◌, ◌<◌, List, [], ◌∷◌, ◌++◌, length, map, Option, Some, None, Ok, Err, refl, sym, ap, subst, ◌∙◌, append_assoc, arith, length-append}
+use Rattle.std.specs.List.{AllByRecursion}
+use Rattle.std.proofs.lemmas.List.{append-nil}
+use Rattle.match_text.specs.Grammar.{Continues, IsEnd, place_after, start}
+use Rattle.match_text.specs.MatchText.{end_line, trace_line}
+use Rattle.match_text.specs.Reading.{trace_at}
+use Rattle.match_text.specs.declared.matched.Routed.{Routed}
+use Rattle.match_text.specs.declared.place.Place.{Place}
+use Rattle.match_text.proofs.Lines.{trace_takes}
+use Rattle.matching.specs.declared.parts.Cell.{Cell}
+use Rattle.potential_certificate.specs.Reading.{ProofRead, ProofsRead, adding, fault_at, in_match, line_and_more, line_at, lines_at, lines_behind, no_points, proof_and_more, proof_at, proofs_at, proofs_behind, with_line, with_proof}
+use Rattle.potential_certificate.specs.declared.fault.CertFault.{CertFault}
+use Rattle.potential_certificate.specs.declared.proof.TraceProof.{TraceProof}
+use Rattle.potential_certificate.specs.declared.proof_line.ProofLine.{ProofLine}
+use Rattle.potential_certificate.specs.declared.proof_line.ProofLine.TheVariants.{Missing, Layer, Piece, End}
+use Rattle.potential_certificate.proofs.ProofLines.{FitsLine, line_again, line_goes_down, line_takes, line_text}
+
+-- ---- the lines of a proof
+
+-- the proof of lines, and their text with the end line
+abbrev pub proof_of : ℕ → List ProofLine → TraceProof
+proof_of id [] = no_points id
+proof_of id (line ∷ lines) = with_line line (proof_of id lines)
+
+abbrev pub lines_text : Place → List ProofLine → List ℕ
+lines_text place [] = end_line place.id
+lines_text place (line ∷ lines) = line_text place line ++ lines_text (place_after place (in_match line)) lines
+
+same_id : (place : Place) (line : ProofLine) → (place_after place (in_match line)).id ≡ place.id
+same_id place Missing = refl
+same_id place (Layer rank cells) = refl
+same_id place (Piece piece) = refl
+same_id place End = refl
+
+-- what was read of lines and their end line
+pub record LinesTaken (place : Place) (text : List ℕ) (proof : TraceProof) (rest : List ℕ) : Type 0 where
+  pub lines : List ProofLine
+  pub continues : Continues place (map in_match lines)
+  pub fit : AllByRecursion FitsLine lines
+  pub proof_is : proof ≡ proof_of place.id lines
+  pub text_is : text ≡ lines_text place lines ++ rest
+
+abbrev Takes : List ℕ → ℕ → Type 0
+Takes whole fuel = (place : Place) (text : List ℕ) (proof : TraceProof) (rest : List ℕ) → lines_at whole fuel place text ≡ Ok (proof, rest) → LinesTaken place text proof rest
+
+ok_parts : (p q : TraceProof) (a b : List ℕ) → ◌≡◌ {A = ProofRead} (Ok (p, a)) (Ok (q, b)) → (p ≡ q) × (a ≡ b)
+ok_parts p q a b e = let same : (p, a) ≡ (q, b) = cc in (ap (λ (x : TraceProof × List ℕ). x.0) same, ap (λ (x : TraceProof × List ℕ). x.1) same)
+
+-- a line that is not the end line, and those behind it
+one_more : (place : Place) (text : List ℕ) (line : ProofLine) (next : List ℕ) (proof : TraceProof) (rest : List ℕ) → line_at place text ≡ Some (line, next) → ¬ IsEnd (in_match line)
+    → (read : ProofRead) → ((p : TraceProof) (r : List ℕ) → read ≡ Ok (p, r) → LinesTaken (place_after place (in_match line)) next p r) → adding line read ≡ Ok (proof, rest) → LinesTaken place text proof rest
+one_more place text line next proof rest first other (Err fault) more e = absurd cc
+one_more place text line next proof rest first other (Ok (p, r)) more e =
+    let parts = ok_parts (with_line line p) proof r rest e in
+    let taken = line_takes place text line next first in
+    let others = more p r refl in
+    subst (λ (y : TraceProof × List ℕ). LinesTaken place text y.0 y.1) (λ i. (parts.0 i, parts.1 i))
+    (record {
+      lines = line ∷ others.lines;
+      continues = (other, taken.allowed, others.continues);
+      fit = (taken.fits, others.fit);
+      proof_is = ap (with_line line) (others.proof_is ∙ ap (λ (n : ℕ). proof_of n others.lines) (same_id place line));
+      text_is = taken.text_is ∙ ap (λ (t : List ℕ). line_text place line ++ t) others.text_is ∙ sym (append_assoc (line_text place line) (lines_text (place_after place (in_match line)) others.lines) r);
+    })
+
+no_more : (place : Place) (text : List ℕ) (next : List ℕ) (proof : TraceProof) (rest : List ℕ) → line_at place text ≡ Some (End, next) → ◌≡◌ {A = ProofRead} (Ok (no_points place.id, next)) (Ok (proof, rest)) → LinesTaken place text proof rest
+no_more place text next proof rest first e =
+    let parts = ok_parts (no_points place.id) proof next rest e in
+    let taken = line_takes place text End next first in
+    subst (λ (y : TraceProof × List ℕ). LinesTaken place text y.0 y.1) (λ i. (parts.0 i, parts.1 i))
+    (record { lines = []; continues = taken.allowed; fit = tt; proof_is = refl; text_is = taken.text_is })
+
+pub lines_take : (whole : List ℕ) (fuel : ℕ) → Takes whole fuel
+lines_take whole zero place text proof rest e = absurd cc
+lines_take whole (suc fuel) place text proof rest e = by_line (λ p t q r h. lines_take whole fuel p t q r h) (line_at place text) refl e
+  where
+    by_kind : Takes whole fuel → (line : ProofLine) (next : List ℕ) → line_at place text ≡ Some (line, next) → line_and_more (lines_at whole fuel) place line next ≡ Ok (proof, rest) → LinesTaken place text proof rest
+    by_kind takes End next is e = no_more place text next proof rest is e
+    by_kind takes Missing next is e = one_more place text Missing next proof rest is (λ h. h) (lines_at whole fuel (place_after place (in_match Missing)) next) (λ p r h. takes (place_after place (in_match Missing)) next p r h) e
+    by_kind takes (Layer rank cells) next is e =
+        one_more place text (Layer rank cells) next proof rest is (λ h. h) (lines_at whole fuel (place_after place (in_match (Layer rank cells))) next) (λ p r h. takes (place_after place (in_match (Layer rank cells))) next p r h) e
+    by_kind takes (Piece piece) next is e =
+        one_more place text (Piece piece) next proof rest is (λ h. h) (lines_at whole fuel (place_after place (in_match (Piece piece))) next) (λ p r h. takes (place_after place (in_match (Piece piece))) next p r h) e
+
+    by_line : Takes whole fuel → (read : Option (ProofLine × List ℕ)) → line_at place text ≡ read → lines_behind (lines_at whole fuel) whole place text read ≡ Ok (proof, rest) → LinesTaken place text proof rest
+    by_line takes None is e = absurd cc
+    by_line takes (Some (line, next)) is e = by_kind takes line next is e
+
+other_line : (whole : List ℕ) (fuel : ℕ) (place : Place) (line : ProofLine) (text : List ℕ) → ¬ IsEnd (in_match line)
+    → line_and_more (lines_at whole fuel) place line text ≡ adding line (lines_at whole fuel (place_after place (in_match line)) text)
+other_line whole fuel place Missing text h = refl
+other_line whole fuel place (Layer rank cells) text h = refl
+other_line whole fuel place (Piece piece) text h = refl
+other_line whole fuel place End text h = absurd (h tt)
+
+pub lines_again : (whole : List ℕ) (lines : List ProofLine) (place : Place) (rest : List ℕ) (fuel : ℕ) → place.id < 2 ^ 32 → Continues place (map in_match lines) → AllByRecursion FitsLine lines
+    → length (lines_text place lines ++ rest) < fuel → lines_at whole fuel place (lines_text place lines ++ rest) ≡ Ok (proof_of place.id lines, rest)
+lines_again whole lines place rest zero small continues fit enough = absurd (omega (arith, enough))
+lines_again whole [] place rest (suc fuel) small continues fit enough =
+    ap (lines_behind (lines_at whole fuel) whole place (end_line place.id ++ rest)) (line_again place End rest small continues tt)
+lines_again whole (line ∷ lines) place rest (suc fuel) small continues fit enough =
+    let after = place_after place (in_match line) in
+    let behind = lines_text after lines ++ rest in
+    let text_is : lines_text place (line ∷ lines) ++ rest ≡ line_text place line ++ behind = append_assoc (line_text place line) (lines_text after lines) rest in
+    let first = line_again place line behind small continues.1 fit.0 in
+    let down = line_goes_down place (line_text place line ++ behind) line behind first in
+    let more = lines_again whole lines after rest fuel (subst (λ (n : ℕ). n < 2 ^ 32) (sym (same_id place line)) small) continues.2 fit.1 (omega (arith, enough, ap length text_is, down)) in
+    ap (lines_at whole (suc fuel) place) text_is
+    ∙ ap (lines_behind (lines_at whole fuel) whole place (line_text place line ++ behind)) first
+    ∙ other_line whole fuel place line behind continues.0
+    ∙ ap (adding line) (more ∙ ap (λ (n : ℕ). let y : ProofRead = Ok (proof_of n lines, rest) in y) (same_id place line))
+
+-- ---- the loop over the lines of a proof
+
+abbrev pub front_proof : List (Option ℕ) → List (List Cell) → List Routed → TraceProof → TraceProof
+front_proof ranks tables pieces proof =
+    record { id = proof.id; ranks = ranks ++ proof.ranks; tables = tables ++ proof.tables; pieces = pieces ++ proof.pieces }
+
+abbrev pub prepended : List (Option ℕ) → List (List Cell) → List Routed → ProofRead → ProofRead
+prepended ranks tables pieces (Ok read) = Ok (front_proof ranks tables pieces read.0, read.1)
+prepended ranks tables pieces (Err fault) = Err fault
+
+-- what the lines so far said and what those that are left say is what all say
+pub record GoesOn (whole : List ℕ) (id : ℕ) (text : List ℕ) (ranks : List (Option ℕ)) (tables : List (List Cell)) (pieces : List Routed) (place : Place) (left : List ℕ) : Type 0 where
+  pub fuel : ℕ
+  pub enough : length left < fuel
+  pub id_is : place.id ≡ id
+  pub are : prepended ranks tables pieces (lines_at whole fuel place left) ≡ proof_at whole id text
+
+prepended_none : (read : ProofRead) → prepended [] [] [] read ≡ read
+prepended_none (Ok read) = refl
+prepended_none (Err fault) = refl
+
+pub begins : (whole : List ℕ) (id : ℕ) (text : List ℕ) → GoesOn whole id text [] [] [] (start id) text
+begins whole id text = record { fuel = length text + 1; enough = omega arith; id_is = refl; are = prepended_none (proof_at whole id text) }
+
+-- the front with a line behind it
+abbrev pub ranks_with : List (Option ℕ) → ProofLine → List (Option ℕ)
+ranks_with ranks Missing = ranks ++ None ∷ []
+ranks_with ranks (Layer rank cells) = ranks ++ Some rank ∷ []
+ranks_with ranks (Piece piece) = ranks
+ranks_with ranks End = ranks
+
+abbrev pub tables_with : List (List Cell) → ProofLine → List (List Cell)
+tables_with tables Missing = tables ++ [] ∷ []
+tables_with tables (Layer rank cells) = tables ++ cells ∷ []
+tables_with tables (Piece piece) = tables
+tables_with tables End = tables
+
+abbrev pub pieces_with : List Routed → ProofLine → List Routed
+pieces_with pieces Missing = pieces
+pieces_with pieces (Layer rank cells) = pieces
+pieces_with pieces (Piece piece) = pieces ++ piece ∷ []
+pieces_with pieces End = pieces
+
+point_added : (ranks : List (Option ℕ)) (tables : List (List Cell)) (pieces : List Routed) (rank : Option ℕ) (cells : List Cell) (p : TraceProof) (rest : List ℕ)
+    → ◌≡◌ {A = ProofRead} (Ok (front_proof (ranks ++ rank ∷ []) (tables ++ cells ∷ []) pieces p, rest))
+    (Ok (record { id = p.id; ranks = ranks ++ rank ∷ p.ranks; tables = tables ++ cells ∷ p.tables; pieces = pieces ++ p.pieces }, rest))
+point_added ranks tables pieces rank cells p rest =
+    let first = append_assoc ranks (rank ∷ []) p.ranks in
+    let second = append_assoc tables (cells ∷ []) p.tables in
+    λ i. Ok (record { id = p.id; ranks = first i; tables = second i; pieces = pieces ++ p.pieces }, rest)
+
+piece_added : (ranks : List (Option ℕ)) (tables : List (List Cell)) (pieces : List Routed) (piece : Routed) (p : TraceProof) (rest : List ℕ)
+    → ◌≡◌ {A = ProofRead} (Ok (front_proof ranks tables (pieces ++ piece ∷ []) p, rest))
+    (Ok (record { id = p.id; ranks = ranks ++ p.ranks; tables = tables ++ p.tables; pieces = pieces ++ piece ∷ p.pieces }, rest))
+piece_added ranks tables pieces piece p rest =
+    let third = append_assoc pieces (piece ∷ []) p.pieces in
+    λ i. Ok (record { id = p.id; ranks = ranks ++ p.ranks; tables = tables ++ p.tables; pieces = third i }, rest)
+
+line_added : (ranks : List (Option ℕ)) (tables : List (List Cell)) (pieces : List Routed) (line : ProofLine) (read : ProofRead) → ¬ IsEnd (in_match line)
+    → prepended (ranks_with ranks line) (tables_with tables line) (pieces_with pieces line) read ≡ prepended ranks tables pieces (adding line read)
+line_added ranks tables pieces line (Err fault) other = refl
+line_added ranks tables pieces Missing (Ok (p, rest)) other = point_added ranks tables pieces None [] p rest
+line_added ranks tables pieces (Layer rank cells) (Ok (p, rest)) other = point_added ranks tables pieces (Some rank) cells p rest
+line_added ranks tables pieces (Piece piece) (Ok (p, rest)) other = piece_added ranks tables pieces piece p rest
+line_added ranks tables pieces End (Ok (p, rest)) other = absurd (other tt)
+
+pub goes_on : (whole : List ℕ) (id : ℕ) (text : List ℕ) (ranks : List (Option ℕ)) (tables : List (List Cell)) (pieces : List Routed) (place : Place) (left : List ℕ) (line : ProofLine) (next : List ℕ)
+    → line_at place left ≡ Some (line, next) → ¬ IsEnd (in_match line) → GoesOn whole id text ranks tables pieces place left
+    → GoesOn whole id text (ranks_with ranks line) (tables_with tables line) (pieces_with pieces line) (place_after place (in_match line)) next
+goes_on whole id text ranks tables pieces place left line next first other so_far = by_fuel so_far.fuel so_far.enough so_far.are
+  where
+    by_fuel : (fuel : ℕ) → length left < fuel → prepended ranks tables pieces (lines_at whole fuel place left) ≡ proof_at whole id text
+        → GoesOn whole id text (ranks_with ranks line) (tables_with tables line) (pieces_with pieces line) (place_after place (in_match line)) next
+    by_fuel zero enough are = absurd (omega (arith, enough))
+    by_fuel (suc fuel) enough are = record {
+      fuel = fuel;
+      enough = omega (arith, enough, line_goes_down place left line next first);
+      id_is = same_id place line ∙ so_far.id_is;
+      are = line_added ranks tables pieces line (lines_at whole fuel (place_after place (in_match line)) next) other
+          ∙ ap (prepended ranks tables pieces) (sym (ap (lines_behind (lines_at whole fuel) whole place left) first ∙ other_line whole fuel place line next other))
+          ∙ are;
+    }
+
+-- the same, as the code knows it: the line is this one, and the parts and the place are those with it
+pub reads_on : (whole : List ℕ) (id : ℕ) (text : List ℕ) (ranks : List (Option ℕ)) (tables : List (List Cell)) (pieces : List Routed) (place : Place) (left : List ℕ) (line kind : ProofLine) (next : List ℕ)
+    (ranks' : List (Option ℕ)) (tables' : List (List Cell)) (pieces' : List Routed) (place' : Place)
+    → Some (line, next) ≡ line_at place left → line ≡ kind → ¬ IsEnd (in_match kind) → ranks' ≡ ranks_with ranks kind → tables' ≡ tables_with tables kind → pieces' ≡ pieces_with pieces kind
+    → place' ≡ place_after place (in_match line) → GoesOn whole id text ranks tables pieces place left → GoesOn whole id text ranks' tables' pieces' place' next
+reads_on whole id text ranks tables pieces place left line kind next ranks' tables' pieces' place' first is other ranks_are tables_are pieces_are place_is so_far =
+    let first_is : line_at place left ≡ Some (kind, next) = sym first ∙ ap (λ (l : ProofLine). let y : Option (ProofLine × List ℕ) = Some (l, next) in y) is in
+    let same_place : place_after place (in_match kind) ≡ place' = ap (λ (l : ProofLine). place_after place (in_match l)) (sym is) ∙ sym place_is in
+    subst (λ (p : Place). GoesOn whole id text ranks' tables' pieces' p next) same_place
+    (subst (λ (x : List (Option ℕ)). GoesOn whole id text x tables' pieces' (place_after place (in_match kind)) next) (sym ranks_are)
+    (subst (λ (x : List (List Cell)). GoesOn whole id text (ranks_with ranks kind) x pieces' (place_after place (in_match kind)) next) (sym tables_are)
+    (subst (λ (x : List Routed). GoesOn whole id text (ranks_with ranks kind) (tables_with tables kind) x (place_after place (in_match kind)) next) (sym pieces_are)
+    (goes_on whole id text ranks tables pieces place left kind next first_is other so_far))))
+
+pub fails : (whole : List ℕ) (id : ℕ) (text : List ℕ) (ranks : List (Option ℕ)) (tables : List (List Cell)) (pieces : List Routed) (place : Place) (left : List ℕ)
+    → line_at place left ≡ None → GoesOn whole id text ranks tables pieces place left → proof_at whole id text ≡ Err (fault_at whole left)
+fails whole id text ranks tables pieces place left none so_far = by_fuel so_far.fuel so_far.enough so_far.are
+  where
+    by_fuel : (fuel : ℕ) → length left < fuel → prepended ranks tables pieces (lines_at whole fuel place left) ≡ proof_at whole id text → proof_at whole id text ≡ Err (fault_at whole left)
+    by_fuel zero enough are = absurd (omega (arith, enough))
+    by_fuel (suc fuel) enough are = sym are ∙ ap (prepended ranks tables pieces) (ap (lines_behind (lines_at whole fuel) whole place left) none)
+
+ended_proof : (id : ℕ) (ranks : List (Option ℕ)) (tables : List (List Cell)) (pieces : List Routed) (place : Place) (rest : List ℕ) → place.id ≡ id
+    → prepended ranks tables pieces (Ok (no_points place.id, rest)) ≡ Ok (record { id = id; ranks = ranks; tables = tables; pieces = pieces }, rest)
+ended_proof id ranks tables pieces place rest same =
+    let first = append-nil ranks in
+    let second = append-nil tables in
+    let third = append-nil pieces in
+    λ i. Ok (record { id = same i; ranks = first i; tables = second i; pieces = third i }, rest)
+
+pub ends : (whole : List ℕ) (id : ℕ) (text : List ℕ) (ranks : List (Option ℕ)) (tables : List (List Cell)) (pieces : List Routed) (place : Place) (left next : List ℕ)
+    → line_at place left ≡ Some (End, next) → GoesOn whole id text ranks tables pieces place left → proof_at whole id text ≡ Ok (record { id = id; ranks = ranks; tables = tables; pieces = pieces }, next)
+ends whole id text ranks tables pieces place left next end so_far = by_fuel so_far.fuel so_far.enough so_far.are
+  where
+    by_fuel : (fuel : ℕ) → length left < fuel → prepended ranks tables pieces (lines_at whole fuel place left) ≡ proof_at whole id text → proof_at whole id text ≡ Ok (record { id = id; ranks = ranks; tables = tables; pieces = pieces }, next)
+    by_fuel zero enough are = absurd (omega (arith, enough))
+    by_fuel (suc fuel) enough are =
+        sym are ∙ ap (prepended ranks tables pieces) (ap (lines_behind (lines_at whole fuel) whole place left) end) ∙ ended_proof id ranks tables pieces place next so_far.id_is
+
+-- ---- the proofs of a text
+
+lines_go_down : (place : Place) (lines : List ProofLine) (rest : List ℕ) → length rest < length (lines_text place lines ++ rest)
+lines_go_down place [] rest = line_goes_down_end
+  where
+    line_goes_down_end : length rest < length (end_line place.id ++ rest)
+    line_goes_down_end = omega (arith, length-append (end_line place.id) rest)
+lines_go_down place (line ∷ lines) rest =
+    let after = place_after place (in_match line) in
+    omega (arith, lines_go_down after lines rest, ap length (append_assoc (line_text place line) (lines_text after lines) rest), length-append (line_text place line) (lines_text after lines ++ rest))
+
+pub proof_goes_down : (whole : List ℕ) (left : List ℕ) (id : ℕ) (text : List ℕ) (proof : TraceProof) (rest : List ℕ) → trace_at left ≡ Some (id, text) → proof_at whole id text ≡ Ok (proof, rest) → length rest < length left
+proof_goes_down whole left id text proof rest trace e =
+    let taken = lines_take whole (length text + 1) (start id) text proof rest e in
+    omega (arith, lines_go_down (start id) taken.lines rest, ap length taken.text_is, ap length (trace_takes left id text trace).0, length-append (trace_line id) text)
+
+abbrev pub with_front : List TraceProof → ProofsRead → ProofsRead
+with_front front (Ok read) = Ok (front ++ read.0, read.1)
+with_front front (Err fault) = Err fault
+
+-- the proofs so far and those of what is left are those of all
+pub record ProofsGoOn (whole text : List ℕ) (front : List TraceProof) (left : List ℕ) : Type 0 where
+  pub fuel : ℕ
+  pub enough : length left < fuel
+  pub are : with_front front (proofs_at whole fuel left) ≡ proofs_at whole (length text + 1) text
+
+front_none : (read : ProofsRead) → with_front [] read ≡ read
+front_none (Ok read) = refl
+front_none (Err fault) = refl
+
+front_more : (front : List TraceProof) (proof : TraceProof) (read : ProofsRead) → with_front (front ++ proof ∷ []) read ≡ with_front front (with_proof proof read)
+front_more front proof (Ok (others, rest)) = ap (λ (t : List TraceProof). let y : ProofsRead = Ok (t, rest) in y) (append_assoc front (proof ∷ []) others)
+front_more front proof (Err fault) = refl
+
+pub proofs_begin : (whole text : List ℕ) → ProofsGoOn whole text [] text
+proofs_begin whole text = record { fuel = length text + 1; enough = omega arith; are = front_none (proofs_at whole (length text + 1) text) }
+
+pub proofs_go_on : (whole text : List ℕ) (front : List TraceProof) (left : List ℕ) (id : ℕ) (lines : List ℕ) (proof : TraceProof) (next : List ℕ)
+    → trace_at left ≡ Some (id, lines) → proof_at whole id lines ≡ Ok (proof, next) → ProofsGoOn whole text front left → ProofsGoOn whole text (front ++ proof ∷ []) next
+proofs_go_on whole text front left id lines proof next trace first so_far = by_fuel so_far.fuel so_far.enough so_far.are
+  where
+    by_fuel : (fuel : ℕ) → length left < fuel → with_front front (proofs_at whole fuel left) ≡ proofs_at whole (length text + 1) text → ProofsGoOn whole text (front ++ proof ∷ []) next
+    by_fuel zero enough are = absurd (omega (arith, enough))
+    by_fuel (suc fuel) enough are = record {
+      fuel = fuel;
+      enough = omega (arith, enough, proof_goes_down whole left id lines proof next trace first);
+      are = front_more front proof (proofs_at whole fuel next)
+          ∙ ap (with_front front) (sym (ap (proofs_behind (proofs_at whole fuel) whole left) trace ∙ ap (proof_and_more (proofs_at whole fuel)) first)) ∙ are;
+    }
+
+pub proofs_fail : (whole text : List ℕ) (front : List TraceProof) (left : List ℕ) (id : ℕ) (lines : List ℕ) (fault : CertFault)
+    → trace_at left ≡ Some (id, lines) → proof_at whole id lines ≡ Err fault → ProofsGoOn whole text front left → proofs_at whole (length text + 1) text ≡ Err fault
+proofs_fail whole text front left id lines fault trace first so_far = by_fuel so_far.fuel so_far.enough so_far.are
+  where
+    by_fuel : (fuel : ℕ) → length left < fuel → with_front front (proofs_at whole fuel left) ≡ proofs_at whole (length text + 1) text → proofs_at whole (length text + 1) text ≡ Err fault
+    by_fuel zero enough are = absurd (omega (arith, enough))
+    by_fuel (suc fuel) enough are =
+        sym are ∙ ap (with_front front) (ap (proofs_behind (proofs_at whole fuel) whole left) trace ∙ ap (proof_and_more (proofs_at whole fuel)) first)
+
+pub proofs_end : (whole text : List ℕ) (front : List TraceProof) (left : List ℕ) → trace_at left ≡ None → ProofsGoOn whole text front left → proofs_at whole (length text + 1) text ≡ Ok (front, left)
+proofs_end whole text front left none so_far = by_fuel so_far.fuel so_far.enough so_far.are
+  where
+    by_fuel : (fuel : ℕ) → length left < fuel → with_front front (proofs_at whole fuel left) ≡ proofs_at whole (length text + 1) text → proofs_at whole (length text + 1) text ≡ Ok (front, left)
+    by_fuel zero enough are = absurd (omega (arith, enough))
+    by_fuel (suc fuel) enough are =
+        sym are ∙ ap (with_front front) (ap (proofs_behind (proofs_at whole fuel) whole left) none) ∙ ap (λ (t : List TraceProof). let y : ProofsRead = Ok (t, left) in y) (append-nil front)

@@ -1,0 +1,5 @@
+pub mod CertificateText
+pub mod Words
+pub mod HasText
+pub mod Reading
+pub mod Laws

@@ -1,0 +1,39 @@
+//! What a match proves itself with: certificates, and their text written and read.
+//!
+//! A [`TraceProof`] has the chosen ranks of a trace, the cells of each point and the routed pieces;
+//! a [`Certificate`] has the proofs of all traces and the rows of the bounded table that they rest
+//! on. [`certify`] makes the proof of a match by copying its parts. Nothing of a certificate is known
+//! to be right: that is for the checker.
+//!
+//! The text is a first line with the options, for each trace the line `trace ID`, a line for each point
+//! (`none I` or `layer I rank R cells X0 X1 ..`), directly after that of a piece's last point the line
+//! of the piece, and `end ID`, then a line for each row (`row_text`) by rising origin, and the line
+//! `certified traces T rows R`. It has at most [`TEXT_LIMIT`] bytes. [`write_certificate`] appends it,
+//! and [`read_certificate`] takes exactly the texts of certificates for one set of options.
+//!
+//! The text is defined by `certificate_text` in `specs/CertificateText.antt`, which certificates have
+//! one by `HasText`, and what is read by `certificate_of` in `specs/Reading.antt`. Read these and the
+//! laws in [`laws`] first.
+#![tactic(auto)]
+
+mod copying;
+mod fault;
+pub mod laws;
+mod layers;
+mod lines;
+mod proof;
+mod proof_line;
+mod proof_writing;
+mod reading;
+#[cfg(test)]
+mod tests;
+mod writing;
+
+pub use copying::certify;
+pub use fault::{CertFault, WriteFault};
+pub use proof::{Certificate, TraceProof};
+pub use reading::read_certificate;
+pub use writing::write_certificate;
+
+/// The most bytes of the text of a certificate.
+pub const TEXT_LIMIT: u64 = 1_073_741_824;

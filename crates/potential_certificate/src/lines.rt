@@ -1,0 +1,87 @@
+// The first and the last line of a certificate. Serves the writer and the reader; decided by
+// `first_line` and `last_line`.
+ghost use Rattle.std.specs.Prelude.{◌≡◌, ◌++◌, ◌∷◌, [], OnOk, codes};
+ghost use Rattle.decimal_text.specs.Number.{decimal};
+ghost use Rattle.potential_certificate.specs.CertificateText.{back_words, first_line, form, gap_words, last_line};
+ghost use Rattle.potential_certificate.specs.Words.{words_text};
+
+use cost_model::Params;
+use decimal_text::write_unsigned;
+use polyline_geometry::List;
+use std::alloc::AllocError;
+
+/// Appends the first line. After Err a part of it may stand at the end.
+pub fn append_first(p: &Params, into: &mut List<u8>) -> Result<(), AllocError>
+    ensures { OnOk result (into.new ≡ into.old ++ first_line p.now) }
+{
+    into.extend_from_slice(b"fmm-certificate")?;
+    append_number(b" ", form(p), into)?;
+    append_options(p, into)?;
+    append_back(p, into)?;
+    append_gap(p, into)?;
+    into.extend_from_slice(b"\n")
+}
+
+// Which of its three forms the first line has.
+fn form(p: &Params) -> u32
+    ensures { result ≡ form p.now }
+{
+    if p.gap != u32::MAX {
+        3
+    } else if p.back != 0 {
+        2
+    } else {
+        1
+    }
+}
+
+// Appends the options that are always named.
+fn append_options(p: &Params, into: &mut List<u8>) -> Result<(), AllocError>
+    ensures { OnOk result (into.new ≡ into.old ++ words_text
+        (codes "k" ∷ decimal p.now.k ∷ codes "radius" ∷ decimal p.now.radius
+        ∷ codes "sigma" ∷ decimal p.now.sigma ∷ codes "beta" ∷ decimal p.now.beta
+        ∷ codes "bound" ∷ decimal p.now.bound ∷ [])) }
+{
+    append_number(b" k ", p.k, into)?;
+    append_number(b" radius ", p.radius, into)?;
+    append_number(b" sigma ", p.sigma, into)?;
+    append_number(b" beta ", p.beta, into)?;
+    append_number(b" bound ", p.bound, into)
+}
+
+fn append_back(p: &Params, into: &mut List<u8>) -> Result<(), AllocError>
+    ensures { OnOk result (into.new ≡ into.old ++ words_text (back_words p.now)) }
+{
+    if form(p) == 1 {
+        return Ok(());
+    }
+    append_number(b" back ", p.back, into)
+}
+
+fn append_gap(p: &Params, into: &mut List<u8>) -> Result<(), AllocError>
+    ensures { OnOk result (into.new ≡ into.old ++ words_text (gap_words p.now)) }
+{
+    if form(p) == 3 {
+        return append_number(b" gap ", p.gap, into);
+    }
+    Ok(())
+}
+
+// Appends bytes and a number behind them.
+fn append_number(bytes: &[u8], number: u32, into: &mut List<u8>) -> Result<(), AllocError>
+    ensures { OnOk result (into.new ≡ into.old ++ (bytes.now ++ decimal number)) }
+{
+    into.extend_from_slice(bytes)?;
+    write_unsigned(u64::from(number), into)
+}
+
+/// Appends the last line. After Err a part of it may stand at the end.
+pub fn append_last(traces: u64, rows: u64, into: &mut List<u8>) -> Result<(), AllocError>
+    ensures { OnOk result (into.new ≡ into.old ++ last_line traces rows) }
+{
+    into.extend_from_slice(b"certified traces ")?;
+    write_unsigned(traces, into)?;
+    into.extend_from_slice(b" rows ")?;
+    write_unsigned(rows, into)?;
+    into.extend_from_slice(b"\n")
+}

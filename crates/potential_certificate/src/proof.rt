@@ -1,0 +1,25 @@
+//! What a certificate is made of. Serves everyone.
+use bounded_search::Row;
+use match_text::Routed;
+use polyline_geometry::List;
+use trellis::Potentials;
+
+/// What the match of one trace proves itself with, right or not.
+#[derive(Drop)]
+pub struct TraceProof {
+    /// The id of the trace.
+    pub id: u32,
+    /// The chosen rank of each point; None where the point has no candidate.
+    pub ranks: List<Option<u32>>,
+    /// The cells of each point within its piece; empty where the point has no candidate.
+    pub tables: List<Potentials>,
+    /// The pieces in their order, with the ids of their edges.
+    pub pieces: List<Routed>,
+}
+
+/// The proofs of traces, in the order of the traces, and the rows of the bounded table.
+#[derive(Drop)]
+pub struct Certificate {
+    pub proofs: List<TraceProof>,
+    pub rows: List<Row>,
+}

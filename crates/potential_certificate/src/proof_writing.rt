@@ -1,0 +1,125 @@
+// The lines of a proof, written. Serves `write_certificate`; decided by `proof_text`.
+ghost use Rattle.std.specs.Prelude.{◌≡◌, ◌++◌, length, take, OnErr, OnOk};
+ghost use Rattle.std.specs.List.{concat, flat_map};
+ghost use Rattle.potential_certificate.specs.CertificateText.{cell_word, layer_line, point_line, point_lines, pointer_word, proof_text};
+ghost use Rattle.potential_certificate.specs.Words.{cells_text};
+
+use crate::proof::TraceProof;
+use decimal_text::write_unsigned;
+use match_text::{Label, Routed, write_end, write_label, write_piece, write_trace};
+use polyline_geometry::List;
+use std::alloc::AllocError;
+use trellis::{Cell, Potentials};
+
+/// Appends the lines of the proof. After Err some of them may stand at the end.
+pub fn append_proof(proof: &TraceProof, into: &mut List<u8>) -> Result<(), AllocError>
+    ensures ok { OnOk result (into.new ≡ into.old ++ proof_text proof.now) }
+    ensures err { OnErr result (take (length into.old) into.new ≡ into.old) }
+{
+    write_trace(proof.id, into)?;
+    append_points(
+        proof.ranks.as_slice(),
+        proof.tables.as_slice(),
+        proof.pieces.as_slice(),
+        into,
+    )?;
+    write_end(proof.id, into)
+}
+
+// Appends the lines of the points and of the pieces. After Err some may stand at the end.
+fn append_points(
+    ranks: &[Option<u32>],
+    tables: &[Potentials],
+    pieces: &[Routed],
+    into: &mut List<u8>,
+) -> Result<(), AllocError>
+    ensures ok { OnOk result (into.new ≡ into.old
+        ++ concat (point_lines 0 ranks.now tables.now pieces.now)) }
+    ensures err { OnErr result (take (length into.old) into.new ≡ into.old) }
+{
+    let mut unwritten = pieces;
+    for (point, rank) in ranks.iter().enumerate() {
+        let Some(table) = tables.get(point) else {
+            return Ok(());
+        };
+        append_point(point as u64, *rank, table, into)?;
+        if let [piece, rest @ ..] = unwritten {
+            if piece.last as usize == point {
+                write_piece(piece, into)?;
+                unwritten = rest;
+            }
+        }
+    }
+    Ok(())
+}
+
+// Appends the line of a point. After Err a part of it may stand at the end.
+fn append_point(
+    point: u64,
+    rank: Option<u32>,
+    table: &Potentials,
+    into: &mut List<u8>,
+) -> Result<(), AllocError>
+    ensures ok { OnOk result (into.new ≡ into.old ++ point_line point rank table.now) }
+    ensures err { OnErr result (take (length into.old) into.new ≡ into.old) }
+{
+    match rank {
+        None => write_label(point, Label::Missing, into),
+        Some(rank) => append_layer(point, rank, table.as_slice(), into),
+    }
+}
+
+// Appends the line of a point with candidates. After Err a part of it may stand at the end.
+fn append_layer(
+    point: u64,
+    rank: u32,
+    cells: &[Cell],
+    into: &mut List<u8>,
+) -> Result<(), AllocError>
+    ensures ok { OnOk result (into.new ≡ into.old ++ layer_line point rank cells.now) }
+    ensures err { OnErr result (take (length into.old) into.new ≡ into.old) }
+{
+    into.extend_from_slice(b"layer ")?;
+    write_unsigned(point, into)?;
+    into.extend_from_slice(b" rank ")?;
+    write_unsigned(u64::from(rank), into)?;
+    into.extend_from_slice(b" cells")?;
+    append_cells(cells, into)?;
+    into.extend_from_slice(b"\n")
+}
+
+// Appends each cell after a space. After Err some of them may stand at the end.
+fn append_cells(cells: &[Cell], into: &mut List<u8>) -> Result<(), AllocError>
+    ensures ok { OnOk result (into.new ≡ into.old ++ cells_text cells.now) }
+    ensures err { OnErr result (take (length into.old) into.new ≡ into.old) }
+{
+    for cell in cells {
+        into.extend_from_slice(b" ")?;
+        append_cell(*cell, into)?;
+    }
+    Ok(())
+}
+
+// Appends a cell. After Err a part of it may stand at the end.
+fn append_cell(cell: Cell, into: &mut List<u8>) -> Result<(), AllocError>
+    ensures ok { OnOk result (into.new ≡ into.old ++ cell_word cell) }
+    ensures err { OnErr result (take (length into.old) into.new ≡ into.old) }
+{
+    let Some(cost) = cell.cost else {
+        return into.extend_from_slice(b"-");
+    };
+    write_unsigned(cost, into)?;
+    append_pointer(cell.from, into)
+}
+
+// Appends the rank of the point before after `<`. After Err a part of it may stand at the end.
+fn append_pointer(pointer: Option<u32>, into: &mut List<u8>) -> Result<(), AllocError>
+    ensures ok { OnOk result (into.new ≡ into.old ++ pointer_word pointer) }
+    ensures err { OnErr result (take (length into.old) into.new ≡ into.old) }
+{
+    let Some(rank) = pointer else {
+        return Ok(());
+    };
+    into.extend_from_slice(b"<")?;
+    write_unsigned(u64::from(rank), into)
+}

@@ -1,0 +1,195 @@
+// The text of a certificate, read line by line. Serves all who take one; decided by `certificate_of`.
+ghost use Rattle.std.specs.Prelude.{◌≡◌, ◌⊎◌, ◌<◌, ◌+◌, ◌^◌, ◌==◌, length, IfErr, IfOk, Ok, Err};
+ghost use Rattle.std.specs.List.{count_by, list_any};
+ghost use Rattle.match_text.specs.Reading.{seen};
+ghost use Rattle.potential_certificate.specs.CertificateText.{text_limit};
+ghost use Rattle.potential_certificate.specs.Reading.{all_rows_at, certificate_ended, certificate_of, fault_at, line_count, line_number, proof_at, proofs_at, row_from};
+ghost use Rattle.potential_certificate.specs.declared.fault.CertFault.TheVariants.{Memory};
+
+use crate::TEXT_LIMIT;
+use crate::fault::CertFault;
+use crate::lines::{append_first, append_last};
+use crate::proof::{Certificate, TraceProof};
+use crate::proof_line::{ProofLine, next_line, place_after};
+use bounded_search::Row;
+use cost_model::Params;
+use match_text::front::after;
+use match_text::{Place, read_trace};
+use polyline_geometry::List;
+use row_text::read_row;
+use std::alloc::{AllocError, Global};
+use trellis::Potentials;
+
+/// The certificate whose text for these options this is.
+///
+/// It reads the text once, from its start to its end or to its first bad line. What is read has a text
+/// (`HasText`); whether it is right is not asked.
+pub fn read_certificate(alloc: Global, p: &Params, text: &[u8]) -> Result<Certificate, CertFault>
+    ensures ok { IfOk result (λ c. certificate_of p.now text.now ≡ Ok c) }
+    ensures err { IfErr result (λ fault. (fault ≡ Memory)
+        ⊎ (certificate_of p.now text.now ≡ Err fault)) }
+{
+    if text.len() as u64 > TEXT_LIMIT {
+        return Err(CertFault::TooLong);
+    }
+    let mut first = List::new(alloc);
+    append_first(p, &mut first)?;
+    let Some(rest) = after(text, first.as_slice()) else {
+        return Err(fault_at(text, text));
+    };
+    let (proofs, rest) = read_proofs(alloc, text, rest)?;
+    let (rows, rest) = read_rows(alloc, rest)?;
+    let c = Certificate { proofs, rows };
+    end_certificate(alloc, text, c, rest)
+}
+
+// The certificate, where its last line and nothing behind it is left.
+fn end_certificate(
+    alloc: Global,
+    whole: &[u8],
+    c: Certificate,
+    left: &[u8],
+) -> Result<Certificate, CertFault>
+    ensures ok { IfOk result (λ read. certificate_ended whole.now c left.now ≡ Ok read) }
+    ensures err { IfErr result (λ fault. (fault ≡ Memory)
+        ⊎ (certificate_ended whole.now c left.now ≡ Err fault)) }
+{
+    let mut last = List::new(alloc);
+    append_last(c.proofs.len() as u64, c.rows.len() as u64, &mut last)?;
+    let Some(behind) = after(left, last.as_slice()) else {
+        return Err(fault_at(whole, left));
+    };
+    if behind.is_empty() {
+        return Ok(c);
+    }
+    Err(CertFault::BadLine(line_number(whole, behind)))
+}
+
+// The fault where the line that begins `left` is not allowed.
+fn fault_at(whole: &[u8], left: &[u8]) -> CertFault
+    ensures { result ≡ fault_at whole.now left.now }
+{
+    if has_line(left) {
+        CertFault::BadLine(line_number(whole, left))
+    } else {
+        CertFault::Cut
+    }
+}
+
+// Whether a complete line is at the front.
+fn has_line(text: &[u8]) -> bool
+    ensures { result ≡ list_any (λ b. b == 10) text.now }
+{
+    text.iter().any(|byte| *byte == b'\n')
+}
+
+// The number of the line that begins `left`.
+fn line_number(whole: &[u8], left: &[u8]) -> u64
+    ensures { result ≡ line_number whole.now left.now }
+{
+    (line_count(whole) as u64).saturating_sub(line_count(left) as u64) + 1
+}
+
+// How many complete lines there are.
+fn line_count(text: &[u8]) -> usize
+    ensures value { result ≡ line_count text.now }
+    ensures few { result < 2 ^ 63 }
+{
+    text.iter().filter(|byte| **byte == b'\n').count()
+}
+
+// The proofs at the front, and what stands behind them.
+fn read_proofs<'a>(
+    alloc: Global,
+    whole: &[u8],
+    text: &'a [u8],
+) -> Result<(List<TraceProof>, &'a [u8]), CertFault>
+    ensures ok { IfOk result (λ read. proofs_at whole.now (length text.now + 1) text.now ≡ Ok (read.0, read.1.now)) }
+    ensures err { IfErr result (λ fault. (fault ≡ Memory)
+        ⊎ (proofs_at whole.now (length text.now + 1) text.now ≡ Err fault)) }
+{
+    let mut proofs = List::new(alloc);
+    let mut rest = text;
+    while let Some((id, lines)) = read_trace(rest) {
+        let (proof, next) = read_proof(alloc, whole, id, lines)?;
+        proofs.push(proof)?;
+        rest = next;
+    }
+    Ok((proofs, rest))
+}
+
+// The proof in the lines behind the first one of a trace, and what stands behind its end line.
+fn read_proof<'a>(
+    alloc: Global,
+    whole: &[u8],
+    id: u32,
+    text: &'a [u8],
+) -> Result<(TraceProof, &'a [u8]), CertFault>
+    ensures ok { IfOk result (λ read. proof_at whole.now id text.now ≡ Ok (read.0, read.1.now)) }
+    ensures err { IfErr result (λ fault. (fault ≡ Memory)
+        ⊎ (proof_at whole.now id text.now ≡ Err fault)) }
+{
+    let mut ranks = List::new(alloc);
+    let mut tables = List::new(alloc);
+    let mut pieces = List::new(alloc);
+    let mut place = Place {
+        id,
+        next: 0,
+        waiting: None,
+    };
+    let mut rest = text;
+    loop {
+        let Some((line, next)) = next_line(alloc, place, rest)? else {
+            return Err(fault_at(whole, rest));
+        };
+        place = place_after(place, &line);
+        rest = next;
+        match line {
+            ProofLine::Missing => {
+                ranks.push(None)?;
+                tables.push(Potentials::of(List::new(alloc)))?;
+            }
+            ProofLine::Layer { rank, cells } => {
+                ranks.push(Some(rank))?;
+                tables.push(cells)?;
+            }
+            ProofLine::Piece(piece) => pieces.push(piece)?,
+            ProofLine::End => break,
+        }
+    }
+    let proof = TraceProof {
+        id,
+        ranks,
+        tables,
+        pieces,
+    };
+    Ok((proof, rest))
+}
+
+// The rows at the front by rising origin, and what stands behind them.
+fn read_rows(alloc: Global, text: &[u8]) -> Result<(List<Row>, &[u8]), AllocError>
+    ensures { IfOk result (λ read. all_rows_at text.now ≡ (read.0, read.1.now)) }
+{
+    let mut rows = List::new(alloc);
+    let mut least: u64 = 0;
+    let mut rest = text;
+    while let Some((row, next)) = next_row(alloc, least, rest)? {
+        least = u64::from(row.origin().0) + 1;
+        rows.push(row)?;
+        rest = next;
+    }
+    Ok((rows, rest))
+}
+
+// The row at the front, where its origin is not below `least`, and what stands behind its line.
+fn next_row(alloc: Global, least: u64, text: &[u8]) -> Result<Option<(Row, &[u8])>, AllocError>
+    ensures { IfOk result (λ read. seen read ≡ row_from least text.now) }
+{
+    let Some((row, rest)) = read_row(alloc, text)? else {
+        return Ok(None);
+    };
+    if u64::from(row.origin().0) < least {
+        return Ok(None);
+    }
+    Ok(Some((row, rest)))
+}

@@ -1,0 +1,158 @@
+use crate::{CertFault, certify, read_certificate, write_certificate};
+use cost_model::Params;
+use match_text::Routed;
+use polyline_geometry::List;
+use std::alloc::{AllocError, Global};
+use std::test::Fail;
+use trellis::{Cell, Potentials, Solved};
+
+const WHOLE: &[u8] =
+    b"fmm-certificate 1 k 8 radius 10000 sigma 1000 beta 1000 bound 300000\ntrace 7\nlayer 0 rank 0 cells 45 40545\nlayer 1 rank 0 cells 112<0 1568<0\npiece 0 1 cost 112 route 10\nend 7\nrow 1 1:0:- 2:10000:1\nrow 2 2:0:-\ncertified traces 1 rows 2\n";
+
+const BACK: Params = Params {
+    back: 5,
+    ..Params::DEFAULT
+};
+
+const GAP: Params = Params {
+    gap: 60,
+    ..Params::DEFAULT
+};
+
+// The text of what is read, or the fault.
+fn again(
+    alloc: Global,
+    p: &Params,
+    text: &[u8],
+) -> Result<Result<List<u8>, CertFault>, AllocError> {
+    let certificate = match read_certificate(alloc, p, text) {
+        Ok(certificate) => certificate,
+        Err(fault) => return Ok(Err(fault)),
+    };
+    let mut written = List::new(alloc);
+    if write_certificate(alloc, p, &certificate, &mut written).is_err() {
+        return Ok(Err(CertFault::Memory));
+    }
+    Ok(Ok(written))
+}
+
+#[test]
+fn writes_what_it_reads(rt: HostRuntime) -> Result<(), Fail> {
+    let texts: [(Params, &[u8]); 5] = [
+        (Params::DEFAULT, WHOLE),
+        (
+            BACK,
+            b"fmm-certificate 2 k 8 radius 10000 sigma 1000 beta 1000 bound 300000 back 5\ncertified traces 0 rows 0\n",
+        ),
+        (
+            GAP,
+            b"fmm-certificate 3 k 8 radius 10000 sigma 1000 beta 1000 bound 300000 back 0 gap 60\ntrace 1\nnone 0\nend 1\ncertified traces 1 rows 0\n",
+        ),
+        (
+            Params {
+                radius: 500,
+                ..Params::DEFAULT
+            },
+            b"fmm-certificate 1 k 8 radius 500 sigma 1000 beta 1000 bound 300000\ntrace 1\nlayer 0 rank 0 cells 0 0\nlayer 1 rank 0 cells 0<0\npiece 0 1 cost 0 route 20 7\nend 1\nrow 1 1:0:- 2:10000:2\ncertified traces 1 rows 1\n",
+        ),
+        (
+            Params::DEFAULT,
+            b"fmm-certificate 1 k 8 radius 10000 sigma 1000 beta 1000 bound 300000\ntrace 1\nlayer 0 rank 0 cells 0 -\npiece 0 0 cost 0 route 3\nend 1\ntrace 1\nend 1\ncertified traces 2 rows 0\n",
+        ),
+    ];
+    for (p, text) in texts {
+        match again(rt.alloc(), &p, text)? {
+            Ok(written) => assert_eq!(rt; written.as_slice(), text),
+            Err(fault) => assert_eq!(rt; Some(fault), None),
+        }
+    }
+    Ok(())
+}
+
+// Each text behind its first line, and the fault.
+#[test]
+fn refuses(rt: HostRuntime) -> Result<(), Fail> {
+    let rows: [(&[u8], CertFault); 12] = [
+        (b"", CertFault::Cut),
+        (b"trace 1\nlayer 0 rank 0 cells 45 40545", CertFault::Cut),
+        (
+            b"trace 1\nend 1\ncertified traces 1 rows 0\n\n",
+            CertFault::BadLine(5),
+        ),
+        (b"certified traces 1 rows 0\n", CertFault::BadLine(2)),
+        (
+            b"trace 1\nlayer 0 rank 0 cells 45 040545\n",
+            CertFault::BadLine(3),
+        ),
+        (
+            b"trace 1\nlayer 0 rank 2 cells 45 40545\n",
+            CertFault::BadLine(3),
+        ),
+        (
+            b"trace 1\nlayer 0 rank 0 cells 45 -<0\n",
+            CertFault::BadLine(3),
+        ),
+        (
+            b"trace 1\nlayer 0 rank 0 cells 0 0 0 0 0 0 0 0 0 0 0 0 0 0 0 0 0 0 0 0 0 0 0 0 0 0 0 0 0 0 0 0 0\n",
+            CertFault::BadLine(3),
+        ),
+        (
+            b"trace 1\nlayer 0 rank 0 cells 1\nend 1\n",
+            CertFault::BadLine(4),
+        ),
+        (b"trace 1\nrow 1 1:0:-\n", CertFault::BadLine(3)),
+        (b"row 2 2:0:-\nrow 1 1:0:-\n", CertFault::BadLine(3)),
+        (b"row 1 1:0:-\ntrace 1\n", CertFault::BadLine(3)),
+    ];
+    for (behind, fault) in rows {
+        let mut text = List::new(rt.alloc());
+        text.extend_from_slice(
+            b"fmm-certificate 1 k 8 radius 10000 sigma 1000 beta 1000 bound 300000\n",
+        )?;
+        text.extend_from_slice(behind)?;
+        assert_eq!(rt;
+            read_certificate(rt.alloc(), &Params::DEFAULT, text.as_slice()).err(),
+            Some(fault)
+        );
+    }
+    for p in [BACK, GAP] {
+        assert_eq!(rt;
+            read_certificate(rt.alloc(), &p, WHOLE).err(),
+            Some(CertFault::BadLine(1))
+        );
+    }
+    Ok(())
+}
+
+// The parts of a match of one point.
+#[test]
+fn certifies(rt: HostRuntime) -> Result<(), Fail> {
+    let alloc = rt.alloc();
+    let mut cells = List::new(alloc);
+    cells.push(Cell {
+        cost: Some(45),
+        from: None,
+    })?;
+    let mut solved = Solved {
+        ranks: List::new(alloc),
+        pieces: List::new(alloc),
+        tables: List::new(alloc),
+    };
+    solved.ranks.push(Some(0))?;
+    solved.tables.push(Potentials::of(cells))?;
+    let mut route = List::new(alloc);
+    route.push(10)?;
+    let pieces = [Routed {
+        first: 0,
+        last: 0,
+        cost: 45,
+        route,
+    }];
+    let proof = certify(alloc, 7, &solved, &pieces)?;
+    assert_eq!(rt; proof.id, 7);
+    assert_eq!(rt;
+        (proof.ranks.len(), proof.tables.len(), proof.pieces.len()),
+        (1, 1, 1)
+    );
+    Ok(())
+}

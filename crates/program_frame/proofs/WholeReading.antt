@@ -1,0 +1,138 @@
+-- The traces of a file that is fed whole to a reader.
+use Rattle.std.proofs.Common.{◌≡◌, ◌≢◌, ℕ, ◌+◌, ◌≤◌, List, [], ◌++◌, length, take, drop, Some, None, Result, Ok, Err, refl, sym, ◌∙◌, ap, subst, arith, append-nil, length-append}
+use Rattle.std.proofs.lemmas.List.{take-append-drop, take-take}
+use Rattle.std.specs.declared.option.Option.{Option}
+use Rattle.edge_io.specs.Shelf.{Reads}
+use Rattle.edge_io.specs.State.{ShelfState}
+use Rattle.edge_io.specs.declared.shelf.Taken.TheVariants.{End, Got}
+use Rattle.trace_reader.specs.Fault.{fault_line}
+use Rattle.trace_reader.specs.Reader.{Closes, EndsFaulty, Ends, Fails, StandsFor}
+use Rattle.trace_reader.specs.Reading.{closed, fault_in, file_fault, file_traces}
+use Rattle.trace_reader.specs.declared.fault.TraceFault.{TraceFault}
+use Rattle.trace_reader.specs.declared.fault.TraceFault.TheVariants.{Memory}
+use Rattle.trace_reader.specs.declared.reader.TraceReader.{TraceReader}
+use Rattle.trace_reader.specs.declared.trace.Trace.{Trace}
+use Rattle.trace_reader.proofs.Laws.{closed-none, file_fault_known}
+use Rattle.program_frame.specs.Loads.{FailsToLoad, Loads}
+use Rattle.program_frame.specs.Outcome.{seen}
+use Rattle.program_frame.specs.Read.{IsFront, IsReadSoFar, IsReadWhole, Notes}
+use Rattle.program_frame.specs.Refusals.{RefusesTraces, trace_limit}
+use Rattle.program_frame.specs.WholeTraces.{IsFed, IsHolding, traces_or_line, traces_said}
+use Rattle.program_frame.specs.declared.stop.File.TheVariants.{Traces}
+use Rattle.program_frame.specs.declared.stop.Refusal.TheVariants.{Traces as OfTraces}
+use Rattle.program_frame.specs.declared.stop.Stop.{Stop}
+use Rattle.program_frame.specs.declared.stop.Stop.TheVariants.{Refused, NoMemory, Unread, Unwritten}
+use Rattle.program_frame.proofs.Streaming.{read_end, read_full, read_more}
+
+front_none : (told : Option (List ℕ → Option (List ℕ))) (name : List ℕ) → IsReadSoFar told name []
+front_none None name = tt
+front_none (Some files) name = by_file (files name)
+  where
+    by_file : (file : Option (List ℕ)) → IsFront [] file
+    by_file None = refl
+    by_file (Some bytes) = refl
+
+-- before the first read
+pub holds_nothing : (name : List ℕ) (shelf : ShelfState) (reader : TraceReader) (traces : List Trace) → StandsFor reader [] → traces ≡ [] → IsHolding name shelf 0 reader traces
+holds_nothing name shelf reader traces stands none =
+    record { fed = []; place = refl; front = front_none shelf.holds name; stands = stands; are = none ∙ sym closed-none }
+
+-- one more chunk was fed
+pub holds_more : (name : List ℕ) (shelf : ShelfState) (at n : ℕ) (reader reader' : TraceReader) (traces traces' : List Trace) (chunk : List ℕ) → (holds : IsHolding name shelf at reader traces) → length chunk ≡ n
+    → Reads shelf.holds name (length holds.fed) [] chunk (Got n) → StandsFor reader' (holds.fed ++ chunk) → Closes holds.fed chunk traces traces' → IsHolding name shelf (at + n) reader' traces'
+holds_more name shelf at n reader reader' traces traces' chunk holds long reads stands closes = record {
+  fed = holds.fed ++ chunk;
+  place = omega (arith, length-append holds.fed chunk, holds.place, long);
+  front = read_more shelf.holds name holds.fed chunk n holds.front reads;
+  stands = stands;
+  are = closes.grown ∙ ap (λ (t : List Trace). t ++ closes.more) holds.are ∙ sym closes.due;
+}
+
+-- the end of the file, or the first byte above the limit
+pub fed_to_end : (name : List ℕ) (shelf shelf' : ShelfState) (at : ℕ) (reader : TraceReader) (traces : List Trace) (chunk : List ℕ) → (holds : IsHolding name shelf at reader traces) → shelf' ≡ shelf → at ≤ trace_limit
+    → Reads shelf.holds name (length holds.fed) [] chunk End → IsFed name shelf shelf' reader traces
+fed_to_end name shelf shelf' at reader traces chunk holds same within reads = record {
+  bytes = holds.fed;
+  whole = (read_end trace_limit shelf.holds name holds.fed chunk holds.front (omega (arith, holds.place, within)) reads, same);
+  stands = holds.stands;
+  are = holds.are;
+}
+
+pub fed_to_limit : (name : List ℕ) (shelf shelf' : ShelfState) (at : ℕ) (reader : TraceReader) (traces : List Trace) → (holds : IsHolding name shelf at reader traces) → shelf' ≡ shelf → at ≡ trace_limit + 1 → IsFed name shelf shelf' reader traces
+fed_to_limit name shelf shelf' at reader traces holds same full = record {
+  bytes = holds.fed;
+  whole = (read_full trace_limit shelf.holds name holds.fed holds.front (holds.place ∙ full), same);
+  stands = holds.stands;
+  are = holds.are;
+}
+
+-- ---- refusals
+
+front_rest : (limit : ℕ) (fed file : List ℕ) → fed ≡ take (length fed) file → length fed ≤ limit + 1 → fed ++ drop (length fed) (take (limit + 1) file) ≡ take (limit + 1) file
+front_rest limit fed file front within =
+    let a = length fed in
+    let all = take (limit + 1) file in
+    ap (λ xs. xs ++ drop a all) (front ∙ sym (take-take a (limit + 1) file within)) ∙ take-append-drop a all
+
+-- the bytes that are read of a file begin with its front
+whole_of_front : (limit : ℕ) (told : Option (List ℕ → Option (List ℕ))) (name fed : List ℕ) → IsReadSoFar told name fed → fed ≢ [] → length fed ≤ limit + 1 → (rest : List ℕ) × IsReadWhole told name limit (fed ++ rest)
+whole_of_front limit None name fed front some within = ([], tt)
+whole_of_front limit (Some files) name fed front some within = by_file (files name) front
+  where
+    by_file : (file : Option (List ℕ)) → IsFront fed file → (rest : List ℕ) × (seen limit file ≡ Some (fed ++ rest))
+    by_file None front = absurd (some front)
+    by_file (Some file) front = (drop (length fed) (take (limit + 1) file), ap (λ (t : List ℕ). let y : Option (List ℕ) = Some t in y) (sym (front_rest limit fed file front within)))
+
+some_bytes : (fed chunk : List ℕ) → 1 ≤ length chunk → fed ++ chunk ≢ []
+some_bytes fed chunk some none =
+    let long : length (fed ++ chunk) ≡ 0 = ap length none in
+    omega (arith, length-append fed chunk, long, some)
+
+-- the end of the work at a fault, which may be want of memory
+pub record StopsReading (fault : TraceFault) (stop : Stop) : Type 0 where
+  pub memory : fault ≡ Memory → stop ≡ NoMemory
+  pub refused : fault ≢ Memory → RefusesTraces fault stop
+
+abbrev FailsTraces : List ℕ → ShelfState → ShelfState → Stop → Type 0
+FailsTraces name shelf shelf' stop = FailsToLoad OfTraces Traces name trace_limit traces_said shelf shelf' stop
+
+-- bytes that are read whole have this fault
+refused_at : (name : List ℕ) (shelf shelf' : ShelfState) (bytes : List ℕ) (fault : TraceFault) (stop : Stop) → IsReadWhole shelf.holds name trace_limit bytes → shelf' ≡ shelf → file_fault bytes ≡ Some fault → RefusesTraces fault stop → FailsTraces name shelf shelf' stop
+refused_at name shelf shelf' bytes fault (Refused refusal line) whole same known refuses =
+    record { fault = (bytes, (whole, same), (refuses.0, ap (traces_or_line (file_traces bytes)) known ∙ ap (λ (t : List ℕ). let y : Result (List Trace) (List ℕ) = Err t in y) (sym refuses.1))) }
+refused_at name shelf shelf' bytes fault NoMemory whole same known refuses = record { fault = same }
+refused_at name shelf shelf' bytes fault (Unread file) whole same known refuses = absurd refuses
+refused_at name shelf shelf' bytes fault Unwritten whole same known refuses = absurd refuses
+
+by_memory : (name : List ℕ) (shelf shelf' : ShelfState) (fault : TraceFault) (stop : Stop) → shelf' ≡ shelf → StopsReading fault stop → (fault ≢ Memory → FailsTraces name shelf shelf' stop) → FailsTraces name shelf shelf' stop
+by_memory name shelf shelf' Memory stop same stops refused = subst (λ (s : Stop). FailsTraces name shelf shelf' s) (sym (stops.memory refl)) (record { fault = same })
+by_memory name shelf shelf' fault stop same stops refused = refused (λ h. absurd cc)
+
+pub chunk_refused : (name : List ℕ) (shelf shelf' : ShelfState) (at n : ℕ) (reader : TraceReader) (traces traces' : List Trace) (chunk : List ℕ) (fault : TraceFault) (stop : Stop) → (holds : IsHolding name shelf at reader traces)
+    → shelf' ≡ shelf → length chunk ≡ n → 1 ≤ n → at + n ≤ trace_limit + 1 → Reads shelf.holds name (length holds.fed) [] chunk (Got n) → Fails holds.fed chunk traces traces' fault → StopsReading fault stop → FailsTraces name shelf shelf' stop
+chunk_refused name shelf shelf' at n reader traces traces' chunk fault stop holds same long some within reads fails stops =
+    by_memory name shelf shelf' fault stop same stops (λ other.
+    let fed = holds.fed ++ chunk in
+    let whole = whole_of_front trace_limit shelf.holds name fed (read_more shelf.holds name holds.fed chunk n holds.front reads) (some_bytes holds.fed chunk (omega (arith, long, some))) (omega (arith, length-append holds.fed chunk, holds.place, long, within)) in
+    refused_at name shelf shelf' (fed ++ whole.0) fault stop whole.1 same (file_fault_known fed whole.0 fault (fails.known other).1) (stops.refused other))
+
+-- ---- the end of the file
+
+pub end_refused : (name : List ℕ) (shelf shelf' : ShelfState) (reader : TraceReader) (traces traces' : List Trace) (fault : TraceFault) (stop : Stop) → (fed : IsFed name shelf shelf' reader traces) → EndsFaulty fed.bytes traces traces' fault → StopsReading fault stop → FailsTraces name shelf shelf' stop
+end_refused name shelf shelf' reader traces traces' fault stop fed ends stops =
+    by_memory name shelf shelf' fault stop fed.whole.1 stops (λ other. refused_at name shelf shelf' fed.bytes fault stop fed.whole.0 fed.whole.1 (ends.known other).1 (stops.refused other))
+
+pub end_accepted : (name : List ℕ) (shelf shelf' : ShelfState) (reader reader' : TraceReader) (traces traces' : List Trace) → (fed : IsFed name shelf shelf' reader traces) → Ends fed.bytes reader' traces traces' → Loads OfTraces Traces name trace_limit traces_said shelf shelf' (Ok traces')
+end_accepted name shelf shelf' reader reader' traces traces' fed ends =
+    let are : traces' ≡ file_traces fed.bytes = ends.grown ∙ ap (λ (t : List Trace). t ++ ends.more) fed.are ∙ sym ends.due in
+    record {
+      bytes = fed.bytes;
+      whole = fed.whole;
+      is = ap (traces_or_line (file_traces fed.bytes)) ends.faultless ∙ ap (λ (t : List Trace). let y : Result (List Trace) (List ℕ) = Ok t in y) (sym are);
+    }
+
+pub no_memory : (name : List ℕ) (shelf shelf' : ShelfState) → shelf' ≡ shelf → FailsTraces name shelf shelf' NoMemory
+no_memory name shelf shelf' same = record { fault = same }
+
+pub not_read : (name : List ℕ) (shelf shelf' shelf'' : ShelfState) → shelf' ≡ shelf → Notes shelf' shelf'' name → FailsTraces name shelf shelf'' (Unread Traces)
+not_read name shelf shelf' shelf'' same notes = record { fault = (refl, subst (λ s. Notes s shelf'' name) same notes) }

@@ -1,0 +1,15 @@
+use Rattle.std.proofs.Common.{length, ◌≡◌, ◌<◌, ◌∙◌, Some, sym, subst}
+use Rattle.bounded_search.specs.Table.{TableRow}
+use Rattle.row_store.specs.Store.{Stored, Sees}
+use Rattle.row_store.proofs.reader.Reader.offer_right.Goals as goal
+
+pub seen-requires : goal.seen-requires
+seen-requires c =
+    let s = c.in_ok-settle_right.ensures.seen in
+    (subst (λ (y : Stored). c.args.n.0 < length y.network.nodes) (sym s.1.store) c.requires.node, (s.0, s.1.known))
+
+pub returns-clause-seen : goal.returns-clause-seen
+returns-clause-seen c =
+    let s = c.in_ok-settle_right.ensures.seen in
+    let same : s.0 ≡ c.seen.result.now = (let e : Some (Some s.0) ≡ Some (Some c.seen.result.now) = sym s.1.known ∙ c.seen.ensures in cc) in
+    subst (λ (r : TableRow). Sees c.args.self.now c.args.n.0 r c.settle_right.new.self) same s.1

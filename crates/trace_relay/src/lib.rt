@@ -1,0 +1,156 @@
+//! A relay of parts of a trace file, from the thread that reads it to the one that matches: what was
+//! taken is a prefix of what was put.
+//!
+//! [`Relay::open`] gives the relay and its two passes: whoever has the [`PutPass`] may put, and whoever
+//! has the [`TakePass`] may take. To a contract a pass is the list of the parts that were put or taken
+//! with it. [`Relay::close`] takes both, and says that what was taken stands at the front of what was
+//! put; with a last part taken, it is all.
+//!
+//! The rule of the queue says so at each of its steps (`Relayed` in `specs/Order.antt`), and that the
+//! traces that were put are lawful and no more than a file has, which whoever takes them then knows.
+#![tactic(auto)]
+
+ghost use Rattle.std.specs.Prelude.{◌≡◌, ◌≤◌, ◌++◌, List, IfOk, IfSome, MatchOption, MatchResult};
+ghost use Rattle.trace_relay.specs.declared.part.Part.{Part as APart};
+ghost use Rattle.trace_relay.specs.Order.{AreBounded, HeldSome, MayFollow, more, no_parts};
+
+mod part;
+mod rule;
+
+use crate::rule::{InOrder, Log, Puts, Roles, Takes, Total};
+use crossbeam_queue::{Pass, RuledArrayQueue};
+pub use part::Part;
+use std::alloc::{AllocError, Global};
+use std::marker::Model;
+use std::sync::Wait;
+use std::thread;
+
+/// A queue of parts between two threads. To a contract it is its name and its capacity.
+#[derive(Drop)]
+pub struct Relay {
+    queue: RuledArrayQueue<Part, Log, InOrder>,
+}
+
+impl Model for Relay {
+    ghost use Rattle.trace_relay.specs.Order.{Line};
+    ghost use Rattle.crossbeam_queue.specs.Passes.{ruled_capacity};
+
+    ghost Value = { Line };
+
+    ghost view = { λ r. record { name = r.queue.table.shared.table_id; capacity = ruled_capacity r.queue } };
+}
+
+/// The leave to put parts. To a contract it is its relay, and the parts that were put with it.
+#[derive(Drop)]
+pub struct PutPass {
+    pass: Pass<Part, Log>,
+}
+
+impl Model for PutPass {
+    ghost use Rattle.std.specs.Prelude.{◌≡◌, true, false, []};
+    ghost use Rattle.trace_relay.specs.Order.{Parts, log};
+    ghost use Rattle.crossbeam_queue.specs.Passes.{view as seen};
+
+    ghost Value = { Parts };
+
+    ghost view = { λ p. record { relay = p.pass.table_id; parts = (seen p.pass).put } };
+
+    ghost invariant = { λ p. (p.pass.me.1 ≡ []) × (seen p.pass ≡ log true false (seen p.pass).put []) };
+}
+
+/// The leave to take parts. To a contract it is its relay, and the parts that were taken with it.
+#[derive(Drop)]
+pub struct TakePass {
+    pass: Pass<Part, Log>,
+}
+
+impl Model for TakePass {
+    ghost use Rattle.std.specs.Prelude.{◌≡◌, true, false, []};
+    ghost use Rattle.trace_relay.specs.Order.{Parts, log};
+    ghost use Rattle.crossbeam_queue.specs.Passes.{view as seen};
+
+    ghost Value = { Parts };
+
+    ghost view = { λ p. record { relay = p.pass.table_id; parts = (seen p.pass).taken } };
+
+    ghost invariant = { λ p. (p.pass.me.1 ≡ []) × (seen p.pass ≡ log false true [] (seen p.pass).taken) };
+}
+
+impl Relay {
+    /// A relay with room for so many parts, and its passes.
+    pub fn open(alloc: Global, capacity: u32) -> Result<(Relay, PutPass, TakePass), AllocError>
+        requires { (1 ≤ capacity) × (capacity ≤ 1024) }
+        ensures { IfOk result (λ r. (r.0.capacity ≡ capacity) × (r.1 ≡ no_parts r.0.name) × (r.2 ≡ no_parts r.0.name)) }
+    {
+        let (queue, mut writer) = RuledArrayQueue::ruled(alloc, capacity as usize)?;
+        let reader = queue.another::<Roles>(&mut writer);
+        Ok((
+            Relay { queue },
+            PutPass { pass: writer },
+            TakePass { pass: reader },
+        ))
+    }
+
+    /// Puts a part, or hands it back: then the queue was full at one moment of the call.
+    pub fn try_put<R: Wait>(&self, rt: &R, pass: &mut PutPass, part: Part) -> Result<(), Part>
+        requires own { pass.old.relay ≡ self.now.name }
+        requires may { MayFollow pass.old.parts part }
+        ensures put { MatchResult result (λ _. pass.new ≡ more pass.old part) (λ back. (back ≡ part) × (pass.new ≡ pass.old) × HeldSome self.now.capacity) }
+    {
+        self.queue.push_as::<Puts, R>(rt, &mut pass.pass, part)
+    }
+
+    /// Takes the oldest part. At `None` the queue was empty at one moment of the call.
+    pub fn try_take<R: Wait>(&self, rt: &R, pass: &mut TakePass) -> Option<Part>
+        requires { pass.old.relay ≡ self.now.name }
+        ensures taken { MatchOption result ((pass.new ≡ pass.old) × HeldSome 0) (λ part. pass.new ≡ more pass.old part) }
+        ensures bounded { IfSome result (λ _. AreBounded pass.new.parts) }
+    {
+        self.queue.pop_as::<Takes, R>(rt, &mut pass.pass)
+    }
+
+    /// Tries until the queue has room.
+    pub fn put<R: Wait>(&self, rt: &R, pass: &mut PutPass, part: Part)
+        requires own { pass.old.relay ≡ self.now.name }
+        requires may { MayFollow pass.old.parts part }
+        ensures { pass.new ≡ more pass.old part }
+    {
+        let mut part = part;
+        for _ in rt.forever() {
+            match self.try_put(rt, pass, part) {
+                Ok(()) => return,
+                Err(back) => {
+                    part = back;
+                    thread::yield_now();
+                }
+            }
+        }
+        unreachable!()
+    }
+
+    /// Tries until the queue has a part.
+    pub fn take<R: Wait>(&self, rt: &R, pass: &mut TakePass) -> Part
+        requires { pass.old.relay ≡ self.now.name }
+        ensures part { pass.new ≡ more pass.old result }
+        ensures bounded { AreBounded pass.new.parts }
+    {
+        for _ in rt.forever() {
+            if let Some(part) = self.try_take(rt, pass) {
+                return part;
+            }
+            thread::yield_now();
+        }
+        unreachable!()
+    }
+
+    /// Ends the relay: what was taken is a prefix of what was put. Takes no memory.
+    pub fn close(self, put: PutPass, take: TakePass)
+        requires { (put.relay ≡ self.name) × (take.relay ≡ self.name) }
+        ensures { (rest : List APart) × (put.parts ≡ take.parts ++ rest) }
+    {
+        let PutPass { pass: mut whole } = put;
+        let TakePass { pass: reader } = take;
+        self.queue.absorb::<Roles>(&mut whole, reader);
+        self.queue.learn_as::<Total>(&mut whole);
+    }
+}

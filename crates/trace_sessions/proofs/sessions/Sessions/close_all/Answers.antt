@@ -1,0 +1,35 @@
+use Rattle.std.proofs.Common.{◌∙◌, ap, arith}
+use Rattle.trace_sessions.proofs.StreamEnds.{all-ended, ended-can, ended-err, ended-few, ended-next, ended-rows, none-ended}
+use Rattle.trace_sessions.proofs.sessions.Sessions.close_all.Goals as goal
+
+pub loop-id-init : goal.loop-id-init
+loop-id-init g c =
+    none-ended c.args.self.now c.into_iter-id-iterator.result c.args.into.now (g.R.Rows.state c.args.rows.now)
+    (c.into_iter-id-iterator.ensures.into_iter_gives.0 ∙ ap (λ m. m.entries) c.replace-sessions.ensures.value ∙ ap (λ s. s.sessions) c.self.view_is)
+
+pub end_session-requires-clause-rows : goal.end_session-requires-clause-rows
+end_session-requires-clause-rows g c =
+    ended-rows _ c.self.inside.net.now _ _ _ _ _ _ _ _ _ _ (ap (λ s. s.network) c.self.view_is) c.requires.rows c.requires.can c.in-Some.ensures.steps c.loop-id.invariant
+
+pub end_session-requires-clause-can : goal.end_session-requires-clause-can
+end_session-requires-clause-can g c =
+    ended-can _ c.self.inside.net.now _ _ _ _ _ _ _ _ _ _ (ap (λ s. s.network) c.self.view_is) c.known.ensures.accepted c.requires.can c.in-Some.ensures.steps c.loop-id.invariant
+
+pub returns-in_err-count-clause-asks : goal.returns-in_err-count-clause-asks
+returns-in_err-count-clause-asks g c = ended-err _ _ _ _ _ _ _ _ _ _ _ c.in-Some.ensures.steps c.loop-id.invariant c.end_session.ensures.asks
+
+pub overflow_add-pieces : goal.overflow_add-pieces
+overflow_add-pieces g c =
+    let next = ended-next _ c.self.inside.net.now _ _ _ _ _ _ _ _ _ _ _ c.in_ok-count.count (ap (λ s. s.network) c.self.view_is) c.in-Some.ensures.steps c.loop-id.invariant c.in_ok-count.ensures.ends c.end_session.ensures.asks in
+    let few = ended-few _ _ _ _ _ _ _ _ c.known.ensures.accepted c.requires.can next in
+    omega (arith, few)
+
+pub loop-id-preserved : goal.loop-id-preserved
+loop-id-preserved g c =
+    ended-next _ c.self.inside.net.now _ _ _ _ _ _ _ _ _ _ _ c.in_ok-count.count (ap (λ s. s.network) c.self.view_is) c.in-Some.ensures.steps c.loop-id.invariant c.in_ok-count.ensures.ends c.end_session.ensures.asks
+
+pub returns-clause-ends : goal.returns-clause-ends
+returns-clause-ends g c = all-ended _ _ _ _ _ _ _ c.in-None.ensures.steps.0 c.loop-id.invariant
+
+pub returns-clause-asks : goal.returns-clause-asks
+returns-clause-asks g c pairs keeps = (c.loop-id.invariant pairs keeps).asks

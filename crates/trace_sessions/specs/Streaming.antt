@@ -1,0 +1,98 @@
+-- What taking the points of a stream, and ending it, leave.
+use Rattle.std.specs.Prelude.{◌≡◌, ◌⊎◌, ℕ, ◌+◌, ◌<◌, ◌^◌, List, ◌++◌, Result, Ok, Err, Some, None, OnOk, All, Contains, length, map}
+use Rattle.std.specs.List.{concat, sum_by}
+use Rattle.cost_model.specs.Options.{IsAccepted}
+use Rattle.cost_model.specs.declared.params.Params.{Params}
+use Rattle.road_network.specs.Net.{Net}
+use Rattle.bounded_search.specs.Rows.{RowsState, AsksOnly, Keeps as KeepsRows}
+use Rattle.trace_reader.specs.Trace.{IsLawfulTrace}
+use Rattle.trace_reader.specs.declared.trace.Fix.{Fix}
+use Rattle.trace_match.specs.Match.{layer_of, match_of}
+use Rattle.online_commit.specs.Items.{handed}
+use Rattle.online_commit.specs.Session.{Session}
+use Rattle.trace_sessions.specs.declared.sessions.SessionFault.{SessionFault}
+use Rattle.trace_sessions.specs.declared.sessions.SessionFault.TheVariants.{Memory, NotOpen, TooLong}
+use Rattle.trace_sessions.specs.Following.{pieces_among}
+use Rattle.trace_sessions.specs.Sessions.{AsksFixes, IsSessionOf, Keeps, Pair, SessionsState, fixes_of}
+use Rattle.trace_sessions.specs.StreamText.{Point, closing_lines, full_id, lines_at_end, stream_lines, trace_of, with_points}
+
+-- how many fixes the ids have
+abbrev pub fixes_in : List Pair → ℕ
+fixes_in pairs = sum_by (λ pair. length pair.1) pairs
+
+-- how many pieces were handed out of them, and how many there are
+abbrev pub pieces_told : Net → Params → List Pair → ℕ
+pieces_told n p pairs =
+    sum_by (λ pair. pieces_among (handed n p (map (layer_of n p) pair.1))) pairs
+
+abbrev pub pieces_of_all : Net → Params → List Pair → ℕ
+pieces_of_all n p pairs =
+    sum_by (λ pair. length (match_of n p (trace_of pair)).pieces) pairs
+
+-- the match of the fixes of some id asks for the row of node v
+abbrev pub AsksSome : SessionsState → List Pair → ℕ → Type 0
+AsksSome s pairs v = (id : ℕ) × AsksFixes s (fixes_of pairs id) v
+
+-- the fixes of each id are those of a lawful trace
+abbrev pub AreLawful : List Pair → Type 0
+AreLawful pairs = All (λ pair. IsLawfulTrace (trace_of pair)) pairs
+
+-- the sessions stand for lawful pairs, which have room for so many more points
+pub record CanStream (s : SessionsState) (more : ℕ) : Type 0 where
+  pub pairs : List Pair
+  pub keeps : Keeps s pairs
+  pub lawful : AreLawful pairs
+  pub few : fixes_in pairs + more < 2 ^ 62
+
+-- the points were taken behind those of the pairs, and their lines written, with so many pieces
+pub record TakesPoints (old : SessionsState) (pairs : List Pair) (points : List Point)
+    (new : SessionsState) (text text' : List ℕ) (pieces : ℕ) : Type 0 where
+  pub network : new.network ≡ old.network
+  pub params : new.params ≡ old.params
+  pub room : full_id pairs points ≡ None
+  pub stands : Keeps new (with_points pairs points)
+  pub written : text' ≡ text ++ concat (stream_lines old.network old.params pairs points)
+  pub counted : pieces_told old.network old.params (with_points pairs points)
+      ≡ pieces_told old.network old.params pairs + pieces
+
+-- or the id of one of them was full, and the lines of those before it were written; or memory ran out
+abbrev pub Streams : SessionsState → List Pair → List Point → SessionsState → List ℕ → List ℕ
+    → Result ℕ SessionFault → Type 0
+Streams old pairs points new text text' (Ok pieces) = TakesPoints old pairs points new text text' pieces
+Streams old pairs points new text text' (Err (TooLong id)) =
+    (full_id pairs points ≡ Some id)
+    × (text' ≡ text ++ concat (stream_lines old.network old.params pairs points))
+Streams old pairs points new text text' (Err (NotOpen id)) = ⊥
+Streams old pairs points new text text' (Err Memory) = Unit {0}
+
+-- what taking points leaves of the rows: nothing became known but what some id asks for with them, and
+-- after Ok all that it asks for is known and was not asked for before
+pub record AsksStream {A E : Type 0} (old : SessionsState) (points : List Point) (rows : RowsState)
+    (result : Result A E) (new : RowsState) : Type 0 where
+  pub keeps : KeepsRows rows new
+  pub only : (pairs : List Pair) → Keeps old pairs
+      → AsksOnly rows new (AsksSome old (with_points pairs points))
+  pub all : OnOk result ((pairs : List Pair) (v : ℕ) → Keeps old pairs
+      → AsksSome old (with_points pairs points) v → AsksSome old pairs v ⊎ Contains new.known v)
+
+-- the last lines of the pairs were written, and with these pieces all are told
+pub record EndsPairs (old : SessionsState) (pairs : List Pair) (text text' : List ℕ) (pieces : ℕ)
+    : Type 0 where
+  pub written : text' ≡ text ++ concat (closing_lines old.network old.params pairs)
+  pub counted : pieces_of_all old.network old.params pairs
+      ≡ pieces_told old.network old.params pairs + pieces
+
+-- ---- one id at its end
+
+-- a session of this network that stands for the fixes of a lawful trace
+pub record CanEnd (n : Net) (s : Session) (id : ℕ) : Type 0 where
+  pub fixes : List Fix
+  pub is : IsSessionOf n s.params s fixes
+  pub lawful : IsLawfulTrace (trace_of (id, fixes))
+  pub accepted : IsAccepted s.params
+
+-- its last lines were written, and with these pieces all are told
+pub record EndsPair (n : Net) (p : Params) (pair : Pair) (text text' : List ℕ) (pieces : ℕ) : Type 0 where
+  pub written : text' ≡ text ++ concat (lines_at_end n p pair)
+  pub counted : length (match_of n p (trace_of pair)).pieces
+      ≡ pieces_among (handed n p (map (layer_of n p) pair.1)) + pieces

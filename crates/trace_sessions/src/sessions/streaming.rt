@@ -1,0 +1,160 @@
+//! A stream of points of many traces, whose lines are written as they become certain. Serves `streams`;
+//! decided by `stream_lines` and `closing_lines`.
+ghost use Rattle.std.specs.Prelude.{◌≡◌, ◌++◌, ◌∷◌, [], List as ListOf, IfOk, OnOk, length};
+ghost use Rattle.std.specs.List.{concat};
+ghost use Rattle.polyline_geometry.specs.Plane.{InRange};
+ghost use Rattle.bounded_search.specs.Rows.{AreRowsOf, AsksOnly};
+ghost use Rattle.online_commit.specs.Session.{AsksFinished};
+ghost use Rattle.trace_match.specs.Match.{place_of};
+ghost use Rattle.trace_reader.specs.Trace.{IsLawfulTrace};
+ghost use Rattle.trace_sessions.specs.ItemText.{AreItemsOf};
+ghost use Rattle.trace_sessions.specs.Sessions.{IsSessionOf, Keeps, Pair};
+ghost use Rattle.trace_sessions.specs.StreamText.{fragment_points, led_by};
+ghost use Rattle.trace_sessions.specs.Streaming.{AsksSome, AsksStream, CanEnd, CanStream, EndsPair, EndsPairs, Streams};
+ghost use Rattle.trace_sessions.specs.StreamingInside.{heading, lines_of_items};
+
+use super::{SessionFault, Sessions};
+use crate::following::{count_pieces, write_finish, write_fix};
+use crate::items::{write_items, write_lead};
+use bounded_search::Rows;
+use indexmap::IndexMap;
+use match_text::{write_end, write_trace};
+use online_commit::{Item, Online};
+use polyline_geometry::List;
+use road_network::Network;
+use std::alloc::{AllocError, Global};
+use trace_reader::{Fix, Trace};
+
+impl<'n> Sessions<'n> {
+    // Appends the lines of a point that was taken behind so many others of its id.
+    fn write_point(
+        &self,
+        id: u32,
+        point: u32,
+        items: &[Item],
+        into: &mut List<u8>,
+    ) -> Result<(), AllocError>
+        requires { AreItemsOf self.now.network items.now }
+        ensures { OnOk result
+            (into.new ≡ into.old ++ concat (lines_of_items self.now.network id point items.now)) }
+    {
+        write_heading(id, point, into)?;
+        write_lead(Some(id), into)?;
+        write_fix(point, into)?;
+        write_items(self.alloc, self.net, Some(id), items, into)
+    }
+
+    // Takes the next point of the id and appends its lines.
+    fn stream_point<R: Rows>(
+        &mut self,
+        id: u32,
+        fix: Fix,
+        rows: &mut R,
+        into: &mut List<u8>,
+    ) -> Result<u64, SessionFault>
+        requires rows { AreRowsOf (R.state rows.old) self.old.network self.old.params.bound }
+        requires place { InRange (place_of fix) }
+        requires can { CanStream self.old 1 }
+        ensures streams { (pairs : ListOf Pair) → Keeps self.old pairs
+            → Streams self.old pairs ((id, fix) ∷ []) self.new into.old into.new result }
+        ensures asks { AsksStream self.old ((id, fix) ∷ [])
+            (R.state rows.old) result (R.state rows.new) }
+    {
+        self.known();
+        let point = self.points(id);
+        let items = self.feed(id, fix, rows)?;
+        self.write_point(id, point, items.as_slice(), into)?;
+        Ok(count_pieces(items.as_slice()))
+    }
+
+    /// Takes the points of a fragment of a trace, each as by [`Sessions::feed`], appends their lines,
+    /// and answers how many pieces they closed. `TooLong` says that the id had 100,000 points before
+    /// one of them; the lines of those before it are appended then. After `Memory` a part of the lines
+    /// may stand at the end.
+    pub fn stream<R: Rows>(
+        &mut self,
+        trace: &Trace,
+        rows: &mut R,
+        into: &mut List<u8>,
+    ) -> Result<u64, SessionFault>
+        requires rows { AreRowsOf (R.state rows.old) self.old.network self.old.params.bound }
+        requires trace { IsLawfulTrace trace.now }
+        requires can { CanStream self.old (length trace.now.fixes) }
+        ensures streams { (pairs : ListOf Pair) → Keeps self.old pairs
+            → Streams self.old pairs (fragment_points trace.now) self.new into.old into.new result }
+        ensures asks { AsksStream self.old (fragment_points trace.now)
+            (R.state rows.old) result (R.state rows.new) }
+    {
+        self.known();
+        let mut pieces = 0;
+        for fix in trace.fixes.as_slice() {
+            let count = self.stream_point(trace.id, *fix, rows, into)?;
+            pieces += count;
+        }
+        Ok(pieces)
+    }
+
+    /// Ends all traces, in order of first appearance: appends their last lines, and answers how many
+    /// pieces they closed. Then there are no sessions, after Err too, and a part of the lines may stand
+    /// at the end after Err. Takes the time of the items of each.
+    pub fn close_all<R: Rows>(
+        &mut self,
+        rows: &mut R,
+        into: &mut List<u8>,
+    ) -> Result<u64, AllocError>
+        requires rows { AreRowsOf (R.state rows.old) self.old.network self.old.params.bound }
+        requires can { CanStream self.old 0 }
+        ensures ends { (pairs : ListOf Pair) → Keeps self.old pairs
+            → IfOk result (EndsPairs self.old pairs into.old into.new) }
+        ensures none { Keeps self.new [] }
+        ensures asks { (pairs : ListOf Pair) → Keeps self.old pairs
+            → AsksOnly (R.state rows.old) (R.state rows.new) (AsksSome self.old pairs) }
+    {
+        self.known();
+        let none = IndexMap::new(self.alloc);
+        let sessions = std::mem::replace(&mut self.sessions, none);
+        let mut pieces = 0;
+        for (id, session) in sessions {
+            let count = end_session(self.alloc, self.net, id, session, rows, into)?;
+            pieces += count;
+        }
+        Ok(pieces)
+    }
+}
+
+// Appends the line that begins the trace, before its first point.
+fn write_heading(id: u32, point: u32, into: &mut List<u8>) -> Result<(), AllocError>
+    ensures { OnOk result (into.new ≡ into.old ++ concat (led_by id (heading id point))) }
+{
+    if point > 0 {
+        return Ok(());
+    }
+    write_lead(Some(id), into)?;
+    write_trace(id, into)
+}
+
+// Ends the session of the id, and appends its last lines.
+fn end_session<R: Rows>(
+    alloc: Global,
+    net: &Network,
+    id: u32,
+    session: Online,
+    rows: &mut R,
+    into: &mut List<u8>,
+) -> Result<u64, AllocError>
+    requires rows { AreRowsOf (R.state rows.old) net.now session.params.bound }
+    requires can { CanEnd net.now session id }
+    ensures ends { (fixes : ListOf Fix) → IsSessionOf net.now session.entry.params session.entry fixes
+        → IfOk result (EndsPair net.now session.entry.params (id, fixes) into.old into.new) }
+    ensures asks { AsksFinished session.entry (R.state rows.old) (R.state rows.new) }
+{
+    net.known();
+    let mut session = session;
+    let items = session.finish(rows)?;
+    write_lead(Some(id), into)?;
+    write_finish(into)?;
+    write_items(alloc, net, Some(id), items.as_slice(), into)?;
+    write_lead(Some(id), into)?;
+    write_end(id, into)?;
+    Ok(count_pieces(items.as_slice()))
+}
