@@ -3,9 +3,11 @@ use decimal_text::write_unsigned;
 use edge_io::{MemoryShelf, MemorySink, Put, Shelf, Sink, Taken};
 use polyline_geometry::List;
 use std::alloc::{AllocError, Global};
+use std::sync::Wait;
 use std::sync::atomic::{AtomicBool, Ordering};
 use std::test::Fail;
 use std::thread;
+use std::thread::Threads;
 
 const NETWORK: &[u8] = b"edge,from,to,line\n10,1,2,0 0;10000 0\n11,2,3,10000 0;20000 0\n";
 
@@ -20,12 +22,20 @@ fn bytes(alloc: Global, from: &[u8]) -> Result<List<u8>, AllocError> {
     Ok(list)
 }
 
-// A shelf of the network `net` and the traces `tra`, whose calls give so many bytes at most.
-fn shelf(alloc: Global, traces: &[u8], most: u32) -> Result<MemoryShelf, AllocError> {
+// A shelf of the network `net` and the traces `tra`, whose calls give so many bytes at most, and fail at
+// these numbers.
+fn shelf(
+    alloc: Global,
+    traces: &[u8],
+    most: u32,
+    fail: &[u64],
+) -> Result<MemoryShelf, AllocError> {
     let mut files = List::new(alloc);
     files.push((bytes(alloc, b"net")?, bytes(alloc, NETWORK)?))?;
     files.push((bytes(alloc, b"tra")?, bytes(alloc, traces)?))?;
-    Ok(MemoryShelf::drip(alloc, files, List::new(alloc), most.max(1)))
+    let mut calls = List::new(alloc);
+    calls.extend_from_slice(fail)?;
+    Ok(MemoryShelf::drip(alloc, files, calls, most.max(1)))
 }
 
 fn words(alloc: Global) -> Result<Vec<String>, AllocError> {
@@ -92,7 +102,7 @@ fn both_threads_run(rt: HostRuntime) -> Result<(), Fail> {
     let seen = AtomicBool::new(false);
     let late = AtomicBool::new(false);
     let shelf = GatedShelf {
-        inner: shelf(alloc, TRACES, FIRST_PIECE)?,
+        inner: shelf(alloc, TRACES, FIRST_PIECE, &[])?,
         seen: &seen,
         late: &late,
     };
@@ -107,9 +117,40 @@ fn both_threads_run(rt: HostRuntime) -> Result<(), Fail> {
     assert!(rt;
         out.inner
             .bytes()
-            .ends_with(b"total traces 3 points 4 pieces 3 rows 0\n")
+            .ends_with(b"total traces 3 points 4 pieces 3 rows 2\n")
     );
     assert!(rt; !late.load(Ordering::SeqCst));
+    Ok(())
+}
+
+// The status, what is on out and what is on err, where the reads of these numbers fail.
+fn ended<R: Threads + Wait + Sync>(
+    rt: &R,
+    alloc: Global,
+    fail: &[u64],
+) -> Result<(u8, MemorySink, MemorySink), AllocError> {
+    let mut out = MemorySink::new(alloc, List::new(alloc));
+    let mut err = MemorySink::new(alloc, List::new(alloc));
+    let words = words(alloc)?;
+    let shelf = shelf(alloc, TRACES, u32::MAX, fail)?;
+    let (status, _) = live(rt, alloc, &words, shelf, &mut out, &mut err);
+    Ok((status, out, err))
+}
+
+// Two reads are for the network, and two for the traces.
+#[test]
+fn each_read_fails_in_turn(rt: HostRuntime) -> Result<(), Fail> {
+    let alloc = rt.alloc();
+    let (status, whole, _) = ended(&rt, alloc, &[5])?;
+    assert_eq!(rt; status, 0u8);
+    let network = b"fmm: cannot read network\n".as_slice();
+    let traces = b"fmm: cannot read traces\n".as_slice();
+    for (read, line) in [(1, network), (2, network), (3, traces), (4, traces)] {
+        let (status, out, err) = ended(&rt, alloc, &[read])?;
+        assert_eq!(rt; status, 3u8);
+        assert!(rt; whole.bytes().starts_with(out.bytes()));
+        assert_eq!(rt; err.bytes(), line);
+    }
     Ok(())
 }
 
@@ -127,7 +168,7 @@ fn many_traces(alloc: Global, count: u64) -> Result<List<u8>, AllocError> {
 #[test]
 fn a_failed_put_ends_the_run(rt: HostRuntime) -> Result<(), Fail> {
     let alloc = rt.alloc();
-    let shelf = shelf(alloc, many_traces(alloc, 600)?.as_slice(), u32::MAX)?;
+    let shelf = shelf(alloc, many_traces(alloc, 600)?.as_slice(), u32::MAX, &[])?;
     let mut first = List::new(alloc);
     first.push(1u64)?;
     let mut out = MemorySink::new(alloc, first);

@@ -1,4 +1,5 @@
 mod gates;
+mod refusals;
 
 use crate::run::run;
 use decimal_text::write_unsigned;

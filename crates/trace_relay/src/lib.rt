@@ -16,14 +16,16 @@ ghost use Rattle.trace_relay.specs.Order.{AreBounded, HeldSome, MayFollow, more,
 
 mod part;
 mod rule;
+#[cfg(test)]
+mod tests;
 
 use crate::rule::{InOrder, Log, Puts, Roles, Takes, Total};
 use crossbeam_queue::{Pass, RuledArrayQueue};
+use crossbeam_utils::sync::{Parker, Unparker};
 pub use part::Part;
 use std::alloc::{AllocError, Global};
 use std::marker::Model;
 use std::sync::Wait;
-use std::thread;
 
 /// A queue of parts between two threads. To a contract it is its name and its capacity.
 #[derive(Drop)]
@@ -44,6 +46,10 @@ impl Model for Relay {
 #[derive(Drop)]
 pub struct PutPass {
     pass: Pass<Part, Log>,
+    /// Where the thread sleeps while the queue is full.
+    room: Parker,
+    /// Wakes whoever waits for a part.
+    filled: Unparker,
 }
 
 impl Model for PutPass {
@@ -62,6 +68,10 @@ impl Model for PutPass {
 #[derive(Drop)]
 pub struct TakePass {
     pass: Pass<Part, Log>,
+    /// Where the thread sleeps while the queue is empty.
+    filled: Parker,
+    /// Wakes whoever waits for room.
+    room: Unparker,
 }
 
 impl Model for TakePass {
@@ -82,12 +92,24 @@ impl Relay {
         requires { (1 ≤ capacity) × (capacity ≤ 1024) }
         ensures { IfOk result (λ r. (r.0.capacity ≡ capacity) × (r.1 ≡ no_parts r.0.name) × (r.2 ≡ no_parts r.0.name)) }
     {
+        let room = Parker::new(alloc)?;
+        let filled = Parker::new(alloc)?;
+        let wakes_putter = room.unparker().clone()?;
+        let wakes_taker = filled.unparker().clone()?;
         let (queue, mut writer) = RuledArrayQueue::ruled(alloc, capacity as usize)?;
         let reader = queue.another::<Roles>(&mut writer);
         Ok((
             Relay { queue },
-            PutPass { pass: writer },
-            TakePass { pass: reader },
+            PutPass {
+                pass: writer,
+                room,
+                filled: wakes_taker,
+            },
+            TakePass {
+                pass: reader,
+                filled,
+                room: wakes_putter,
+            },
         ))
     }
 
@@ -97,7 +119,9 @@ impl Relay {
         requires may { MayFollow pass.old.parts part }
         ensures put { MatchResult result (λ _. pass.new ≡ more pass.old part) (λ back. (back ≡ part) × (pass.new ≡ pass.old) × HeldSome self.now.capacity) }
     {
-        self.queue.push_as::<Puts, R>(rt, &mut pass.pass, part)
+        self.queue.push_as::<Puts, R>(rt, &mut pass.pass, part)?;
+        pass.filled.unpark();
+        Ok(())
     }
 
     /// Takes the oldest part. At `None` the queue was empty at one moment of the call.
@@ -106,10 +130,12 @@ impl Relay {
         ensures taken { MatchOption result ((pass.new ≡ pass.old) × HeldSome 0) (λ part. pass.new ≡ more pass.old part) }
         ensures bounded { IfSome result (λ _. AreBounded pass.new.parts) }
     {
-        self.queue.pop_as::<Takes, R>(rt, &mut pass.pass)
+        let part = self.queue.pop_as::<Takes, R>(rt, &mut pass.pass)?;
+        pass.room.unpark();
+        Some(part)
     }
 
-    /// Tries until the queue has room.
+    /// Puts a part, and sleeps until the queue has room for it.
     pub fn put<R: Wait>(&self, rt: &R, pass: &mut PutPass, part: Part)
         requires own { pass.old.relay ≡ self.now.name }
         requires may { MayFollow pass.old.parts part }
@@ -121,14 +147,14 @@ impl Relay {
                 Ok(()) => return,
                 Err(back) => {
                     part = back;
-                    thread::yield_now();
+                    pass.room.park(rt);
                 }
             }
         }
         unreachable!()
     }
 
-    /// Tries until the queue has a part.
+    /// Takes the oldest part, and sleeps until there is one.
     pub fn take<R: Wait>(&self, rt: &R, pass: &mut TakePass) -> Part
         requires { pass.old.relay ≡ self.now.name }
         ensures part { pass.new ≡ more pass.old result }
@@ -138,7 +164,7 @@ impl Relay {
             if let Some(part) = self.try_take(rt, pass) {
                 return part;
             }
-            thread::yield_now();
+            pass.filled.park(rt);
         }
         unreachable!()
     }
@@ -148,8 +174,11 @@ impl Relay {
         requires { (put.relay ≡ self.name) × (take.relay ≡ self.name) }
         ensures { (rest : List APart) × (put.parts ≡ take.parts ++ rest) }
     {
-        let PutPass { pass: mut whole } = put;
-        let TakePass { pass: reader } = take;
+        let PutPass {
+            pass: mut whole,
+            ..
+        } = put;
+        let TakePass { pass: reader, .. } = take;
         self.queue.absorb::<Roles>(&mut whole, reader);
         self.queue.learn_as::<Total>(&mut whole);
     }

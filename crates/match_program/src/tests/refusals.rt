@@ -1,0 +1,195 @@
+// Each read and each put fails in turn, and files come a few bytes at a time.
+use super::{FAULTY, STRAIGHT, bytes, numbers, words};
+use crate::run::run;
+use edge_io::{MemoryShelf, MemorySink};
+use match_pool::OpenGate;
+use polyline_geometry::List;
+use std::alloc::{AllocError, Global};
+use std::test::Fail;
+use std::thread::Threads;
+
+const ONE_TRACE: &[u8] = b"trace,x,y\n7,1000,300\n7,9000,-300\n";
+
+const INTERLEAVED: &[u8] = b"trace,x,y\n1,1000,0\n2,9000,0\n1,2000,0\n";
+
+const TABLE: &[u8] =
+    b"fmm-table 1 bound 300000 nodes 3 edges 2\nrow 1 1:0:- 2:10000:1\nend rows 1\n";
+
+// A run, the file that each of its reads is for, how many puts it takes, and how it ends.
+struct Run {
+    shows: &'static str,
+    words: &'static [&'static str],
+    traces: &'static [u8],
+    reads: &'static [&'static str],
+    puts: u64,
+    status: u8,
+    line: &'static [u8],
+}
+
+const RUNS: [Run; 6] = [
+    Run {
+        shows: "match",
+        words: &["match", "net", "tra"],
+        traces: ONE_TRACE,
+        reads: &["network", "network", "traces", "traces"],
+        puts: 2,
+        status: 0,
+        line: b"",
+    },
+    Run {
+        shows: "match with a fault",
+        words: &["match", "net", "tra"],
+        traces: FAULTY,
+        reads: &["network", "network", "traces"],
+        puts: 1,
+        status: 6,
+        line: b"traces line 5 field 2: bad number\n",
+    },
+    Run {
+        shows: "match with a table",
+        words: &["match", "net", "tra", "--table", "tab"],
+        traces: ONE_TRACE,
+        reads: &["network", "network", "table", "table", "traces", "traces"],
+        puts: 2,
+        status: 0,
+        line: b"",
+    },
+    Run {
+        shows: "follow",
+        words: &["follow", "net", "tra"],
+        traces: ONE_TRACE,
+        reads: &["network", "network", "traces", "traces"],
+        puts: 2,
+        status: 0,
+        line: b"",
+    },
+    Run {
+        shows: "streams",
+        words: &["streams", "net", "tra"],
+        traces: INTERLEAVED,
+        reads: &["network", "network", "traces", "traces"],
+        puts: 2,
+        status: 0,
+        line: b"",
+    },
+    Run {
+        shows: "table",
+        words: &["table", "net"],
+        traces: b"",
+        reads: &["network", "network"],
+        puts: 1,
+        status: 0,
+        line: b"",
+    },
+];
+
+// How a run ended.
+#[derive(Drop)]
+struct Ended {
+    status: u8,
+    out: MemorySink,
+    err: MemorySink,
+}
+
+impl Ended {
+    // It ended with this status and line, and with a beginning of the text of another run.
+    fn is_cut(&self, status: u8, line: &[u8], whole: &Ended) -> bool {
+        self.status == status
+            && self.err.bytes() == line
+            && whole.out.bytes().starts_with(self.out.bytes())
+    }
+
+    fn is_same(&self, whole: &Ended) -> bool {
+        self.is_cut(whole.status, whole.err.bytes(), whole) && self.out.bytes() == whole.out.bytes()
+    }
+}
+
+// Ends a run whose reads and puts of these numbers fail, and whose reads give so many bytes at most.
+fn end<R: Threads + Sync>(
+    rt: &R,
+    alloc: Global,
+    it: &Run,
+    reads: &[u64],
+    puts: &[u64],
+    most: u32,
+) -> Result<Ended, AllocError> {
+    let mut files = List::new(alloc);
+    files.push((bytes(alloc, b"net")?, bytes(alloc, STRAIGHT)?))?;
+    files.push((bytes(alloc, b"tra")?, bytes(alloc, it.traces)?))?;
+    files.push((bytes(alloc, b"tab")?, bytes(alloc, TABLE)?))?;
+    let mut shelf = MemoryShelf::drip(alloc, files, numbers(alloc, reads)?, most.max(1));
+    let mut out = MemorySink::new(alloc, numbers(alloc, puts)?);
+    let mut err = MemorySink::new(alloc, List::new(alloc));
+    let words = words(alloc, it.words)?;
+    let status = run(rt, alloc, &words, &mut shelf, &mut out, &mut err, &OpenGate);
+    Ok(Ended { status, out, err })
+}
+
+// Whether a run ends as it has to where each of its reads fails in turn, and then the one behind the last.
+fn fails_at_each_read<R: Threads + Sync>(
+    rt: &R,
+    alloc: Global,
+    it: &Run,
+) -> Result<bool, AllocError> {
+    let whole = end(rt, alloc, it, &[], &[], u32::MAX)?;
+    let mut read = 1;
+    for file in it.reads {
+        let mut line = List::new(alloc);
+        line.extend_from_slice(b"fmm: cannot read ")?;
+        line.extend_from_slice(file.as_bytes())?;
+        line.extend_from_slice(b"\n")?;
+        let cut = end(rt, alloc, it, &[read], &[], u32::MAX)?;
+        if !cut.is_cut(3, line.as_slice(), &whole) {
+            return Ok(false);
+        }
+        read += 1;
+    }
+    let same = end(rt, alloc, it, &[read], &[], u32::MAX)?;
+    Ok(same.is_same(&whole) && whole.status == it.status && whole.err.bytes() == it.line)
+}
+
+#[test]
+fn each_read_fails_in_turn(rt: HostRuntime) -> Result<(), Fail> {
+    for it in &RUNS {
+        assert!(rt; fails_at_each_read(&rt, rt.alloc(), it)?, "{}", it.shows);
+    }
+    Ok(())
+}
+
+// The same for each put.
+fn fails_at_each_put<R: Threads + Sync>(
+    rt: &R,
+    alloc: Global,
+    it: &Run,
+) -> Result<bool, AllocError> {
+    let whole = end(rt, alloc, it, &[], &[], u32::MAX)?;
+    for put in 0..it.puts {
+        let cut = end(rt, alloc, it, &[], &[put + 1], u32::MAX)?;
+        if !cut.is_cut(4, b"fmm: write failed\n", &whole) || cut.is_same(&whole) {
+            return Ok(false);
+        }
+    }
+    let same = end(rt, alloc, it, &[], &[it.puts.saturating_add(1)], u32::MAX)?;
+    Ok(same.is_same(&whole))
+}
+
+#[test]
+fn each_put_fails_in_turn(rt: HostRuntime) -> Result<(), Fail> {
+    for it in &RUNS {
+        assert!(rt; fails_at_each_put(&rt, rt.alloc(), it)?, "{}", it.shows);
+    }
+    Ok(())
+}
+
+#[test]
+fn files_come_by_drops(rt: HostRuntime) -> Result<(), Fail> {
+    let alloc = rt.alloc();
+    for it in &RUNS {
+        let whole = end(&rt, alloc, it, &[], &[], u32::MAX)?;
+        for most in [1, 2, 7] {
+            let same = end(&rt, alloc, it, &[], &[], most)?;
+            assert!(rt; same.is_same(&whole), "{}", it.shows);
+        }
+    }
+    Ok(())
+}
