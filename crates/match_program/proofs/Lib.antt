@@ -9,6 +9,7 @@ pub mod TableFiles
 pub mod TableRows
 pub mod Towns
 pub mod TriedRows
+pub mod WholeTraces
 pub mod Workers
 pub mod StreamJobs
 pub mod StreamTakes

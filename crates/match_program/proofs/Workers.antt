@@ -1,6 +1,6 @@
 -- No definition of a match looks at the number of workers.
 use Rattle.std.proofs.Common.{refl, Some, None}
-use Rattle.command_line.specs.Work.PlainWork.{follow_files, match_files, match_town, stream_files, table_of_network}
+use Rattle.command_line.specs.Work.PlainWork.{follow_files, match_files, match_town, prove_files, stream_files, table_of_network}
 use Rattle.online_commit.specs.Items.{handed, items_of}
 use Rattle.route_rebuild.specs.Routes.{route_of}
 use Rattle.trace_match.specs.Match.{asks, match_of}
@@ -14,3 +14,4 @@ workers_change_nothing (follow_files network traces) options workers = refl
 workers_change_nothing (table_of_network network) options workers = refl
 workers_change_nothing (match_town side traces seed) options workers = refl
 workers_change_nothing (stream_files network traces) options workers = refl
+workers_change_nothing (prove_files network traces) options workers = refl

@@ -2,6 +2,7 @@
 pub mod follow;
 pub mod matches;
 pub mod preload;
+pub mod prove;
 pub mod streams;
 pub mod table;
 pub mod towns;

@@ -8,6 +8,7 @@ ghost use Rattle.match_program.specs.Words.{asked_by};
 
 use crate::commands::follow::follow_traces;
 use crate::commands::matches::match_traces;
+use crate::commands::prove::prove_traces;
 use crate::commands::streams::stream_traces;
 use crate::commands::table::write_table;
 use crate::commands::towns::match_town;
@@ -55,6 +56,9 @@ fn perform<R: Threads + Sync, G: Gate, S: Shelf, K: Sink>(
         }
         Work::Streams { network, traces } => {
             stream_traces(alloc, network, traces, command.options, shelf, out)
+        }
+        Work::Prove { network, traces } => {
+            prove_traces(alloc, network, traces, command.options, shelf, out)
         }
         Work::Table { network } => write_table(alloc, network, command.options, shelf, out),
         Work::Town { side, traces, seed } => {
