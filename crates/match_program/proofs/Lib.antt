@@ -1,5 +1,6 @@
 pub mod Asked
 pub mod Asking
+pub mod CheckedProofs
 pub mod Jobs
 pub mod Lines
 pub mod Matches

@@ -1,3 +1,5 @@
+pub mod Check
+pub mod CheckDone
 pub mod Matches
 pub mod MatchesDone
 pub mod Preload

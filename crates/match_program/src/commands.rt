@@ -1,4 +1,5 @@
 // The commands, each in a file of its own.
+pub mod check;
 pub mod follow;
 pub mod matches;
 pub mod preload;
@@ -6,3 +7,4 @@ pub mod prove;
 pub mod streams;
 pub mod table;
 pub mod towns;
+pub mod verdicts;
