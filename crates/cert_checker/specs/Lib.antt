@@ -4,3 +4,4 @@ pub mod Cells
 pub mod Pieces
 pub mod Verdicts
 pub mod Whole
+pub mod CaseSeen

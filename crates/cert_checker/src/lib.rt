@@ -4,6 +4,7 @@
 #![tactic(auto)]
 
 mod rows;
+mod trace_case;
 mod verdict;
 
 pub use rows::check_rows;
