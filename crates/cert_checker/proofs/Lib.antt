@@ -1,1 +1,3 @@
 pub mod RightRows
+pub mod RisingPieces
+pub mod PiecesInHand

@@ -5,3 +5,4 @@ pub mod Pieces
 pub mod Verdicts
 pub mod Whole
 pub mod CaseSeen
+pub mod InHand

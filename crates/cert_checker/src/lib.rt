@@ -3,6 +3,7 @@
 //! [`check_rows`] tries the rows that the rest stands on.
 #![tactic(auto)]
 
+mod pieces;
 mod rows;
 mod trace_case;
 mod verdict;
