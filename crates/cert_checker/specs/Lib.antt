@@ -6,3 +6,4 @@ pub mod Verdicts
 pub mod Whole
 pub mod CaseSeen
 pub mod InHand
+pub mod Legs
