@@ -4,3 +4,5 @@ pub mod Cells
 pub mod Pieces
 pub mod Verdicts
 pub mod CaseSeen
+pub mod RowPlaces
+pub mod Columns
