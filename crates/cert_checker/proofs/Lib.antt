@@ -5,3 +5,9 @@ pub mod PointersBack
 pub mod Legs
 pub mod LegRows
 pub mod RouteLegs
+pub mod RowsAtPlaces
+pub mod FoundPlaces
+pub mod EachBelow
+pub mod ReadyPoints
+pub mod WayCosts
+pub mod ColumnSteps

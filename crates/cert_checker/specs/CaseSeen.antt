@@ -1,5 +1,5 @@
 -- The case that the code looks at, and what it may rest on.
-use Rattle.std.specs.Prelude.{◌≡◌, ◌-◌, ◌<◌, ◌≤◌, ℕ, true, Option, None, length}
+use Rattle.std.specs.Prelude.{◌≡◌, ◌-◌, ◌<◌, ◌≤◌, ℕ, true, None, length}
 use Rattle.std.specs.List.{All}
 use Rattle.cost_model.specs.Options.{IsAccepted}
 use Rattle.matching.specs.Layers.{IsLayer}

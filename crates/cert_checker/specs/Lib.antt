@@ -7,3 +7,5 @@ pub mod Whole
 pub mod CaseSeen
 pub mod InHand
 pub mod Legs
+pub mod RowPlaces
+pub mod Columns

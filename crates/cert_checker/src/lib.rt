@@ -3,10 +3,17 @@
 //! [`check_rows`] tries the rows that the rest stands on.
 #![tactic(auto)]
 
+mod cell_tests;
+mod chosen;
 mod pieces;
+mod point_ways;
+mod points;
+mod routes;
+mod row_places;
 mod rows;
 mod trace_case;
 mod verdict;
+mod ways;
 
 pub use rows::check_rows;
 pub use verdict::{Condition, Verdict};

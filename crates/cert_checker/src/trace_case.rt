@@ -3,7 +3,7 @@ use bounded_search::Row;
 use cost_model::Params;
 use matching::{Cell, Layer};
 use potential_certificate::TraceProof;
-use road_network::Network;
+use road_network::{Candidate, Network};
 use trellis::is_near;
 
 /// A trace that is checked: what it is matched on, the rows of the certificate, its fixes with their
@@ -19,8 +19,26 @@ pub struct TraceCase<'a> {
 
 impl<'a> TraceCase<'a> {
     ghost use Rattle.std.specs.Prelude.{◌≡◌, ◌<◌, length};
-    ghost use Rattle.cert_checker.specs.Case.{is_looked_at, rank, table, width};
+    ghost use Rattle.matching.specs.Layers.{candidate_of_rank};
+    ghost use Rattle.cert_checker.specs.Case.{is_looked_at, layer, rank, table, width};
     ghost use Rattle.cert_checker.specs.CaseSeen.{case_seen};
+
+    /// A point with its candidates.
+    pub fn layer(&self, i: usize) -> &Layer
+        requires { i < length self.now.layers.now }
+        ensures { result.now ≡ layer (case_seen self.now) i }
+    {
+        &self.layers[i]
+    }
+
+    /// The candidate of a point with this rank.
+    pub fn candidate(&self, i: usize, j: usize) -> Candidate
+        requires point { i < length self.now.layers.now }
+        requires rank { j < width (case_seen self.now) i }
+        ensures { result ≡ candidate_of_rank (layer (case_seen self.now) i) j }
+    {
+        self.layer(i).candidates.as_slice()[j]
+    }
 
     /// How many candidates a point has.
     pub fn width(&self, i: usize) -> usize
@@ -60,6 +78,6 @@ impl<'a> TraceCase<'a> {
         0 < i
             && 0 < self.width(i - 1)
             && 0 < self.width(i)
-            && is_near(self.params, &self.layers[i - 1], &self.layers[i])
+            && is_near(self.params, self.layer(i - 1), self.layer(i))
     }
 }
