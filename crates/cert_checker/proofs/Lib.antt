@@ -11,3 +11,7 @@ pub mod EachBelow
 pub mod ReadyPoints
 pub mod WayCosts
 pub mod ColumnSteps
+pub mod PieceRuns
+pub mod PointBreaks
+pub mod FailingFirst
+pub mod LaterPoints

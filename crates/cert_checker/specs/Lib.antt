@@ -9,3 +9,4 @@ pub mod InHand
 pub mod Legs
 pub mod RowPlaces
 pub mod Columns
+pub mod Checked

@@ -3,6 +3,7 @@
 //! [`check_rows`] tries the rows that the rest stands on.
 #![tactic(auto)]
 
+mod breaks;
 mod cell_tests;
 mod chosen;
 mod pieces;
@@ -12,6 +13,7 @@ mod routes;
 mod row_places;
 mod rows;
 mod trace_case;
+mod trace_check;
 mod verdict;
 mod ways;
 

@@ -33,4 +33,3 @@ loop-i-preserved c =
     let q = c.args.piece.now in
     legs_left k q c.loop-i.left.now c.in-Some-2.rest.now c.loop-i.i c.loop-i-test.true
     (subst (λ o. IsLeftAfter k.net c.loop-i.left.now (leg k c.loop-i.i) (option_copied o)) c.in-Some-2.is c.in_ok-rest.ensures) c.loop-i.invariant
-
