@@ -15,3 +15,4 @@ pub mod PieceRuns
 pub mod PointBreaks
 pub mod FailingFirst
 pub mod LaterPoints
+pub mod WholeVerdicts
