@@ -5,3 +5,6 @@ pub mod EachBelow
 pub mod ReadyPoints
 pub mod WayCosts
 pub mod ColumnSteps
+pub mod Tests
+pub mod CellTests
+pub mod StepWays

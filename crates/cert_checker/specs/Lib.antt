@@ -6,3 +6,4 @@ pub mod Verdicts
 pub mod CaseSeen
 pub mod RowPlaces
 pub mod Columns
+pub mod GivenInside

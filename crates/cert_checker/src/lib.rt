@@ -4,10 +4,12 @@
 #![tactic(auto)]
 
 mod cell_tests;
+mod given_rows;
 mod point_ways;
 mod points;
 mod row_places;
 mod rows;
+mod step_ways;
 mod trace_case;
 mod verdict;
 mod ways;

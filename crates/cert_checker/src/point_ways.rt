@@ -7,6 +7,7 @@ ghost use Rattle.cert_checker.specs.Columns.{AreWaysOf, with_column};
 ghost use Rattle.trellis.specs.Pairs.{pairs_of};
 
 use crate::cell_tests::{has_way, is_first_pointer, is_relaxed, is_tight};
+use crate::step_ways::ways_by_step;
 use crate::trace_case::TraceCase;
 use crate::ways::fill_column;
 use matching::Cell;
@@ -71,6 +72,9 @@ pub fn point_ways(
     ensures ways { IfOk result (AreWaysOf (case_seen case.now) i (width (case_seen case.now) i)) }
     ensures same { pairs.new ≡ pairs.old }
 {
+    if let Some(found) = ways_by_step(alloc, case, pairs, i) {
+        return Ok(found);
+    }
     let mut column = vec![in alloc; None; case.width(i - 1)]?;
     Ok(ways_by_columns(case, i, &mut column))
 }
