@@ -1,6 +1,6 @@
 pub mod RightRows
 pub mod RowsAtPlaces
-pub mod FoundPlaces
+pub mod ToldPlaces
 pub mod EachBelow
 pub mod ReadyPoints
 pub mod WayCosts

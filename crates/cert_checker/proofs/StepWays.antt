@@ -1,7 +1,7 @@
 -- Where each cell of a point has the least way, all three tests pass.
-use Rattle.std.proofs.Common.{◌≡◌, ◌<◌, ◌≤◌, ℕ, ◌+◌, ◌-◌, ◌^◌, Bool, true, false, List, length, Option, Some, None, MatchOption, is_some, refl, sym, ◌∙◌, ap, subst, arith}
-use Rattle.std.specs.Bool.{Decides, one_answer}
-use Rattle.std.specs.List.{list_any, range_with_len}
+use Rattle.std.proofs.Common.{◌≡◌, ◌<◌, ◌≤◌, ℕ, ◌-◌, ◌^◌, Bool, true, List, length, Option, Some, None, MatchOption, is_some, refl, sym, ◌∙◌, ap, subst, arith}
+use Rattle.std.specs.Bool.{one_answer}
+use Rattle.std.specs.List.{list_any}
 use Rattle.polyline_geometry.specs.Plane.{straight}
 use Rattle.road_network.specs.Net.{IsLawful}
 use Rattle.route_rebuild.specs.Routes.{no_layer}
@@ -11,7 +11,7 @@ use Rattle.matching.specs.declared.parts.Layer.{Layer}
 use Rattle.matching.specs.Cells.{cell_at, empty_cell}
 use Rattle.matching.specs.Growth.{CostAtMost}
 use Rattle.matching.specs.Layers.{AreNeighbours, trellis}
-use Rattle.matching.specs.Local.{AreNext, IsLeastWay, IsTightCost}
+use Rattle.matching.specs.Local.{AreNext, IsTightCost}
 use Rattle.matching.proofs.Costs.{added-parts}
 use Rattle.matching.proofs.Growth.{emission_le, transition_le}
 use Rattle.cert_checker.specs.Case.{Case, has_way, layer, table, way, ways, width}

@@ -7,3 +7,4 @@ pub mod CaseSeen
 pub mod RowPlaces
 pub mod Columns
 pub mod GivenInside
+pub mod PlacedInside

@@ -4,7 +4,7 @@ ghost use Rattle.bounded_search.specs.Table.{IsRow};
 ghost use Rattle.cert_checker.specs.GivenInside.{rows_given};
 ghost use Rattle.cert_checker.specs.Rows.{first_bad_row};
 
-use crate::row_places::row_place;
+use crate::placed_rows::PlacedRows;
 use bounded_search::{Row, Rows};
 use road_network::{Network, NodeId};
 use std::alloc::AllocError;
@@ -15,7 +15,7 @@ use std::marker::Model;
 pub struct GivenRows<'a> {
     net: &'a Network,
     bound: u32,
-    rows: &'a [Row],
+    rows: &'a PlacedRows<'a>,
 }
 
 impl<'a> Model for GivenRows<'a> {
@@ -32,7 +32,7 @@ impl<'a> Model for GivenRows<'a> {
 
 impl<'a> GivenRows<'a> {
     /// These rows, of which none is bad.
-    pub fn of(net: &'a Network, bound: u32, rows: &'a [Row]) -> GivenRows<'a>
+    pub fn of(net: &'a Network, bound: u32, rows: &'a PlacedRows<'a>) -> GivenRows<'a>
         requires { first_bad_row net.now bound rows.now ≡ None }
         ensures { result ≡ rows_given net.now bound rows.now }
     {
@@ -45,8 +45,8 @@ impl<'a> GivenRows<'a> {
         ensures known { OnOk result (Contains self.now.known n.0) }
     {
         self.net.known();
-        match row_place(self.rows, n) {
-            Some(place) => Ok(&self.rows[place]),
+        match self.rows.place(n) {
+            Some(place) => Ok(self.rows.at(place)),
             None => Err(AllocError),
         }
     }

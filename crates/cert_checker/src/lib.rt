@@ -5,9 +5,9 @@
 
 mod cell_tests;
 mod given_rows;
+mod placed_rows;
 mod point_ways;
 mod points;
-mod row_places;
 mod rows;
 mod step_ways;
 mod trace_case;

@@ -2,8 +2,7 @@ use Rattle.std.proofs.Common.{◌≡◌, ◌-◌, ◌^◌, Bool, true, is_some, 
 use Rattle.std.specs.List.{list_any}
 use Rattle.matching.specs.declared.parts.Cell.{Cell}
 use Rattle.matching.specs.Growth.{CostAtMost}
-use Rattle.cert_checker.specs.declared.point_ways.PointWays.{PointWays}
-use Rattle.cert_checker.specs.Case.{layer, table, width}
+use Rattle.cert_checker.specs.Case.{width}
 use Rattle.cert_checker.specs.CaseSeen.{case_seen}
 use Rattle.cert_checker.specs.Columns.{AreWaysOf}
 use Rattle.cert_checker.proofs.StepWays.{AreParts, can_step, has_live, step_ways, stepped_of}
