@@ -1,4 +1,10 @@
 pub mod RightRows
+pub mod RisingPieces
+pub mod PiecesInHand
+pub mod PointersBack
+pub mod Legs
+pub mod LegRows
+pub mod RouteLegs
 pub mod RowsAtPlaces
 pub mod ToldPlaces
 pub mod EachBelow
@@ -8,3 +14,7 @@ pub mod ColumnSteps
 pub mod Tests
 pub mod CellTests
 pub mod StepWays
+pub mod PieceRuns
+pub mod PointBreaks
+pub mod FailingFirst
+pub mod LaterPoints
