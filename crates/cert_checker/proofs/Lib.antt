@@ -6,11 +6,14 @@ pub mod Legs
 pub mod LegRows
 pub mod RouteLegs
 pub mod RowsAtPlaces
-pub mod FoundPlaces
+pub mod ToldPlaces
 pub mod EachBelow
 pub mod ReadyPoints
 pub mod WayCosts
 pub mod ColumnSteps
+pub mod Tests
+pub mod CellTests
+pub mod StepWays
 pub mod PieceRuns
 pub mod PointBreaks
 pub mod FailingFirst

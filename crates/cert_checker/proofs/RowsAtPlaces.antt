@@ -5,7 +5,7 @@ use Rattle.std.proofs.lemmas.Bool.{ltb-true}
 use Rattle.bounded_search.proofs.RowValues.{row_values}
 use Rattle.bounded_search.specs.Table.{IsRow, TableRow}
 use Rattle.road_network.specs.Net.{HasNode, IsLawful, Net}
-use Rattle.cert_checker.specs.RowPlaces.{IsRowPlace, RiseByOrigin}
+use Rattle.cert_checker.specs.RowPlaces.{AreRightRows, IsRowPlace}
 use Rattle.cert_checker.specs.Rows.{bad_row_from, first_bad_row, is_next_row, is_right_row}
 use Rattle.cert_checker.proofs.RightRows.{both_true, has_right_entries, next_within, right_is}
 
@@ -18,27 +18,18 @@ parts : (net : Net) (bound least k : ℕ) (row : TableRow) (rows : List TableRow
     → (is_next_row net bound least row ≡ true) × (bad_row_from net bound (row.origin + 1) (k + 1) rows ≡ None)
 parts net bound least k row rows h = good_first (is_next_row net bound least row) (bad_row_from net bound (row.origin + 1) (k + 1) rows) k h
 
+-- origins rise, so none is below its place
 at_least : (net : Net) (bound least k : ℕ) (rows : List TableRow) (i : ℕ) (d : TableRow) → bad_row_from net bound least k rows ≡ None → i < length rows
-    → least ≤ (get_or rows i d).origin
+    → least + i ≤ (get_or rows i d).origin
 at_least net bound least k [] i d h lt = absurd (omega (arith, lt))
-at_least net bound least k (row ∷ rows) zero d h lt = (next_within net bound least row (parts net bound least k row rows h).0).0
+at_least net bound least k (row ∷ rows) zero d h lt = let within = next_within net bound least row (parts net bound least k row rows h).0 in omega (arith, within.0)
 at_least net bound least k (row ∷ rows) (suc i) d h lt =
     let p = parts net bound least k row rows h in
     let rest = at_least net bound (row.origin + 1) (k + 1) rows i d p.1 (omega (arith, lt)) in
     omega (arith, rest, (next_within net bound least row p.0).0)
 
-rise_from : (net : Net) (bound least k : ℕ) (rows : List TableRow) (i j : ℕ) (d : TableRow) → bad_row_from net bound least k rows ≡ None → i < j → j < length rows
-    → (get_or rows i d).origin < (get_or rows j d).origin
-rise_from net bound least k [] i j d h lt below = absurd (omega (arith, below))
-rise_from net bound least k (row ∷ rows) i zero d h lt below = absurd (omega (arith, lt))
-rise_from net bound least k (row ∷ rows) zero (suc j) d h lt below =
-    let rest = at_least net bound (row.origin + 1) (k + 1) rows j d (parts net bound least k row rows h).1 (omega (arith, below)) in
-    omega (arith, rest)
-rise_from net bound least k (row ∷ rows) (suc i) (suc j) d h lt below =
-    rise_from net bound (row.origin + 1) (k + 1) rows i j d (parts net bound least k row rows h).1 (omega (arith, lt)) (omega (arith, below))
-
-pub right_rows_rise : (net : Net) (bound : ℕ) (rows : List TableRow) → first_bad_row net bound rows ≡ None → RiseByOrigin rows
-right_rows_rise net bound rows h i j d lt below = rise_from net bound 0 0 rows i j d h lt below
+pub place_at_most : (net : Net) (rows : List TableRow) (i : ℕ) (d : TableRow) → AreRightRows net rows → i < length rows → i ≤ (get_or rows i d).origin
+place_at_most net rows i d right lt = let le = at_least net right.bound 0 0 rows i d right.are lt in omega (arith, le)
 
 right_from : (net : Net) (bound least k : ℕ) (rows : List TableRow) (i : ℕ) (d : TableRow) → bad_row_from net bound least k rows ≡ None → i < length rows
     → is_right_row net bound (get_or rows i d) ≡ true
@@ -52,6 +43,11 @@ right_is_row net bound row lawful h =
     let both = both_true (nat_lt row.origin (length net.nodes)) (has_right_entries net bound row) h in
     let has : HasNode net row.origin = ltb-true row.origin (length net.nodes) both.0 in
     (row_values net bound row.origin row lawful has).1 ((right_is net bound row).0 both.1)
+
+pub right_node : (net : Net) (rows : List TableRow) (i : ℕ) (d : TableRow) → AreRightRows net rows → i < length rows → HasNode net (get_or rows i d).origin
+right_node net rows i d right lt =
+    let origin = (get_or rows i d).origin in
+    ltb-true origin (length net.nodes) (both_true (nat_lt origin (length net.nodes)) _ (right_from net right.bound 0 0 rows i d right.are lt)).0
 
 -- the row at the place of node v is the row of v
 pub row_at_place : (net : Net) (bound : ℕ) (rows : List TableRow) (v place : ℕ) (d : TableRow) → IsLawful net → first_bad_row net bound rows ≡ None → IsRowPlace rows v place

@@ -9,4 +9,6 @@ pub mod InHand
 pub mod Legs
 pub mod RowPlaces
 pub mod Columns
+pub mod GivenInside
+pub mod PlacedInside
 pub mod Checked

@@ -16,9 +16,11 @@ const TWIN_EDGES: &[u8] =
 
 const FIRST: &[u8] = b"fmm-certificate 1 k 8 radius 10000 sigma 1000 beta 1000 bound 300000\n";
 
-const POINTS: &[u8] = b"layer 0 rank 0 cells 45 40545\nlayer 1 rank 0 cells 112<0 1568<0\npiece 0 1 cost 112 route 10\n";
+const POINTS: &[u8] =
+    b"layer 0 rank 0 cells 45 40545\nlayer 1 rank 0 cells 112<0 1568<0\npiece 0 1 cost 112 route 10\n";
 
-const TWO_PIECES: &[u8] = b"layer 0 rank 0 cells 45 40545\npiece 0 0 cost 45 route 10\nlayer 1 rank 0 cells 45 545\npiece 1 1 cost 45 route 10\n";
+const TWO_PIECES: &[u8] =
+    b"layer 0 rank 0 cells 45 40545\npiece 0 0 cost 45 route 10\nlayer 1 rank 0 cells 45 545\npiece 1 1 cost 45 route 10\n";
 
 const ROWS: &[u8] = b"row 1 1:0:- 2:10000:1\nrow 2 2:0:-\ncertified traces 1 rows 2\n";
 
@@ -67,7 +69,9 @@ fn certificate(
     rows: &[u8],
 ) -> Result<Certificate, CertFault> {
     let mut text = List::new(alloc);
-    for part in [FIRST, b"trace ", id, b"\n", points, b"end ", id, b"\n", rows] {
+    for part in [
+        FIRST, b"trace ", id, b"\n", points, b"end ", id, b"\n", rows,
+    ] {
         text.extend_from_slice(part)?;
     }
     read_certificate(alloc, &Params::DEFAULT, text.as_slice())
@@ -156,7 +160,10 @@ fn the_first_condition_that_fails(rt: HostRuntime) -> Result<(), Fail> {
     ];
     for (id, points, rows, verdict) in cases {
         let c = certificate(alloc, id, points, rows)?;
-        assert_eq!(rt; check_all(&rt, alloc, &net, &Params::DEFAULT, &traces, &c)?, verdict);
+        assert_eq!(rt;
+            check_all(&rt, alloc, &net, &Params::DEFAULT, &traces, &c)?,
+            verdict
+        );
     }
     let other = certificate(alloc, b"8", POINTS, ROWS)?;
     let rows = other.rows.as_slice();
@@ -165,6 +172,9 @@ fn the_first_condition_that_fails(rt: HostRuntime) -> Result<(), Fail> {
     assert_eq!(rt; found, Verdict::Proved);
     let none = certificate(alloc, b"7", TWO_PIECES, NO_ROWS)?;
     let late = [trace(alloc, two_fixes(61))?];
-    assert_eq!(rt; check_all(&rt, alloc, &net, &GAP, &late, &none)?, Verdict::Proved);
+    assert_eq!(rt;
+        check_all(&rt, alloc, &net, &GAP, &late, &none)?,
+        Verdict::Proved
+    );
     Ok(())
 }

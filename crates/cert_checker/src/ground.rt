@@ -3,7 +3,7 @@ ghost use Rattle.std.specs.Prelude.{◌≡◌, None};
 ghost use Rattle.cost_model.specs.Options.{IsAccepted};
 ghost use Rattle.cert_checker.specs.Rows.{first_bad_row};
 
-use bounded_search::Row;
+use crate::placed_rows::PlacedRows;
 use cost_model::Params;
 use road_network::Network;
 
@@ -12,7 +12,7 @@ use road_network::Network;
 pub struct Ground<'a> {
     pub net: &'a Network,
     pub params: &'a Params,
-    pub rows: &'a [Row],
+    pub rows: &'a PlacedRows<'a>,
     pub ghost accepted: { IsAccepted params.now },
     pub ghost right: { first_bad_row net.now params.now.bound rows.now ≡ None },
 }

@@ -8,14 +8,16 @@
 mod breaks;
 mod cell_tests;
 mod chosen;
+mod given_rows;
 mod ground;
 mod pieces;
+mod placed_rows;
 mod plain_layers;
 mod point_ways;
 mod points;
 mod routes;
-mod row_places;
 mod rows;
+mod step_ways;
 mod trace_case;
 mod trace_check;
 mod verdict;
@@ -26,5 +28,7 @@ pub use rows::check_rows;
 pub use verdict::{Condition, Verdict};
 pub use whole::{check_all, check_trace};
 
+#[cfg(test)]
+mod certificate_tests;
 #[cfg(test)]
 mod tests;

@@ -4,12 +4,15 @@ ghost use Rattle.std.specs.Prelude.{◌≡◌, ◌-◌, IfOk, length};
 ghost use Rattle.cert_checker.specs.Case.{width};
 ghost use Rattle.cert_checker.specs.CaseSeen.{IsReady, case_seen};
 ghost use Rattle.cert_checker.specs.Columns.{AreWaysOf, with_column};
+ghost use Rattle.trellis.specs.Pairs.{pairs_of};
 
 use crate::cell_tests::{has_way, is_first_pointer, is_relaxed, is_tight};
+use crate::step_ways::ways_by_step;
 use crate::trace_case::TraceCase;
 use crate::ways::fill_column;
 use matching::Cell;
 use std::alloc::{AllocError, Global};
+use trellis::PairMemory;
 
 /// What the ways to the candidates of a point say of its cells.
 #[derive(Clone, Copy, Debug, PartialEq, Eq)]
@@ -56,11 +59,31 @@ fn ways_by_columns(case: &TraceCase, i: usize, column: &mut [Option<u128>]) -> P
     found
 }
 
-/// What the ways to the candidates of a point say of its cells.
+/// What the ways to the candidates of a point say of its cells. What rows said of pairs of nodes is
+/// remembered.
+pub fn point_ways_by(
+    alloc: Global,
+    case: &TraceCase,
+    pairs: &mut PairMemory,
+    i: usize,
+) -> Result<PointWays, AllocError>
+    requires ready { IsReady (case_seen case.now) i }
+    requires pairs { pairs.old ≡ pairs_of case.now.net.now case.now.params.now.bound }
+    ensures ways { IfOk result (AreWaysOf (case_seen case.now) i (width (case_seen case.now) i)) }
+    ensures same { pairs.new ≡ pairs.old }
+{
+    if let Some(found) = ways_by_step(alloc, case, pairs, i) {
+        return Ok(found);
+    }
+    let mut column = vec![in alloc; None; case.width(i - 1)]?;
+    Ok(ways_by_columns(case, i, &mut column))
+}
+
+/// The same, where nothing is remembered.
 pub fn point_ways(alloc: Global, case: &TraceCase, i: usize) -> Result<PointWays, AllocError>
     requires { IsReady (case_seen case.now) i }
     ensures { IfOk result (AreWaysOf (case_seen case.now) i (width (case_seen case.now) i)) }
 {
-    let mut column = vec![in alloc; None; case.width(i - 1)]?;
-    Ok(ways_by_columns(case, i, &mut column))
+    let mut pairs = PairMemory::new(alloc, case.net, case.params.bound);
+    point_ways_by(alloc, case, &mut pairs, i)
 }

@@ -7,7 +7,6 @@ ghost use Rattle.cert_checker.specs.Columns.{are_first_cells, has_row_of, is_fir
 ghost use Rattle.cert_checker.specs.Verdicts.{has_candidates, has_rows, is_rank_of};
 
 use crate::cell_tests::is_first_cell;
-use crate::row_places::row_place;
 use crate::trace_case::TraceCase;
 use cost_model::emission;
 
@@ -46,7 +45,7 @@ fn has_row_of(case: &TraceCase, i: usize, a: usize) -> bool
     match case.table(i - 1).get(a) {
         Some(cell) if cell.cost.is_some() => {
             let end = case.net.to(case.candidate(i - 1, a).edge);
-            row_place(case.rows, end).is_some()
+            case.rows.place(end).is_some()
         }
         _ => true,
     }

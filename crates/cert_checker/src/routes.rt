@@ -7,7 +7,6 @@ ghost use Rattle.cert_checker.specs.CaseSeen.{case_seen};
 ghost use Rattle.cert_checker.specs.Legs.{IsLeftAfter, IsLeg, IsRoutable, chosen_in, leg};
 ghost use Rattle.cert_checker.specs.Verdicts.{has_route};
 
-use crate::row_places::row_place;
 use crate::trace_case::TraceCase;
 use match_text::Routed;
 use road_network::{Candidate, EdgeId, Network};
@@ -62,10 +61,10 @@ fn after_leg<'a>(
     if a.edge == b.edge && a.offset <= b.offset + case.params.back {
         return Ok(Some(names));
     }
-    let Some(place) = row_place(case.rows, case.net.to(a.edge)) else {
+    let Some(place) = case.rows.place(case.net.to(a.edge)) else {
         return Ok(None);
     };
-    let edges = walk(alloc, case.net, &case.rows[place], case.net.from(b.edge))?;
+    let edges = walk(alloc, case.net, case.rows.at(place), case.net.from(b.edge))?;
     let Some(left) = after_edges(case.net, names, edges.as_slice()) else {
         return Ok(None);
     };

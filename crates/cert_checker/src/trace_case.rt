@@ -1,5 +1,5 @@
 //! One trace with its proof, as code looks at it. Serves `check_trace`; seen as `case_seen`.
-use bounded_search::Row;
+use crate::placed_rows::PlacedRows;
 use cost_model::Params;
 use matching::{Cell, Layer};
 use potential_certificate::TraceProof;
@@ -12,7 +12,7 @@ use trellis::is_near;
 pub struct TraceCase<'a> {
     pub net: &'a Network,
     pub params: &'a Params,
-    pub rows: &'a [Row],
+    pub rows: &'a PlacedRows<'a>,
     pub layers: &'a [Layer],
     pub proof: &'a TraceProof,
 }

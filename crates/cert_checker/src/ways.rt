@@ -6,7 +6,6 @@ ghost use Rattle.cert_checker.specs.CaseSeen.{IsReady, case_seen};
 ghost use Rattle.bounded_search.specs.Table.{IsRow};
 ghost use Rattle.matching.specs.Layers.{end_of, trellis};
 
-use crate::row_places::row_place;
 use crate::trace_case::TraceCase;
 use bounded_search::Row;
 use cost_model::{emission, transition};
@@ -42,8 +41,8 @@ pub fn way(case: &TraceCase, i: usize, a: usize, j: usize) -> Option<u128>
     case.net.known();
     let cost = case.table(i - 1)[a].cost?;
     let end = case.net.to(case.candidate(i - 1, a).edge);
-    let place = row_place(case.rows, end)?;
-    let moved = transition_by_row(case, i, a, j, &case.rows[place])?;
+    let place = case.rows.place(end)?;
+    let moved = transition_by_row(case, i, a, j, case.rows.at(place))?;
     let own = emission(case.params, case.candidate(i, j).d2);
     Some(u128::from(cost) + u128::from(moved) + u128::from(own))
 }

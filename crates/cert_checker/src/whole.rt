@@ -7,6 +7,7 @@ ghost use Rattle.cert_checker.specs.Verdicts.{case_of, trace_verdict};
 ghost use Rattle.cert_checker.specs.Whole.{apart_from, verdict, verdict_from};
 
 use crate::ground::Ground;
+use crate::placed_rows::PlacedRows;
 use crate::plain_layers::plain_layers;
 use crate::rows::check_rows;
 use crate::trace_case::TraceCase;
@@ -41,11 +42,32 @@ pub fn check_trace(
     ensures { IfOk result (λ v. v
         ≡ trace_verdict number (case_of net.now p.now rows.now trace.now proof.now)) }
 {
-    let layers = plain_layers(alloc, net, p, trace.fixes.as_slice())?;
-    let case = TraceCase {
+    let placed = PlacedRows::of(alloc, net, rows)?;
+    let ground = Ground {
         net,
         params: p,
-        rows,
+        rows: &placed,
+    };
+    verdict_on(alloc, &ground, number, trace, proof)
+}
+
+/// The verdict on a trace with its proof.
+fn verdict_on(
+    alloc: Global,
+    ground: &Ground,
+    number: u64,
+    trace: &Trace,
+    proof: &TraceProof,
+) -> Result<Verdict, AllocError>
+    requires { IsLawfulTrace trace.now }
+    ensures { IfOk result (λ v. v ≡ trace_verdict number (case_of ground.now.net.now
+        ground.now.params.now ground.now.rows.now trace.now proof.now)) }
+{
+    let layers = plain_layers(alloc, ground.net, ground.params, trace.fixes.as_slice())?;
+    let case = TraceCase {
+        net: ground.net,
+        params: ground.params,
+        rows: ground.rows,
         layers: layers.as_slice(),
         proof,
     };
@@ -85,15 +107,7 @@ fn verdict_on_batch(
 {
     for place in 0..traces.len() {
         let number = first + place as u64;
-        let verdict = check_trace(
-            alloc,
-            ground.net,
-            ground.params,
-            ground.rows,
-            number,
-            &traces[place],
-            &proofs[place],
-        )?;
+        let verdict = verdict_on(alloc, ground, number, &traces[place], &proofs[place])?;
         match verdict {
             Verdict::Proved => {}
             Verdict::Refused { .. } => return Ok(verdict),
@@ -130,10 +144,11 @@ pub fn check_all<R: Threads + Sync>(
             place,
         });
     }
+    let placed = PlacedRows::of(alloc, net, c.rows.as_slice())?;
     let ground = Ground {
         net,
         params: p,
-        rows: c.rows.as_slice(),
+        rows: &placed,
     };
     verdict_on_batch(alloc, &ground, 0, traces, c.proofs.as_slice())
 }

@@ -12,7 +12,6 @@ use Rattle.cert_checker.specs.CaseSeen.{case_seen}
 use Rattle.cert_checker.specs.Legs.{IsLeftAfter, chosen_in, leg}
 use Rattle.cert_checker.proofs.Legs.{is_listed, walk_edges}
 use Rattle.cert_checker.proofs.LegRows.{IsDirectLeg, differs_walk, follows_walk, leg_found, leg_row, stays_direct}
-use Rattle.cert_checker.proofs.RowsAtPlaces.{right_rows_rise}
 use Rattle.cert_checker.proofs.routes.after_leg.Goals as goal
 use Rattle.cert_checker.proofs.routes.after_leg.Goals.{else-eq-via-then-eq+else-a-b, else-eq-via-else-eq}
 
@@ -25,20 +24,15 @@ returns-then-a-b c =
     let direct : IsDirectLeg k i = rw (← c.chosen-a.ensures, ← c.chosen-b.ensures) (same, le) in
     stays_direct k i c.args.names.now c.known.ensures direct
 
-pub row_place-requires : goal.row_place-requires
-row_place-requires c =
-    let k = case_seen c.args.case.now in
-    right_rows_rise k.net k.params.bound k.rows c.requires.of.checkable.rows
-
 pub walk-requires-clause-row : goal.walk-requires-clause-row
 walk-requires-clause-row c =
     let k = case_seen c.args.case.now in
     let i = c.args.i in
     let lawful = c.known.ensures in
-    let d : TableRow = c.index-case-place.result in
+    let d : TableRow = c.at.result.now in
     let end : c.to.result.0 ≡ target k.net (chosen_in k i).edge.0 = c.to.ensures ∙ ap (λ (x : Candidate). target k.net x.edge.0) c.chosen-a.ensures in
-    let row = leg_row k i c.in-Some.place c.to.result.0 d lawful c.requires end c.in-Some.ensures.place in
-    (k.params.bound, subst (λ s. IsRow k.net k.params.bound s (get_or k.rows c.in-Some.place d)) (sym row.origin) row)
+    let row = subst (λ (r : TableRow). IsRow k.net k.params.bound (target k.net (chosen_in k i).edge.0) r) (c.at.ensures d) (leg_row k i c.in-Some.place c.to.result.0 d lawful c.requires end c.in-Some.ensures.at) in
+    (k.params.bound, subst (λ s. IsRow k.net k.params.bound s d) (sym row.origin) row)
 
 pub walk-requires-clause-listed : goal.walk-requires-clause-listed
 walk-requires-clause-listed c =
@@ -48,21 +42,21 @@ walk-requires-clause-listed c =
     let none : IsDirectLeg k i → ⊥ = λ direct.
     let is : IsRoute k.net k.params.bound k.params.back c.chosen-a.result c.chosen-b.result Direct = rw (c.chosen-a.ensures, c.chosen-b.ensures) direct in
     elim c.else-eq.branch [ else-eq-via-then-eq+else-a-b w ↦ omega (arith, is.1) | else-eq-via-else-eq w ↦ let same = is.0 in grind (arith, nat_tests) ] in
-    let d : TableRow = c.index-case-place.result in
+    let d : TableRow = c.at.result.now in
     let end : c.to.result.0 ≡ target k.net (chosen_in k i).edge.0 = c.to.ensures ∙ ap (λ (x : Candidate). target k.net x.edge.0) c.chosen-a.ensures in
-    let row = leg_row k i c.in-Some.place c.to.result.0 d lawful c.requires end c.in-Some.ensures.place in
+    let row = subst (λ (r : TableRow). IsRow k.net k.params.bound (target k.net (chosen_in k i).edge.0) r) (c.at.ensures d) (leg_row k i c.in-Some.place c.to.result.0 d lawful c.requires end c.in-Some.ensures.at) in
     let start : c.from.result.0 ≡ source k.net (chosen_in k (i + 1)).edge.0 = c.from.ensures ∙ ap (λ (x : Candidate). source k.net x.edge.0) c.chosen-b.ensures in
-    subst (λ v. IsSome (entry_in (get_or k.rows c.in-Some.place d).entries v)) (sym start)
-    (is_listed k.net k.params.bound (target k.net (chosen_in k i).edge.0) (source k.net (chosen_in k (i + 1)).edge.0) (get_or k.rows c.in-Some.place d) row (leg_found k i lawful c.requires none))
+    subst (λ v. IsSome (entry_in d.entries v)) (sym start)
+    (is_listed k.net k.params.bound (target k.net (chosen_in k i).edge.0) (source k.net (chosen_in k (i + 1)).edge.0) d row (leg_found k i lawful c.requires none))
 
 pub after_edges-requires : goal.after_edges-requires
 after_edges-requires c =
     let k = case_seen c.args.case.now in
     let i = c.args.i in
     let lawful = c.known.ensures in
-    let d : TableRow = c.index-case-place.result in
+    let d : TableRow = c.at.result.now in
     let end : c.to.result.0 ≡ target k.net (chosen_in k i).edge.0 = c.to.ensures ∙ ap (λ (x : Candidate). target k.net x.edge.0) c.chosen-a.ensures in
-    let row = leg_row k i c.in-Some.place c.to.result.0 d lawful c.requires end c.in-Some.ensures.place in
+    let row = subst (λ (r : TableRow). IsRow k.net k.params.bound (target k.net (chosen_in k i).edge.0) r) (c.at.ensures d) (leg_row k i c.in-Some.place c.to.result.0 d lawful c.requires end c.in-Some.ensures.at) in
     let start : c.from.result.0 ≡ source k.net (chosen_in k (i + 1)).edge.0 = c.from.ensures ∙ ap (λ (x : Candidate). source k.net x.edge.0) c.chosen-b.ensures in
     let least : IsLeastWalk k.net (target k.net (chosen_in k i).edge.0) (reverse (numbers c.in_ok-edges.edges)) (source k.net (chosen_in k (i + 1)).edge.0) =
     subst (λ v. IsLeastWalk k.net (target k.net (chosen_in k i).edge.0) (reverse (numbers c.in_ok-edges.edges)) v) start
@@ -78,9 +72,9 @@ returns-in_default-after_edges c =
     let none : IsDirectLeg k i → ⊥ = λ direct.
     let is : IsRoute k.net k.params.bound k.params.back c.chosen-a.result c.chosen-b.result Direct = rw (c.chosen-a.ensures, c.chosen-b.ensures) direct in
     elim c.else-eq.branch [ else-eq-via-then-eq+else-a-b w ↦ omega (arith, is.1) | else-eq-via-else-eq w ↦ let same = is.0 in grind (arith, nat_tests) ] in
-    let d : TableRow = c.index-case-place.result in
+    let d : TableRow = c.at.result.now in
     let end : c.to.result.0 ≡ target k.net (chosen_in k i).edge.0 = c.to.ensures ∙ ap (λ (x : Candidate). target k.net x.edge.0) c.chosen-a.ensures in
-    let row = leg_row k i c.in-Some.place c.to.result.0 d lawful c.requires end c.in-Some.ensures.place in
+    let row = subst (λ (r : TableRow). IsRow k.net k.params.bound (target k.net (chosen_in k i).edge.0) r) (c.at.ensures d) (leg_row k i c.in-Some.place c.to.result.0 d lawful c.requires end c.in-Some.ensures.at) in
     let start : c.from.result.0 ≡ source k.net (chosen_in k (i + 1)).edge.0 = c.from.ensures ∙ ap (λ (x : Candidate). source k.net x.edge.0) c.chosen-b.ensures in
     let least : IsLeastWalk k.net (target k.net (chosen_in k i).edge.0) (reverse (numbers c.in_ok-edges.edges)) (source k.net (chosen_in k (i + 1)).edge.0) =
     subst (λ v. IsLeastWalk k.net (target k.net (chosen_in k i).edge.0) (reverse (numbers c.in_ok-edges.edges)) v) start
@@ -96,9 +90,9 @@ returns c =
     let none : IsDirectLeg k i → ⊥ = λ direct.
     let is : IsRoute k.net k.params.bound k.params.back c.chosen-a.result c.chosen-b.result Direct = rw (c.chosen-a.ensures, c.chosen-b.ensures) direct in
     elim c.else-eq.branch [ else-eq-via-then-eq+else-a-b w ↦ omega (arith, is.1) | else-eq-via-else-eq w ↦ let same = is.0 in grind (arith, nat_tests) ] in
-    let d : TableRow = c.index-case-place.result in
+    let d : TableRow = c.at.result.now in
     let end : c.to.result.0 ≡ target k.net (chosen_in k i).edge.0 = c.to.ensures ∙ ap (λ (x : Candidate). target k.net x.edge.0) c.chosen-a.ensures in
-    let row = leg_row k i c.in-Some.place c.to.result.0 d lawful c.requires end c.in-Some.ensures.place in
+    let row = subst (λ (r : TableRow). IsRow k.net k.params.bound (target k.net (chosen_in k i).edge.0) r) (c.at.ensures d) (leg_row k i c.in-Some.place c.to.result.0 d lawful c.requires end c.in-Some.ensures.at) in
     let start : c.from.result.0 ≡ source k.net (chosen_in k (i + 1)).edge.0 = c.from.ensures ∙ ap (λ (x : Candidate). source k.net x.edge.0) c.chosen-b.ensures in
     let least : IsLeastWalk k.net (target k.net (chosen_in k i).edge.0) (reverse (numbers c.in_ok-edges.edges)) (source k.net (chosen_in k (i + 1)).edge.0) =
     subst (λ v. IsLeastWalk k.net (target k.net (chosen_in k i).edge.0) (reverse (numbers c.in_ok-edges.edges)) v) start

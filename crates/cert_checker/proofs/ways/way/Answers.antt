@@ -1,18 +1,16 @@
 use Rattle.std.proofs.Common.{◌≡◌, ◌-◌, ℕ, List, Some, true≢false, slice_index_or, sym, ap, ◌∙◌, subst}
 use Rattle.road_network.specs.declared.Candidate.{Candidate}
 use Rattle.road_network.specs.Net.{target}
-use Rattle.bounded_search.specs.Table.{IsRow}
+use Rattle.bounded_search.specs.Table.{IsRow, TableRow}
 use Rattle.matching.specs.declared.parts.Cell.{Cell}
 use Rattle.matching.specs.Cells.{cell_at}
 use Rattle.matching.specs.Layers.{end_of}
 use Rattle.cert_checker.specs.Case.{has_row, layer, table}
 use Rattle.cert_checker.specs.CaseSeen.{case_seen}
 use Rattle.cert_checker.proofs.ReadyPoints.{row_there}
-use Rattle.cert_checker.proofs.RowsAtPlaces.{right_rows_rise, row_at_place}
+use Rattle.cert_checker.proofs.RightRows.{no_row}
+use Rattle.cert_checker.proofs.RowsAtPlaces.{row_at_place}
 use Rattle.cert_checker.proofs.ways.way.Goals as goal
-
-pub row_place-requires : goal.row_place-requires
-row_place-requires c = let s = case_seen c.args.case.now in right_rows_rise s.net s.params.bound s.rows c.requires.ready.checkable.rows
 
 pub returns-in_err-place : goal.returns-in_err-place
 returns-in_err-place c =
@@ -26,6 +24,6 @@ pub transition_by_row-requires-clause-row : goal.transition_by_row-requires-clau
 transition_by_row-requires-clause-row c =
     let s = case_seen c.args.case.now in
     let node : c.to-end.result.0 ≡ end_of s.net (layer s (c.args.i - 1)) c.args.a = c.to-end.ensures ∙ ap (λ (x : Candidate). target s.net x.edge.0) c.candidate.ensures in
-    let row = c.index-case-place.result in
-    let own = row_at_place s.net s.params.bound s.rows c.to-end.result.0 c.in_ok-place.place row c.known.ensures c.requires.ready.checkable.rows c.in_ok-place.ensures.place in
-    subst (λ (v : ℕ). IsRow s.net s.params.bound v (slice_index_or s.rows c.in_ok-place.place row)) node own
+    let own = row_at_place s.net s.params.bound s.rows c.to-end.result.0 c.in_ok-place.place no_row c.known.ensures c.requires.ready.checkable.rows c.in_ok-place.ensures.at in
+    subst (λ (row : TableRow). IsRow s.net s.params.bound (end_of s.net (layer s (c.args.i - 1)) c.args.a) row) (c.at.ensures no_row)
+    (subst (λ (v : ℕ). IsRow s.net s.params.bound v (slice_index_or s.rows c.in_ok-place.place no_row)) node own)

@@ -35,6 +35,6 @@ returns g c =
     let right = sym c.in_default.is ∙ c.check_rows.ensures ∙ ap (first_bad_row n p.bound) c.as_slice.ensures in
     let same = sym c.in_default-first_apart.is ∙ c.first_apart.ensures ∙ ap (apart_from 0 traces) c.as_slice-2.ensures in
     ok_by c.verdict_on_batch.result c.verdict_on_batch.ensures (λ v is.
-    is ∙ ap (λ (rows : List TableRow). verdict_from n p rows 0 traces c.as_slice-4.result.now) c.as_slice-3.ensures
+    is ∙ ap (λ (rows : List TableRow). verdict_from n p rows 0 traces c.as_slice-4.result.now) (c.in_ok-placed.ensures ∙ c.as_slice-3.ensures)
     ∙ ap (verdict_from n p c.args.c.now.rows 0 traces) c.as_slice-4.ensures
     ∙ by_traces n p traces c.args.c.now right same)
