@@ -5,6 +5,7 @@ pub mod Jobs
 pub mod Lines
 pub mod Matches
 pub mod Preloads
+pub mod ProvedTexts
 pub mod Sharing
 pub mod TableFiles
 pub mod TableRows

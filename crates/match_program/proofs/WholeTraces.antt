@@ -1,5 +1,5 @@
 -- Traces that were loaded whole.
-use Rattle.std.proofs.Common.{◌≡◌, ℕ, List, All, Some, None, Result, Ok, Err, ap, subst, ◌∙◌}
+use Rattle.std.proofs.Common.{◌≡◌, ℕ, List, All, Some, None, Result, Ok, ap, subst, ◌∙◌}
 use Rattle.std.specs.declared.option.Option.{Option}
 use Rattle.program_frame.specs.Loads.{Refuses}
 use Rattle.program_frame.specs.WholeTraces.{traces_or_line, traces_said}

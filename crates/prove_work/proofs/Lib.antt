@@ -1,6 +1,2 @@
-pub mod HaveTexts
-pub mod PointTexts
 pub mod RowCopies
-pub mod RowTexts
-pub mod SmallCosts
 pub mod TraceProofs

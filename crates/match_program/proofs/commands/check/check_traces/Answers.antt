@@ -1,4 +1,4 @@
-use Rattle.std.proofs.Common.{All, ◌≡◌, ap, subst, sym}
+use Rattle.std.proofs.Common.{All, subst, sym}
 use Rattle.std.proofs.lemmas.Result.{err_from_is_err_and}
 use Rattle.potential_certificate.specs.CertificateText.{text_limit}
 use Rattle.program_frame.specs.Loads.{FailsToLoad, Loaded}
