@@ -1,1 +1,5 @@
 pub mod RightRows
+pub mod Tests
+pub mod CellTests
+pub mod PieceTests
+pub mod EachPoint

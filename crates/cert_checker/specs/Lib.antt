@@ -3,3 +3,4 @@ pub mod Case
 pub mod Cells
 pub mod Pieces
 pub mod Verdicts
+pub mod Laws

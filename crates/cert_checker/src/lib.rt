@@ -3,9 +3,11 @@
 //! [`check_rows`] tries the rows that the rest stands on.
 #![tactic(auto)]
 
+mod laws;
 mod rows;
 mod verdict;
 
+pub use laws::proved_is_the_match;
 pub use rows::check_rows;
 pub use verdict::{Condition, Verdict};
 
