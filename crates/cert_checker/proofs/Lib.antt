@@ -3,3 +3,4 @@ pub mod Tests
 pub mod CellTests
 pub mod PieceTests
 pub mod EachPoint
+pub mod Points

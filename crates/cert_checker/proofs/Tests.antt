@@ -92,3 +92,21 @@ same_options None (Some b) = (λ e. absurd (false≢true e), λ e. absurd (cc))
 same_options (Some a) None = (λ e. absurd (false≢true e), λ e. absurd (cc))
 same_options (Some a) (Some b) =
     (λ e. ap (λ v. let o : Option ℕ = Some v in o) (eqb-true a b e), λ e. let same : a ≡ b = cc in eq-eqb a b same)
+
+all_told : {X : Type 0} (P : X → Type 0) (test : X → Bool) (d : X) (xs : List X) → ((x : X) → Decides (test x) (P x))
+    → list_all test xs ≡ true → (k : ℕ) → k < length xs → P (get_or xs k d)
+all_told P test d [] each e k lt = absurd (omega (arith, lt))
+all_told P test d (x ∷ xs) each e zero lt = (each x).0 (and_parts (test x) (list_all test xs) e).0
+all_told P test d (x ∷ xs) each e (suc k) lt = all_told P test d xs each (and_parts (test x) (list_all test xs) e).1 k (omega (arith, lt))
+
+told_all : {X : Type 0} (P : X → Type 0) (test : X → Bool) (d : X) (xs : List X) → ((x : X) → Decides (test x) (P x))
+    → ((k : ℕ) → k < length xs → P (get_or xs k d)) → list_all test xs ≡ true
+told_all P test d [] each f = refl
+told_all P test d (x ∷ xs) each f =
+    and_from (test x) (list_all test xs) ((each x).1 (f 0 (omega arith))) (told_all P test d xs each (λ k lt. f (suc k) (omega (arith, lt))))
+
+-- each element of a list passes a test
+pub each_element : {X : Type 0} (P : X → Type 0) (test : X → Bool) (d : X) (xs : List X) → ((x : X) → Decides (test x) (P x))
+    → Decides (list_all test xs) ((k : ℕ) → k < length xs → P (get_or xs k d))
+each_element P test d xs each =
+    (λ e k lt. all_told P test d xs each e k lt, λ f. told_all P test d xs each f)

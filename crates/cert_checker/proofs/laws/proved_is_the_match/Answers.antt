@@ -2,6 +2,7 @@ use Rattle.cert_checker.proofs.Tests.{itself}
 use Rattle.cert_checker.proofs.CellTests.{costs}
 use Rattle.cert_checker.proofs.PieceTests.{inside}
 use Rattle.cert_checker.proofs.EachPoint.{proved_each}
+use Rattle.cert_checker.proofs.Points.{looked}
 use Rattle.cert_checker.proofs.laws.proved_is_the_match.Goals as goal
 
 pub returns : goal.returns
