@@ -4,3 +4,5 @@ pub mod CellTests
 pub mod PieceTests
 pub mod EachPoint
 pub mod Points
+pub mod BestRanks
+pub mod PieceRuns
