@@ -6,3 +6,4 @@ pub mod EachPoint
 pub mod Points
 pub mod BestRanks
 pub mod PieceRuns
+pub mod MatchedCases
