@@ -7,3 +7,4 @@ pub mod Points
 pub mod BestRanks
 pub mod PieceRuns
 pub mod MatchedCases
+pub mod MatchHolds
