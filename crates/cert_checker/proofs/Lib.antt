@@ -8,3 +8,7 @@ pub mod BestRanks
 pub mod PieceRuns
 pub mod MatchedCases
 pub mod MatchHolds
+pub mod MatchProofs
+pub mod HeldRuns
+pub mod HeldMatch
+pub mod TheMatch
