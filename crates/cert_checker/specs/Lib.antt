@@ -3,4 +3,5 @@ pub mod Case
 pub mod Cells
 pub mod Pieces
 pub mod Verdicts
+pub mod Whole
 pub mod Laws
