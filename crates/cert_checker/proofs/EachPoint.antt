@@ -40,7 +40,7 @@ none_fails test h =
 all_pass : (test : Condition → Bool) → AllPass test → first_failing test order ≡ None
 all_pass test h = rw (h.candidates, h.row, h.break, h.first_cost, h.relaxed, h.tight, h.pointer, h.chosen, h.route) refl
 
-both_proved : (v w : Verdict) → or_else v w ≡ Proved → (v ≡ Proved) × (w ≡ Proved)
+pub both_proved : (v w : Verdict) → or_else v w ≡ Proved → (v ≡ Proved) × (w ≡ Proved)
 both_proved Proved w e = (refl, e)
 both_proved (Refused x number place) w e = absurd (cc)
 

@@ -30,7 +30,7 @@ use Rattle.cert_checker.proofs.PieceTests.{IsIn, begun, gone_on, no_piece, piece
 use Rattle.cert_checker.proofs.Points.{HasItsRoute, IsChosenFor, IsLookedAt, IsRankOf, has_ways, looked}
 use Rattle.cert_checker.proofs.CellTests.{IsLeastRank}
 use Rattle.cert_checker.proofs.BestRanks.{Follows, leads_back}
-use Rattle.cert_checker.proofs.PieceRuns.{layer_at, layer_from, layers_from, table_at, tables_in, trellis_of}
+use Rattle.cert_checker.proofs.RunPoints.{layer_at, layer_from, layers_from, table_at, tables_in, trellis_of}
 use Rattle.cert_checker.proofs.MatchedCases.{IsMatchOf, piece_there, pieces_of}
 use Rattle.cert_checker.proofs.HeldRuns.{IsHeld, held_filled, held_inside, held_order, held_ranks, held_run, held_tables}
 

@@ -23,7 +23,7 @@ use Rattle.cert_checker.specs.Case.{Case, has_way, is_looked_at, layer, table, w
 use Rattle.cert_checker.specs.Pieces.{begins, goes_on, is_in_any}
 use Rattle.cert_checker.proofs.PieceTests.{IsIn, IsLater, RisesFrom, begun, gone_on, in_any, one_piece, piece_filled, piece_no}
 use Rattle.cert_checker.proofs.Points.{AreLeast, HasWay, IsLookedAt, PointHolds, has_ways, looked}
-use Rattle.cert_checker.proofs.PieceRuns.{IsRunOf, before_in, layer_from, layers_from, table_in, tables_in, trellis_of}
+use Rattle.cert_checker.proofs.RunPoints.{IsRunOf, before_in, layer_from, layers_from, table_in, tables_in, trellis_of}
 use Rattle.cert_checker.proofs.MatchedCases.{IsGroundOf}
 
 -- each condition holds at each point of the case, and there is one

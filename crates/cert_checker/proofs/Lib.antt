@@ -5,7 +5,7 @@ pub mod PieceTests
 pub mod EachPoint
 pub mod Points
 pub mod BestRanks
-pub mod PieceRuns
+pub mod RunPoints
 pub mod MatchedCases
 pub mod MatchHolds
 pub mod MatchProofs

@@ -21,7 +21,7 @@ use Rattle.route_rebuild.specs.Routes.{route_of}
 use Rattle.trace_match.specs.Match.{asks, layers_of, match_of, routed_of, solution_of}
 use Rattle.potential_certificate.specs.declared.proof.TraceProof.{TraceProof}
 use Rattle.cert_checker.specs.Case.{has_row}
-use Rattle.cert_checker.specs.Laws.{IsProofOfMatch}
+use Rattle.cert_checker.specs.Laws.{HasAskedRows, IsProofOf}
 use Rattle.cert_checker.specs.Verdicts.{case_of, piece_of}
 use Rattle.cert_checker.proofs.PieceTests.{no_piece, piece_no}
 use Rattle.cert_checker.proofs.MatchedCases.{IsMatchOf, pieces_of}
@@ -64,8 +64,8 @@ unfolding asks
 asks_are n p trace v = refl
 
 -- a proof of the match makes a case that is matched
-pub case_matched : (n : Net) (p : Params) (rows : List TableRow) (trace : Trace) (proof : TraceProof) → IsProofOfMatch n p rows trace proof → IsMatchOf (case_of n p rows trace proof)
-case_matched n p rows trace proof h =
+pub case_matched : (n : Net) (p : Params) (rows : List TableRow) (trace : Trace) (proof : TraceProof) → IsProofOf n p trace proof → HasAskedRows n p rows trace → IsMatchOf (case_of n p rows trace proof)
+case_matched n p rows trace proof h rows_there =
     let t = trellis n p in
     let layers = layers_of n p trace in
     let s = solution_of n p trace in
@@ -80,21 +80,23 @@ case_matched n p rows trace proof h =
           subst (λ (r : List (Option ℕ)). HaveRoutes n p layers r proof.pieces) (sym h.ranks)
           (subst (λ (ps : List Routed). HaveRoutes n p layers s.ranks ps) (sym routed) (have_routes n p layers s.ranks s.pieces));
       asked = λ v asked.
-          h.asked v (asks_are n p trace v ∙ (is_asked_node-tells t (end_of n) layers s.pieces v).0 (subst (λ (ps : List Piece). AsksTrace n p layers ps v) pieces asked));
+          rows_there v (asks_are n p trace v ∙ (is_asked_node-tells t (end_of n) layers s.pieces v).0 (subst (λ (ps : List Piece). AsksTrace n p layers ps v) pieces asked));
     }
 
 -- and a case that is matched comes from a proof of the match
-pub matched_case : (n : Net) (p : Params) (rows : List TableRow) (trace : Trace) (proof : TraceProof) → IsMatchOf (case_of n p rows trace proof) → IsProofOfMatch n p rows trace proof
+pub matched_case : (n : Net) (p : Params) (rows : List TableRow) (trace : Trace) (proof : TraceProof) → IsMatchOf (case_of n p rows trace proof) → IsProofOf n p trace proof × HasAskedRows n p rows trace
 matched_case n p rows trace proof h =
     let t = trellis n p in
     let layers = layers_of n p trace in
     let found : Solution = record { ranks = proof.ranks; pieces = pieces_of proof.pieces; tables = proof.tables } in
     let same : solution_of n p trace ≡ found = solution-is t layers proof.ranks (pieces_of proof.pieces) proof.tables h.matched in
-    record {
+    let is : IsProofOf n p trace proof = record {
       ranks = ap (λ (s : Solution). s.ranks) (sym same);
       tables = ap (λ (s : Solution). s.tables) (sym same);
       pieces = rerouted n p layers proof.ranks proof.pieces h.routes ∙ ap (matched_pieces n p trace) (sym same) ∙ sym (pieces_are n p trace);
-      asked = λ v asked.
+    } in (
+      is,
+      λ v asked.
           let tells = is_asked_node-tells t (end_of n) layers (solution_of n p trace).pieces v in
-          h.asked v (subst (λ (s : Solution). AsksTrace n p layers s.pieces v) same (tells.1 (sym (asks_are n p trace v) ∙ asked)));
-    }
+          h.asked v (subst (λ (s : Solution). AsksTrace n p layers s.pieces v) same (tells.1 (sym (asks_are n p trace v) ∙ asked))),
+    )

@@ -21,7 +21,7 @@ use Rattle.trace_match.proofs.Ranks.{are_ranked}
 use Rattle.cert_checker.specs.Case.{Case, has_row, layer, rank, width}
 use Rattle.cert_checker.specs.Verdicts.{piece_of}
 use Rattle.cert_checker.proofs.PieceTests.{IsIn, RisesFrom, no_piece, piece_no}
-use Rattle.cert_checker.proofs.PieceRuns.{IsRunOf, layers_from, tables_in, trellis_of}
+use Rattle.cert_checker.proofs.RunPoints.{IsRunOf, layers_from, tables_in, trellis_of}
 use Rattle.cert_checker.proofs.Points.{HasItsRoute}
 
 -- the pieces without their routes

@@ -44,10 +44,10 @@ same_entry x y =
 is_row : (row other : TableRow) → row.origin ≡ other.origin → row.entries ≡ other.entries → row ≡ other
 is_row row other origin entries i = record { origin = origin i; entries = entries i }
 
-abbrev has_right_entries : Net → ℕ → TableRow → Bool
+abbrev pub has_right_entries : Net → ℕ → TableRow → Bool
 has_right_entries net bound row = pointwise is_same_entry row.entries (row_of net bound row.origin).entries
 
-right_is : (net : Net) (bound : ℕ) (row : TableRow) → Decides (has_right_entries net bound row) (row ≡ row_of net bound row.origin)
+pub right_is : (net : Net) (bound : ℕ) (row : TableRow) → Decides (has_right_entries net bound row) (row ≡ row_of net bound row.origin)
 right_is net bound row =
     let value = row_of net bound row.origin in
     Decides-like (has_right_entries net bound row) (is_row row value refl) (λ (e : row ≡ value). ap (λ (r : TableRow). r.entries) e)

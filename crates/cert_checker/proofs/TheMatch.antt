@@ -11,7 +11,7 @@ use Rattle.trace_match.specs.Match.{layer_of, layers_of}
 use Rattle.trace_match.proofs.TraceLayers.{matchable}
 use Rattle.potential_certificate.specs.declared.proof.TraceProof.{TraceProof}
 use Rattle.cert_checker.specs.declared.verdict.Verdict.TheVariants.{Proved}
-use Rattle.cert_checker.specs.Laws.{IsProofOfMatch, ProvedIsTheMatch}
+use Rattle.cert_checker.specs.Laws.{HasAskedRows, IsProofOf, ProvedIsTheMatch}
 use Rattle.cert_checker.specs.Verdicts.{case_of, trace_verdict}
 use Rattle.cert_checker.proofs.EachPoint.{each_proved, proved_each}
 use Rattle.cert_checker.proofs.Points.{point_holds, point_told}
@@ -25,16 +25,16 @@ ground_of n p rows trace proof lawful accepted fixes = record { lawful = lawful;
 
 -- what is made of the match is proved
 pub match_proved : (number : ℕ) (n : Net) (p : Params) (rows : List TableRow) (trace : Trace) (proof : TraceProof)
-    → IsLawful n → IsAccepted p → IsLawfulTrace trace → IsProofOfMatch n p rows trace proof → trace_verdict number (case_of n p rows trace proof) ≡ Proved
+    → IsLawful n → IsAccepted p → IsLawfulTrace trace → IsProofOf n p trace proof × HasAskedRows n p rows trace → trace_verdict number (case_of n p rows trace proof) ≡ Proved
 match_proved number n p rows trace proof lawful accepted fixes h =
     let c = case_of n p rows trace proof in
     let ground = ground_of n p rows trace proof lawful accepted fixes in
-    let matched = case_matched n p rows trace proof h in
+    let matched = case_matched n p rows trace proof h.0 h.1 in
     each_proved number c (λ i lt. point_holds c i (match_holds c i ground matched lt))
 
 -- and what is proved is made of the match
 pub proved_match : (number : ℕ) (n : Net) (p : Params) (rows : List TableRow) (trace : Trace) (proof : TraceProof)
-    → IsLawful n → IsAccepted p → IsLawfulTrace trace → trace_verdict number (case_of n p rows trace proof) ≡ Proved → IsProofOfMatch n p rows trace proof
+    → IsLawful n → IsAccepted p → IsLawfulTrace trace → trace_verdict number (case_of n p rows trace proof) ≡ Proved → IsProofOf n p trace proof × HasAskedRows n p rows trace
 proved_match number n p rows trace proof lawful accepted fixes e =
     let c = case_of n p rows trace proof in
     let ground = ground_of n p rows trace proof lawful accepted fixes in

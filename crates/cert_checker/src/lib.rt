@@ -7,7 +7,7 @@ mod laws;
 mod rows;
 mod verdict;
 
-pub use laws::proved_is_the_match;
+pub use laws::{matches_are_proved, proved_are_the_matches, proved_is_the_match};
 pub use rows::check_rows;
 pub use verdict::{Condition, Verdict};
 
