@@ -129,9 +129,6 @@ held_pieces c h = pieces_from c (length c.proof.pieces) 0 0 h (omega arith) (rec
 
 -- ---- the ranks of a piece
 
-number_of : Option ℕ → ℕ
-number_of o = unwrap_or o 0
-
 all_some : (xs : List (Option ℕ)) → ((k : ℕ) → k < length xs → (r : ℕ) × (get_or xs k None ≡ Some r))
     → xs ≡ map (λ r. Some r) (map (λ o. unwrap_or o 0) xs)
 all_some [] h = refl

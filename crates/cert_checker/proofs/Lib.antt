@@ -12,3 +12,6 @@ pub mod MatchProofs
 pub mod HeldRuns
 pub mod HeldMatch
 pub mod TheMatch
+pub mod RisingRows
+pub mod AskedNodes
+pub mod WholeVerdict

@@ -59,7 +59,7 @@ rerouted n p layers ranks (q ∷ pieces) h =
     ap (λ x. x ∷ pieces) (routed_is n p layers ranks q (h 0 (omega arith)))
     ∙ ap (λ ps. routed_of n p layers ranks (piece_of q) ∷ ps) (rerouted n p layers ranks pieces (λ k lt. h (suc k) (omega (arith, lt))))
 
-asks_are : (n : Net) (p : Params) (trace : Trace) (v : ℕ) → asks n p trace v ≡ is_asked_node (trellis n p) (end_of n) (layers_of n p trace) (solution_of n p trace).pieces v
+pub asks_are : (n : Net) (p : Params) (trace : Trace) (v : ℕ) → asks n p trace v ≡ is_asked_node (trellis n p) (end_of n) (layers_of n p trace) (solution_of n p trace).pieces v
 unfolding asks
 asks_are n p trace v = refl
 
