@@ -1,11 +1,10 @@
 -- A node that the match of a trace asks for is one of the network.
-use Rattle.std.proofs.Common.{◌≡◌, ◌<◌, ◌≤◌, ℕ, zero, suc, ◌+◌, ◌-◌, true, List, [], ◌∷◌, length, take, drop, reverse, Some, refl, sym, ◌∙◌, ap, subst, arith, slice_get}
+use Rattle.std.proofs.Common.{◌≡◌, ℕ, zero, suc, ◌+◌, ◌-◌, true, List, [], ◌∷◌, take, drop, reverse, Some, refl, sym, ◌∙◌, ap, subst, arith, slice_get}
 use Rattle.cost_model.specs.declared.params.Params.{Params}
 use Rattle.cost_model.specs.Options.{IsAccepted}
 use Rattle.road_network.specs.Net.{HasNode, IsLawful, Net}
 use Rattle.trace_reader.specs.declared.trace.Trace.{Trace}
 use Rattle.trace_reader.specs.Trace.{IsLawfulTrace}
-use Rattle.matching.specs.declared.parts.Layer.{Layer}
 use Rattle.matching.specs.Asked.{IsAskedNodeAt}
 use Rattle.matching.specs.Layers.{IsLayer, candidate_of_rank, end_of, no_candidate, trellis}
 use Rattle.matching.specs.Places.{IsAt}

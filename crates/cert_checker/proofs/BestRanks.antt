@@ -1,9 +1,9 @@
 -- The ranks of a best sequence, as the least rank of the last point and the pointers from there back. Tables and ranks
 -- stand in the order of the points where nothing else is said.
-use Rattle.std.proofs.Common.{◌≡◌, ◌<◌, ◌≤◌, ℕ, zero, suc, ◌+◌, ◌-◌, List, [], ◌∷◌, length, get_or, take, reverse, Option, Some, None, MatchOption, refl, sym, ◌∙◌, ap, subst, arith, ⊎_elim}
+use Rattle.std.proofs.Common.{◌≡◌, ◌<◌, ℕ, zero, suc, ◌+◌, ◌-◌, List, [], ◌∷◌, length, get_or, take, reverse, Option, Some, None, refl, sym, ◌∙◌, ap, subst, arith, ⊎_elim}
 use Rattle.matching.specs.declared.parts.Cell.{Cell}
 use Rattle.matching.specs.Cells.{cell_at}
-use Rattle.matching.specs.Local.{AreFirst, AreLinked, AreNext, IsLeastWay, by_pointers}
+use Rattle.matching.specs.Local.{AreFirst, AreLinked, AreNext, by_pointers}
 use Rattle.matching.specs.Order.{AtMost}
 use Rattle.matching.specs.Places.{IsAt}
 use Rattle.matching.specs.Sequences.{Trellis, IsBest}

@@ -1,5 +1,5 @@
 -- Where each condition holds at each point, the proof is that of the match.
-use Rattle.std.proofs.Common.{◌≡◌, ◌<◌, ◌≤◌, ℕ, zero, suc, ◌+◌, ◌-◌, ◌&&◌, true, false, List, [], ◌∷◌, length, get_or, map, take, drop, reverse, Option, Some, None, refl, sym, ◌∙◌, ap, subst, arith, ⊎_elim}
+use Rattle.std.proofs.Common.{◌≡◌, ◌<◌, ◌≤◌, ℕ, zero, suc, ◌+◌, ◌-◌, ◌&&◌, true, List, [], ◌∷◌, length, get_or, map, take, drop, reverse, Option, Some, None, refl, sym, ◌∙◌, ap, subst, arith, ⊎_elim}
 use Rattle.std.specs.Prelude.{unwrap_or}
 use Rattle.std.proofs.lemmas.Bool.{and_from, and_parts, both_ways, cases_Bool, cases_lt}
 use Rattle.std.proofs.lemmas.List.{drop_all, get_or-drop, get_or-take, get_or_default, length-drop, length-map, length-take-le}
@@ -27,7 +27,7 @@ use Rattle.cert_checker.specs.Case.{Case, has_row, has_way, is_looked_at, layer,
 use Rattle.cert_checker.specs.Cells.{pointer_of}
 use Rattle.cert_checker.specs.Verdicts.{piece_of}
 use Rattle.cert_checker.proofs.PieceTests.{IsIn, begun, gone_on, no_piece, piece_after, piece_filled, piece_no}
-use Rattle.cert_checker.proofs.Points.{HasItsRoute, IsChosenFor, IsLookedAt, IsRankOf, has_ways, looked}
+use Rattle.cert_checker.proofs.Points.{IsLookedAt, IsRankOf, has_ways, looked}
 use Rattle.cert_checker.proofs.CellTests.{IsLeastRank}
 use Rattle.cert_checker.proofs.BestRanks.{Follows, leads_back}
 use Rattle.cert_checker.proofs.RunPoints.{layer_at, layer_from, layers_from, table_at, tables_in, trellis_of}

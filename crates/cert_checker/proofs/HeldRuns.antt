@@ -1,14 +1,14 @@
 -- Where each condition holds at each point, the tables of each piece are a run, and it goes as far as it can.
-use Rattle.std.proofs.Common.{◌≡◌, ◌<◌, ◌≤◌, ℕ, zero, suc, ◌+◌, ◌-◌, ◌^◌, ◌&&◌, true, false, List, [], ◌∷◌, ◌++◌, length, get_or, map, take, drop, reverse, Option, Some, None, MatchOption, refl, sym, ◌∙◌, ap, subst, arith, ⊎_elim, inl, inr}
+use Rattle.std.proofs.Common.{◌≡◌, ◌<◌, ◌≤◌, ℕ, zero, suc, ◌+◌, ◌-◌, ◌^◌, ◌&&◌, true, List, [], ◌∷◌, ◌++◌, length, get_or, map, take, drop, Option, Some, None, MatchOption, refl, sym, ◌∙◌, ap, subst, arith, ⊎_elim, inl, inr}
 use Rattle.std.specs.List.{All, range_with_len}
-use Rattle.std.proofs.lemmas.Bool.{and_from, and_parts, both_ways, cases_Bool, cases_lt, false_from_ne_true}
+use Rattle.std.proofs.lemmas.Bool.{and_from, and_parts, both_ways, cases_Bool, cases_lt}
 use Rattle.std.proofs.lemmas.List.{get_or-drop, length-drop, take_more}
 use Rattle.std.proofs.lemmas.List.FromFn.{get_or-map-range_with_len, length-map-range_with_len}
 use Rattle.matching.specs.declared.parts.Cell.{Cell}
 use Rattle.matching.specs.declared.parts.Layer.{Layer}
 use Rattle.matching.specs.Cells.{cell_at, empty_cell}
 use Rattle.matching.specs.Layers.{IsLayer}
-use Rattle.matching.specs.Local.{AreFirst, AreNext, IsLeastWay, IsRelaxedCost, by_way_of}
+use Rattle.matching.specs.Local.{AreFirst, AreNext, IsLeastWay, by_way_of}
 use Rattle.matching.specs.Pieces.{IsPiece}
 use Rattle.matching.specs.PieceSteps.{PieceEndsBefore, PieceGoesOn}
 use Rattle.matching.specs.Places.{IsAt}
@@ -17,13 +17,12 @@ use Rattle.matching.proofs.Chosen.{live_below}
 use Rattle.matching.proofs.Lists.{at-get_or, drop-at}
 use Rattle.matching.proofs.PieceSoFar.{IsGround, IsPieceSoFar, IsStepAt, so_far_all, so_far_ends, so_far_first, so_far_more}
 use Rattle.match_text.specs.declared.matched.Routed.{Routed}
-use Rattle.route_rebuild.specs.Routes.{no_layer}
 use Rattle.route_rebuild.proofs.ChosenRun.{length_between}
-use Rattle.cert_checker.specs.Case.{Case, has_way, is_looked_at, layer, table, way, width}
-use Rattle.cert_checker.specs.Pieces.{begins, goes_on, is_in_any}
+use Rattle.cert_checker.specs.Case.{Case, has_way, is_looked_at, layer, table, width}
+use Rattle.cert_checker.specs.Pieces.{is_in_any}
 use Rattle.cert_checker.proofs.PieceTests.{IsIn, IsLater, RisesFrom, begun, gone_on, in_any, one_piece, piece_filled, piece_no}
-use Rattle.cert_checker.proofs.Points.{AreLeast, HasWay, IsLookedAt, PointHolds, has_ways, looked}
-use Rattle.cert_checker.proofs.RunPoints.{IsRunOf, before_in, layer_from, layers_from, table_in, tables_in, trellis_of}
+use Rattle.cert_checker.proofs.Points.{HasWay, IsLookedAt, PointHolds, has_ways, looked}
+use Rattle.cert_checker.proofs.RunPoints.{IsRunOf, layer_from, layers_from, table_in, tables_in, trellis_of}
 use Rattle.cert_checker.proofs.MatchedCases.{IsGroundOf}
 
 -- each condition holds at each point of the case, and there is one

@@ -1,5 +1,5 @@
 pub mod RightRows
-pub mod Tests
+pub mod ListTests
 pub mod CellTests
 pub mod PieceTests
 pub mod EachPoint

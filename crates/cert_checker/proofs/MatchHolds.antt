@@ -1,13 +1,12 @@
 -- At each point of a case whose proof is that of the match, each condition holds.
-use Rattle.std.proofs.Common.{◌≡◌, ◌<◌, ◌≤◌, ℕ, zero, suc, ◌+◌, ◌-◌, ◌*◌, ◌^◌, true, false, List, [], ◌∷◌, length, get_or, map, take, drop, reverse, Option, Some, None, refl, sym, ◌∙◌, ap, subst, arith, ⊎_elim}
+use Rattle.std.proofs.Common.{◌≡◌, ◌<◌, ◌≤◌, ℕ, zero, suc, ◌+◌, ◌-◌, ◌*◌, ◌^◌, true, List, [], ◌∷◌, length, get_or, take, reverse, Option, Some, None, refl, sym, ◌∙◌, ap, subst, arith, ⊎_elim}
 use Rattle.std.proofs.lemmas.Bool.{cases_lt, false_from_ne_true}
-use Rattle.std.proofs.lemmas.List.{get_or-map, get_or_default, length-drop, length-map}
+use Rattle.std.proofs.lemmas.List.{get_or-map, get_or_default, length-map}
 use Rattle.matching.specs.declared.parts.Cell.{Cell}
-use Rattle.matching.specs.declared.parts.Layer.{Layer}
 use Rattle.matching.specs.Cells.{cell_at}
 use Rattle.matching.specs.Growth.{CostAtMost}
 use Rattle.matching.specs.Layers.{AreNeighbours, IsLayer, end_of}
-use Rattle.matching.specs.Local.{AreLinked, by_pointers}
+use Rattle.matching.specs.Local.{by_pointers}
 use Rattle.matching.specs.Match.{from_to}
 use Rattle.matching.specs.PieceSteps.{AsksIn, AsksTrace}
 use Rattle.matching.specs.Places.{IsAt}
@@ -19,16 +18,16 @@ use Rattle.matching.proofs.WholePiece.{asked_in}
 use Rattle.match_text.specs.declared.matched.Routed.{Routed}
 use Rattle.route_rebuild.specs.Routes.{no_layer}
 use Rattle.route_rebuild.proofs.ChosenRun.{length_between}
-use Rattle.cert_checker.specs.Case.{Case, has_row, layer, rank, table, way, width}
+use Rattle.cert_checker.specs.Case.{Case, layer, rank, table, width}
 use Rattle.cert_checker.specs.Cells.{pointer_of}
 use Rattle.cert_checker.specs.Pieces.{begins, goes_on, is_in_any}
 use Rattle.cert_checker.specs.Verdicts.{piece_of}
-use Rattle.cert_checker.proofs.Tests.{IsThere}
+use Rattle.cert_checker.proofs.ListTests.{IsThere}
 use Rattle.cert_checker.proofs.PieceTests.{IsIn, IsLater, begun, gone_on, in_any, no_piece, one_piece, piece_no}
-use Rattle.cert_checker.proofs.Points.{AreCandidates, AreFirstCells, AreLeast, AtBreak, BreaksRight, EachEnded, EndsLater, HasItsRoute, HasRowOf, HasRows, HasWay, IsChosenFor, IsLookedAt, IsRankOf, PointHolds}
+use Rattle.cert_checker.proofs.Points.{AreCandidates, AreFirstCells, AreLeast, AtBreak, BreaksRight, HasRows, IsChosenFor, IsLookedAt, IsRankOf, PointHolds}
 use Rattle.cert_checker.proofs.BestRanks.{LeadsBack, best_is, rank_before}
-use Rattle.cert_checker.proofs.RunPoints.{IsRunOf, before_in, ends_of, filled_of, first_of, later_of, layer_at, layer_from, layers_from, linked_of, looked_of, reached_of, table_at, tables_in, trellis_of, width_of}
-use Rattle.cert_checker.proofs.MatchedCases.{IsGroundOf, IsMatchOf, chosen_count, matched_piece, piece_there, pieces_of, point_in, rank_below, rank_in, rises_from, run_of}
+use Rattle.cert_checker.proofs.RunPoints.{IsRunOf, ends_of, filled_of, first_of, later_of, layer_at, layer_from, layers_from, linked_of, looked_of, reached_of, table_at, tables_in, trellis_of, width_of}
+use Rattle.cert_checker.proofs.MatchedCases.{IsGroundOf, IsMatchOf, chosen_count, matched_piece, pieces_of, point_in, rank_below, rank_in, rises_from, run_of}
 
 -- ---- Candidates
 

@@ -1,5 +1,5 @@
 -- A proof of the match of a trace, and the case that it makes.
-use Rattle.std.proofs.Common.{◌≡◌, ◌<◌, ℕ, zero, suc, true, List, [], ◌∷◌, length, get_or, map, Option, refl, sym, ◌∙◌, ap, subst, arith}
+use Rattle.std.proofs.Common.{◌≡◌, ◌<◌, ℕ, suc, List, [], ◌∷◌, length, map, Option, refl, sym, ◌∙◌, ap, subst, arith}
 use Rattle.std.proofs.lemmas.List.{get_or-map, length-map}
 use Rattle.cost_model.specs.declared.params.Params.{Params}
 use Rattle.road_network.specs.Net.{Net, edge_name}
@@ -12,7 +12,7 @@ use Rattle.matching.specs.AskedValue.{is_asked_node}
 use Rattle.matching.specs.Layers.{end_of, trellis}
 use Rattle.matching.specs.Match.{IsMatch}
 use Rattle.matching.specs.PieceSteps.{AsksTrace}
-use Rattle.matching.specs.Value.{Solution, solution}
+use Rattle.matching.specs.Value.{Solution}
 use Rattle.matching.proofs.Asking.{is_asked_node-tells}
 use Rattle.matching.proofs.SolutionMatches.{solution_is_a_match}
 use Rattle.matching.proofs.Values.{solution-is}
@@ -20,7 +20,6 @@ use Rattle.match_text.specs.declared.matched.Routed.{Routed}
 use Rattle.route_rebuild.specs.Routes.{route_of}
 use Rattle.trace_match.specs.Match.{asks, layers_of, match_of, routed_of, solution_of}
 use Rattle.potential_certificate.specs.declared.proof.TraceProof.{TraceProof}
-use Rattle.cert_checker.specs.Case.{has_row}
 use Rattle.cert_checker.specs.Laws.{HasAskedRows, IsProofOf}
 use Rattle.cert_checker.specs.Verdicts.{case_of, piece_of}
 use Rattle.cert_checker.proofs.PieceTests.{no_piece, piece_no}

@@ -1,10 +1,8 @@
 -- A case whose proof is that of the match of its layers: its pieces and their points.
-use Rattle.std.proofs.Common.{◌≡◌, ◌<◌, ◌≤◌, ℕ, zero, suc, ◌+◌, ◌-◌, true, List, [], ◌∷◌, length, get_or, map, take, drop, reverse, Option, Some, None, IfSome, refl, sym, ◌∙◌, ap, subst, arith, ⊎_elim}
+use Rattle.std.proofs.Common.{◌≡◌, ◌<◌, ◌≤◌, ℕ, zero, suc, ◌+◌, ◌-◌, true, List, [], ◌∷◌, length, get_or, map, drop, Option, Some, None, IfSome, subst, arith}
 use Rattle.std.proofs.lemmas.List.{get_or-map, length-drop, length-map}
-use Rattle.matching.specs.declared.parts.Cell.{Cell}
-use Rattle.matching.specs.declared.parts.Layer.{Layer}
 use Rattle.matching.specs.declared.parts.Piece.{Piece}
-use Rattle.matching.specs.Match.{IsMatch, IsMatchedPiece, from_to}
+use Rattle.matching.specs.Match.{IsMatch, IsMatchedPiece}
 use Rattle.matching.specs.Pieces.{ArePieces, IsPiece}
 use Rattle.matching.specs.PieceSteps.{AsksTrace}
 use Rattle.matching.specs.Sequences.{Trellis}

@@ -1,11 +1,11 @@
 -- What the tests of the pieces of a proof tell.
-use Rattle.std.proofs.Common.{◌≡◌, ◌<◌, ◌≤◌, ℕ, zero, suc, ◌+◌, ◌==◌, ◌&&◌, Bool, true, false, leb, ltb, List, [], ◌∷◌, length, get_or, refl, sym, ◌∙◌, ap, subst, arith, ⊎_elim}
+use Rattle.std.proofs.Common.{◌≡◌, ◌<◌, ◌≤◌, ℕ, zero, suc, ◌+◌, ◌==◌, ◌&&◌, leb, ltb, List, [], ◌∷◌, length, get_or, refl, arith, ⊎_elim}
 use Rattle.std.specs.Bool.{Decides}
 use Rattle.std.proofs.lemmas.Bool.{cases_order}
 use Rattle.std.proofs.lemmas.Bool.Decides.{Decides-and, Decides-eqb, Decides-ltb}
 use Rattle.match_text.specs.declared.matched.Routed.{Routed}
 use Rattle.cert_checker.specs.Pieces.{begins, goes_on, is_in, is_in_any, rise_from}
-use Rattle.cert_checker.proofs.Tests.{at_most, some_element}
+use Rattle.cert_checker.proofs.ListTests.{at_most, some_element}
 
 abbrev pub no_piece : Routed
 no_piece = record { first = 0; last = 0; cost = 0; route = [] }

@@ -1,12 +1,11 @@
 -- What the conditions say of a point.
-use Rattle.std.proofs.Common.{◌≡◌, ◌<◌, ◌≤◌, ℕ, zero, suc, ◌+◌, ◌-◌, ◌==◌, ◌&&◌, ◌^◌, Bool, true, false, cond, leb, ltb, List, length, map, Option, Some, None, MatchOption, refl, subst, arith, ⊎_elim}
+use Rattle.std.proofs.Common.{◌≡◌, ◌<◌, ◌≤◌, ℕ, ◌+◌, ◌-◌, ◌==◌, ◌&&◌, ◌^◌, Bool, true, false, cond, leb, ltb, List, length, map, Option, Some, None, MatchOption, refl, subst, arith, ⊎_elim}
 use Rattle.std.specs.Prelude.{◌||◌, not}
 use Rattle.std.specs.Bool.{Decides}
 use Rattle.std.specs.Option.{is_some, option_eq}
 use Rattle.std.specs.List.{list_all, list_any, range_with_len}
-use Rattle.std.specs.Cmp.Lexicographic.{pointwise}
 use Rattle.std.proofs.lemmas.Bool.{and_from, and_parts, both_ways, cases_lt, eq-eqb, eqb-false, eqb-true, false_from_ne_true, false≢true, ne_eqb, not-true, not_from_false, true≢false}
-use Rattle.std.proofs.lemmas.Bool.Decides.{Decides-and, Decides-eqb, Decides-like, Decides-ltb, Decides-not}
+use Rattle.std.proofs.lemmas.Bool.Decides.{Decides-and, Decides-eqb, Decides-ltb, Decides-not}
 use Rattle.std.proofs.lemmas.Slice.Eq.{slice_eq-Decides}
 use Rattle.cost_model.specs.Costs.{emission}
 use Rattle.road_network.specs.Net.{edge_name}
@@ -20,7 +19,7 @@ use Rattle.cert_checker.specs.Case.{Case, has_row, has_way, is_looked_at, layer,
 use Rattle.cert_checker.specs.Cells.{is_first_cell, is_first_pointer, is_least_rank, is_relaxed, is_tight, pointer_of}
 use Rattle.cert_checker.specs.Pieces.{begins, goes_on, is_in_any, rise_from}
 use Rattle.cert_checker.specs.Verdicts.{breaks_right, follows_pointers, has_breaks, has_candidates, has_first_costs, has_route, has_rows, holds, is_chosen, is_last, is_rank_of, each_ended, each_later, piece_of}
-use Rattle.cert_checker.proofs.Tests.{IsThere, at_most, each_below_n, each_element, implied, itself, same_options, some_below_n, some_element, some_way, there}
+use Rattle.cert_checker.proofs.ListTests.{IsThere, at_most, each_below_n, each_element, implied, itself, same_options, some_below_n, some_element, some_way, there}
 use Rattle.cert_checker.proofs.CellTests.{IsBound, IsLeastRank, first_cell, is_least, least_rank, pointer, relaxed, tight}
 use Rattle.cert_checker.proofs.PieceTests.{RisesFrom, no_piece, piece_no, rises}
 use Rattle.cert_checker.proofs.EachPoint.{AllPass}

@@ -1,5 +1,5 @@
 -- Rows of a certificate, tried one by one.
-use Rattle.std.proofs.Common.{◌≡◌, ◌↔◌, ◌<◌, ◌≤◌, ℕ, ◌+◌, ◌==◌, Bool, true, false, cond, leb, ltb, List, [], ◌∷◌, length, get_or, drop, Option, Some, None, refl, sym, ◌∙◌, ap, subst, arith}
+use Rattle.std.proofs.Common.{◌≡◌, ◌↔◌, ◌<◌, ◌≤◌, ℕ, ◌+◌, ◌==◌, Bool, true, false, cond, List, [], ◌∷◌, length, get_or, drop, Option, Some, None, refl, sym, ◌∙◌, ap}
 use Rattle.std.specs.Prelude.{IsTrue, ◌&&◌, nat_le, nat_lt}
 use Rattle.std.specs.Bool.{Decides}
 use Rattle.std.specs.Option.{option_eq}
@@ -15,7 +15,7 @@ use Rattle.matching.proofs.Lists.{drop-at}
 use Rattle.std.proofs.lemmas.Bool.{leb-true, lt-ltb, ltb-true, true≢false}
 use Rattle.std.proofs.lemmas.List.{drop_all}
 use Rattle.std.specs.Cmp.Lexicographic.{pointwise}
-use Rattle.cert_checker.specs.Rows.{bad_row_from, first_bad_row, is_next_row, is_right_row, is_same_entry}
+use Rattle.cert_checker.specs.Rows.{bad_row_from, is_next_row, is_right_row, is_same_entry}
 
 is_edge : (a b : EdgeId) → a.0 ≡ b.0 → a ≡ b
 is_edge a b e i = record { 0 = e i }

@@ -2,7 +2,7 @@
 use Rattle.std.proofs.Common.{◌≡◌, ◌<◌, ◌≤◌, ℕ, zero, suc, ◌+◌, ◌==◌, Bool, true, false, cond, leb, ltb, List, [], ◌∷◌, length, get_or, map, Option, Some, None, refl, sym, ◌∙◌, ap, subst, arith, ⊎_elim}
 use Rattle.std.specs.Prelude.{slice_index}
 use Rattle.std.specs.Bool.{Decides}
-use Rattle.std.specs.List.{All, filter, list_any, range_with_len}
+use Rattle.std.specs.List.{All, filter, range_with_len}
 use Rattle.std.specs.List.Sorted.{IsStrictlyIncreasing}
 use Rattle.std.proofs.lemmas.Bool.{cases_lt, eq-eqb, or_left, or_right}
 use Rattle.std.proofs.lemmas.Bool.Decides.{Decides-and, Decides-ltb}
@@ -18,7 +18,7 @@ use Rattle.cert_checker.specs.Case.{has_row}
 use Rattle.cert_checker.specs.Laws.{AreRightRows, rows_where}
 use Rattle.cert_checker.specs.Rows.{bad_row_from, first_bad_row, is_next_row, is_right_row}
 use Rattle.cert_checker.proofs.RightRows.{has_right_entries, right_is}
-use Rattle.cert_checker.proofs.Tests.{at_most}
+use Rattle.cert_checker.proofs.ListTests.{at_most}
 
 abbrev IsRight : Net → ℕ → TableRow → Type 0
 IsRight n bound row = HasNode n row.origin × (row ≡ row_of n bound row.origin)

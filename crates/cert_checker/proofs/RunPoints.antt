@@ -1,16 +1,16 @@
 -- The points of a piece whose tables are a run.
-use Rattle.std.proofs.Common.{◌≡◌, ◌<◌, ◌≤◌, ℕ, zero, suc, ◌+◌, ◌-◌, Bool, true, false, List, [], ◌∷◌, length, get_or, take, drop, reverse, Option, Some, None, MatchOption, refl, sym, ◌∙◌, ap, subst, arith, ⊎_elim}
+use Rattle.std.proofs.Common.{◌≡◌, ◌<◌, ◌≤◌, ℕ, ◌+◌, ◌-◌, Bool, true, false, List, [], ◌∷◌, length, get_or, take, drop, reverse, Option, Some, None, refl, sym, ◌∙◌, ap, subst, arith, ⊎_elim}
 use Rattle.std.proofs.lemmas.Bool.{cases_lt, false≢true}
-use Rattle.std.proofs.lemmas.List.{get_or-drop, get_or-take, length-drop}
+use Rattle.std.proofs.lemmas.List.{get_or-drop, get_or-take}
 use Rattle.matching.specs.declared.parts.Cell.{Cell}
 use Rattle.matching.specs.declared.parts.Layer.{Layer}
 use Rattle.matching.specs.Cells.{cell_at}
 use Rattle.matching.specs.Layers.{trellis}
-use Rattle.matching.specs.Local.{AreFirst, AreLinked, AreNext, IsLeastWay, IsTightCost, by_pointers}
+use Rattle.matching.specs.Local.{AreFirst, AreLinked, AreNext, IsTightCost, by_pointers}
 use Rattle.matching.specs.Match.{from_to}
 use Rattle.matching.specs.Pieces.{CanBePiece, IsPiece}
 use Rattle.matching.specs.Places.{IsAt}
-use Rattle.matching.specs.Sequences.{Trellis, HasSequence, cost}
+use Rattle.matching.specs.Sequences.{Trellis, HasSequence}
 use Rattle.matching.specs.SoFar.{IsRun}
 use Rattle.matching.proofs.Chosen.{live_reached, some_live}
 use Rattle.matching.proofs.Costs.{added-parts, cost-goes_on}
@@ -22,9 +22,9 @@ use Rattle.match_text.specs.declared.matched.Routed.{Routed}
 use Rattle.route_rebuild.specs.Routes.{no_layer}
 use Rattle.route_rebuild.proofs.ChosenRun.{length_between}
 use Rattle.cert_checker.specs.Case.{Case, layer, table, way, width}
-use Rattle.cert_checker.proofs.Tests.{IsThere}
+use Rattle.cert_checker.proofs.ListTests.{IsThere}
 use Rattle.cert_checker.proofs.PieceTests.{IsIn, IsLater}
-use Rattle.cert_checker.proofs.Points.{HasWay, IsLookedAt, IsReached}
+use Rattle.cert_checker.proofs.Points.{HasWay, IsLookedAt}
 use Rattle.cert_checker.proofs.BestRanks.{first_at, next_at}
 
 abbrev pub trellis_of : Case → Trellis Layer

@@ -1,5 +1,5 @@
 -- A certificate is proved exactly where it is one of the matches of the traces.
-use Rattle.std.proofs.Common.{◌≡◌, ◌<◌, ℕ, ◌+◌, ◌==◌, Bool, true, false, cond, List, [], ◌∷◌, length, get_or, Option, Some, None, refl, ◌∙◌, ap, arith}
+use Rattle.std.proofs.Common.{◌≡◌, ℕ, ◌+◌, ◌==◌, Bool, true, false, cond, List, [], ◌∷◌, get_or, Option, Some, None, refl, ◌∙◌, ap, arith}
 use Rattle.std.specs.List.{All}
 use Rattle.std.proofs.lemmas.Bool.{eq-eqb, eqb-true}
 use Rattle.std.proofs.lemmas.List.Elements.{All-head, All-tail}
@@ -13,9 +13,8 @@ use Rattle.matching.proofs.Lists.{all-cons}
 use Rattle.potential_certificate.specs.declared.proof.TraceProof.{TraceProof}
 use Rattle.cert_checker.specs.declared.verdict.Condition.{Condition}
 use Rattle.cert_checker.specs.declared.verdict.Condition.TheVariants.{Row, Trace as TraceIds}
-use Rattle.cert_checker.specs.declared.verdict.Verdict.{Verdict}
 use Rattle.cert_checker.specs.declared.verdict.Verdict.TheVariants.{Proved}
-use Rattle.cert_checker.specs.Laws.{AreProofsOf, HasAskedRows, IsCertificateOf, MatchesAreProved, PassesIfAsked, ProvedAreTheMatches, rows_where}
+use Rattle.cert_checker.specs.Laws.{AreProofsOf, HasAskedRows, MatchesAreProved, ProvedAreTheMatches, rows_where}
 use Rattle.cert_checker.specs.Rows.{first_bad_row}
 use Rattle.cert_checker.specs.Verdicts.{case_of, or_else, trace_verdict}
 use Rattle.cert_checker.specs.Whole.{apart_from, refused_whole, verdict, verdict_from}
