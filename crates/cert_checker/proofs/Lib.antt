@@ -15,3 +15,6 @@ pub mod TheMatch
 pub mod RisingRows
 pub mod AskedNodes
 pub mod WholeVerdict
+pub mod RowTexts
+pub mod ProofTexts
+pub mod MatchTexts

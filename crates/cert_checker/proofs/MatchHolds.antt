@@ -157,7 +157,7 @@ pair_of c i ground lt = record {
 }
 
 -- no cost of a point of a piece is above 2^43 for each point so far
-small_in : (c : Case) (q : Routed) (d i : ℕ) → IsGroundOf c → IsRunOf c q → i ≡ q.first + d → i ≤ q.last → CostAtMost ((d + 1) * 2 ^ 43) (table c i)
+pub small_in : (c : Case) (q : Routed) (d i : ℕ) → IsGroundOf c → IsRunOf c q → i ≡ q.first + d → i ≤ q.last → CostAtMost ((d + 1) * 2 ^ 43) (table c i)
 small_in c q zero i ground run e le =
     let inside = run.inside in
     let same : q.first ≡ i = omega (arith, e) in

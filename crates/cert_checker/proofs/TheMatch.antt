@@ -20,7 +20,7 @@ use Rattle.cert_checker.proofs.MatchHolds.{match_holds}
 use Rattle.cert_checker.proofs.MatchProofs.{case_matched, matched_case}
 use Rattle.cert_checker.proofs.HeldMatch.{held_matches}
 
-ground_of : (n : Net) (p : Params) (rows : List TableRow) (trace : Trace) (proof : TraceProof) → IsLawful n → IsAccepted p → IsLawfulTrace trace → IsGroundOf (case_of n p rows trace proof)
+pub ground_of : (n : Net) (p : Params) (rows : List TableRow) (trace : Trace) (proof : TraceProof) → IsLawful n → IsAccepted p → IsLawfulTrace trace → IsGroundOf (case_of n p rows trace proof)
 ground_of n p rows trace proof lawful accepted fixes = record { lawful = lawful; trace = matchable n p trace (layers_of n p trace) accepted fixes refl }
 
 -- what is made of the match is proved

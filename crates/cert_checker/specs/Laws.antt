@@ -1,5 +1,5 @@
 -- What a verdict says of the matches of traces.
-use Rattle.std.specs.Prelude.{ℕ, ◌≡◌, ◌↔◌, Bool, true, List, [], ◌∷◌, length, map}
+use Rattle.std.specs.Prelude.{ℕ, ◌≡◌, ◌<◌, ◌^◌, ◌↔◌, Bool, true, List, [], ◌∷◌, length, map}
 use Rattle.std.specs.List.{All, filter, range_with_len}
 use Rattle.std.specs.List.Sorted.{IsStrictlyIncreasing}
 use Rattle.cost_model.specs.declared.params.Params.{Params}
@@ -10,6 +10,7 @@ use Rattle.trace_reader.specs.Trace.{IsLawfulTrace}
 use Rattle.bounded_search.specs.RowValue.{row_of}
 use Rattle.bounded_search.specs.Table.{TableRow}
 use Rattle.trace_match.specs.Match.{asks, match_of, solution_of}
+use Rattle.potential_certificate.specs.HasText.{HasText}
 use Rattle.potential_certificate.specs.declared.proof.Certificate.{Certificate}
 use Rattle.potential_certificate.specs.declared.proof.TraceProof.{TraceProof}
 use Rattle.cert_checker.specs.declared.verdict.Verdict.TheVariants.{Proved}
@@ -66,7 +67,11 @@ ProvedAreTheMatches =
 abbrev pub rows_where : Net → ℕ → (ℕ → Bool) → List TableRow
 rows_where n bound test = map (row_of n bound) (filter test (range_with_len 0 (length n.nodes)))
 
--- the node passes the test if the match of the trace asks for it
+-- these proofs with these rows
+abbrev pub with_rows_where : Net → ℕ → (ℕ → Bool) → List TraceProof → Certificate
+with_rows_where n bound test proofs = record { proofs = proofs; rows = rows_where n bound test }
+
+-- a node passes the test if the match of the trace asks for it
 abbrev pub PassesIfAsked : Net → Params → (ℕ → Bool) → Trace → Type 0
 PassesIfAsked n p test trace = (v : ℕ) → asks n p trace v ≡ true → test v ≡ true
 
@@ -77,4 +82,16 @@ MatchesAreProved =
     (n : Net) (p : Params) (traces : List Trace) (proofs : List TraceProof) (test : ℕ → Bool)
     → IsLawful n → IsAccepted p → All IsLawfulTrace traces
     → AreProofsOf n p traces proofs → All (PassesIfAsked n p test) traces
-    → verdict n p traces (record { proofs = proofs; rows = rows_where n p.bound test }) ≡ Proved
+    → verdict n p traces (with_rows_where n p.bound test proofs) ≡ Proved
+
+-- the ids of the edges and of the traces fit 32 bits
+pub record HaveShortIds (n : Net) (traces : List Trace) : Type 0 where
+  pub of_edges : All (λ e. e.name < 2 ^ 32) n.edges
+  pub of_traces : All (λ trace. trace.id < 2 ^ 32) traces
+
+-- and such a certificate has a text
+abbrev pub MatchesHaveText : Type 0
+MatchesHaveText =
+    (n : Net) (p : Params) (traces : List Trace) (proofs : List TraceProof) (test : ℕ → Bool)
+    → IsLawful n → IsAccepted p → All IsLawfulTrace traces → HaveShortIds n traces
+    → AreProofsOf n p traces proofs → HasText (with_rows_where n p.bound test proofs)

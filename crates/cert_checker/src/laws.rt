@@ -1,5 +1,5 @@
 //! Laws of the definition of a verdict, each stated by a function without code.
-ghost use Rattle.cert_checker.specs.Laws.{MatchesAreProved, ProvedAreTheMatches, ProvedIsTheMatch};
+ghost use Rattle.cert_checker.specs.Laws.{MatchesAreProved, MatchesHaveText, ProvedAreTheMatches, ProvedIsTheMatch};
 
 /// A trace is proved exactly by a proof that has the ranks, the cells and the pieces of its match,
 /// beside the rows of all nodes that the match asks for.
@@ -16,4 +16,10 @@ pub fn proved_are_the_matches()
 /// Proofs of the matches of traces are proved beside the rows of all nodes that the matches ask for.
 pub fn matches_are_proved()
     ensures { MatchesAreProved }
+{}
+
+/// A certificate of proofs of the matches of traces and of rows of nodes has a text. So what is
+/// written of it is read as this certificate (`certificates_read_back` of `potential_certificate`).
+pub fn matches_have_text()
+    ensures { MatchesHaveText }
 {}
