@@ -30,7 +30,7 @@ use Rattle.cert_checker.proofs.PieceTests.{IsIn, begun, gone_on, no_piece, piece
 use Rattle.cert_checker.proofs.Points.{IsLookedAt, IsRankOf, has_ways, looked}
 use Rattle.cert_checker.proofs.CellTests.{IsLeastRank}
 use Rattle.cert_checker.proofs.BestRanks.{Follows, leads_back}
-use Rattle.cert_checker.proofs.RunPoints.{layer_at, layer_from, layers_from, table_at, tables_in, trellis_of}
+use Rattle.cert_checker.proofs.RunPoints.{from_to_at, layer_at, layer_from, layers_from, table_at, tables_in, trellis_of}
 use Rattle.cert_checker.proofs.MatchedCases.{IsMatchOf, piece_there, pieces_of}
 use Rattle.cert_checker.proofs.HeldRuns.{IsHeld, held_filled, held_inside, held_order, held_ranks, held_run, held_tables}
 
@@ -155,7 +155,7 @@ ranks_are c k h lt =
     let low : j < q.last + 1 - q.first = omega (arith, j_in, count) in
     let at = (h.each (q.first + j) (omega (arith, low, inside, filled))).candidates in
     let r = some_rank (width c (q.first + j)) (rank c (q.first + j)) (held_filled c k (q.first + j) h lt (omega arith, omega (arith, low, filled))) at.1.1.0 in
-    (r.0, get_or-take (q.last + 1 - q.first) (drop q.first c.proof.ranks) j None low ∙ get_or-drop q.first c.proof.ranks j None ∙ r.1))
+    (r.0, from_to_at q.first q.last j c.proof.ranks None low ∙ r.1))
 
 chosen_at : (c : Case) (k j : ℕ) → IsHeld c → k < length c.proof.pieces → j ≤ (piece_no c.proof.pieces k).last - (piece_no c.proof.pieces k).first
     → (length (chosen_in c (piece_no c.proof.pieces k)) ≡ (piece_no c.proof.pieces k).last + 1 - (piece_no c.proof.pieces k).first)

@@ -1,5 +1,5 @@
 -- Proofs of matches have texts.
-use Rattle.std.proofs.Common.{◌≡◌, ◌≢◌, ◌↔◌, ◌<◌, ◌≤◌, ℕ, zero, suc, ◌+◌, ◌-◌, ◌*◌, ◌^◌, true, List, [], ◌∷◌, length, get_or, map, Option, Some, None, MatchOption, IfSome, refl, sym, ◌∙◌, ap, subst, arith, ⊎_elim}
+use Rattle.std.proofs.Common.{◌≡◌, ◌≢◌, ◌↔◌, ◌<◌, ◌≤◌, ℕ, zero, suc, ◌+◌, ◌-◌, ◌*◌, ◌^◌, true, List, [], ◌∷◌, length, get_or, map, Option, Some, None, refl, sym, ◌∙◌, ap, subst, arith, ⊎_elim}
 use Rattle.std.specs.Prelude.{pos}
 use Rattle.std.specs.List.{All, AllByRecursion}
 use Rattle.std.proofs.lemmas.Bool.{cases_lt}
@@ -13,23 +13,22 @@ use Rattle.bounded_search.specs.Table.{TableRow}
 use Rattle.trace_reader.specs.Trace.{IsLawfulTrace}
 use Rattle.matching.specs.declared.parts.Cell.{Cell}
 use Rattle.matching.specs.declared.parts.Layer.{Layer}
-use Rattle.matching.specs.Cells.{cell_at, empty_cell}
-use Rattle.matching.specs.Growth.{CostAtMost}
+use Rattle.matching.specs.Cells.{cell_at}
 use Rattle.matching.specs.Local.{IsLeastWay}
 use Rattle.matching.proofs.CandidateLayers.{candidates_narrow}
 use Rattle.match_text.specs.MatchText.{IsCovered, IsMatched, IsRising, PieceFits}
 use Rattle.match_text.specs.declared.matched.Routed.{Routed}
 use Rattle.route_rebuild.specs.Routes.{no_layer, route_of}
-use Rattle.trace_match.specs.Match.{labels_of, layer_of, layers_of, match_of, solution_of}
+use Rattle.trace_match.specs.Match.{labels_of, layer_of, layers_of, match_of}
 use Rattle.trace_match.proofs.Lawful.{match_lawful}
-use Rattle.potential_certificate.specs.HasText.{ArePoints, IsCell, IsCellWord, IsPoint, IsProof, label_of, match_of as match_of_proof}
+use Rattle.potential_certificate.specs.HasText.{ArePoints, IsCell, IsCellWord, IsPoint, IsProof, label_of}
 use Rattle.potential_certificate.specs.declared.proof.TraceProof.{TraceProof}
 use Rattle.cert_checker.specs.Case.{Case, layer, rank, table, way, width}
 use Rattle.cert_checker.specs.Laws.{HasAskedRows, IsProofOf, rows_where}
 use Rattle.cert_checker.specs.Verdicts.{case_of, piece_of}
-use Rattle.cert_checker.proofs.PieceTests.{IsIn, IsLater, no_piece, piece_no}
-use Rattle.cert_checker.proofs.Points.{HasItsRoute, IsRankOf}
-use Rattle.cert_checker.proofs.RunPoints.{IsRunOf, first_of, later_of, trellis_of}
+use Rattle.cert_checker.proofs.PieceTests.{piece_no}
+use Rattle.cert_checker.proofs.Points.{IsRankOf}
+use Rattle.cert_checker.proofs.RunPoints.{first_of, later_of, trellis_of}
 use Rattle.cert_checker.proofs.MatchedCases.{IsGroundOf, IsMatchOf, point_in, run_of}
 use Rattle.cert_checker.proofs.MatchHolds.{match_holds, small_in}
 use Rattle.cert_checker.proofs.MatchProofs.{case_matched}

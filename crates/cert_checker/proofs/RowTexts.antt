@@ -1,12 +1,11 @@
 -- The rows of nodes of a network have lines.
-use Rattle.std.proofs.Common.{◌≡◌, ◌<◌, ◌≤◌, ℕ, zero, suc, ◌+◌, ◌==◌, ◌^◌, Bool, true, false, cond, List, [], ◌∷◌, ◌++◌, length, get_or, map, Option, Some, None, IfSome, refl, sym, subst, arith, ⊎_elim}
-use Rattle.std.specs.List.{All, AllByRecursion, filter, range_with_len}
+use Rattle.std.proofs.Common.{◌<◌, ◌≤◌, ℕ, zero, suc, ◌+◌, ◌==◌, ◌^◌, Bool, true, false, cond, List, [], ◌∷◌, ◌++◌, length, map, Option, Some, None, IfSome, refl, arith}
+use Rattle.std.specs.List.{AllByRecursion, filter, range_with_len}
 use Rattle.std.proofs.lemmas.List.{length-map}
 use Rattle.bounded_search.specs.RowValue.{arrives, entries_from, first_arriving, label_within, or_edge, or_label, row_of}
 use Rattle.bounded_search.specs.Closed.{origin_label}
 use Rattle.bounded_search.specs.Labels.{entry_of}
 use Rattle.bounded_search.specs.Table.{TableRow}
-use Rattle.bounded_search.specs.declared.table_row.Entry.{Entry}
 use Rattle.bounded_search.specs.declared.table_row.Label.{Label}
 use Rattle.bounded_search.proofs.RowChecks.{rules_of_row}
 use Rattle.bounded_search.proofs.RowValues.{row_values}

@@ -37,6 +37,10 @@ layers_from c q = drop q.first c.layers
 abbrev pub tables_in : Case → Routed → List (List Cell)
 tables_in c q = from_to q.first q.last c.proof.tables
 
+-- an element of a stretch of a list
+pub from_to_at : {X : Type 0} (first last j : ℕ) (xs : List X) (d : X) → j < last + 1 - first → get_or (from_to first last xs) j d ≡ get_or xs (first + j) d
+from_to_at first last j xs d lt = get_or-take (last + 1 - first) (drop first xs) j d lt ∙ get_or-drop first xs j d
+
 pub record IsRunOf (c : Case) (q : Routed) : Type 0 where
   pub some : q.first ≤ q.last
   pub inside : q.last < length c.layers
@@ -55,8 +59,7 @@ table_in c q i in_q inside =
     let count = length_between c.proof.tables q.first q.last (omega (arith, ge, le)) inside in
     let e : q.first + k ≡ i = omega (arith, ge) in
     let same : get_or (tables_in c q) k [] ≡ table c i =
-    get_or-take (q.last + 1 - q.first) (drop q.first c.proof.tables) k [] (omega (arith, ge, le)) ∙ get_or-drop q.first c.proof.tables k []
-    ∙ ap (λ v. get_or c.proof.tables v []) e in
+    from_to_at q.first q.last k c.proof.tables [] (omega (arith, ge, le)) ∙ ap (λ v. get_or c.proof.tables v []) e in
     subst (λ v. IsAt (tables_in c q) k v) same (at-get_or (tables_in c q) k [] (omega (arith, count, ge, le)))
 
 inside_tables : (c : Case) (q : Routed) → IsRunOf c q → q.last < length c.proof.tables

@@ -14,7 +14,7 @@ use Rattle.potential_certificate.specs.declared.proof.TraceProof.{TraceProof}
 use Rattle.cert_checker.specs.declared.verdict.Condition.{Condition}
 use Rattle.cert_checker.specs.declared.verdict.Condition.TheVariants.{Row, Trace as TraceIds}
 use Rattle.cert_checker.specs.declared.verdict.Verdict.TheVariants.{Proved}
-use Rattle.cert_checker.specs.Laws.{AreProofsOf, HasAskedRows, MatchesAreProved, ProvedAreTheMatches, rows_where, with_rows_where}
+use Rattle.cert_checker.specs.Laws.{AreProofsOf, HasAskedRows, MatchesAreProved, ProvedAreTheMatches, with_rows_where}
 use Rattle.cert_checker.specs.Rows.{first_bad_row}
 use Rattle.cert_checker.specs.Verdicts.{case_of, or_else, trace_verdict}
 use Rattle.cert_checker.specs.Whole.{apart_from, refused_whole, verdict, verdict_from}
