@@ -27,7 +27,7 @@ use Rattle.cert_checker.specs.Case.{Case, has_row, has_way, is_looked_at, layer,
 use Rattle.cert_checker.specs.Cells.{pointer_of}
 use Rattle.cert_checker.specs.Verdicts.{piece_of}
 use Rattle.cert_checker.proofs.PieceTests.{IsIn, begun, gone_on, no_piece, piece_after, piece_filled, piece_no}
-use Rattle.cert_checker.proofs.Points.{IsLookedAt, IsRankOf, has_ways, looked}
+use Rattle.cert_checker.proofs.PointConditions.{IsLookedAt, IsRankOf, has_ways, looked}
 use Rattle.cert_checker.proofs.CellTests.{IsLeastRank}
 use Rattle.cert_checker.proofs.BestRanks.{Follows, leads_back}
 use Rattle.cert_checker.proofs.RunPoints.{from_to_at, layer_at, layer_from, layers_from, table_at, tables_in, trellis_of}

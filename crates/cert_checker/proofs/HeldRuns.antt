@@ -21,7 +21,7 @@ use Rattle.route_rebuild.proofs.ChosenRun.{length_between}
 use Rattle.cert_checker.specs.Case.{Case, has_way, is_looked_at, layer, table, width}
 use Rattle.cert_checker.specs.Pieces.{is_in_any}
 use Rattle.cert_checker.proofs.PieceTests.{IsIn, IsLater, RisesFrom, begun, gone_on, in_any, one_piece, piece_filled, piece_no}
-use Rattle.cert_checker.proofs.Points.{HasWay, IsLookedAt, PointHolds, has_ways, looked}
+use Rattle.cert_checker.proofs.PointConditions.{HasWay, IsLookedAt, PointHolds, has_ways, looked}
 use Rattle.cert_checker.proofs.RunPoints.{IsRunOf, layer_from, layers_from, table_in, tables_in, trellis_of}
 use Rattle.cert_checker.proofs.MatchedCases.{IsGroundOf}
 

@@ -3,7 +3,7 @@ pub mod ListTests
 pub mod CellTests
 pub mod PieceTests
 pub mod EachPoint
-pub mod Points
+pub mod PointConditions
 pub mod BestRanks
 pub mod RunPoints
 pub mod MatchedCases

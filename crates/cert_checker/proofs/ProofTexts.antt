@@ -27,7 +27,7 @@ use Rattle.cert_checker.specs.Case.{Case, layer, rank, table, way, width}
 use Rattle.cert_checker.specs.Laws.{HasAskedRows, IsProofOf, rows_where}
 use Rattle.cert_checker.specs.Verdicts.{case_of, piece_of}
 use Rattle.cert_checker.proofs.PieceTests.{piece_no}
-use Rattle.cert_checker.proofs.Points.{IsRankOf}
+use Rattle.cert_checker.proofs.PointConditions.{IsRankOf}
 use Rattle.cert_checker.proofs.RunPoints.{first_of, later_of, trellis_of}
 use Rattle.cert_checker.proofs.MatchedCases.{IsGroundOf, IsMatchOf, point_in, run_of}
 use Rattle.cert_checker.proofs.MatchHolds.{match_holds, small_in}

@@ -24,7 +24,7 @@ use Rattle.route_rebuild.proofs.ChosenRun.{length_between}
 use Rattle.cert_checker.specs.Case.{Case, layer, table, way, width}
 use Rattle.cert_checker.proofs.ListTests.{IsThere}
 use Rattle.cert_checker.proofs.PieceTests.{IsIn, IsLater}
-use Rattle.cert_checker.proofs.Points.{HasWay, IsLookedAt}
+use Rattle.cert_checker.proofs.PointConditions.{HasWay, IsLookedAt}
 use Rattle.cert_checker.proofs.BestRanks.{first_at, next_at}
 
 abbrev pub trellis_of : Case → Trellis Layer

@@ -14,7 +14,7 @@ use Rattle.cert_checker.specs.declared.verdict.Verdict.TheVariants.{Proved}
 use Rattle.cert_checker.specs.Laws.{HasAskedRows, IsProofOf, ProvedIsTheMatch}
 use Rattle.cert_checker.specs.Verdicts.{case_of, trace_verdict}
 use Rattle.cert_checker.proofs.EachPoint.{each_proved, proved_each}
-use Rattle.cert_checker.proofs.Points.{point_holds, point_told}
+use Rattle.cert_checker.proofs.PointConditions.{point_holds, point_told}
 use Rattle.cert_checker.proofs.MatchedCases.{IsGroundOf}
 use Rattle.cert_checker.proofs.MatchHolds.{match_holds}
 use Rattle.cert_checker.proofs.MatchProofs.{case_matched, matched_case}
