@@ -81,7 +81,7 @@ bad_row net bound least k rows row lt is bad =
     sym (ap (bad_row_from net bound least k) (next_row rows k row lt is)
     ∙ ap (λ v. cond v (bad_row_from net bound (row.origin + 1) (k + 1) (drop (k + 1) rows)) (Some k)) bad)
 
-both_true : (a b : Bool) → (a && b) ≡ true → (a ≡ true) × (b ≡ true)
+pub both_true : (a b : Bool) → (a && b) ≡ true → (a ≡ true) × (b ≡ true)
 both_true true b h = (refl, h)
 both_true false b h = absurd (true≢false (sym h))
 
