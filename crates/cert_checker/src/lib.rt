@@ -2,7 +2,8 @@
 //!
 //! [`check_rows`] tries the rows that the rest stands on, [`check_trace`] one trace, and [`check_all`] a
 //! whole certificate. The verdict on a trace is `trace_verdict` in `specs/Verdicts.antt`, and that on a
-//! certificate `verdict` in `specs/Whole.antt`.
+//! certificate `verdict` in `specs/Whole.antt`. [`laws`] has that they prove the matches of traces, and
+//! nothing else.
 #![tactic(auto)]
 
 mod breaks;
@@ -10,6 +11,7 @@ mod cell_tests;
 mod chosen;
 mod given_rows;
 mod ground;
+pub mod laws;
 mod pieces;
 mod placed_rows;
 mod plain_layers;
