@@ -168,6 +168,14 @@ pub fn check_traces<R: Threads + Sync, S: Shelf, K: Sink>(
 {
     let roads = load_network(alloc, shelf, network)?;
     let taken = load_traces(alloc, shelf, traces)?;
-    let line = load_certificate(rt, alloc, shelf, certificate, &roads, &options, taken.as_slice())?;
+    let line = load_certificate(
+        rt,
+        alloc,
+        shelf,
+        certificate,
+        &roads,
+        &options,
+        taken.as_slice(),
+    )?;
     put_text(out, line.as_slice())
 }

@@ -16,11 +16,7 @@ use std::alloc::Global;
 use trace_reader::Trace;
 
 // The text of the certificate of traces, or its refusal as too long.
-fn text_of_proofs(
-    alloc: Global,
-    matcher: &Matcher<'_>,
-    traces: &[Trace],
-) -> Result<List<u8>, Stop>
+fn text_of_proofs(alloc: Global, matcher: &Matcher<'_>, traces: &[Trace]) -> Result<List<u8>, Stop>
     requires { All IsLawfulTrace traces.now }
     ensures { Accepts Refusal.TooLong (prove_said matcher.now traces.now) result }
 {

@@ -93,12 +93,7 @@ fn append_refusal(
 /// The place of the first row that is not right, where the verdict refuses a row of the whole.
 ///
 /// A refusal by `Row` may speak of a point of the first trace too. Only then are the rows tried again.
-pub fn row_refused(
-    roads: &Network,
-    bound: u32,
-    rows: &[Row],
-    verdict: Verdict,
-) -> Option<u32>
+pub fn row_refused(roads: &Network, bound: u32, rows: &[Row], verdict: Verdict) -> Option<u32>
     requires { SpeaksFirstOf (first_bad_row roads.now bound rows.now) verdict }
     ensures { verdict_said result verdict
         ≡ verdict_said (first_bad_row roads.now bound rows.now) verdict }
@@ -114,11 +109,7 @@ pub fn row_refused(
 }
 
 /// Accepts a certificate that is proved, and refuses another.
-pub fn accept_verdict(
-    alloc: Global,
-    bad_row: Option<u32>,
-    verdict: Verdict,
-) -> Result<(), Stop>
+pub fn accept_verdict(alloc: Global, bad_row: Option<u32>, verdict: Verdict) -> Result<(), Stop>
     ensures { Accepts Refusal.Certificate (verdict_said bad_row verdict) result }
 {
     let Verdict::Refused {
