@@ -1,5 +1,5 @@
 -- Rows of a certificate, tried one by one.
-use Rattle.std.proofs.Common.{◌≡◌, ◌↔◌, ◌<◌, ◌≤◌, ℕ, ◌+◌, ◌==◌, Bool, true, false, cond, leb, ltb, List, [], ◌∷◌, length, get_or, drop, Option, Some, None, refl, sym, ◌∙◌, ap, subst, arith}
+use Rattle.std.proofs.Common.{◌≡◌, ◌↔◌, ◌<◌, ◌≤◌, ℕ, ◌+◌, ◌==◌, Bool, true, false, cond, List, [], ◌∷◌, length, get_or, drop, Option, Some, None, refl, sym, ◌∙◌, ap}
 use Rattle.std.specs.Prelude.{IsTrue, ◌&&◌, nat_le, nat_lt}
 use Rattle.std.specs.Bool.{Decides}
 use Rattle.std.specs.Option.{option_eq}
@@ -15,7 +15,7 @@ use Rattle.matching.proofs.Lists.{drop-at}
 use Rattle.std.proofs.lemmas.Bool.{leb-true, lt-ltb, ltb-true, true≢false}
 use Rattle.std.proofs.lemmas.List.{drop_all}
 use Rattle.std.specs.Cmp.Lexicographic.{pointwise}
-use Rattle.cert_checker.specs.Rows.{bad_row_from, first_bad_row, is_next_row, is_right_row, is_same_entry}
+use Rattle.cert_checker.specs.Rows.{bad_row_from, is_next_row, is_right_row, is_same_entry}
 
 is_edge : (a b : EdgeId) → a.0 ≡ b.0 → a ≡ b
 is_edge a b e i = record { 0 = e i }
@@ -44,10 +44,10 @@ same_entry x y =
 is_row : (row other : TableRow) → row.origin ≡ other.origin → row.entries ≡ other.entries → row ≡ other
 is_row row other origin entries i = record { origin = origin i; entries = entries i }
 
-abbrev has_right_entries : Net → ℕ → TableRow → Bool
+abbrev pub has_right_entries : Net → ℕ → TableRow → Bool
 has_right_entries net bound row = pointwise is_same_entry row.entries (row_of net bound row.origin).entries
 
-right_is : (net : Net) (bound : ℕ) (row : TableRow) → Decides (has_right_entries net bound row) (row ≡ row_of net bound row.origin)
+pub right_is : (net : Net) (bound : ℕ) (row : TableRow) → Decides (has_right_entries net bound row) (row ≡ row_of net bound row.origin)
 right_is net bound row =
     let value = row_of net bound row.origin in
     Decides-like (has_right_entries net bound row) (is_row row value refl) (λ (e : row ≡ value). ap (λ (r : TableRow). r.entries) e)
@@ -81,7 +81,7 @@ bad_row net bound least k rows row lt is bad =
     sym (ap (bad_row_from net bound least k) (next_row rows k row lt is)
     ∙ ap (λ v. cond v (bad_row_from net bound (row.origin + 1) (k + 1) (drop (k + 1) rows)) (Some k)) bad)
 
-both_true : (a b : Bool) → (a && b) ≡ true → (a ≡ true) × (b ≡ true)
+pub both_true : (a b : Bool) → (a && b) ≡ true → (a ≡ true) × (b ≡ true)
 both_true true b h = (refl, h)
 both_true false b h = absurd (true≢false (sym h))
 

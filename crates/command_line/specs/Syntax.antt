@@ -8,11 +8,14 @@ use Rattle.command_line.specs.Work.{WorkKind}
 use Rattle.command_line.specs.works.Follow.{follow_kind}
 use Rattle.command_line.specs.works.Streams.{streams_kind}
 use Rattle.command_line.specs.works.Match.{match_kind}
+use Rattle.command_line.specs.works.Prove.{prove_kind}
+use Rattle.command_line.specs.works.Check.{check_kind}
 use Rattle.command_line.specs.works.Table.{table_kind}
 use Rattle.command_line.specs.works.Town.{town_kind}
 
 abbrev pub all_kinds : List WorkKind
-all_kinds = match_kind ∷ follow_kind ∷ table_kind ∷ town_kind ∷ streams_kind ∷ []
+all_kinds =
+    match_kind ∷ follow_kind ∷ table_kind ∷ town_kind ∷ streams_kind ∷ prove_kind ∷ check_kind ∷ []
 
 -- `--NAME VALUE`, at most once, with its value kept as text
 abbrev pub option_rule : List ℕ → Rule

@@ -11,8 +11,10 @@ use crate::fault::WordsFault;
 use crate::read::read_options;
 use crate::syntax::program;
 use crate::work::{Command, Work};
+use crate::works::checking::read_check;
 use crate::works::following::read_follow;
 use crate::works::matching::read_match;
+use crate::works::proving::read_prove;
 use crate::works::streaming::read_streams;
 use crate::works::table::read_table;
 use crate::works::towns::read_town;
@@ -84,6 +86,8 @@ fn read_work<'a>(name: &str, found: &ArgMatches<'a>) -> Result<Work<'a>, WordsFa
         "table" => read_table(found),
         "town" => read_town(found),
         "streams" => read_streams(found),
+        "prove" => read_prove(found),
+        "check" => read_check(found),
         _ => Err(WordsFault::Usage),
     }
 }

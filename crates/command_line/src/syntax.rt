@@ -8,7 +8,7 @@ ghost use Rattle.command_line.specs.Syntax.{option_rule, program};
 ghost use Rattle.command_line.specs.Values.{name_of};
 
 use crate::value::ValueName;
-use crate::works::{following, matching, streaming, table, towns};
+use crate::works::{checking, following, matching, proving, streaming, table, towns};
 use clap::{Arg, Command};
 use std::alloc::{AllocError, Global};
 
@@ -23,12 +23,14 @@ pub struct Form {
 }
 
 /// Every command.
-const FORMS: [Form; 5] = [
+const FORMS: [Form; 7] = [
     matching::FORM,
     following::FORM,
     table::FORM,
     towns::FORM,
     streaming::FORM,
+    proving::FORM,
+    checking::FORM,
 ];
 
 /// What a word behind the command is.

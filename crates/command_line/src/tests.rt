@@ -32,6 +32,14 @@ fn refused_words(rt: HostRuntime) -> Result<(), Fail> {
             "follow a b --workers 65",
             WordsFault::BadValue(ValueName::Workers),
         ),
+        ("prove a", WordsFault::Usage),
+        ("check a b", WordsFault::Usage),
+        ("check a b c d", WordsFault::Usage),
+        ("prove a b --table c", WordsFault::Usage),
+        (
+            "check a b c --back 100001",
+            WordsFault::BadValue(ValueName::Back),
+        ),
         ("table", WordsFault::Usage),
         ("table a b", WordsFault::Usage),
         ("table a --table b", WordsFault::Usage),
@@ -81,12 +89,22 @@ fn accepted_words(rt: HostRuntime) -> Result<(), Fail> {
 }
 
 #[test]
-fn words_of_following(rt: HostRuntime) -> Result<(), Fail> {
+fn words_of_files(rt: HostRuntime) -> Result<(), Fail> {
     let network = "a";
     let traces = "b";
+    let certificate = "c";
     let rows = [
         ("follow --back=500 a b", Work::Follow { network, traces }),
         ("streams a b --back 500", Work::Streams { network, traces }),
+        ("prove a --back 500 b", Work::Prove { network, traces }),
+        (
+            "check a --back 500 b c",
+            Work::Check {
+                network,
+                traces,
+                certificate,
+            },
+        ),
     ];
     let options = Params {
         back: 500,

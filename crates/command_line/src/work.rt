@@ -36,6 +36,22 @@ pub enum Work<'a> {
         /// The name of the trace file.
         traces: &'a str,
     },
+    /// Write the certificate of the matches of a file's traces on the network of a file.
+    Prove {
+        /// The name of the network file.
+        network: &'a str,
+        /// The name of the trace file.
+        traces: &'a str,
+    },
+    /// Check whether a certificate proves the matches of a file's traces on the network of a file.
+    Check {
+        /// The name of the network file.
+        network: &'a str,
+        /// The name of the trace file.
+        traces: &'a str,
+        /// The name of the file of the certificate.
+        certificate: &'a str,
+    },
     /// Write the table of the network of a file.
     Table {
         /// The name of the network file.

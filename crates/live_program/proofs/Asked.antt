@@ -7,7 +7,7 @@ use Rattle.command_line.specs.declared.fault.WordsFault.{WordsFault}
 use Rattle.command_line.specs.declared.fault.WordsFault.TheVariants.{Memory, Usage}
 use Rattle.command_line.specs.declared.work.Command.{Command}
 use Rattle.command_line.specs.declared.work.Work.{Work}
-use Rattle.command_line.specs.declared.work.Work.TheVariants.{Match, Follow, Streams, Table, Town}
+use Rattle.command_line.specs.declared.work.Work.TheVariants.{Match, Follow, Streams, Prove, Check, Table, Town}
 use Rattle.edge_io.specs.State.{ShelfState, SinkState}
 use Rattle.follow_work.specs.Follow.{follow_plan}
 use Rattle.live_pipeline.specs.Living.{LivePerforms}
@@ -39,6 +39,8 @@ no_follow : (work : Work) (options : _) → ((network traces : _) → work ≢ F
 no_follow (Match network traces table) options other = refl
 no_follow (Follow network traces) options other = absurd (other network traces refl)
 no_follow (Streams network traces) options other = refl
+no_follow (Prove network traces) options other = refl
+no_follow (Check network traces certificate) options other = refl
 no_follow (Table network) options other = refl
 no_follow (Town side traces seed) options other = refl
 

@@ -5,7 +5,7 @@ use Rattle.std.specs.Result.{result_map_both}
 use Rattle.clap.specs.Faults.{defaults_fault, walk_fault}
 use Rattle.command_line.specs.FaultLine.{fault_line as words_fault_line}
 use Rattle.command_line.specs.Work.{PlainCommand, PlainWork}
-use Rattle.command_line.specs.Work.PlainWork.{follow_files, match_files, match_town, stream_files, table_of_network}
+use Rattle.command_line.specs.Work.PlainWork.{check_files, follow_files, match_files, match_town, prove_files, stream_files, table_of_network}
 use Rattle.command_line.specs.Syntax.{program}
 use Rattle.command_line.specs.Words.{command_of}
 use Rattle.command_line.specs.declared.fault.WordsFault.{WordsFault}
@@ -53,6 +53,8 @@ work_end (follow_files network traces) options status line refused is =
     network_end is.0 (network_said is.0) (λ net. works_traces traces (follow_job (record { network = net; params = options }))) status line refl (λ net. follows_end (record { network = net; params = options }) traces status line refused) is.1
 work_end (match_files network traces table) options status line refused is = words_end [] Usage status line no_words is
 work_end (stream_files network traces) options status line refused is = words_end [] Usage status line no_words is
+work_end (prove_files network traces) options status line refused is = words_end [] Usage status line no_words is
+work_end (check_files network traces certificate) options status line refused is = words_end [] Usage status line no_words is
 work_end (table_of_network network) options status line refused is = words_end [] Usage status line no_words is
 work_end (match_town side traces seed) options status line refused is = words_end [] Usage status line no_words is
 

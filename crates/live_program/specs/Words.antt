@@ -2,7 +2,7 @@
 use Rattle.std.specs.Prelude.{ℕ, List, ◌∷◌, codes, Option, Result, Ok, Err}
 use Rattle.command_line.specs.FaultLine.{fault_line}
 use Rattle.command_line.specs.Work.{PlainCommand, PlainWork}
-use Rattle.command_line.specs.Work.PlainWork.{follow_files, match_files, match_town, stream_files, table_of_network}
+use Rattle.command_line.specs.Work.PlainWork.{check_files, follow_files, match_files, match_town, prove_files, stream_files, table_of_network}
 use Rattle.command_line.specs.Words.{command_of}
 use Rattle.command_line.specs.declared.fault.WordsFault.{WordsFault}
 use Rattle.command_line.specs.declared.fault.WordsFault.TheVariants.{Usage}
@@ -15,6 +15,8 @@ abbrev pub followed : PlainWork → Params → Result Plan (List ℕ)
 followed (follow_files network traces) options = Ok (follow_plan network traces options)
 followed (match_files network traces table) options = Err (fault_line Usage)
 followed (stream_files network traces) options = Err (fault_line Usage)
+followed (prove_files network traces) options = Err (fault_line Usage)
+followed (check_files network traces certificate) options = Err (fault_line Usage)
 followed (table_of_network network) options = Err (fault_line Usage)
 followed (match_town side traces seed) options = Err (fault_line Usage)
 

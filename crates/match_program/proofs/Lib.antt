@@ -1,14 +1,17 @@
 pub mod Asked
 pub mod Asking
+pub mod CheckedProofs
 pub mod Jobs
 pub mod Lines
 pub mod Matches
 pub mod Preloads
+pub mod ProvedTexts
 pub mod Sharing
 pub mod TableFiles
 pub mod TableRows
 pub mod Towns
 pub mod TriedRows
+pub mod WholeTraces
 pub mod Workers
 pub mod StreamJobs
 pub mod StreamTakes

@@ -5,29 +5,35 @@ use Rattle.std.specs.declared.option.Option.{Option}
 use Rattle.std.specs.Result.{result_map_both}
 use Rattle.command_line.specs.FaultLine.{fault_line as words_fault_line}
 use Rattle.command_line.specs.Work.{PlainCommand, PlainWork}
-use Rattle.command_line.specs.Work.PlainWork.{follow_files, match_files, match_town, stream_files, table_of_network}
+use Rattle.command_line.specs.Work.PlainWork.{check_files, follow_files, match_files, match_town, prove_files, stream_files, table_of_network}
 use Rattle.command_line.specs.Words.{command_of}
 use Rattle.command_line.specs.declared.fault.WordsFault.{WordsFault}
 use Rattle.cost_model.specs.declared.params.Params.{Params}
 use Rattle.program_frame.specs.Jobs.{given_by}
-use Rattle.program_frame.specs.Plan.{Plan, IsLineOf, accepts, plan_of}
+use Rattle.program_frame.specs.Plan.{Plan, IsLineOf, accepts, loads, plan_of}
 use Rattle.program_frame.specs.Plan.Plan.{ends}
 use Rattle.program_frame.specs.Promises.{Covers}
 use Rattle.program_frame.specs.Outcome.{done_with}
-use Rattle.program_frame.specs.Refusals.{network_said}
+use Rattle.program_frame.specs.Refusals.{network_said, trace_limit}
 use Rattle.program_frame.specs.Stream.{works_traces}
+use Rattle.program_frame.specs.WholeTraces.{traces_or_line, traces_said}
+use Rattle.program_frame.specs.declared.stop.File.TheVariants.{Certificate, Traces}
 use Rattle.road_network.specs.Net.{Net}
 use Rattle.trace_reader.specs.Fault.{fault_line}
 use Rattle.trace_reader.specs.Reading.{file_fault, file_traces}
 use Rattle.trace_reader.specs.declared.fault.TraceFault.{TraceFault}
+use Rattle.trace_reader.specs.declared.trace.Trace.{Trace}
 use Rattle.trace_sessions.specs.StreamText.{full_id, points_in}
 use Rattle.table_file.specs.TableText.{text_limit}
+use Rattle.potential_certificate.specs.CertificateText.{text_limit as certificate_limit}
 use Rattle.match_program.specs.RunLines.{run_lines}
 use Rattle.match_program.specs.Setting.{Setting}
 use Rattle.match_program.specs.Words.{asked_by, command_plan, work_plan}
 use Rattle.follow_work.specs.Follow.{follow_job}
+use Rattle.match_program.specs.commands.Check.{check_said}
 use Rattle.match_program.specs.commands.Matches.{match_text}
 use Rattle.match_program.specs.commands.Preload.{preloads, table_file_said}
+use Rattle.match_program.specs.commands.Prove.{certificate_too_long, prove_said, text_of_proofs}
 use Rattle.match_program.specs.commands.Streams.{streams_job, too_long_line}
 use Rattle.match_program.specs.commands.Table.{table_said, table_too_long, text_of_network}
 
@@ -57,16 +63,35 @@ network_end bytes (Err fault) next status line known rest is = inl (inr (inl (sy
 table_end : (network : List ℕ) (options : Params) (said : Result (List ℕ) (List ℕ)) (net : Net) (status : ℕ) (line : List ℕ) → table_said net options.bound ≡ said → status ≢ 0
     → IsLineOf (accepts 8 said (λ text. ends (done_with text))) status line → run_lines status line
 table_end network options (Ok text) net status line known refused is = absurd (refused (sym is.0))
-table_end network options (Err said) net status line known refused is = inr (inr (inl (sym is.0, sym is.1 ∙ too_long_said (nat_lt text_limit (length (text_of_network net options.bound))) known)))
+table_end network options (Err said) net status line known refused is = inr (inr (inl (sym is.0, inl (sym is.1 ∙ too_long_said (nat_lt text_limit (length (text_of_network net options.bound))) known))))
   where
     too_long_said : (long : Bool) → cond {A = Result (List ℕ) (List ℕ)} long (Err table_too_long) (Ok (text_of_network net options.bound)) ≡ Err said → said ≡ table_too_long
     too_long_said true e = cc
     too_long_said false e = absurd cc
 
+proofs_end : (on : Setting) (taken : List Trace) (said : Result (List ℕ) (List ℕ)) (status : ℕ) (line : List ℕ) → prove_said on taken ≡ said → status ≢ 0
+    → IsLineOf (accepts 8 said (λ text. ends (done_with text))) status line → run_lines status line
+proofs_end on taken (Ok text) status line known refused is = absurd (refused (sym is.0))
+proofs_end on taken (Err said) status line known refused is = inr (inr (inl (sym is.0, inr (sym is.1 ∙ too_long_said (nat_lt certificate_limit (length (text_of_proofs on taken))) known))))
+  where
+    too_long_said : (long : Bool) → cond {A = Result (List ℕ) (List ℕ)} long (Err certificate_too_long) (Ok (text_of_proofs on taken)) ≡ Err said → said ≡ certificate_too_long
+    too_long_said true e = cc
+    too_long_said false e = absurd cc
+
+loaded_end : (bytes : List ℕ) (fault : Option TraceFault) (next : List Trace → Plan) (status : ℕ) (line : List ℕ) → file_fault bytes ≡ fault → ((taken : List Trace) → IsLineOf (next taken) status line → run_lines status line)
+    → IsLineOf (accepts 6 (traces_or_line (file_traces bytes) fault) next) status line → run_lines status line
+loaded_end bytes None next status line known rest is = rest (file_traces bytes) is
+loaded_end bytes (Some fault) next status line known rest is = inl (inr (inr (sym is.0, (bytes, ap (option_map fault_line) known ∙ ap (λ l. Some l) is.1))))
+
+check_end : (on : Setting) (taken : List Trace) (bytes : List ℕ) (said : Result (List ℕ) (List ℕ)) (status : ℕ) (line : List ℕ) → check_said on taken bytes ≡ said → status ≢ 0
+    → IsLineOf (accepts 7 said (λ text. ends (done_with text))) status line → run_lines status line
+check_end on taken bytes (Ok text) status line known refused is = absurd (refused (sym is.0))
+check_end on taken bytes (Err said) status line known refused is = inr (inr (inr (inr (sym is.0, (on, taken, bytes, known ∙ ap (λ l. Err l) is.1)))))
+
 table_file_end : (net : Net) (bound : ℕ) (bytes : List ℕ) (said : Result (Unit {0}) (List ℕ)) (next : Plan) (status : ℕ) (line : List ℕ) → table_file_said net bound bytes ≡ said → (IsLineOf next status line → run_lines status line)
     → IsLineOf (accepts 9 said (λ _. next)) status line → run_lines status line
 table_file_end net bound bytes (Ok done) next status line known rest is = rest is
-table_file_end net bound bytes (Err said) next status line known rest is = inr (inr (inr (sym is.0, (net, bound, bytes, known ∙ ap (λ l. Err l) is.1))))
+table_file_end net bound bytes (Err said) next status line known rest is = inr (inr (inr (inl (sym is.0, (net, bound, bytes, known ∙ ap (λ l. Err l) is.1)))))
 
 preloads_end : (table : Option (List ℕ)) (net : Net) (bound : ℕ) (next : Plan) (status : ℕ) (line : List ℕ) → (IsLineOf next status line → run_lines status line) → IsLineOf (preloads table net bound next) status line → run_lines status line
 preloads_end None net bound next status line rest is = rest is
@@ -84,6 +109,14 @@ work_end (table_of_network network) options status line refused is =
 work_end (stream_files network traces) options status line refused is =
     network_end is.0 (network_said is.0) (λ net. works_traces traces (streams_job (record { network = net; params = options }))) status line refl
     (λ net more. streams_end (record { network = net; params = options }) _ _ more.0 (full_id [] (points_in (file_traces more.0))) status line refused more.1) is.1
+work_end (prove_files network traces) options status line refused is =
+    network_end is.0 (network_said is.0) (λ net. loads Traces traces trace_limit 6 traces_said (λ taken. accepts 8 (prove_said (record { network = net; params = options }) taken) (λ text. ends (done_with text)))) status line refl
+    (λ net more. loaded_end more.0 (file_fault more.0) (λ taken. accepts 8 (prove_said (record { network = net; params = options }) taken) (λ text. ends (done_with text))) status line refl
+    (λ taken. proofs_end (record { network = net; params = options }) taken (prove_said (record { network = net; params = options }) taken) status line refl refused) more.1) is.1
+work_end (check_files network traces certificate) options status line refused is =
+    network_end is.0 (network_said is.0) (λ net. loads Traces traces trace_limit 6 traces_said (λ taken. loads Certificate certificate certificate_limit 7 (check_said (record { network = net; params = options }) taken) (λ text. ends (done_with text)))) status line refl
+    (λ net more. loaded_end more.0 (file_fault more.0) (λ taken. loads Certificate certificate certificate_limit 7 (check_said (record { network = net; params = options }) taken) (λ text. ends (done_with text))) status line refl
+    (λ taken last. check_end (record { network = net; params = options }) taken last.0 (check_said (record { network = net; params = options }) taken last.0) status line refl refused last.1) more.1) is.1
 work_end (match_town side traces seed) options status line refused is = absurd (refused (sym is.0))
 
 asked_end : (words : List (List ℕ)) (command : Result PlainCommand WordsFault) (status : ℕ) (line : List ℕ) → command_of words ≡ command → status ≢ 0 → IsLineOf (plan_of (result_map_both command_plan words_fault_line command)) status line → run_lines status line

@@ -1,7 +1,7 @@
 -- The loop over fragments.
-use Rattle.std.proofs.Common.{◌≡◌, ℕ, ◌+◌, ◌<◌, ◌≤◌, ◌^◌, List, [], ◌∷◌, ◌++◌, Result, Ok, Err, IsErr, refl, sym, ap, ◌∙◌, subst, arith, length, map, take, drop, get_or}
+use Rattle.std.proofs.Common.{◌≡◌, ℕ, ◌+◌, ◌<◌, ◌≤◌, ◌^◌, List, [], ◌∷◌, ◌++◌, Result, Ok, Err, IsErr, refl, sym, ap, ◌∙◌, subst, arith, length, take, drop, get_or}
 use Rattle.std.specs.List.{All}
-use Rattle.std.proofs.lemmas.List.{append_assoc, append-nil, length-append, length-map, take-append-drop, take_all, take_more}
+use Rattle.std.proofs.lemmas.List.{append_assoc, append-nil, length-append, length-map, take-append-drop, take_more}
 use Rattle.std.proofs.lemmas.List.Concat.{flat_map-append}
 use Rattle.std.proofs.lemmas.List.Elements.{All-append, All-head, All-map, All-tail, All-take}
 use Rattle.std.proofs.lemmas.List.Sums.{sum_by-cons}
@@ -17,8 +17,8 @@ use Rattle.trace_reader.specs.declared.trace.Fix.{Fix}
 use Rattle.trace_reader.specs.declared.trace.Trace.{Trace}
 use Rattle.trace_sessions.specs.declared.sessions.SessionFault.{SessionFault}
 use Rattle.trace_sessions.specs.Sessions.{Keeps, Pair, SessionsState}
-use Rattle.trace_sessions.specs.StreamText.{Point, fragment_points, full_id, points_in, with_points}
-use Rattle.trace_sessions.specs.Streaming.{AreLawful, AsksStream, CanStream, Streams, TakesPoints, fixes_in}
+use Rattle.trace_sessions.specs.StreamText.{Point, fragment_points, points_in, with_points}
+use Rattle.trace_sessions.specs.Streaming.{AsksStream, CanStream, Streams, TakesPoints}
 use Rattle.trace_sessions.proofs.StreamLines.{told-few}
 use Rattle.trace_sessions.proofs.StreamPoints.{fixes_in-behind}
 use Rattle.trace_sessions.proofs.StreamTakes.{asks-no-points, asks-then, asks-wider, lawful-behind, none-taken, refused-then, takes-then}

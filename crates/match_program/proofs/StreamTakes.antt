@@ -1,5 +1,5 @@
 -- A job of `streams`, before its first trace and after more.
-use Rattle.std.proofs.Common.{◌≡◌, ⊎_elim, ℕ, ◌+◌, ◌<◌, ◌^◌, List, [], ◌∷◌, ◌++◌, Some, None, Ok, Err, refl, sym, ap, ◌∙◌, subst, arith, length, length-append, map}
+use Rattle.std.proofs.Common.{◌≡◌, ⊎_elim, ℕ, ◌+◌, List, [], ◌++◌, Some, None, Ok, Err, refl, sym, ap, ◌∙◌, subst, arith, length, length-append, map}
 use Rattle.std.specs.Prelude.{Contains, option_map}
 use Rattle.std.specs.List.{concat}
 use Rattle.std.proofs.lemmas.List.Folds.{concat-append}

@@ -1,5 +1,6 @@
 pub mod Matched
 pub mod MatcherInside
+pub mod ProvedTexts
 pub mod RunLines
 pub mod Setting
 pub mod Sharing

@@ -2,15 +2,23 @@
 use Rattle.std.specs.Prelude.{◌≡◌, ◌⊎◌, ℕ, List, Err}
 use Rattle.program_frame.specs.Refusals.{refusal_lines}
 use Rattle.road_network.specs.Net.{Net}
+use Rattle.trace_reader.specs.declared.trace.Trace.{Trace}
+use Rattle.match_program.specs.Setting.{Setting}
+use Rattle.match_program.specs.commands.Check.{check_said}
 use Rattle.match_program.specs.commands.Preload.{table_file_said}
+use Rattle.match_program.specs.commands.Prove.{certificate_too_long}
 use Rattle.match_program.specs.commands.Streams.{too_long_line}
 use Rattle.match_program.specs.commands.Table.{table_too_long}
 
--- those of words, networks and traces, that of an id that is too long, that of a table that is too long, and those of a table file
+-- those of words, networks and traces, that of an id that is too long, those of a table and a certificate
+-- that are too long, those of a table file, and those of a certificate that is refused
 abbrev pub run_lines : ℕ → List ℕ → Type 0
 run_lines status line =
     refusal_lines status line
     ⊎ ((status ≡ 6) × ((id : ℕ) × (line ≡ too_long_line id)))
-    ⊎ ((status ≡ 8) × (line ≡ table_too_long))
+    ⊎ ((status ≡ 8) × ((line ≡ table_too_long) ⊎ (line ≡ certificate_too_long)))
     ⊎ ((status ≡ 9)
     × ((net : Net) × (bound : ℕ) × (bytes : List ℕ) × (table_file_said net bound bytes ≡ Err line)))
+    ⊎ ((status ≡ 7)
+    × ((on : Setting) × (traces : List Trace) × (bytes : List ℕ)
+    × (check_said on traces bytes ≡ Err line)))

@@ -3,12 +3,14 @@ use Rattle.std.specs.Prelude.{ℕ, List, Result}
 use Rattle.std.specs.Result.{result_map_both}
 use Rattle.command_line.specs.FaultLine.{fault_line}
 use Rattle.command_line.specs.Work.{PlainCommand, PlainWork}
-use Rattle.command_line.specs.Work.PlainWork.{follow_files, match_files, match_town, stream_files, table_of_network}
+use Rattle.command_line.specs.Work.PlainWork.{check_files, follow_files, match_files, match_town, prove_files, stream_files, table_of_network}
 use Rattle.command_line.specs.Words.{command_of}
 use Rattle.cost_model.specs.declared.params.Params.{Params}
 use Rattle.program_frame.specs.Plan.{Plan}
 use Rattle.follow_work.specs.Follow.{follow_plan}
+use Rattle.match_program.specs.commands.Check.{check_plan}
 use Rattle.match_program.specs.commands.Matches.{match_plan}
+use Rattle.match_program.specs.commands.Prove.{prove_plan}
 use Rattle.match_program.specs.commands.Streams.{streams_plan}
 use Rattle.match_program.specs.commands.Table.{table_plan}
 use Rattle.match_program.specs.commands.Towns.{town_plan}
@@ -20,6 +22,9 @@ work_plan (follow_files network traces) options = follow_plan network traces opt
 work_plan (table_of_network network) options = table_plan network options
 work_plan (match_town side traces seed) options = town_plan side traces seed options
 work_plan (stream_files network traces) options = streams_plan network traces options
+work_plan (prove_files network traces) options = prove_plan network traces options
+work_plan (check_files network traces certificate) options =
+    check_plan network traces certificate options
 
 abbrev pub command_plan : PlainCommand → Plan
 command_plan command = work_plan command.work command.options

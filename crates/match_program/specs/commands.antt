@@ -1,7 +1,11 @@
+pub mod Check
+pub mod CheckDone
 pub mod Matches
 pub mod MatchesDone
 pub mod Preload
 pub mod PreloadDone
+pub mod Prove
+pub mod ProveDone
 pub mod Streams
 pub mod StreamTexts
 pub mod StreamsDone

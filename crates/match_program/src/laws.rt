@@ -1,4 +1,5 @@
 //! Laws on what a run writes. Each function is there for its clause and does nothing.
+ghost use Rattle.match_program.specs.ProvedTexts.{ProvedTextsAreAccepted};
 ghost use Rattle.match_program.specs.TableFiles.{TableFilesChangeNothing};
 ghost use Rattle.match_program.specs.Workers.{WorkersChangeNothing};
 
@@ -10,4 +11,9 @@ pub fn workers_change_nothing()
 /// The outcome of `match` with a table file is that without it, where the file is not refused.
 pub fn table_files_change_nothing()
     ensures { TableFilesChangeNothing }
+{}
+
+/// What `prove` writes of some traces, `check` accepts for the same traces and options.
+pub fn proved_texts_are_accepted()
+    ensures { ProvedTextsAreAccepted }
 {}

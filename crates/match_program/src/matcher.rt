@@ -1,12 +1,14 @@
 // What traces are matched on: a network with the grid of its edges, and the options. Serves the
 // commands; decided by `match_of`.
-ghost use Rattle.std.specs.Prelude.{◌≡◌, ◌≤◌, [], IfOk};
+ghost use Rattle.std.specs.Prelude.{◌≡◌, ◌≤◌, [], All, IfOk};
 ghost use Rattle.bounded_search.specs.Rows.{no_rows};
 ghost use Rattle.cost_model.specs.Options.{IsAccepted};
 ghost use Rattle.match_pool.specs.Learning.{AreReadersFor};
 ghost use Rattle.match_pool.specs.Working.{AreJobTraces};
+ghost use Rattle.trace_reader.specs.Trace.{IsLawfulTrace};
 ghost use Rattle.trace_sessions.specs.Sessions.{Keeps};
 ghost use Rattle.match_program.specs.Sharing.{IsStoreFor, MatchesBatch, ShareStore, fresh_readers};
+ghost use Rattle.match_program.specs.commands.ProveDone.{WritesProofs};
 
 use bounded_search::OwnRows;
 use cost_model::Params;
@@ -14,6 +16,8 @@ use grid_index::Grid;
 use match_pool::{Gate, match_all};
 use match_text::MatchedTrace;
 use polyline_geometry::List;
+use potential_certificate::{WriteFault, write_certificate};
+use prove_work::certify_traces;
 use road_network::Network;
 use row_store::{Reader, RowStore};
 use std::alloc::{AllocError, Global};
@@ -131,5 +135,16 @@ impl<'n> Matcher<'n> {
         ensures none { Keeps result [] }
     {
         Sessions::open(alloc, self.network, &self.grid, &self.params)
+    }
+
+    /// The text of the certificate of traces, which are matched one after the other with own rows.
+    pub fn write_proofs(&self, alloc: Global, traces: &[Trace]) -> Result<List<u8>, WriteFault>
+        requires { All IsLawfulTrace traces.now }
+        ensures { WritesProofs self.now traces.now result }
+    {
+        let certificate = certify_traces(alloc, self.network, &self.grid, &self.params, traces)?;
+        let mut text = List::new(alloc);
+        write_certificate(alloc, &self.params, &certificate, &mut text)?;
+        Ok(text)
     }
 }

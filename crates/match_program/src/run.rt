@@ -6,8 +6,10 @@ ghost use Rattle.program_frame.specs.Promises.{Promises};
 ghost use Rattle.match_program.specs.RunLines.{run_lines};
 ghost use Rattle.match_program.specs.Words.{asked_by};
 
+use crate::commands::check::check_traces;
 use crate::commands::follow::follow_traces;
 use crate::commands::matches::match_traces;
+use crate::commands::prove::prove_traces;
 use crate::commands::streams::stream_traces;
 use crate::commands::table::write_table;
 use crate::commands::towns::match_town;
@@ -56,6 +58,23 @@ fn perform<R: Threads + Sync, G: Gate, S: Shelf, K: Sink>(
         Work::Streams { network, traces } => {
             stream_traces(alloc, network, traces, command.options, shelf, out)
         }
+        Work::Prove { network, traces } => {
+            prove_traces(alloc, network, traces, command.options, shelf, out)
+        }
+        Work::Check {
+            network,
+            traces,
+            certificate,
+        } => check_traces(
+            rt,
+            alloc,
+            network,
+            traces,
+            certificate,
+            command.options,
+            shelf,
+            out,
+        ),
         Work::Table { network } => write_table(alloc, network, command.options, shelf, out),
         Work::Town { side, traces, seed } => {
             match_town(rt, alloc, side, traces, seed, command.options, out, gate)
@@ -65,7 +84,8 @@ fn perform<R: Threads + Sync, G: Gate, S: Shelf, K: Sink>(
 
 /// Runs the command that the words spell, and says on err why it ended early. The status says how
 /// it ended: 0 done, 1 want of memory, 2 words refused, 3 a file was not read, 4 a write failed,
-/// 5 network refused, 6 traces refused, 8 table too long, 9 table file refused. The gate is told of
+/// 5 network refused, 6 traces refused, 7 certificate refused, 8 table or certificate too long, 9 table
+/// file refused. The gate is told of
 /// each trace that is matched.
 pub fn run<R: Threads + Sync, G: Gate, S: Shelf, K: Sink, E: Sink>(
     rt: &R,

@@ -12,6 +12,8 @@ use std::thread::Threads;
 
 const MATCH: &[&str] = &["match", "net", "tra"];
 
+const PROVE: &[&str] = &["prove", "net", "tra"];
+
 const STRAIGHT: &[u8] = b"edge,from,to,line\n10,1,2,0 0;10000 0\n11,2,3,10000 0;20000 0\n";
 
 const TWO_TRACES: &[u8] = b"trace,x,y\n1,1000,0\n2,1000,0\n";
@@ -37,7 +39,7 @@ struct Case {
     err: &'static [u8],
 }
 
-const CASES: [Case; 7] = [
+const CASES: [Case; 9] = [
     Case {
         shows: "a refused word reads nothing",
         words: &["match", "net", "tra", "--k", "33"],
@@ -82,6 +84,24 @@ const CASES: [Case; 7] = [
         status: 6,
         out: TWO_TEXTS,
         err: b"traces line 5 field 2: bad number\n",
+    },
+    Case {
+        shows: "traces that are held are read no further than the chunk with the fault",
+        words: PROVE,
+        traces: FAULTY,
+        fail: [&[4], &[], &[]],
+        status: 6,
+        out: b"",
+        err: b"traces line 5 field 2: bad number\n",
+    },
+    Case {
+        shows: "the certificate is read behind the traces",
+        words: &["check", "net", "tra", "tra"],
+        traces: TWO_TRACES,
+        fail: [&[5], &[], &[]],
+        status: 3,
+        out: b"",
+        err: b"fmm: cannot read certificate\n",
     },
     Case {
         shows: "the put of a text fails after half of it",

@@ -1,4 +1,4 @@
-use Rattle.std.proofs.Common.{◌≡◌, ◌+◌, ◌++◌, ◌∙◌, OnOk, arith, subst}
+use Rattle.std.proofs.Common.{◌≡◌, ◌∙◌, OnOk, arith, subst}
 use Rattle.match_program.proofs.StreamTakes.{rows-are}
 use Rattle.match_program.proofs.StreamTotals.{can-end, ending-is, few-in-all}
 use Rattle.match_program.proofs.commands.streams.StreamJobJob.finish.Goals as goal

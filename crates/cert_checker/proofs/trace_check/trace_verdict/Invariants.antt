@@ -1,0 +1,14 @@
+use Rattle.std.proofs.Common.{◌≡◌, ◌<◌, ℕ}
+use Rattle.cert_checker.specs.declared.verdict.Verdict.TheVariants.{Proved}
+use Rattle.cert_checker.specs.CaseSeen.{case_seen}
+use Rattle.cert_checker.specs.Checked.{HasCells}
+use Rattle.cert_checker.specs.InHand.{AreLeft}
+use Rattle.cert_checker.specs.Verdicts.{verdict_before}
+use Rattle.cert_checker.proofs.trace_check.trace_verdict.Given as goal
+
+abbrev pub invariant-loop-i : goal.invariant-loop-i
+invariant-loop-i l = record {
+  pieces : AreLeft l.case.proof.now.pieces l.left l.i;
+  points : (k : ℕ) → k < l.i → HasCells (case_seen l.case) k;
+  proved : verdict_before l.number (case_seen l.case) l.i ≡ Proved;
+}

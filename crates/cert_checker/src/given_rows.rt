@@ -1,0 +1,61 @@
+//! The rows of a certificate, for a step that asks for rows. Serves `ways_by_step`; decided by `Rows`.
+ghost use Rattle.std.specs.Prelude.{◌≡◌, None, Contains, IfOk, OnOk};
+ghost use Rattle.bounded_search.specs.Table.{IsRow};
+ghost use Rattle.cert_checker.specs.GivenInside.{rows_given};
+ghost use Rattle.cert_checker.specs.Rows.{first_bad_row};
+
+use crate::placed_rows::PlacedRows;
+use bounded_search::{Row, Rows};
+use road_network::{Network, NodeId};
+use std::alloc::AllocError;
+use std::marker::Model;
+
+/// Right rows by rising origin. No other row is found.
+#[derive(Drop)]
+pub struct GivenRows<'a> {
+    net: &'a Network,
+    bound: u32,
+    rows: &'a PlacedRows<'a>,
+}
+
+impl<'a> Model for GivenRows<'a> {
+    ghost use Rattle.bounded_search.specs.Rows.{RowsState};
+
+    ghost Value = { RowsState };
+
+    ghost use Rattle.cert_checker.specs.GivenInside.{given_rows, AreRight};
+
+    ghost view = { given_rows };
+
+    ghost invariant = { AreRight };
+}
+
+impl<'a> GivenRows<'a> {
+    /// These rows, of which none is bad.
+    pub fn of(net: &'a Network, bound: u32, rows: &'a PlacedRows<'a>) -> GivenRows<'a>
+        requires { first_bad_row net.now bound rows.now ≡ None }
+        ensures { result ≡ rows_given net.now bound rows.now }
+    {
+        GivenRows { net, bound, rows }
+    }
+
+    /// The row of a node; an error where it is not there.
+    fn find(&self, n: NodeId) -> Result<&Row, AllocError>
+        ensures row { IfOk result (λ row. IsRow self.now.network self.now.bound n.0 row.now) }
+        ensures known { OnOk result (Contains self.now.known n.0) }
+    {
+        self.net.known();
+        match self.rows.place(n) {
+            Some(place) => Ok(self.rows.at(place)),
+            None => Err(AllocError),
+        }
+    }
+}
+
+impl<'a> Rows for GivenRows<'a> {
+    ghost state = { λ rows. rows };
+
+    fn row(&mut self, n: NodeId) -> Result<&Row, AllocError> {
+        self.find(n)
+    }
+}

@@ -1,0 +1,90 @@
+//! The ways to the cells of a point, where these are the cells of a step from the point before. Serves
+//! `point_ways`; decided by `AreWaysOf`.
+ghost use Rattle.std.specs.Prelude.{◌≡◌, ◌-◌, ◌^◌, IfSome, is_some};
+ghost use Rattle.std.specs.Bool.{OnTrue};
+ghost use Rattle.std.specs.List.{list_any};
+ghost use Rattle.cert_checker.specs.Case.{width};
+ghost use Rattle.cert_checker.specs.CaseSeen.{IsReady, case_seen};
+ghost use Rattle.cert_checker.specs.Columns.{AreWaysOf};
+ghost use Rattle.matching.specs.Growth.{CostAtMost};
+ghost use Rattle.trellis.specs.Pairs.{pairs_of};
+
+use crate::given_rows::GivenRows;
+use crate::point_ways::PointWays;
+use crate::trace_case::TraceCase;
+use matching::Cell;
+use polyline_geometry::straight;
+use std::alloc::Global;
+use trellis::{PairMemory, Step, step_cells};
+
+/// The greatest cost to which the costs of one point are added without a test: 2^64 - 2^43.
+const SMALL: u64 = 18_446_735_277_616_529_408;
+
+/// Whether no cost is too great for a step.
+fn are_small(cells: &[Cell]) -> bool
+    ensures { OnTrue result (CostAtMost (2 ^ 64 - 2 ^ 43) cells.now) }
+{
+    for cell in cells {
+        if cell.cost.is_some_and(|cost| cost > SMALL) {
+            return false;
+        }
+    }
+    true
+}
+
+/// Whether some cell is live.
+fn has_live(cells: &[Cell]) -> bool
+    ensures { result ≡ list_any (λ cell. is_some cell.cost) cells.now }
+{
+    cells.iter().any(|cell| cell.cost.is_some())
+}
+
+/// Whether cells are the same, one by one.
+fn are_same(cells: &[Cell], others: &[Cell]) -> bool
+    ensures { OnTrue result (cells.now ≡ others.now) }
+{
+    cells == others
+}
+
+/// What the ways say, where each cell of the point has the least way, as in a lawful certificate: then a
+/// step finds the same cells. None where it does not, and where it finds no memory.
+pub fn ways_by_step(
+    alloc: Global,
+    case: &TraceCase,
+    pairs: &mut PairMemory,
+    i: usize,
+) -> Option<PointWays>
+    requires ready { IsReady (case_seen case.now) i }
+    requires pairs { pairs.old ≡ pairs_of case.now.net.now case.now.params.now.bound }
+    ensures ways { IfSome result (AreWaysOf (case_seen case.now) i (width (case_seen case.now) i)) }
+    ensures same { pairs.new ≡ pairs.old }
+{
+    case.net.known();
+    let costs = case.table(i - 1);
+    if !are_small(costs) {
+        return None;
+    }
+    let (before, layer) = (case.layer(i - 1), case.layer(i));
+    let step = Step {
+        net: case.net,
+        params: case.params,
+        before,
+        costs,
+        layer,
+        apart: straight(before.point, layer.point),
+    };
+    let mut rows = GivenRows::of(case.net, case.params.bound, case.rows);
+    let Ok(cells) = step_cells(alloc, &mut rows, pairs, &step) else {
+        return None;
+    };
+    let own = case.table(i);
+    if !are_same(cells.as_slice(), own) {
+        return None;
+    }
+    Some(PointWays {
+        any: has_live(own),
+        relaxed: true,
+        tight: true,
+        least: true,
+    })
+}

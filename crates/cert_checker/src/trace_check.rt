@@ -1,0 +1,126 @@
+//! The verdict on one trace. Decided by `trace_verdict`.
+ghost use Rattle.std.specs.Prelude.{◌≡◌, ◌<◌, ◌∷◌, [], IfOk, None, false, length, true};
+ghost use Rattle.cost_model.specs.Options.{IsAccepted};
+ghost use Rattle.trace_reader.specs.Trace.{IsLawfulTrace};
+ghost use Rattle.cert_checker.specs.CaseSeen.{IsCheckable, case_seen};
+ghost use Rattle.cert_checker.specs.Checked.{IsMet, IsNext, TellsWays, of_cells};
+ghost use Rattle.cert_checker.specs.Pieces.{rise_from};
+ghost use Rattle.cert_checker.specs.Rows.{first_bad_row};
+ghost use Rattle.cert_checker.specs.Verdicts.{case_of, first_failing, has_candidates, holds, order, trace_verdict};
+
+use crate::breaks::{failing_end, has_breaks};
+use crate::pieces::{begins, goes_on, left_after, pieces_rise};
+use crate::point_ways::{PointWays, point_ways};
+use crate::points::{are_first_cells, has_candidates, has_rows};
+use crate::trace_case::TraceCase;
+use crate::verdict::{Condition, Verdict};
+use match_text::Routed;
+use std::alloc::{AllocError, Global};
+
+/// What the ways say of the cells of a point; nothing against them where none is looked at.
+fn ways_to(alloc: Global, case: &TraceCase, i: usize) -> Result<PointWays, AllocError>
+    requires { IsMet (case_seen case.now) i }
+    ensures { IfOk result (TellsWays (case_seen case.now) i) }
+{
+    if case.is_looked_at(i) {
+        return point_ways(alloc, case, i);
+    }
+    Ok(PointWays {
+        any: false,
+        relaxed: true,
+        tight: true,
+        least: true,
+    })
+}
+
+/// The first condition that fails of the pieces and the cells at a point.
+fn failing_cells(case: &TraceCase, left: &[Routed], i: usize, ways: PointWays) -> Option<Condition>
+    requires point { IsNext (case_seen case.now) i left.now }
+    requires candidates { has_candidates (case_seen case.now) i ≡ true }
+    requires ways { TellsWays (case_seen case.now) i ways }
+    ensures { result ≡ first_failing (holds (case_seen case.now) i) of_cells }
+{
+    if !has_breaks(case, left, i, ways.any) {
+        return Some(Condition::Break);
+    }
+    if begins(left, i) && !are_first_cells(case, i) {
+        return Some(Condition::FirstCost);
+    }
+    if !goes_on(left, i) {
+        return None;
+    }
+    if !ways.relaxed {
+        return Some(Condition::Relaxed);
+    }
+    if !ways.tight {
+        return Some(Condition::Tight);
+    }
+    if !ways.least {
+        return Some(Condition::Pointer);
+    }
+    None
+}
+
+/// The first condition that fails at a point.
+fn failing(
+    alloc: Global,
+    case: &TraceCase,
+    left: &[Routed],
+    i: usize,
+) -> Result<Option<Condition>, AllocError>
+    requires { IsNext (case_seen case.now) i left.now }
+    ensures { IfOk result (λ found. found ≡ first_failing (holds (case_seen case.now) i) order) }
+{
+    if !has_candidates(case, i) {
+        return Ok(Some(Condition::Candidates));
+    }
+    if !has_rows(case, i) {
+        return Ok(Some(Condition::Row));
+    }
+    let ways = ways_to(alloc, case, i)?;
+    if let Some(condition) = failing_cells(case, left, i, ways) {
+        return Ok(Some(condition));
+    }
+    failing_end(alloc, case, left, i)
+}
+
+/// The verdict on a trace whose pieces do not rise.
+fn verdict_without_order(case: &TraceCase, number: u64) -> Verdict
+    requires some { 0 < length case.now.layers.now }
+    requires pieces { rise_from 0 case.now.proof.now.pieces ≡ false }
+    ensures { result ≡ trace_verdict number (case_seen case.now) }
+{
+    let condition = if has_candidates(case, 0) {
+        Condition::Break
+    } else {
+        Condition::Candidates
+    };
+    Verdict::Refused {
+        condition,
+        trace: number,
+        place: 0,
+    }
+}
+
+/// The verdict on a trace with its proof: the first condition that fails, point by point.
+pub fn trace_verdict(alloc: Global, case: &TraceCase, number: u64) -> Result<Verdict, AllocError>
+    requires checkable { IsCheckable (case_seen case.now) }
+    requires some { 0 < length case.now.layers.now }
+    ensures { IfOk result (λ v. v ≡ trace_verdict number (case_seen case.now)) }
+{
+    if !pieces_rise(case.proof.pieces.as_slice()) {
+        return Ok(verdict_without_order(case, number));
+    }
+    let mut left = case.proof.pieces.as_slice();
+    for i in 0..case.layers.len() {
+        if let Some(condition) = failing(alloc, case, left, i)? {
+            return Ok(Verdict::Refused {
+                condition,
+                trace: number,
+                place: i as u64,
+            });
+        }
+        left = left_after(left, i);
+    }
+    Ok(Verdict::Proved)
+}

@@ -1,0 +1,60 @@
+//! What it costs to come to a candidate by way of a cell of the point before. Serves `plain_ways`;
+//! decided by `way`.
+ghost use Rattle.std.specs.Prelude.{◌≡◌, ◌<◌, ◌-◌, length};
+ghost use Rattle.cert_checker.specs.Case.{layer, way, ways, width};
+ghost use Rattle.cert_checker.specs.CaseSeen.{IsReady, case_seen};
+ghost use Rattle.bounded_search.specs.Table.{IsRow};
+ghost use Rattle.matching.specs.Layers.{end_of, trellis};
+
+use crate::trace_case::TraceCase;
+use bounded_search::Row;
+use cost_model::{emission, transition};
+use polyline_geometry::straight;
+use trellis::link;
+
+/// What it costs to come from candidate a of the point before to candidate j of point i, by the row
+/// of the node where the edge of a ends. None where there is no route.
+fn transition_by_row(case: &TraceCase, i: usize, a: usize, j: usize, row: &Row) -> Option<u64>
+    requires ready { IsReady (case_seen case.now) i }
+    requires a { a < width (case_seen case.now) (i - 1) }
+    requires j { j < width (case_seen case.now) i }
+    requires row { IsRow case.now.net.now case.now.params.now.bound
+        (end_of case.now.net.now (layer (case_seen case.now) (i - 1)) a) row.now }
+    ensures { result ≡ (trellis case.now.net.now case.now.params.now).transition
+        (layer (case_seen case.now) (i - 1)) a (layer (case_seen case.now) i) j }
+{
+    case.net.known();
+    let (from, to) = (case.candidate(i - 1, a), case.candidate(i, j));
+    let route = link(case.net, case.params, row, &from, &to)?;
+    let apart = straight(case.layer(i - 1).point, case.layer(i).point);
+    Some(transition(case.params, route.length, apart))
+}
+
+/// The cost of coming to candidate j of point i by way of cell a of the point before, if that is
+/// live and has a route to j. It need not fit 64 bits.
+pub fn way(case: &TraceCase, i: usize, a: usize, j: usize) -> Option<u128>
+    requires ready { IsReady (case_seen case.now) i }
+    requires a { a < width (case_seen case.now) (i - 1) }
+    requires j { j < width (case_seen case.now) i }
+    ensures { result ≡ way (case_seen case.now) i a j }
+{
+    case.net.known();
+    let cost = case.table(i - 1)[a].cost?;
+    let end = case.net.to(case.candidate(i - 1, a).edge);
+    let place = case.rows.place(end)?;
+    let moved = transition_by_row(case, i, a, j, case.rows.at(place))?;
+    let own = emission(case.params, case.candidate(i, j).d2);
+    Some(u128::from(cost) + u128::from(moved) + u128::from(own))
+}
+
+/// Makes a column the ways to candidate j of point i.
+pub fn fill_column(case: &TraceCase, i: usize, j: usize, column: &mut [Option<u128>])
+    requires ready { IsReady (case_seen case.now) i }
+    requires count { length column.old ≡ width (case_seen case.now) (i - 1) }
+    requires j { j < width (case_seen case.now) i }
+    ensures { column.new ≡ ways (case_seen case.now) i j }
+{
+    for a in 0..column.len() {
+        column[a] = way(case, i, a, j);
+    }
+}

@@ -1,0 +1,41 @@
+// `check NET TRACES CERT`. Serves `read_work` and `program`; decided by `check_kind`.
+ghost use Rattle.std.specs.Prelude.{◌≡◌, codes, IfOk};
+ghost use Rattle.std.specs.Result.{result_map_both};
+ghost use Rattle.clap.specs.Words.{first_of, found_of, rows_of};
+ghost use Rattle.command_line.specs.Work.{AreNumbersWithin, plain_work};
+ghost use Rattle.command_line.specs.works.Check.{check_of};
+
+use crate::fault::WordsFault;
+use crate::read::text_of;
+use crate::syntax::Form;
+use crate::work::Work;
+use clap::ArgMatches;
+
+/// The command as words give it.
+pub const FORM: Form = Form {
+    name: "check",
+    options: &[],
+    arguments: &["NET", "TRACES", "CERT"],
+};
+
+/// The work, with the names that the words give.
+pub fn read_check<'a>(found: &ArgMatches<'a>) -> Result<Work<'a>, WordsFault>
+    ensures value { result_map_both plain_work (λ fault. fault) result
+        ≡ check_of (first_of (codes "NET") (rows_of (found_of found.now)))
+        (first_of (codes "TRACES") (rows_of (found_of found.now)))
+        (first_of (codes "CERT") (rows_of (found_of found.now))) }
+    ensures within { IfOk result AreNumbersWithin }
+{
+    match (
+        text_of(found, "NET"),
+        text_of(found, "TRACES"),
+        text_of(found, "CERT"),
+    ) {
+        (Some(network), Some(traces), Some(certificate)) => Ok(Work::Check {
+            network,
+            traces,
+            certificate,
+        }),
+        _ => Err(WordsFault::Usage),
+    }
+}

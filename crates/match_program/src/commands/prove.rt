@@ -1,0 +1,56 @@
+// `prove NET TRACES`. Serves `perform`; decided by `prove_plan`.
+ghost use Rattle.std.specs.Prelude.{All, Ok};
+ghost use Rattle.cost_model.specs.Options.{IsAccepted};
+ghost use Rattle.program_frame.specs.Loads.{Accepts};
+ghost use Rattle.program_frame.specs.Performs.{Performs};
+ghost use Rattle.trace_reader.specs.Trace.{IsLawfulTrace};
+ghost use Rattle.match_program.specs.commands.Prove.{prove_plan, prove_said};
+
+use crate::matcher::Matcher;
+use cost_model::Params;
+use edge_io::{Shelf, Sink};
+use polyline_geometry::List;
+use potential_certificate::WriteFault;
+use program_frame::{Refusal, Stop, load_network, load_traces, put_text, refuse};
+use std::alloc::Global;
+use trace_reader::Trace;
+
+// The text of the certificate of traces, or its refusal as too long.
+fn text_of_proofs(alloc: Global, matcher: &Matcher<'_>, traces: &[Trace]) -> Result<List<u8>, Stop>
+    requires { All IsLawfulTrace traces.now }
+    ensures { Accepts Refusal.TooLong (prove_said matcher.now traces.now) result }
+{
+    match matcher.write_proofs(alloc, traces) {
+        Ok(text) => Ok(text),
+        Err(WriteFault::TooLong) => Err(refuse(
+            alloc,
+            Refusal::TooLong,
+            b"fmm: certificate too long\n",
+        )),
+        Err(WriteFault::Memory) => Err(Stop::NoMemory),
+    }
+}
+
+/// Reads the network and then all traces, and writes the certificate text of their matches. The
+/// traces, the certificate and its text are held whole, so that out stays empty where the text is
+/// too long.
+pub fn prove_traces<S: Shelf, K: Sink>(
+    alloc: Global,
+    network: &str,
+    traces: &str,
+    options: Params,
+    shelf: &mut S,
+    out: &mut K,
+) -> Result<(), Stop>
+    requires { IsAccepted options }
+    ensures { Performs (Ok (prove_plan network.now traces.now options))
+        (S.state shelf.old) (S.state shelf.new) (K.state out.old) (K.state out.new) result }
+{
+    let roads = load_network(alloc, shelf, network)?;
+    let taken = load_traces(alloc, shelf, traces)?;
+    let Ok(matcher) = Matcher::open(alloc, &roads, options) else {
+        return Err(Stop::NoMemory);
+    };
+    let text = text_of_proofs(alloc, &matcher, taken.as_slice())?;
+    put_text(out, text.as_slice())
+}

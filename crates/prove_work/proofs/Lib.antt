@@ -1,0 +1,2 @@
+pub mod RowCopies
+pub mod TraceProofs

@@ -1,0 +1,14 @@
+use Rattle.std.proofs.Common.{◌∙◌, ap}
+use Rattle.std.proofs.lemmas.Result.{IfOk-weaker}
+use Rattle.potential_certificate.specs.declared.proof.TraceProof.{TraceProof}
+use Rattle.prove_work.proofs.TraceProofs.{proof_made}
+use Rattle.prove_work.proofs.certifying.prove_trace.Goals as goal
+
+pub returns-clause-proof : goal.returns-clause-proof
+returns-clause-proof c =
+    let answer = c.in_ok-answer.answer in
+    let trace = c.args.trace.now in
+    IfOk-weaker c.certify.result _ _ (λ proof made.
+    made
+    ∙ ap (λ pieces. let x : TraceProof = record { id = trace.id; ranks = answer.solved.ranks; tables = answer.solved.tables; pieces = pieces } in x) c.as_slice-pieces.ensures
+    ∙ proof_made c.args.net.now c.args.p.now trace answer c.in_ok-answer.ensures.answer) c.certify.ensures
