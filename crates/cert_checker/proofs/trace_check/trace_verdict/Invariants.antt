@@ -10,5 +10,6 @@ abbrev pub invariant-loop-i : goal.invariant-loop-i
 invariant-loop-i l = record {
   pieces : AreLeft l.case.proof.now.pieces l.left l.i;
   points : (k : ℕ) → k < l.i → HasCells (case_seen l.case) k;
+  pairs : l.pairs ≡ l.fn.pairs;
   proved : verdict_before l.number (case_seen l.case) l.i ≡ Proved;
 }
