@@ -117,24 +117,18 @@ fn verdict_without_order(case: &TraceCase, number: u64) -> Verdict
 }
 
 /// The verdict on a trace with its proof: the first condition that fails, point by point.
-pub fn trace_verdict(
-    alloc: Global,
-    case: &TraceCase,
-    pairs: &mut PairMemory,
-    number: u64,
-) -> Result<Verdict, AllocError>
+fn trace_verdict(alloc: Global, case: &TraceCase, number: u64) -> Result<Verdict, AllocError>
     requires checkable { IsCheckable (case_seen case.now) }
     requires some { 0 < length case.now.layers.now }
-    requires pairs { pairs.old ≡ pairs_of case.now.net.now case.now.params.now.bound }
-    ensures verdict { IfOk result (λ v. v ≡ trace_verdict number (case_seen case.now)) }
-    ensures same { pairs.new ≡ pairs.old }
+    ensures { IfOk result (λ v. v ≡ trace_verdict number (case_seen case.now)) }
 {
     if !pieces_rise(case.proof.pieces.as_slice()) {
         return Ok(verdict_without_order(case, number));
     }
+    let mut pairs = PairMemory::new(alloc, case.net, case.params.bound);
     let mut left = case.proof.pieces.as_slice();
     for i in 0..case.layers.len() {
-        if let Some(condition) = failing(alloc, case, pairs, left, i)? {
+        if let Some(condition) = failing(alloc, case, &mut pairs, left, i)? {
             return Ok(Verdict::Refused {
                 condition,
                 trace: number,
