@@ -18,3 +18,4 @@ pub mod PieceRuns
 pub mod PointBreaks
 pub mod FailingFirst
 pub mod LaterPoints
+pub mod WholeVerdicts

@@ -1,14 +1,18 @@
 //! The checker of certificates: whether a certificate proves the match of traces, without the match.
 //!
-//! [`check_rows`] tries the rows that the rest stands on.
+//! [`check_rows`] tries the rows that the rest stands on, [`check_trace`] one trace, and [`check_all`] a
+//! whole certificate. The verdict on a trace is `trace_verdict` in `specs/Verdicts.antt`, and that on a
+//! certificate `verdict` in `specs/Whole.antt`.
 #![tactic(auto)]
 
 mod breaks;
 mod cell_tests;
 mod chosen;
 mod given_rows;
+mod ground;
 mod pieces;
 mod placed_rows;
+mod plain_layers;
 mod point_ways;
 mod points;
 mod routes;
@@ -19,9 +23,13 @@ mod trace_case;
 mod trace_check;
 mod verdict;
 mod ways;
+mod whole;
 
 pub use rows::check_rows;
 pub use verdict::{Condition, Verdict};
+pub use whole::{check_all, check_trace};
 
+#[cfg(test)]
+mod certificate_tests;
 #[cfg(test)]
 mod tests;

@@ -117,7 +117,7 @@ fn verdict_without_order(case: &TraceCase, number: u64) -> Verdict
 }
 
 /// The verdict on a trace with its proof: the first condition that fails, point by point.
-fn trace_verdict(alloc: Global, case: &TraceCase, number: u64) -> Result<Verdict, AllocError>
+pub fn trace_verdict(alloc: Global, case: &TraceCase, number: u64) -> Result<Verdict, AllocError>
     requires checkable { IsCheckable (case_seen case.now) }
     requires some { 0 < length case.now.layers.now }
     ensures { IfOk result (λ v. v ≡ trace_verdict number (case_seen case.now)) }

@@ -1,0 +1,21 @@
+use Rattle.std.proofs.Common.{◌≡◌, ◌∷◌, [], All, List, map, refl, sym, ap, subst, ◌∙◌}
+use Rattle.std.proofs.lemmas.List.Elements.{All-map}
+use Rattle.polyline_geometry.specs.declared.plane.Point.{Point}
+use Rattle.polyline_geometry.specs.Plane.{InRange}
+use Rattle.cost_model.specs.declared.params.Params.{Params}
+use Rattle.road_network.specs.Net.{Net}
+use Rattle.trace_reader.specs.declared.trace.Fix.{Fix}
+use Rattle.road_network.specs.Near.{candidates}
+use Rattle.trace_match.specs.Match.{place_of}
+use Rattle.cert_checker.proofs.plain_layers.plain_layers.Goals as goal
+
+places_mapped : (n : Net) (p : Params) (fixes : List Fix) → map (candidates n p.k p.radius) (map place_of fixes) ≡ map (λ fix. candidates n p.k p.radius (place_of fix)) fixes
+places_mapped n p [] = refl
+places_mapped n p (fix ∷ fixes) = ap (λ xs. candidates n p.k p.radius (place_of fix) ∷ xs) (places_mapped n p fixes)
+
+pub candidates_plain_all-requires-clause-points : goal.candidates_plain_all-requires-clause-points
+candidates_plain_all-requires-clause-points c =
+    subst (λ (points : List Point). All InRange points) (sym (c.as_slice.ensures ∙ c.in_ok-points.ensures)) (All-map InRange place_of c.args.fixes.now c.requires.places)
+
+pub with_candidates-requires : goal.with_candidates-requires
+with_candidates-requires c = c.in_ok-lists.ensures ∙ ap (map (candidates c.args.net.now c.args.p.now.k c.args.p.now.radius)) (c.as_slice.ensures ∙ c.in_ok-points.ensures) ∙ places_mapped c.args.net.now c.args.p.now c.args.fixes.now

@@ -1,0 +1,66 @@
+//! The fixes of traces with their candidates, by a scan of all edges that neighbouring fixes share.
+//! Serves `check_trace`; decided by `layer_of`.
+ghost use Rattle.std.specs.Prelude.{◌≡◌, ◌<◌, ◌^◌, All, IfOk, length, map};
+ghost use Rattle.cost_model.specs.Options.{IsAccepted};
+ghost use Rattle.polyline_geometry.specs.Plane.{InRange};
+ghost use Rattle.road_network.specs.Near.{candidates};
+ghost use Rattle.trace_match.specs.Match.{layer_of, place_of};
+
+use candidate_search::candidates_plain_all;
+use cost_model::Params;
+use matching::Layer;
+use polyline_geometry::{List, Point};
+use road_network::{Candidate, Network};
+use std::alloc::{AllocError, Global};
+use trace_reader::Fix;
+
+/// Where fixes were measured.
+fn places(alloc: Global, fixes: &[Fix]) -> Result<List<Point>, AllocError>
+    ensures { IfOk result (λ points. points ≡ map place_of fixes.now) }
+{
+    let mut points = Vec::with_capacity(alloc, fixes.len())?;
+    for fix in fixes {
+        points.push(Point { x: fix.x, y: fix.y })?;
+    }
+    Ok(List::from_vec(points))
+}
+
+/// Fixes with these candidates.
+fn with_candidates(
+    alloc: Global,
+    net: &Network,
+    p: &Params,
+    fixes: &[Fix],
+    lists: List<List<Candidate>>,
+) -> Result<List<Layer>, AllocError>
+    requires { lists ≡ map (λ fix. candidates net.now p.now.k p.now.radius (place_of fix)) fixes.now }
+    ensures { IfOk result (λ layers. layers ≡ map (layer_of net.now p.now) fixes.now) }
+{
+    let mut layers = Vec::with_capacity(alloc, fixes.len())?;
+    for candidates in lists.into_vec() {
+        let fix = fixes[layers.len()];
+        layers.push(Layer {
+            point: Point { x: fix.x, y: fix.y },
+            candidates,
+            time: fix.time,
+        })?;
+    }
+    Ok(List::from_vec(layers))
+}
+
+/// Fixes with their candidates.
+pub fn plain_layers(
+    alloc: Global,
+    net: &Network,
+    p: &Params,
+    fixes: &[Fix],
+) -> Result<List<Layer>, AllocError>
+    requires options { IsAccepted p.now }
+    requires places { All (λ fix. InRange (place_of fix)) fixes.now }
+    requires few { length fixes.now < 2 ^ 32 }
+    ensures { IfOk result (λ layers. layers ≡ map (layer_of net.now p.now) fixes.now) }
+{
+    let points = places(alloc, fixes)?;
+    let lists = candidates_plain_all(alloc, net, p, points.as_slice())?;
+    with_candidates(alloc, net, p, fixes, lists)
+}

@@ -1,0 +1,154 @@
+//! The verdict on a certificate. Serves everyone; decided by `verdict`.
+ghost use Rattle.std.specs.Prelude.{◌≡◌, ◌+◌, ◌<◌, ◌^◌, All, IfOk, None, length};
+ghost use Rattle.cost_model.specs.Options.{IsAccepted};
+ghost use Rattle.trace_reader.specs.Trace.{IsLawfulTrace};
+ghost use Rattle.cert_checker.specs.Rows.{first_bad_row};
+ghost use Rattle.cert_checker.specs.Verdicts.{case_of, trace_verdict};
+ghost use Rattle.cert_checker.specs.Whole.{apart_from, verdict, verdict_from};
+
+use crate::ground::Ground;
+use crate::placed_rows::PlacedRows;
+use crate::plain_layers::plain_layers;
+use crate::rows::check_rows;
+use crate::trace_case::TraceCase;
+use crate::trace_check::trace_verdict;
+use crate::verdict::{Condition, Verdict};
+use bounded_search::Row;
+use cost_model::Params;
+use potential_certificate::{Certificate, TraceProof};
+use road_network::Network;
+use std::alloc::{AllocError, Global};
+use std::thread::Threads;
+use trace_reader::Trace;
+
+/// Whether a proof proves the match of a trace: the first condition that fails, point by point. Ids are
+/// not compared. `number` is the trace's number in the verdict.
+///
+/// The rows are right: [`check_rows`] answers None for them, with the bound of `p`. The call costs the
+/// plain search for the candidates of the trace, and at each point a look into the rows for each pair
+/// of candidates of neighbouring points.
+pub fn check_trace(
+    alloc: Global,
+    net: &Network,
+    p: &Params,
+    rows: &[Row],
+    number: u64,
+    trace: &Trace,
+    proof: &TraceProof,
+) -> Result<Verdict, AllocError>
+    requires options { IsAccepted p.now }
+    requires trace { IsLawfulTrace trace.now }
+    requires rows { first_bad_row net.now p.now.bound rows.now ≡ None }
+    ensures { IfOk result (λ v. v
+        ≡ trace_verdict number (case_of net.now p.now rows.now trace.now proof.now)) }
+{
+    let placed = PlacedRows::of(alloc, net, rows)?;
+    let ground = Ground {
+        net,
+        params: p,
+        rows: &placed,
+    };
+    verdict_on(alloc, &ground, number, trace, proof)
+}
+
+/// The verdict on a trace with its proof.
+fn verdict_on(
+    alloc: Global,
+    ground: &Ground,
+    number: u64,
+    trace: &Trace,
+    proof: &TraceProof,
+) -> Result<Verdict, AllocError>
+    requires { IsLawfulTrace trace.now }
+    ensures { IfOk result (λ v. v ≡ trace_verdict number (case_of ground.now.net.now
+        ground.now.params.now ground.now.rows.now trace.now proof.now)) }
+{
+    let layers = plain_layers(alloc, ground.net, ground.params, trace.fixes.as_slice())?;
+    let case = TraceCase {
+        net: ground.net,
+        params: ground.params,
+        rows: ground.rows,
+        layers: layers.as_slice(),
+        proof,
+    };
+    trace_verdict(alloc, &case, number)
+}
+
+/// The first place where a proof or a trace is missing or their ids differ.
+fn first_apart(traces: &[Trace], proofs: &[TraceProof]) -> Option<u64>
+    ensures { result ≡ apart_from 0 traces.now proofs.now }
+{
+    let both = traces.len().min(proofs.len());
+    for place in 0..both {
+        if proofs[place].id != traces[place].id {
+            return Some(place as u64);
+        }
+    }
+    if traces.len() == proofs.len() {
+        None
+    } else {
+        Some(both as u64)
+    }
+}
+
+/// The first verdict that refuses one of these traces, of which the first is number `first`.
+fn verdict_on_batch(
+    alloc: Global,
+    ground: &Ground,
+    first: u64,
+    traces: &[Trace],
+    proofs: &[TraceProof],
+) -> Result<Verdict, AllocError>
+    requires traces { All IsLawfulTrace traces.now }
+    requires proofs { length proofs.now ≡ length traces.now }
+    requires numbers { first + length traces.now < 2 ^ 64 }
+    ensures { IfOk result (λ v. v ≡ verdict_from ground.now.net.now ground.now.params.now
+        ground.now.rows.now first traces.now proofs.now) }
+{
+    for place in 0..traces.len() {
+        let number = first + place as u64;
+        let verdict = verdict_on(alloc, ground, number, &traces[place], &proofs[place])?;
+        match verdict {
+            Verdict::Proved => {}
+            Verdict::Refused { .. } => return Ok(verdict),
+        }
+    }
+    Ok(Verdict::Proved)
+}
+
+/// Whether a certificate proves the match of these traces: the first condition of the whole that fails,
+/// of its rows, of the ids of its proofs, and of each trace in order.
+pub fn check_all<R: Threads + Sync>(
+    rt: &R,
+    alloc: Global,
+    net: &Network,
+    p: &Params,
+    traces: &[Trace],
+    c: &Certificate,
+) -> Result<Verdict, AllocError>
+    requires options { IsAccepted p.now }
+    requires traces { All IsLawfulTrace traces.now }
+    ensures { IfOk result (λ v. v ≡ verdict net.now p.now traces.now c.now) }
+{
+    if let Some(place) = check_rows(net, p.bound, c.rows.as_slice()) {
+        return Ok(Verdict::Refused {
+            condition: Condition::Row,
+            trace: 0,
+            place: u64::from(place),
+        });
+    }
+    if let Some(place) = first_apart(traces, c.proofs.as_slice()) {
+        return Ok(Verdict::Refused {
+            condition: Condition::Trace,
+            trace: 0,
+            place,
+        });
+    }
+    let placed = PlacedRows::of(alloc, net, c.rows.as_slice())?;
+    let ground = Ground {
+        net,
+        params: p,
+        rows: &placed,
+    };
+    verdict_on_batch(alloc, &ground, 0, traces, c.proofs.as_slice())
+}
