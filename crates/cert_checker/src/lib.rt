@@ -19,6 +19,7 @@ mod point_ways;
 mod points;
 mod routes;
 mod rows;
+mod searched_rows;
 mod step_ways;
 mod trace_case;
 mod trace_check;
