@@ -19,3 +19,4 @@ pub mod PointBreaks
 pub mod FailingFirst
 pub mod LaterPoints
 pub mod WholeVerdicts
+pub mod BatchLists

@@ -12,3 +12,4 @@ pub mod Columns
 pub mod GivenInside
 pub mod PlacedInside
 pub mod Checked
+pub mod Batches

@@ -5,6 +5,8 @@
 //! certificate `verdict` in `specs/Whole.antt`.
 #![tactic(auto)]
 
+mod batch;
+mod batches;
 mod breaks;
 mod cell_tests;
 mod chosen;
