@@ -6,6 +6,7 @@
 #![tactic(auto)]
 
 mod batch;
+mod batch_check;
 mod batches;
 mod breaks;
 mod cell_tests;

@@ -1,15 +1,12 @@
 //! The verdict on a certificate. Serves everyone; decided by `verdict`.
-ghost use Rattle.std.specs.Prelude.{◌≡◌, ◌≤◌, ◌+◌, List as ListOf, All, IfOk, None, drop, length, take};
-ghost use Rattle.std.specs.List.{AllZip, flat_map};
+ghost use Rattle.std.specs.Prelude.{◌≡◌, All, IfOk, None};
 ghost use Rattle.cost_model.specs.Options.{IsAccepted};
 ghost use Rattle.trace_reader.specs.Trace.{IsLawfulTrace};
 ghost use Rattle.cert_checker.specs.Rows.{first_bad_row};
 ghost use Rattle.cert_checker.specs.Verdicts.{case_of, trace_verdict};
-ghost use Rattle.cert_checker.specs.Batches.{batch_verdict, first_refused};
 ghost use Rattle.cert_checker.specs.Whole.{apart_from, verdict};
-ghost use Rattle.cert_checker.specs.declared.verdict.Verdict.{Verdict as AVerdict};
 
-use crate::batch::Batch;
+use crate::batch_check::{first_refused, verdicts};
 use crate::batches::batches;
 use crate::ground::Ground;
 use crate::placed_rows::PlacedRows;
@@ -20,21 +17,18 @@ use crate::trace_check::trace_verdict;
 use crate::verdict::{Condition, Verdict};
 use bounded_search::Row;
 use cost_model::Params;
-use matching::Layer;
-use polyline_geometry::List;
 use potential_certificate::{Certificate, TraceProof};
-use rayon::prelude::*;
 use road_network::Network;
 use std::alloc::{AllocError, Global};
 use std::thread::Threads;
-use trace_reader::{Fix, Trace};
+use trace_reader::Trace;
 
 /// Whether a proof proves the match of a trace: the first condition that fails, point by point. Ids are
 /// not compared. `number` is the trace's number in the verdict.
 ///
-/// The rows are right: [`check_rows`](crate::check_rows) answers None for them, with the bound of `p`. The call costs the
-/// plain search for the candidates of the trace, and at each point a look into the rows for each pair
-/// of candidates of neighbouring points.
+/// The rows are right: [`check_rows`](crate::check_rows) answers None for them, with the bound of `p`.
+/// The call costs the plain search for the candidates of the trace, and at each point a look into the
+/// rows for each pair of candidates of neighbouring points.
 pub fn check_trace(
     alloc: Global,
     net: &Network,
@@ -97,90 +91,6 @@ fn first_apart(traces: &[Trace], proofs: &[TraceProof]) -> Option<u64>
     } else {
         Some(both as u64)
     }
-}
-
-/// The fixes of all traces, one trace after the other.
-fn fixes(alloc: Global, traces: &[Trace]) -> Result<List<Fix>, AllocError>
-    ensures { IfOk result (λ fixes. fixes ≡ flat_map (λ trace. trace.fixes) traces.now) }
-{
-    let mut fixes = List::new(alloc);
-    for trace in traces {
-        fixes.extend_from_slice(trace.fixes.as_slice())?;
-    }
-    Ok(fixes)
-}
-
-/// So many of these layers, behind the first ones.
-fn part(layers: &[Layer], first: usize, count: usize) -> &[Layer]
-    requires { first + count ≤ length layers.now }
-    ensures { result.now ≡ take count (drop first layers.now) }
-{
-    &layers[first..first + count]
-}
-
-/// The first verdict that refuses a trace of a batch. The candidates of all come from one search.
-fn verdict_on_batch(alloc: Global, ground: &Ground, batch: &Batch) -> Result<Verdict, AllocError>
-    ensures { IfOk result (λ v. v ≡ batch_verdict ground.now.net.now ground.now.params.now
-        ground.now.rows.now batch.now) }
-{
-    let fixes = fixes(alloc, batch.traces)?;
-    let layers = plain_layers(alloc, ground.net, ground.params, fixes.as_slice())?;
-    let mut first = 0;
-    for place in 0..batch.traces.len() {
-        let count = batch.traces[place].fixes.len();
-        let case = TraceCase {
-            net: ground.net,
-            params: ground.params,
-            rows: ground.rows,
-            layers: part(layers.as_slice(), first, count),
-            proof: &batch.proofs[place],
-        };
-        let verdict = trace_verdict(alloc, &case, batch.first + place as u64)?;
-        match verdict {
-            Verdict::Proved => {}
-            Verdict::Refused { .. } => return Ok(verdict),
-        }
-        first += count;
-    }
-    Ok(Verdict::Proved)
-}
-
-/// The verdicts on batches, by as many threads as there are processors.
-fn verdicts<R: Threads + Sync>(
-    rt: &R,
-    alloc: Global,
-    ground: &Ground,
-    batches: &[Batch],
-) -> Result<Vec<Result<Verdict, AllocError>>, AllocError>
-    ensures { IfOk result (λ answers. AllZip (λ b r. IfOk r (λ v. v ≡ batch_verdict
-        ground.now.net.now ground.now.params.now ground.now.rows.now b)) batches.now answers.items) }
-{
-    batches
-        .par_iter()
-        .map(
-            |batch: &Batch| -> Result<Verdict, AllocError>
-                ensures { IfOk result (λ v. v ≡ batch_verdict ground.entry.now.net.now
-                    ground.entry.now.params.now ground.entry.now.rows.now batch.now) }
-            { verdict_on_batch(alloc, ground, batch) },
-        )
-        .collect(rt, alloc)
-}
-
-/// The first of these verdicts that refuses; want of memory where it stands before it.
-fn first_refused(answers: &[Result<Verdict, AllocError>]) -> Result<Verdict, AllocError>
-    ensures { (verdicts : ListOf AVerdict) → AllZip (λ v r. IfOk r (λ w. w ≡ v)) verdicts answers.now
-        → IfOk result (λ w. w ≡ first_refused verdicts) }
-{
-    for answer in answers {
-        let Ok(verdict) = answer else {
-            return Err(AllocError);
-        };
-        match verdict {
-            Verdict::Proved => {}
-            Verdict::Refused { .. } => return Ok(*verdict),
-        }
-    }
-    Ok(Verdict::Proved)
 }
 
 /// Whether a certificate proves the match of these traces: the first condition of the whole that fails,

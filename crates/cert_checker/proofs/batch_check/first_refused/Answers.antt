@@ -1,7 +1,7 @@
 use Rattle.std.proofs.Common.{◌+◌, drop, sym, ◌∙◌}
 use Rattle.cert_checker.specs.Batches.{first_refused}
 use Rattle.cert_checker.proofs.BatchLists.{answer_next, none_left, proved_next, refused_next}
-use Rattle.cert_checker.proofs.whole.first_refused.Goals as goal
+use Rattle.cert_checker.proofs.batch_check.first_refused.Goals as goal
 
 pub returns-in-Refused : goal.returns-in-Refused
 returns-in-Refused c = λ verdicts h.

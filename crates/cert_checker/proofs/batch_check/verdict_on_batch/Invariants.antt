@@ -2,7 +2,7 @@ use Rattle.std.proofs.Common.{◌≡◌, ◌+◌, drop, length, take}
 use Rattle.std.specs.List.{flat_map}
 use Rattle.cert_checker.specs.Batches.{batch_verdict}
 use Rattle.cert_checker.specs.Whole.{verdict_from}
-use Rattle.cert_checker.proofs.whole.verdict_on_batch.Given as goal
+use Rattle.cert_checker.proofs.batch_check.verdict_on_batch.Given as goal
 
 abbrev pub invariant-loop-place : goal.invariant-loop-place
 invariant-loop-place l = record {

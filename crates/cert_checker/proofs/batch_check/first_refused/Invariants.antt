@@ -2,7 +2,7 @@ use Rattle.std.proofs.Common.{◌≡◌, IfOk, List, drop}
 use Rattle.std.specs.List.{AllZip}
 use Rattle.cert_checker.specs.Batches.{first_refused}
 use Rattle.cert_checker.specs.declared.verdict.Verdict.{Verdict}
-use Rattle.cert_checker.proofs.whole.first_refused.Given as goal
+use Rattle.cert_checker.proofs.batch_check.first_refused.Given as goal
 
 abbrev pub invariant-loop-answer : goal.invariant-loop-answer
 invariant-loop-answer l =

@@ -13,7 +13,7 @@ use Rattle.cert_checker.specs.Verdicts.{case_of, trace_verdict}
 use Rattle.cert_checker.specs.Whole.{verdict_from}
 use Rattle.cert_checker.proofs.BatchLists.{IsPart, batch_part, fixes_few, fixes_in_range}
 use Rattle.cert_checker.proofs.WholeVerdicts.{case_checkable, none_behind, proved_here, refused_here}
-use Rattle.cert_checker.proofs.whole.verdict_on_batch.Goals as goal
+use Rattle.cert_checker.proofs.batch_check.verdict_on_batch.Goals as goal
 
 pub plain_layers-requires-clause-places : goal.plain_layers-requires-clause-places
 plain_layers-requires-clause-places c =
