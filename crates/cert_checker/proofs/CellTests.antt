@@ -1,5 +1,5 @@
 -- What the tests of one cell tell, by the ways to it.
-use Rattle.std.proofs.Common.{◌≡◌, ◌<◌, ◌≤◌, ℕ, zero, suc, ◌+◌, ◌^◌, Bool, true, false, ltb, List, [], ◌∷◌, length, get_or, map, take, Option, Some, None, MatchOption, refl, sym, ◌∙◌, ap, subst, arith, ⊎_elim}
+use Rattle.std.proofs.Common.{◌≡◌, ◌<◌, ◌≤◌, ℕ, ◌^◌, true, false, ltb, List, length, get_or, map, take, Option, Some, None, MatchOption, refl, sym, ◌∙◌, ap, subst, arith, ⊎_elim}
 use Rattle.std.specs.Prelude.{◌==◌, ◌&&◌, not}
 use Rattle.std.specs.Bool.{Decides}
 use Rattle.std.specs.List.{list_all, list_any, range_with_len}
@@ -8,14 +8,14 @@ use Rattle.std.proofs.lemmas.Bool.{cases_lt, eq-eqb, eqb-true, false≢true, not
 use Rattle.std.proofs.lemmas.Bool.Decides.{Decides-and, Decides-at, Decides-like, Decides-ltb}
 use Rattle.std.proofs.lemmas.List.{get_or-take, get_or_past, length-take-le}
 use Rattle.std.proofs.lemmas.List.Folds.{list_all-map}
-use Rattle.std.proofs.lemmas.List.FromFn.{get_or-map-range_with_len, length-map-range_with_len, take-map-range_with_len}
+use Rattle.std.proofs.lemmas.List.FromFn.{get_or-map-range_with_len, length-map-range_with_len}
 use Rattle.trellis.specs.Offers.{is_at_most}
 use Rattle.matching.specs.declared.parts.Cell.{Cell}
 use Rattle.matching.specs.Cells.{cell_at, empty_cell}
-use Rattle.matching.specs.Local.{IsLeastPointer, IsLeastWay, IsRelaxedCost, IsTightCost}
+use Rattle.matching.specs.Local.{IsLeastPointer, IsTightCost}
 use Rattle.matching.proofs.Chosen.{live_below}
 use Rattle.cert_checker.specs.Cells.{is_below, is_cost, is_first_cell, is_first_pointer, is_least_pointer, is_least_rank, is_relaxed, is_relaxed_by, is_tight, is_tight_by}
-use Rattle.cert_checker.proofs.Tests.{at_most, each_below_n, same_options, some_element}
+use Rattle.cert_checker.proofs.ListTests.{at_most, each_below_n, same_options, some_element}
 
 -- the first n ways
 abbrev pub listed : (ℕ → Option ℕ) → ℕ → List (Option ℕ)

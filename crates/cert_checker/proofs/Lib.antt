@@ -11,7 +11,7 @@ pub mod EachBelow
 pub mod ReadyPoints
 pub mod WayCosts
 pub mod ColumnSteps
-pub mod Tests
+pub mod ListTests
 pub mod CellTests
 pub mod StepWays
 pub mod PieceRuns

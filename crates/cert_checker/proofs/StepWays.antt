@@ -20,7 +20,7 @@ use Rattle.cert_checker.specs.Cells.{is_first_pointer, is_relaxed, is_tight}
 use Rattle.cert_checker.specs.Columns.{AreWaysOf, each_cell}
 use Rattle.cert_checker.proofs.CellTests.{IsBound, pointer, relaxed, tight}
 use Rattle.cert_checker.proofs.ReadyPoints.{cells_before, neighbours}
-use Rattle.cert_checker.proofs.Tests.{IsThere, each_below_n, itself, some_below_n, some_element, some_way, there}
+use Rattle.cert_checker.proofs.ListTests.{IsThere, each_below_n, itself, some_below_n, some_element, some_way, there}
 
 -- the parts of a step are those of the case
 pub record AreParts (c : Case) (i : ℕ) (m : Layer) (before : List Cell) (l : Layer) : Type 0 where

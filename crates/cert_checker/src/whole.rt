@@ -11,7 +11,7 @@ use crate::batches::batches;
 use crate::ground::Ground;
 use crate::placed_rows::PlacedRows;
 use crate::plain_layers::plain_layers;
-use crate::rows::check_rows;
+use crate::searched_rows::bad_row;
 use crate::trace_case::TraceCase;
 use crate::trace_check::trace_verdict;
 use crate::verdict::{Condition, Verdict};
@@ -26,9 +26,9 @@ use trace_reader::Trace;
 /// Whether a proof proves the match of a trace: the first condition that fails, point by point. Ids are
 /// not compared. `number` is the trace's number in the verdict.
 ///
-/// The rows are right: [`check_rows`] answers None for them, with the bound of `p`. The call costs the
-/// plain search for the candidates of the trace, and at each point a look into the rows for each pair
-/// of candidates of neighbouring points.
+/// The rows are right: [`check_rows`](crate::check_rows) answers None for them, with the bound of `p`.
+/// The call costs the plain search for the candidates of the trace, and at each point a look into the
+/// rows for each pair of candidates of neighbouring points.
 pub fn check_trace(
     alloc: Global,
     net: &Network,
@@ -107,7 +107,8 @@ pub fn check_all<R: Threads + Sync>(
     requires traces { All IsLawfulTrace traces.now }
     ensures { IfOk result (λ v. v ≡ verdict net.now p.now traces.now c.now) }
 {
-    if let Some(place) = check_rows(net, p.bound, c.rows.as_slice()) {
+    let bad = bad_row(alloc, net, p.bound, c.rows.as_slice())?;
+    if let Some(place) = bad {
         return Ok(Verdict::Refused {
             condition: Condition::Row,
             trace: 0,

@@ -5,7 +5,7 @@ use Rattle.std.specs.Option.{option_eq}
 use Rattle.std.proofs.lemmas.Bool.Decides.{Decides-and, Decides-like}
 use Rattle.std.proofs.lemmas.Slice.Eq.{slice_eq-Decides}
 use Rattle.matching.specs.declared.parts.Cell.{Cell}
-use Rattle.cert_checker.proofs.Tests.{same_options}
+use Rattle.cert_checker.proofs.ListTests.{same_options}
 use Rattle.cert_checker.proofs.step_ways.are_same.Goals as goal
 
 abbrev same_numbers : Option ℕ → Option ℕ → Bool
