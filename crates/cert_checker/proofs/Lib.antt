@@ -11,6 +11,7 @@ pub mod EachBelow
 pub mod ReadyPoints
 pub mod WayCosts
 pub mod ColumnSteps
+pub mod ListTests
 pub mod CellTests
 pub mod StepWays
 pub mod PieceRuns
@@ -18,7 +19,6 @@ pub mod PointBreaks
 pub mod FailingFirst
 pub mod LaterPoints
 pub mod WholeVerdicts
-pub mod ListTests
 pub mod PieceTests
 pub mod EachPoint
 pub mod PointConditions
@@ -36,3 +36,4 @@ pub mod WholeVerdict
 pub mod RowTexts
 pub mod ProofTexts
 pub mod MatchTexts
+pub mod BatchLists

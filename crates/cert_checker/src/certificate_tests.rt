@@ -1,8 +1,16 @@
-use crate::{Condition, Verdict, check_all, check_trace};
+//! Certificates of two fixes, right and wrong.
+ghost use Rattle.std.specs.Prelude.{◌↔◌, IsTrue};
+ghost use Rattle.std.specs.List.{All};
+ghost use Rattle.polyline_geometry.specs.Plane.{InRange};
+ghost use Rattle.trace_match.specs.Match.{place_of};
+ghost use Rattle.trace_reader.specs.Trace.{IsLawfulTrace};
+
+use crate::{Condition, Verdict, check_all, check_rows, check_trace};
+use bounded_search::Row;
 use cost_model::Params;
 use match_text::Routed;
 use polyline_geometry::List;
-use potential_certificate::{CertFault, Certificate, read_certificate};
+use potential_certificate::{CertFault, Certificate, TraceProof, read_certificate};
 use road_network::{Network, read_network};
 use std::alloc::{AllocError, Global};
 use std::test::Fail;
@@ -75,6 +83,65 @@ fn certificate(
         text.extend_from_slice(part)?;
     }
     read_certificate(alloc, &Params::DEFAULT, text.as_slice())
+}
+
+fn is_in_range(fix: &Fix) -> bool
+    ensures { IsTrue result ↔ InRange (place_of fix.now) }
+{
+    fix.x.unsigned_abs() <= 1_000_000_000 && fix.y.unsigned_abs() <= 1_000_000_000
+}
+
+fn are_in_range(fixes: &[Fix]) -> bool
+    ensures { IsTrue result ↔ All (λ fix. InRange (place_of fix)) fixes.now }
+{
+    fixes.iter().all(|fix| is_in_range(fix))
+}
+
+fn is_lawful(trace: &Trace) -> bool
+    ensures { IsTrue result ↔ IsLawfulTrace trace.now }
+{
+    1 <= trace.fixes.len() && trace.fixes.len() <= 100_000 && are_in_range(trace.fixes.as_slice())
+}
+
+fn are_lawful(traces: &[Trace]) -> bool
+    ensures { IsTrue result ↔ All IsLawfulTrace traces.now }
+{
+    traces.iter().all(|trace| is_lawful(trace))
+}
+
+/// The verdict on a certificate of traces. None where no file can have these traces.
+fn on_all<R: Threads + Sync>(
+    rt: &R,
+    alloc: Global,
+    net: &Network,
+    p: Params,
+    traces: &[Trace],
+    c: &Certificate,
+) -> Result<Option<Verdict>, AllocError> {
+    let Ok(p) = p.check() else {
+        return Ok(None);
+    };
+    if !are_lawful(traces) {
+        return Ok(None);
+    }
+    Ok(Some(check_all(rt, alloc, net, &p, traces, c)?))
+}
+
+/// The verdict on the proof of trace 3. None where the rows are not right.
+fn on_trace(
+    alloc: Global,
+    net: &Network,
+    rows: &[Row],
+    trace: &Trace,
+    proof: &TraceProof,
+) -> Result<Option<Verdict>, AllocError> {
+    let Ok(p) = Params::DEFAULT.check() else {
+        return Ok(None);
+    };
+    if check_rows(net, p.bound, rows).is_some() || !is_lawful(trace) {
+        return Ok(None);
+    }
+    Ok(Some(check_trace(alloc, net, &p, rows, 3, trace, proof)?))
 }
 
 /// What is refused at this place of the first trace, or of the whole.
@@ -168,13 +235,111 @@ fn the_first_condition_that_fails(rt: HostRuntime) -> Result<(), Fail> {
     let other = certificate(alloc, b"8", POINTS, ROWS)?;
     let rows = other.rows.as_slice();
     let proof = &other.proofs.as_slice()[0];
-    let found = check_trace(alloc, &net, &Params::DEFAULT, rows, 3, &traces[0], proof)?;
-    assert_eq!(rt; found, Verdict::Proved);
+    let found = on_trace(alloc, &net, rows, &traces[0], proof)?;
+    assert_eq!(rt; found, Some(Verdict::Proved));
     let none = certificate(alloc, b"7", TWO_PIECES, NO_ROWS)?;
     let late = [trace(alloc, two_fixes(61))?];
     assert_eq!(rt;
         check_all(&rt, alloc, &net, &GAP, &late, &none)?,
         Verdict::Proved
     );
+    Ok(())
+}
+
+#[test]
+fn the_first_way_of_a_tie(rt: HostRuntime) -> Result<(), Fail> {
+    let alloc = rt.alloc();
+    let net = read_network(alloc, TWIN_EDGES)?;
+    let fixes = [
+        Fix {
+            x: 5_000,
+            y: 0,
+            time: 0,
+        },
+        Fix {
+            x: 15_000,
+            y: 0,
+            time: 0,
+        },
+    ];
+    let traces = [trace(alloc, fixes)?];
+    let row: &[u8] = b"row 1 1:0:- 2:10000:2\ncertified traces 1 rows 1\n";
+    let cases: [(&[u8], Verdict); 2] = [
+        (
+            b"layer 0 rank 0 cells 0 0\nlayer 1 rank 0 cells 0<0\npiece 0 1 cost 0 route 20 7\n",
+            Verdict::Proved,
+        ),
+        (
+            b"layer 0 rank 0 cells 0 0\nlayer 1 rank 0 cells 0<1\npiece 0 1 cost 0 route 20 7\n",
+            refused(Condition::Pointer, 1),
+        ),
+    ];
+    for (points, verdict) in cases {
+        let c = certificate(alloc, b"7", points, row)?;
+        assert_eq!(rt;
+            on_all(&rt, alloc, &net, NARROW, &traces, &c)?,
+            Some(verdict)
+        );
+    }
+    Ok(())
+}
+
+/// A piece without route.
+fn piece(alloc: Global, first: u32, last: u32) -> Routed {
+    Routed {
+        first,
+        last,
+        cost: 0,
+        route: List::new(alloc),
+    }
+}
+
+/// What is refused at this place of trace 3.
+fn refused_alone(condition: Condition, place: u64) -> Option<Verdict> {
+    Some(Verdict::Refused {
+        condition,
+        trace: 3,
+        place,
+    })
+}
+
+#[test]
+fn proofs_that_no_text_holds(rt: HostRuntime) -> Result<(), Fail> {
+    let alloc = rt.alloc();
+    let net = read_network(alloc, TWO_EDGES)?;
+    let trace = trace(alloc, two_fixes(0))?;
+    let cases = [
+        (Some((1, 0)), refused_alone(Condition::Break, 0)),
+        (Some((1, 1)), refused_alone(Condition::Break, 0)),
+        (Some((2, 2)), refused_alone(Condition::Break, 1)),
+        (None, refused_alone(Condition::Candidates, 1)),
+    ];
+    for (more, verdict) in cases {
+        let mut c = certificate(alloc, b"7", POINTS, ROWS)?;
+        let mut proof = c.proofs.pop().expect(&rt, "a proof");
+        match more {
+            Some((first, last)) => proof.pieces.push(piece(alloc, first, last))?,
+            None => proof.ranks.push(None)?,
+        }
+        assert_eq!(rt;
+            on_trace(alloc, &net, c.rows.as_slice(), &trace, &proof)?,
+            verdict
+        );
+    }
+    Ok(())
+}
+
+#[test]
+fn numbers_of_traces(rt: HostRuntime) -> Result<(), Fail> {
+    let alloc = rt.alloc();
+    let net = read_network(alloc, TWO_EDGES)?;
+    let mut c = certificate(alloc, b"7", POINTS, ROWS)?;
+    c.proofs.truncate(0);
+    let none: [Trace; 0] = [];
+    let found = on_all(&rt, alloc, &net, Params::DEFAULT, &none, &c)?;
+    assert_eq!(rt; found, Some(Verdict::Proved));
+    let traces = [trace(alloc, two_fixes(0))?];
+    let found = on_all(&rt, alloc, &net, Params::DEFAULT, &traces, &c)?;
+    assert_eq!(rt; found, Some(refused(Condition::Trace, 0)));
     Ok(())
 }

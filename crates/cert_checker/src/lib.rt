@@ -6,6 +6,9 @@
 //! nothing else.
 #![tactic(auto)]
 
+mod batch;
+mod batch_check;
+mod batches;
 mod breaks;
 mod cell_tests;
 mod chosen;
@@ -19,6 +22,7 @@ mod point_ways;
 mod points;
 mod routes;
 mod rows;
+mod searched_rows;
 mod step_ways;
 mod trace_case;
 mod trace_check;

@@ -61,7 +61,7 @@ fn ways_by_columns(case: &TraceCase, i: usize, column: &mut [Option<u128>]) -> P
 
 /// What the ways to the candidates of a point say of its cells. What rows said of pairs of nodes is
 /// remembered.
-pub fn point_ways_by(
+pub fn point_ways(
     alloc: Global,
     case: &TraceCase,
     pairs: &mut PairMemory,
@@ -77,13 +77,4 @@ pub fn point_ways_by(
     }
     let mut column = vec![in alloc; None; case.width(i - 1)]?;
     Ok(ways_by_columns(case, i, &mut column))
-}
-
-/// The same, where nothing is remembered.
-pub fn point_ways(alloc: Global, case: &TraceCase, i: usize) -> Result<PointWays, AllocError>
-    requires { IsReady (case_seen case.now) i }
-    ensures { IfOk result (AreWaysOf (case_seen case.now) i (width (case_seen case.now) i)) }
-{
-    let mut pairs = PairMemory::new(alloc, case.net, case.params.bound);
-    point_ways_by(alloc, case, &mut pairs, i)
 }

@@ -2,6 +2,7 @@
 ghost use Rattle.std.specs.Prelude.{◌≡◌, ◌<◌, ◌∷◌, [], IfOk, None, false, length, true};
 ghost use Rattle.cost_model.specs.Options.{IsAccepted};
 ghost use Rattle.trace_reader.specs.Trace.{IsLawfulTrace};
+ghost use Rattle.trellis.specs.Pairs.{pairs_of};
 ghost use Rattle.cert_checker.specs.CaseSeen.{IsCheckable, case_seen};
 ghost use Rattle.cert_checker.specs.Checked.{IsMet, IsNext, TellsWays, of_cells};
 ghost use Rattle.cert_checker.specs.Pieces.{rise_from};
@@ -16,14 +17,23 @@ use crate::trace_case::TraceCase;
 use crate::verdict::{Condition, Verdict};
 use match_text::Routed;
 use std::alloc::{AllocError, Global};
+use trellis::PairMemory;
 
 /// What the ways say of the cells of a point; nothing against them where none is looked at.
-fn ways_to(alloc: Global, case: &TraceCase, i: usize) -> Result<PointWays, AllocError>
-    requires { IsMet (case_seen case.now) i }
-    ensures { IfOk result (TellsWays (case_seen case.now) i) }
+fn ways_to(
+    alloc: Global,
+    case: &TraceCase,
+    pairs: &mut PairMemory,
+    i: usize,
+) -> Result<PointWays, AllocError>
+    requires met { IsMet (case_seen case.now) i }
+    requires pairs { pairs.old ≡ pairs_of case.now.net.now case.now.params.now.bound }
+    ensures ways { IfOk result (TellsWays (case_seen case.now) i) }
+    ensures same { pairs.new ≡ pairs.old }
 {
     if case.is_looked_at(i) {
-        return point_ways(alloc, case, i);
+        pairs.make_room(alloc)?;
+        return point_ways(alloc, case, pairs, i);
     }
     Ok(PointWays {
         any: false,
@@ -65,11 +75,15 @@ fn failing_cells(case: &TraceCase, left: &[Routed], i: usize, ways: PointWays) -
 fn failing(
     alloc: Global,
     case: &TraceCase,
+    pairs: &mut PairMemory,
     left: &[Routed],
     i: usize,
 ) -> Result<Option<Condition>, AllocError>
-    requires { IsNext (case_seen case.now) i left.now }
-    ensures { IfOk result (λ found. found ≡ first_failing (holds (case_seen case.now) i) order) }
+    requires point { IsNext (case_seen case.now) i left.now }
+    requires pairs { pairs.old ≡ pairs_of case.now.net.now case.now.params.now.bound }
+    ensures found { IfOk result
+        (λ found. found ≡ first_failing (holds (case_seen case.now) i) order) }
+    ensures same { pairs.new ≡ pairs.old }
 {
     if !has_candidates(case, i) {
         return Ok(Some(Condition::Candidates));
@@ -77,7 +91,7 @@ fn failing(
     if !has_rows(case, i) {
         return Ok(Some(Condition::Row));
     }
-    let ways = ways_to(alloc, case, i)?;
+    let ways = ways_to(alloc, case, pairs, i)?;
     if let Some(condition) = failing_cells(case, left, i, ways) {
         return Ok(Some(condition));
     }
@@ -111,9 +125,10 @@ pub fn trace_verdict(alloc: Global, case: &TraceCase, number: u64) -> Result<Ver
     if !pieces_rise(case.proof.pieces.as_slice()) {
         return Ok(verdict_without_order(case, number));
     }
+    let mut pairs = PairMemory::new(alloc, case.net, case.params.bound);
     let mut left = case.proof.pieces.as_slice();
     for i in 0..case.layers.len() {
-        if let Some(condition) = failing(alloc, case, left, i)? {
+        if let Some(condition) = failing(alloc, case, &mut pairs, left, i)? {
             return Ok(Verdict::Refused {
                 condition,
                 trace: number,

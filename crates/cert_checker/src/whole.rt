@@ -1,15 +1,17 @@
 //! The verdict on a certificate. Serves everyone; decided by `verdict`.
-ghost use Rattle.std.specs.Prelude.{◌≡◌, ◌+◌, ◌<◌, ◌^◌, All, IfOk, None, length};
+ghost use Rattle.std.specs.Prelude.{◌≡◌, All, IfOk, None};
 ghost use Rattle.cost_model.specs.Options.{IsAccepted};
 ghost use Rattle.trace_reader.specs.Trace.{IsLawfulTrace};
 ghost use Rattle.cert_checker.specs.Rows.{first_bad_row};
 ghost use Rattle.cert_checker.specs.Verdicts.{case_of, trace_verdict};
-ghost use Rattle.cert_checker.specs.Whole.{apart_from, verdict, verdict_from};
+ghost use Rattle.cert_checker.specs.Whole.{apart_from, verdict};
 
+use crate::batch_check::{first_refused, verdicts};
+use crate::batches::batches;
 use crate::ground::Ground;
 use crate::placed_rows::PlacedRows;
 use crate::plain_layers::plain_layers;
-use crate::rows::check_rows;
+use crate::searched_rows::bad_row;
 use crate::trace_case::TraceCase;
 use crate::trace_check::trace_verdict;
 use crate::verdict::{Condition, Verdict};
@@ -24,9 +26,9 @@ use trace_reader::Trace;
 /// Whether a proof proves the match of a trace: the first condition that fails, point by point. Ids are
 /// not compared. `number` is the trace's number in the verdict.
 ///
-/// The rows are right: [`check_rows`] answers None for them, with the bound of `p`. The call costs the
-/// plain search for the candidates of the trace, and at each point a look into the rows for each pair
-/// of candidates of neighbouring points.
+/// The rows are right: [`check_rows`](crate::check_rows) answers None for them, with the bound of `p`.
+/// The call costs the plain search for the candidates of the trace, and at each point a look into the
+/// rows for each pair of candidates of neighbouring points.
 pub fn check_trace(
     alloc: Global,
     net: &Network,
@@ -91,31 +93,6 @@ fn first_apart(traces: &[Trace], proofs: &[TraceProof]) -> Option<u64>
     }
 }
 
-/// The first verdict that refuses one of these traces, of which the first is number `first`.
-fn verdict_on_batch(
-    alloc: Global,
-    ground: &Ground,
-    first: u64,
-    traces: &[Trace],
-    proofs: &[TraceProof],
-) -> Result<Verdict, AllocError>
-    requires traces { All IsLawfulTrace traces.now }
-    requires proofs { length proofs.now ≡ length traces.now }
-    requires numbers { first + length traces.now < 2 ^ 64 }
-    ensures { IfOk result (λ v. v ≡ verdict_from ground.now.net.now ground.now.params.now
-        ground.now.rows.now first traces.now proofs.now) }
-{
-    for place in 0..traces.len() {
-        let number = first + place as u64;
-        let verdict = verdict_on(alloc, ground, number, &traces[place], &proofs[place])?;
-        match verdict {
-            Verdict::Proved => {}
-            Verdict::Refused { .. } => return Ok(verdict),
-        }
-    }
-    Ok(Verdict::Proved)
-}
-
 /// Whether a certificate proves the match of these traces: the first condition of the whole that fails,
 /// of its rows, of the ids of its proofs, and of each trace in order.
 pub fn check_all<R: Threads + Sync>(
@@ -130,7 +107,8 @@ pub fn check_all<R: Threads + Sync>(
     requires traces { All IsLawfulTrace traces.now }
     ensures { IfOk result (λ v. v ≡ verdict net.now p.now traces.now c.now) }
 {
-    if let Some(place) = check_rows(net, p.bound, c.rows.as_slice()) {
+    let bad = bad_row(alloc, net, p.bound, c.rows.as_slice())?;
+    if let Some(place) = bad {
         return Ok(Verdict::Refused {
             condition: Condition::Row,
             trace: 0,
@@ -150,5 +128,7 @@ pub fn check_all<R: Threads + Sync>(
         params: p,
         rows: &placed,
     };
-    verdict_on_batch(alloc, &ground, 0, traces, c.proofs.as_slice())
+    let batches = batches(alloc, traces, c.proofs.as_slice())?;
+    let answers = verdicts(rt, alloc, &ground, batches.as_slice())?;
+    first_refused(answers.as_slice())
 }

@@ -7,8 +7,8 @@ use Rattle.cert_checker.proofs.FailingFirst.{fails_behind, fails_front, fails_la
 use Rattle.cert_checker.proofs.LaterPoints.{cells_met, ok_by, points_to}
 use Rattle.cert_checker.proofs.trace_check.failing.Goals as goal
 
-pub returns-in-Some : goal.returns-in-Some
-returns-in-Some c =
+pub returns-in-Some-clause-found : goal.returns-in-Some-clause-found
+returns-in-Some-clause-found c =
     let k = case_seen c.args.case.now in
     let i = c.args.i in
     let candidates = sym c.has_candidates.ensures ∙ c.if-not-has_candidates.false in
@@ -25,14 +25,14 @@ failing_end-requires c =
     let rows = sym c.has_rows.ensures ∙ c.if-not-has_rows.false in
     let none : None ≡ first_failing (holds k i) of_cells = sym c.in_default.is ∙ c.failing_cells.ensures in
     record {
-      checkable = c.requires.checkable;
-      below = c.requires.below;
-      pieces = c.requires.pieces;
-      points = points_to k i c.requires.before (cells_met k i candidates rows none);
+      checkable = c.requires.point.checkable;
+      below = c.requires.point.below;
+      pieces = c.requires.point.pieces;
+      points = points_to k i c.requires.point.before (cells_met k i candidates rows none);
     }
 
-pub returns : goal.returns
-returns c =
+pub returns-clause-found : goal.returns-clause-found
+returns-clause-found c =
     let k = case_seen c.args.case.now in
     let i = c.args.i in
     let candidates = sym c.has_candidates.ensures ∙ c.if-not-has_candidates.false in

@@ -15,6 +15,7 @@ loop-i-init c =
     record {
       pieces = subst (λ left. AreLeft pieces left 0) (sym c.as_slice-left.ensures) (all_left pieces rise);
       points = λ i lt. absurd (omega (arith, lt));
+      pairs-are = c.new-pairs.ensures;
       proved = refl;
     }
 
@@ -22,10 +23,11 @@ pub loop-i-preserved : goal.loop-i-preserved
 loop-i-preserved c =
     let k = case_seen c.args.case.now in
     let i = c.loop-i.i in
-    let none : None ≡ first_failing (holds k i) order = sym c.in_default.is ∙ c.in_ok-condition.ensures in
+    let none : None ≡ first_failing (holds k i) order = sym c.in_default.is ∙ c.in_ok-condition.ensures.found in
     record {
       pieces = c.left_after-left.ensures k.proof.pieces c.loop-i.invariant.pieces;
       points = points_more k i c.loop-i.invariant.points (all_met k i none);
+      pairs-are = c.failing.ensures.same ∙ c.loop-i.invariant.pairs-are;
       proved = none_fails c.args.number k i c.loop-i.invariant.proved none;
     }
 
@@ -33,4 +35,4 @@ pub returns-in-Some : goal.returns-in-Some
 returns-in-Some c =
     let k = case_seen c.args.case.now in
     let i = c.loop-i.i in
-    first_fails c.args.number k i c.in-Some.condition c.loop-i-test.true c.loop-i.invariant.proved (sym c.in-Some.is ∙ c.in_ok-condition.ensures)
+    first_fails c.args.number k i c.in-Some.condition c.loop-i-test.true c.loop-i.invariant.proved (sym c.in-Some.is ∙ c.in_ok-condition.ensures.found)
