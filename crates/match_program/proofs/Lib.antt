@@ -16,3 +16,6 @@ pub mod Workers
 pub mod StreamJobs
 pub mod StreamTakes
 pub mod StreamTotals
+pub mod ReadIds
+pub mod ReadNetworks
+pub mod ProvedFiles

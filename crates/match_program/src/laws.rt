@@ -1,4 +1,5 @@
 //! Laws on what a run writes. Each function is there for its clause and does nothing.
+ghost use Rattle.match_program.specs.ProvedFiles.{ProvedFilesAreAccepted};
 ghost use Rattle.match_program.specs.ProvedTexts.{ProvedTextsAreAccepted};
 ghost use Rattle.match_program.specs.TableFiles.{TableFilesChangeNothing};
 ghost use Rattle.match_program.specs.Workers.{WorkersChangeNothing};
@@ -16,4 +17,9 @@ pub fn table_files_change_nothing()
 /// What `prove` writes of some traces, `check` accepts for the same traces and options.
 pub fn proved_texts_are_accepted()
     ensures { ProvedTextsAreAccepted }
+{}
+
+/// What `prove` writes of two files, `check` accepts with the same files and options.
+pub fn proved_files_are_accepted()
+    ensures { ProvedFilesAreAccepted }
 {}
