@@ -227,22 +227,25 @@ fn the_first_condition_that_fails(rt: HostRuntime) -> Result<(), Fail> {
     ];
     for (id, points, rows, verdict) in cases {
         let c = certificate(alloc, id, points, rows)?;
-        assert_eq!(rt;
-            check_all(&rt, alloc, &net, &Params::DEFAULT, &traces, &c)?,
-            verdict
-        );
+        let found = on_all(&rt, alloc, &net, Params::DEFAULT, &traces, &c)?;
+        assert_eq!(rt; found, Some(verdict));
     }
-    let other = certificate(alloc, b"8", POINTS, ROWS)?;
-    let rows = other.rows.as_slice();
-    let proof = &other.proofs.as_slice()[0];
-    let found = on_trace(alloc, &net, rows, &traces[0], proof)?;
+    Ok(())
+}
+
+#[test]
+fn another_id_and_a_gap(rt: HostRuntime) -> Result<(), Fail> {
+    let alloc = rt.alloc();
+    let net = read_network(alloc, TWO_EDGES)?;
+    let mut other = certificate(alloc, b"8", POINTS, ROWS)?;
+    let proof = other.proofs.pop().expect(&rt, "a proof");
+    let here = trace(alloc, two_fixes(0))?;
+    let found = on_trace(alloc, &net, other.rows.as_slice(), &here, &proof)?;
     assert_eq!(rt; found, Some(Verdict::Proved));
-    let none = certificate(alloc, b"7", TWO_PIECES, NO_ROWS)?;
+    let c = certificate(alloc, b"7", TWO_PIECES, NO_ROWS)?;
     let late = [trace(alloc, two_fixes(61))?];
-    assert_eq!(rt;
-        check_all(&rt, alloc, &net, &GAP, &late, &none)?,
-        Verdict::Proved
-    );
+    let found = on_all(&rt, alloc, &net, GAP, &late, &c)?;
+    assert_eq!(rt; found, Some(Verdict::Proved));
     Ok(())
 }
 
