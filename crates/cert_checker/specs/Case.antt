@@ -1,14 +1,13 @@
 -- One trace with its proof, and what they say of a point. Layers, ranks and tables stand in the order
 -- of the points.
-use Rattle.std.specs.Prelude.{ℕ, ◌+◌, ◌-◌, ◌==◌, ◌&&◌, Bool, nat_lt, is_some, List, [], length, map, Option, None, slice_index_or}
+use Rattle.std.specs.Prelude.{ℕ, ◌-◌, ◌==◌, ◌&&◌, Bool, nat_lt, is_some, List, [], length, map, Option, None, slice_index_or}
 use Rattle.std.specs.List.{list_any, range_with_len}
 use Rattle.cost_model.specs.declared.params.Params.{Params}
 use Rattle.road_network.specs.Net.{Net}
 use Rattle.bounded_search.specs.Table.{TableRow}
 use Rattle.matching.specs.declared.parts.Cell.{Cell}
 use Rattle.matching.specs.declared.parts.Layer.{Layer}
-use Rattle.matching.specs.Cells.{cell_at}
-use Rattle.matching.specs.Layers.{end_of, trellis}
+use Rattle.matching.specs.Layers.{trellis}
 use Rattle.matching.specs.Local.{by_way_of}
 use Rattle.route_rebuild.specs.Routes.{no_layer}
 use Rattle.potential_certificate.specs.declared.proof.TraceProof.{TraceProof}

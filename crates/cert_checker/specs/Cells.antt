@@ -1,5 +1,5 @@
 -- Tests of one cell, by the ways to it.
-use Rattle.std.specs.Prelude.{ℕ, ◌^◌, ◌==◌, ◌&&◌, not, Bool, true, false, nat_le, nat_lt, List, take, slice_index_or, Option, Some, None}
+use Rattle.std.specs.Prelude.{ℕ, ◌^◌, ◌==◌, ◌&&◌, not, Bool, true, false, nat_lt, List, take, slice_index_or, Option, Some, None}
 use Rattle.std.specs.Option.{option_eq}
 use Rattle.std.specs.List.{list_all, list_any}
 use Rattle.matching.specs.declared.parts.Cell.{Cell}
