@@ -1,16 +1,15 @@
 -- A later point of a piece, and the first failure of a trace.
-use Rattle.std.proofs.Common.{◌≡◌, ◌<◌, ◌≤◌, ◌==◌, ℕ, zero, suc, ◌+◌, ◌-◌, Bool, true, false, true≢false, cond, List, [], ◌∷◌, length, Option, Some, None, IfOk, Result, Ok, Err, refl, sym, ◌∙◌, ap, subst, arith, below_more}
-use Rattle.std.specs.Prelude.{◌&&◌, ◌||◌, not, nat_lt, slice_get}
+use Rattle.std.proofs.Common.{◌≡◌, ◌<◌, ◌≤◌, ◌==◌, ℕ, zero, suc, ◌+◌, ◌-◌, Bool, true, false, true≢false, cond, List, [], ◌∷◌, length, Option, Some, None, IfOk, Result, Ok, Err, refl, sym, ◌∙◌, ap, arith, below_more}
+use Rattle.std.specs.Prelude.{◌&&◌, ◌||◌, not, nat_lt}
 use Rattle.std.specs.List.{list_any}
 use Rattle.std.proofs.lemmas.Bool.{and_left, and_parts, le-leb, ltb-true, ne_eqb}
 use Rattle.match_text.specs.declared.matched.Routed.{Routed}
 use Rattle.matching.specs.declared.parts.Cell.{Cell}
 use Rattle.cert_checker.specs.declared.verdict.Condition.{Condition}
 use Rattle.cert_checker.specs.declared.verdict.Condition.TheVariants.{Break, Candidates, Chosen, FirstCost, Pointer, Relaxed, Route, Row, Tight}
-use Rattle.cert_checker.specs.declared.verdict.Verdict.{Verdict}
 use Rattle.cert_checker.specs.declared.verdict.Verdict.TheVariants.{Proved, Refused}
 use Rattle.cert_checker.specs.Case.{Case, has_way, is_looked_at, width}
-use Rattle.cert_checker.specs.Checked.{HasCells, IsAtEnd, IsNext, of_cells}
+use Rattle.cert_checker.specs.Checked.{HasCells, of_cells}
 use Rattle.cert_checker.specs.Columns.{are_first_cells, each_cell}
 use Rattle.cert_checker.specs.InHand.{AreLeft}
 use Rattle.cert_checker.specs.Pieces.{begins, goes_on, is_in_any, rise_from}

@@ -1,6 +1,6 @@
 -- The row and the walk of a leg of a piece.
-use Rattle.std.proofs.Common.{◌≡◌, ◌<◌, ◌≤◌, ℕ, ◌+◌, ◌-◌, List, [], ◌∷◌, ◌++◌, length, get_or, reverse, Option, Some, None, refl, sym, ◌∙◌, ap, subst, arith}
-use Rattle.road_network.specs.Net.{Net, IsLawful, source, target}
+use Rattle.std.proofs.Common.{◌≡◌, ℕ, ◌+◌, List, [], ◌∷◌, ◌++◌, get_or, reverse, Option, Some, None, refl, sym, subst}
+use Rattle.road_network.specs.Net.{IsLawful, source, target}
 use Rattle.road_network.specs.Walk.{IsLeastWalk}
 use Rattle.road_network.specs.declared.EdgeId.{EdgeId}
 use Rattle.bounded_search.specs.Table.{IsRow, TableRow}

@@ -1,8 +1,7 @@
 -- The edges of a leg, and what is left of a route behind them.
-use Rattle.std.proofs.Common.{◌≡◌, ◌<◌, ◌≤◌, ◌==◌, ℕ, zero, suc, ◌+◌, ◌-◌, Bool, true, false, cond, List, [], ◌∷◌, ◌++◌, length, map, take, drop, reverse, get_or, Option, Some, None, All, refl, sym, ◌∙◌, ap, subst, arith, append_assoc, inl, inr}
+use Rattle.std.proofs.Common.{◌≡◌, ◌<◌, ◌≤◌, ℕ, zero, suc, ◌+◌, ◌-◌, List, [], ◌∷◌, ◌++◌, length, take, drop, reverse, get_or, Option, Some, None, All, refl, sym, ◌∙◌, ap, subst, arith, append_assoc, inl, inr}
 use Rattle.std.specs.Prelude.{◌&&◌, slice_get}
 use Rattle.std.specs.Option.{IsSome, option_map}
-use Rattle.std.specs.Cmp.Lexicographic.{pointwise}
 use Rattle.std.proofs.lemmas.Bool.{eq-eqb, ne_eqb}
 use Rattle.std.proofs.lemmas.List.{take_all, length-drop, reverse-reverse}
 use Rattle.std.proofs.lemmas.List.Elements.{All-cons, All-nil}
@@ -14,14 +13,14 @@ use Rattle.road_network.specs.declared.EdgeId.{EdgeId}
 use Rattle.road_network.proofs.Travel.{leads_from_walk}
 use Rattle.bounded_search.specs.declared.table_row.Entry.{Entry}
 use Rattle.bounded_search.specs.Table.{IsRow, TableRow, entry_in, label_of}
-use Rattle.matching.specs.Routes.{Route, Direct, Over, HasNoRoute, IsRoute, IsTheRoute}
+use Rattle.matching.specs.Routes.{Route, Direct, Over, HasNoRoute, IsRoute}
 use Rattle.matching.specs.RouteBetween.{route_between}
 use Rattle.matching.proofs.RouteBetweens.{route_between-is}
 use Rattle.matching.proofs.Routes.{direct_route, over_route}
 use Rattle.route_rebuild.specs.Numbers.{numbers}
 use Rattle.route_rebuild.specs.Routes.{edges_to}
 use Rattle.route_rebuild.proofs.RouteValue.{route_found}
-use Rattle.cert_checker.specs.Legs.{IsLeftAfter, are_left_names, are_names}
+use Rattle.cert_checker.specs.Legs.{IsLeftAfter, are_names}
 
 -- no id is left where one is wanted
 pub none_after : (n : Net) (names : List ℕ) (e : ℕ) → None ≡ slice_get names 0 → IsLeftAfter n names (e ∷ []) None

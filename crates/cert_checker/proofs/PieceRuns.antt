@@ -1,6 +1,6 @@
 -- A piece whose points have met their conditions is a run of chosen candidates with routes and rows.
-use Rattle.std.proofs.Common.{◌≡◌, ◌<◌, ◌≤◌, ◌==◌, ℕ, zero, suc, ◌+◌, ◌-◌, Bool, true, false, true≢false, cond, List, [], ◌∷◌, length, map, get_or, Option, Some, None, refl, sym, ◌∙◌, ap, subst, arith, inl, inr, ⊎_elim}
-use Rattle.std.specs.Prelude.{◌&&◌, ◌||◌, not, nat_lt, is_some, unwrap_or, slice_index_or}
+use Rattle.std.proofs.Common.{◌≡◌, ◌<◌, ◌≤◌, ◌==◌, ℕ, zero, suc, ◌+◌, ◌-◌, Bool, true, false, true≢false, cond, List, length, get_or, Option, Some, None, refl, sym, ◌∙◌, ap, subst, arith, ⊎_elim}
+use Rattle.std.specs.Prelude.{◌&&◌, ◌||◌, not, nat_lt, unwrap_or, slice_index_or}
 use Rattle.std.specs.Option.{option_eq, option_map}
 use Rattle.std.specs.List.{range_with_len}
 use Rattle.std.proofs.lemmas.Option.{same_Some}
@@ -8,7 +8,7 @@ use Rattle.std.proofs.lemmas.Bool.{and_parts, cases_lt, eqb-true, lt-ltb, ltb-tr
 use Rattle.std.proofs.lemmas.List.{get_or-map, get_or_past, length-map}
 use Rattle.std.proofs.lemmas.List.FromFn.{get_or-range_with_len, length-range_with_len}
 use Rattle.cost_model.specs.Costs.{transition}
-use Rattle.road_network.specs.Net.{Net, IsLawful, target}
+use Rattle.road_network.specs.Net.{IsLawful, target}
 use Rattle.road_network.specs.declared.Candidate.{Candidate}
 use Rattle.polyline_geometry.specs.Plane.{straight}
 use Rattle.matching.specs.declared.parts.Cell.{Cell}
@@ -19,7 +19,7 @@ use Rattle.matching.specs.Routes.{HasNoRoute}
 use Rattle.matching.proofs.Costs.{added-parts}
 use Rattle.matching.proofs.RouteLengths.{length_of_route-none}
 use Rattle.match_text.specs.declared.matched.Routed.{Routed}
-use Rattle.route_rebuild.specs.Chosen.{IsChosenPoint, IsChosenRun}
+use Rattle.route_rebuild.specs.Chosen.{IsChosenPoint}
 use Rattle.cert_checker.specs.Case.{Case, has_row, has_way, is_looked_at, layer, rank, table, way, ways, width}
 use Rattle.cert_checker.specs.CaseSeen.{IsCheckable, IsReady}
 use Rattle.cert_checker.specs.Cells.{is_cost, is_least_rank, is_tight, is_tight_by, pointer_of}
@@ -27,7 +27,7 @@ use Rattle.cert_checker.specs.Checked.{HasCells, IsAtEnd}
 use Rattle.cert_checker.specs.InHand.{HasPoint, IsEnding}
 use Rattle.cert_checker.specs.Legs.{IsRoutable, chosen_in}
 use Rattle.cert_checker.specs.Pieces.{begins, goes_on, is_in_any}
-use Rattle.cert_checker.specs.Verdicts.{breaks_right, each_below, has_candidates, is_chosen, is_last, is_rank_of, piece_of}
+use Rattle.cert_checker.specs.Verdicts.{breaks_right, each_below, has_candidates, is_chosen, is_rank_of}
 use Rattle.cert_checker.proofs.EachBelow.{each_at}
 use Rattle.cert_checker.proofs.PointersBack.{is_pointed_in, is_pointed_to, pointed_at}
 use Rattle.cert_checker.proofs.ReadyPoints.{point_layer, row_there}

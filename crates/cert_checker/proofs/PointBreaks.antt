@@ -1,13 +1,13 @@
 -- Pieces at a point, by those that end at it or later.
-use Rattle.std.proofs.Common.{◌≡◌, ◌<◌, ◌≤◌, ◌==◌, ℕ, ◌+◌, Bool, true, false, true≢false, List, [], ◌∷◌, ◌++◌, length, Option, Some, None, refl, sym, ◌∙◌, ap, subst, arith}
+use Rattle.std.proofs.Common.{◌≡◌, ◌==◌, ℕ, Bool, true, false, true≢false, List, [], ◌∷◌, refl, sym, ◌∙◌, ap, arith}
 use Rattle.std.specs.Prelude.{◌&&◌, ◌||◌, not, nat_lt}
 use Rattle.std.specs.List.{list_all, list_any}
-use Rattle.std.proofs.lemmas.Bool.{and_from, and_parts, cond-false, cond-true, eq-eqb, le-ltb, ltb-true, not_from_false, or_from, or_left, or_parts}
+use Rattle.std.proofs.lemmas.Bool.{and_from, and_parts, eq-eqb, le-ltb, ltb-true, not_from_false, or_from, or_left, or_parts}
 use Rattle.std.proofs.lemmas.List.Folds.{list_any-append}
 use Rattle.match_text.specs.declared.matched.Routed.{Routed}
-use Rattle.cert_checker.specs.Case.{Case, has_way, is_looked_at, width}
+use Rattle.cert_checker.specs.Case.{Case}
 use Rattle.cert_checker.specs.InHand.{AreLeft, IsEnding}
-use Rattle.cert_checker.specs.Pieces.{begins, goes_on, is_in_any, rise_from}
+use Rattle.cert_checker.specs.Pieces.{rise_from}
 use Rattle.cert_checker.specs.Verdicts.{breaks_right, each_ended, has_breaks, is_last}
 use Rattle.cert_checker.proofs.RisingPieces.{ended_is}
 

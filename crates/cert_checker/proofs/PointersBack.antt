@@ -1,5 +1,5 @@
 -- The chosen ranks of a piece, pointer by pointer.
-use Rattle.std.proofs.Common.{◌≡◌, ℕ, ◌+◌, ◌-◌, ◌≤◌, ◌==◌, Bool, true, false, ap, sym, ◌∙◌, arith}
+use Rattle.std.proofs.Common.{◌≡◌, ℕ, ◌+◌, ◌-◌, ◌≤◌, ◌==◌, Bool, ap, arith}
 use Rattle.std.specs.Option.{option_eq}
 use Rattle.match_text.specs.declared.matched.Routed.{Routed}
 use Rattle.cert_checker.specs.Case.{Case, rank, table}

@@ -1,5 +1,5 @@
 -- The route of a piece as its first edge and its legs.
-use Rattle.std.proofs.Common.{◌≡◌, ◌<◌, ◌≤◌, ℕ, suc, ◌+◌, ◌-◌, Bool, false, List, [], ◌∷◌, ◌++◌, length, Option, Some, None, refl, sym, ◌∙◌, ap, subst, arith}
+use Rattle.std.proofs.Common.{◌≡◌, ◌<◌, ◌≤◌, ℕ, suc, ◌+◌, ◌-◌, Bool, false, List, [], ◌∷◌, ◌++◌, Some, None, refl, sym, ◌∙◌, ap, arith}
 use Rattle.match_text.specs.declared.matched.Routed.{Routed}
 use Rattle.route_rebuild.specs.Routes.{legs, route_of}
 use Rattle.cert_checker.specs.Case.{Case}

@@ -1,5 +1,5 @@
 -- The verdict on a certificate, trace by trace.
-use Rattle.std.proofs.Common.{◌≡◌, ◌<◌, ◌≤◌, ◌==◌, ◌≢◌, ℕ, zero, suc, ◌+◌, min, Bool, true, false, cond, List, [], ◌∷◌, length, map, get_or, drop, Option, Some, None, refl, sym, ◌∙◌, ap, subst, arith}
+use Rattle.std.proofs.Common.{◌≡◌, ◌<◌, ◌≤◌, ◌==◌, ℕ, zero, suc, ◌+◌, min, Bool, true, false, cond, List, [], ◌∷◌, length, get_or, drop, Option, Some, None, refl, sym, ◌∙◌, ap, arith}
 use Rattle.std.specs.Prelude.{slice_index_or}
 use Rattle.std.proofs.lemmas.List.{drop_all}
 use Rattle.std.proofs.lemmas.List.Elements.{All-map}
@@ -14,7 +14,7 @@ use Rattle.matching.specs.Layers.{IsLayer}
 use Rattle.matching.proofs.CandidateLayers.{candidates_narrow, layer_of_candidates}
 use Rattle.matching.proofs.Lists.{drop-at}
 use Rattle.potential_certificate.specs.declared.proof.TraceProof.{TraceProof}
-use Rattle.trace_match.specs.Match.{layer_of, layers_of}
+use Rattle.trace_match.specs.Match.{layer_of}
 use Rattle.cert_checker.specs.declared.verdict.Condition.{Condition}
 use Rattle.cert_checker.specs.declared.verdict.Verdict.{Verdict}
 use Rattle.cert_checker.specs.declared.verdict.Verdict.TheVariants.{Proved, Refused}

@@ -1,5 +1,4 @@
-use Rattle.std.proofs.Common.{◌+◌, drop, sym, ◌∙◌}
-use Rattle.cert_checker.specs.Batches.{first_refused}
+use Rattle.std.proofs.Common.{◌∙◌}
 use Rattle.cert_checker.proofs.BatchLists.{answer_next, none_left, proved_next, refused_next}
 use Rattle.cert_checker.proofs.batch_check.first_refused.Goals as goal
 

@@ -1,4 +1,4 @@
-use Rattle.std.proofs.Common.{◌≡◌, ◌≤◌, ◌<◌, ◌+◌, List, All, drop, get_or, length, map, take, refl, sym, ap, subst, ◌∙◌, arith}
+use Rattle.std.proofs.Common.{◌≡◌, ◌<◌, ◌+◌, List, All, drop, get_or, length, map, take, sym, ap, subst, ◌∙◌, arith}
 use Rattle.std.specs.List.{flat_map}
 use Rattle.trace_reader.specs.declared.trace.Fix.{Fix}
 use Rattle.trace_reader.specs.declared.trace.Trace.{Trace}
@@ -11,8 +11,8 @@ use Rattle.trace_match.specs.Match.{layer_of, layers_of, place_of}
 use Rattle.cert_checker.specs.CaseSeen.{IsCheckable}
 use Rattle.cert_checker.specs.Verdicts.{case_of, trace_verdict}
 use Rattle.cert_checker.specs.Whole.{verdict_from}
-use Rattle.cert_checker.proofs.BatchLists.{IsPart, batch_part, fixes_few, fixes_in_range}
-use Rattle.cert_checker.proofs.WholeVerdicts.{case_checkable, none_behind, proved_here, refused_here}
+use Rattle.cert_checker.proofs.BatchLists.{batch_part, fixes_few, fixes_in_range}
+use Rattle.cert_checker.proofs.WholeVerdicts.{case_checkable, proved_here, refused_here}
 use Rattle.cert_checker.proofs.batch_check.verdict_on_batch.Goals as goal
 
 pub plain_layers-requires-clause-places : goal.plain_layers-requires-clause-places

@@ -1,6 +1,5 @@
-use Rattle.std.proofs.Common.{◌≡◌, ◌≤◌, ◌∷◌, [], ◌++◌, length, take, drop, refl, sym, ap, subst, ◌∙◌, arith}
+use Rattle.std.proofs.Common.{◌≤◌, refl, sym, ap, subst, ◌∙◌, arith}
 use Rattle.std.specs.List.{flat_map}
-use Rattle.trace_reader.specs.declared.trace.Trace.{Trace}
 use Rattle.cert_checker.specs.declared.batch.Batch.{Batch}
 use Rattle.cert_checker.specs.Batches.{FollowFrom}
 use Rattle.cert_checker.proofs.BatchLists.{follow_more, part_length, parts_more}

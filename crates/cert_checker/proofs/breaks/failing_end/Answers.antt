@@ -1,5 +1,4 @@
-use Rattle.std.proofs.Common.{◌≡◌, ◌∷◌, [], true, false, None, Some, List, sym, ap, ◌∙◌, option_copied, refl}
-use Rattle.std.proofs.lemmas.Bool.{not-false, not-true}
+use Rattle.std.proofs.Common.{◌∷◌, [], None, Some, sym, ◌∙◌, refl}
 use Rattle.match_text.specs.declared.matched.Routed.{Routed}
 use Rattle.cert_checker.specs.declared.verdict.Condition.TheVariants.{Chosen, Route}
 use Rattle.cert_checker.specs.CaseSeen.{case_seen}

@@ -1,4 +1,4 @@
-use Rattle.std.proofs.Common.{◌≡◌, ◌+◌, ◌∷◌, [], ◌++◌, None, Some, List, take, drop, get_or, refl, sym, ap, subst, ◌∙◌, option_copied, arith}
+use Rattle.std.proofs.Common.{◌+◌, ◌∷◌, [], ◌++◌, None, Some, List, take, drop, get_or, refl, sym, subst, option_copied}
 use Rattle.std.proofs.lemmas.List.{take_all}
 use Rattle.road_network.specs.declared.EdgeId.{EdgeId}
 use Rattle.route_rebuild.specs.Numbers.{numbers}

@@ -1,4 +1,4 @@
-use Rattle.std.proofs.Common.{◌≡◌, ◌≤◌, ◌+◌, ◌∷◌, [], None, Some, List, All, reverse, get_or, sym, ap, subst, ◌∙◌, arith, option_copied}
+use Rattle.std.proofs.Common.{◌≡◌, ◌≤◌, ◌+◌, ◌∷◌, [], None, Some, List, All, reverse, sym, ap, subst, ◌∙◌, arith, option_copied}
 use Rattle.std.proofs.lemmas.Bool.Decides.{nat_tests}
 use Rattle.std.specs.Option.{IsSome}
 use Rattle.road_network.specs.Net.{HasEdge, source, target}
@@ -9,7 +9,7 @@ use Rattle.bounded_search.specs.Table.{IsRow, TableRow, entry_in}
 use Rattle.matching.specs.Routes.{Direct, IsRoute}
 use Rattle.route_rebuild.specs.Numbers.{numbers}
 use Rattle.cert_checker.specs.CaseSeen.{case_seen}
-use Rattle.cert_checker.specs.Legs.{IsLeftAfter, chosen_in, leg}
+use Rattle.cert_checker.specs.Legs.{IsLeftAfter, chosen_in}
 use Rattle.cert_checker.proofs.Legs.{is_listed, walk_edges}
 use Rattle.cert_checker.proofs.LegRows.{IsDirectLeg, differs_walk, follows_walk, leg_found, leg_row, stays_direct}
 use Rattle.cert_checker.proofs.routes.after_leg.Goals as goal

@@ -1,9 +1,8 @@
-use Rattle.std.proofs.Common.{◌≡◌, ◌+◌, ◌-◌, ◌∷◌, [], None, Some, List, sym, ap, subst, ◌∙◌, option_copied, arith}
+use Rattle.std.proofs.Common.{◌∷◌, [], None, Some, subst, option_copied}
 use Rattle.road_network.specs.declared.Candidate.{Candidate}
 use Rattle.cert_checker.specs.CaseSeen.{case_seen}
-use Rattle.cert_checker.specs.Legs.{IsLeftAfter, chosen_in, leg}
-use Rattle.cert_checker.specs.Verdicts.{has_route}
-use Rattle.cert_checker.proofs.RouteLegs.{begins_otherwise, first_left, leg_differs, legs_left, none_left}
+use Rattle.cert_checker.specs.Legs.{IsLeftAfter, leg}
+use Rattle.cert_checker.proofs.RouteLegs.{begins_otherwise, first_left, leg_differs, legs_left}
 use Rattle.cert_checker.proofs.routes.has_route.Goals as goal
 
 pub returns-in_default : goal.returns-in_default

@@ -1,4 +1,4 @@
-use Rattle.std.proofs.Common.{◌≡◌, ◌∷◌, [], true, false, None, Some, sym, ◌∙◌, refl}
+use Rattle.std.proofs.Common.{◌≡◌, ◌∷◌, [], true, None, Some, sym, ◌∙◌, refl}
 use Rattle.cert_checker.specs.declared.verdict.Condition.TheVariants.{Break, FirstCost, Pointer, Relaxed, Tight}
 use Rattle.std.proofs.lemmas.Bool.{not-false, not-true}
 use Rattle.cert_checker.specs.CaseSeen.{case_seen}

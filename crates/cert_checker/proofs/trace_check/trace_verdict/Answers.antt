@@ -1,5 +1,4 @@
-use Rattle.std.proofs.Common.{◌≡◌, ◌∷◌, [], None, Some, true, refl, sym, ◌∙◌, ap, subst, arith}
-use Rattle.match_text.specs.declared.matched.Routed.{Routed}
+use Rattle.std.proofs.Common.{◌≡◌, None, true, refl, sym, ◌∙◌, ap, subst, arith}
 use Rattle.cert_checker.specs.CaseSeen.{case_seen}
 use Rattle.cert_checker.specs.InHand.{AreLeft}
 use Rattle.cert_checker.specs.Pieces.{rise_from}

@@ -1,5 +1,4 @@
-use Rattle.std.proofs.Common.{◌≡◌, Some, drop, sym, ap, subst, ◌∙◌, arith}
-use Rattle.cert_checker.specs.Whole.{apart_from}
+use Rattle.std.proofs.Common.{◌≡◌, Some, sym, ap, ◌∙◌, arith}
 use Rattle.cert_checker.proofs.WholeVerdicts.{apart_short}
 use Rattle.cert_checker.proofs.whole.first_apart.Goals as goal
 
