@@ -24,12 +24,7 @@ fn bytes(alloc: Global, from: &[u8]) -> Result<List<u8>, AllocError> {
 
 // A shelf of the network `net` and the traces `tra`, whose calls give so many bytes at most, and fail at
 // these numbers.
-fn shelf(
-    alloc: Global,
-    traces: &[u8],
-    most: u32,
-    fail: &[u64],
-) -> Result<MemoryShelf, AllocError> {
+fn shelf(alloc: Global, traces: &[u8], most: u32, fail: &[u64]) -> Result<MemoryShelf, AllocError> {
     let mut files = List::new(alloc);
     files.push((bytes(alloc, b"net")?, bytes(alloc, NETWORK)?))?;
     files.push((bytes(alloc, b"tra")?, bytes(alloc, traces)?))?;
