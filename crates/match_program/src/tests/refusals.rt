@@ -15,6 +15,17 @@ const INTERLEAVED: &[u8] = b"trace,x,y\n1,1000,0\n2,9000,0\n1,2000,0\n";
 const TABLE: &[u8] =
     b"fmm-table 1 bound 300000 nodes 3 edges 2\nrow 1 1:0:- 2:10000:1\nend rows 1\n";
 
+const CERTIFICATE: &[u8] = b"fmm-certificate 1 k 8 radius 10000 sigma 1000 beta 1000 bound 300000
+trace 7
+layer 0 rank 0 cells 45 40545
+layer 1 rank 0 cells 112<0 1568<0
+piece 0 1 cost 112 route 10
+end 7
+row 1 1:0:- 2:10000:1
+row 2 2:0:-
+certified traces 1 rows 2
+";
+
 // A run, the file that each of its reads is for, how many puts it takes, and how it ends.
 struct Run {
     shows: &'static str,
@@ -26,7 +37,7 @@ struct Run {
     line: &'static [u8],
 }
 
-const RUNS: [Run; 6] = [
+const RUNS: [Run; 8] = [
     Run {
         shows: "match",
         words: &["match", "net", "tra"],
@@ -69,6 +80,31 @@ const RUNS: [Run; 6] = [
         traces: INTERLEAVED,
         reads: &["network", "network", "traces", "traces"],
         puts: 2,
+        status: 0,
+        line: b"",
+    },
+    Run {
+        shows: "prove",
+        words: &["prove", "net", "tra"],
+        traces: ONE_TRACE,
+        reads: &["network", "network", "traces", "traces"],
+        puts: 1,
+        status: 0,
+        line: b"",
+    },
+    Run {
+        shows: "check",
+        words: &["check", "net", "tra", "cert"],
+        traces: ONE_TRACE,
+        reads: &[
+            "network",
+            "network",
+            "traces",
+            "traces",
+            "certificate",
+            "certificate",
+        ],
+        puts: 1,
         status: 0,
         line: b"",
     },
@@ -117,6 +153,7 @@ fn end<R: Threads + Sync>(
     files.push((bytes(alloc, b"net")?, bytes(alloc, STRAIGHT)?))?;
     files.push((bytes(alloc, b"tra")?, bytes(alloc, it.traces)?))?;
     files.push((bytes(alloc, b"tab")?, bytes(alloc, TABLE)?))?;
+    files.push((bytes(alloc, b"cert")?, bytes(alloc, CERTIFICATE)?))?;
     let mut shelf = MemoryShelf::drip(alloc, files, numbers(alloc, reads)?, most.max(1));
     let mut out = MemorySink::new(alloc, numbers(alloc, puts)?);
     let mut err = MemorySink::new(alloc, List::new(alloc));
@@ -132,19 +169,19 @@ fn fails_at_each_read<R: Threads + Sync>(
     it: &Run,
 ) -> Result<bool, AllocError> {
     let whole = end(rt, alloc, it, &[], &[], u32::MAX)?;
-    let mut read = 1;
-    for file in it.reads {
+    for (place, file) in it.reads.iter().enumerate() {
         let mut line = List::new(alloc);
         line.extend_from_slice(b"fmm: cannot read ")?;
         line.extend_from_slice(file.as_bytes())?;
         line.extend_from_slice(b"\n")?;
+        let read = (place as u64).saturating_add(1);
         let cut = end(rt, alloc, it, &[read], &[], u32::MAX)?;
         if !cut.is_cut(3, line.as_slice(), &whole) {
             return Ok(false);
         }
-        read += 1;
     }
-    let same = end(rt, alloc, it, &[read], &[], u32::MAX)?;
+    let behind = (it.reads.len() as u64).saturating_add(1);
+    let same = end(rt, alloc, it, &[behind], &[], u32::MAX)?;
     Ok(same.is_same(&whole) && whole.status == it.status && whole.err.bytes() == it.line)
 }
 
