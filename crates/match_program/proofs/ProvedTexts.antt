@@ -1,10 +1,9 @@
 -- What `prove` writes, `check` finds proved.
-use Rattle.std.proofs.Common.{◌≡◌, ℕ, zero, suc, ◌<◌, ◌≤◌, Bool, true, false, cond, List, [], ◌∷◌, length, map, get_or, Result, Ok, Err, refl, sym, ◌∙◌, ap, subst, arith}
+use Rattle.std.proofs.Common.{◌≡◌, ℕ, zero, suc, ◌<◌, ◌≤◌, Bool, true, false, cond, List, [], ◌∷◌, length, map, get_or, Result, Ok, Err, refl, ◌∙◌, ap, subst, arith}
 use Rattle.std.specs.Prelude.{nat_lt}
-use Rattle.std.specs.List.{list_any}
 use Rattle.std.specs.Result.{result_map_both}
 use Rattle.std.proofs.lemmas.Bool.Decides.{nat_tests}
-use Rattle.cert_checker.specs.Laws.{AreProofsOf, PassesIfAsked}
+use Rattle.cert_checker.specs.Laws.{AreProofsOf}
 use Rattle.cert_checker.specs.Rows.{first_bad_row}
 use Rattle.cert_checker.specs.Whole.{verdict}
 use Rattle.cert_checker.specs.declared.verdict.Verdict.{Verdict}
@@ -27,7 +26,7 @@ use Rattle.trace_reader.specs.declared.trace.Trace.{Trace}
 use Rattle.match_program.specs.ProvedTexts.{ProvedTextsAreAccepted}
 use Rattle.match_program.specs.Setting.{Setting}
 use Rattle.match_program.specs.commands.Check.{certificate_fault_line, check_said, proved_line, proved_or_refused, verdict_said}
-use Rattle.match_program.specs.commands.Prove.{certificate_too_long, prove_said, text_of_proofs}
+use Rattle.match_program.specs.commands.Prove.{certificate_too_long, text_of_proofs}
 
 -- ---- the text
 
