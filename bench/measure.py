@@ -16,6 +16,7 @@ import time
 
 ONE_WORKER = ["--workers", "1"]
 ONE_KILOMETRE = ["--bound", "100000"]
+HALF_MORE = ["--bound", "150000"]
 JOBS = [
     # name, file whose lines are counted, words
     ("load network", "city-net.csv", ["match", "city-net.csv", "no-traces.csv", *ONE_WORKER]),
@@ -39,13 +40,19 @@ JOBS = [
     ("table", "city-net.csv", ["table", "city-net.csv", *ONE_KILOMETRE]),
     ("with table", "city-small-traces.csv",
      ["match", "city-net.csv", "city-small-traces.csv", "--table", "city-table.txt", *ONE_KILOMETRE, *ONE_WORKER]),
+    ("prove small", "city-small-traces.csv", ["prove", "city-net.csv", "city-small-traces.csv", *HALF_MORE]),
+    ("check small", "city-small-traces.csv",
+     ["check", "city-net.csv", "city-small-traces.csv", "city-proofs.txt", *HALF_MORE]),
 ]
 
+# Files that the first program writes for the jobs that read one.
+WRITTEN = [("with table", "city-table.txt", ["table", "city-net.csv", *ONE_KILOMETRE]),
+           ("check small", "city-proofs.txt", ["prove", "city-net.csv", "city-small-traces.csv", *HALF_MORE])]
 
-def write_table(program, folder):
-    """The table of the city by the first program, for the jobs that read one."""
-    with open(os.path.join(folder, "city-table.txt"), "wb") as f:
-        subprocess.run(program + ["table", "city-net.csv", *ONE_KILOMETRE], cwd=folder, stdout=f, check=True)
+
+def write_file(program, folder, name, words):
+    with open(os.path.join(folder, name), "wb") as f:
+        subprocess.run(program + words, cwd=folder, stdout=f, check=True)
 
 
 def write_small_inputs(folder):
@@ -102,8 +109,9 @@ def main():
     programs = [[os.path.abspath(w) if os.path.exists(w) else w for w in shlex.split(p)] for p in args.programs]
     for place, program in enumerate(programs, 1):
         print(f"program {place}: {shlex.join(program)}")
-    if not wanted or "with table" in wanted:
-        write_table(programs[0], folder)
+    for job, name, words in WRITTEN:
+        if not wanted or job in wanted:
+            write_file(programs[0], folder, name, words)
     print(f"{'job':14} {'program':18} {'seconds':>8} {'per s':>9} {'cpu s':>8} {'ratio':>6} {'per cpu s':>10} "
           f"{'peak MB':>8} {'ratio':>6}  answer")
     for name, counted, words in JOBS:
