@@ -76,6 +76,7 @@ pub fn verdicts<R: Threads + Sync>(
 {
     batches
         .par_iter()
+        .with_min_len(1)
         .map(
             |batch: &Batch| -> Result<Verdict, AllocError>
                 ensures { IfOk result (λ v. v ≡ batch_verdict ground.entry.now.net.now
