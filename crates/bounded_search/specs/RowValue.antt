@@ -1,5 +1,6 @@
 -- The row of an origin as a value. Nothing computes it: `IsRow` says what it is, and the law `RowValues` that it is that row.
-use Rattle.std.specs.Prelude.{ℕ, zero, suc, ◌+◌, ◌==◌, ◌&&◌, Bool, true, false, if◌then◌else◌, List, [], ◌++◌, length, Option, Some, None}
+use Rattle.std.specs.Prelude.{ℕ, zero, suc, ◌+◌, ◌==◌, ◌&&◌, Bool, true, false, if◌then◌else◌, List, [], ◌++◌, length, map, Option, Some, None}
+use Rattle.std.specs.List.{filter, range_with_len}
 use Rattle.road_network.specs.Net.{Net, source, target, span}
 use Rattle.road_network.specs.declared.EdgeId.{EdgeId}
 use Rattle.bounded_search.specs.declared.table_row.Entry.{Entry}
@@ -48,3 +49,7 @@ entries_from table v (suc k) = entry_of v (table v) ++ entries_from table (v + 1
 -- the row of origin s
 abbrev pub row_of : Net → ℕ → ℕ → TableRow
 row_of n bound s = record { origin = s; entries = entries_from (label_within n s bound) 0 (length n.nodes) }
+
+-- the rows of those nodes that pass a test, by rising number
+abbrev pub rows_where : Net → ℕ → (ℕ → Bool) → List TableRow
+rows_where n bound test = map (row_of n bound) (filter test (range_with_len 0 (length n.nodes)))

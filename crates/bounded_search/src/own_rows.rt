@@ -1,13 +1,15 @@
 //! Rows that one owner finds and keeps. Serves all who ask for rows; decided by `Rows`.
-ghost use Rattle.std.specs.Prelude.{◌≡◌, ◌≤◌, ◌↔◌, length, Contains, IfOk, OnErr, IsTrue, IsOk};
+ghost use Rattle.std.specs.Prelude.{◌≡◌, ◌≤◌, ◌↔◌, length, map, Contains, IfOk, OnErr, IsTrue, IsOk};
 ghost use Rattle.road_network.specs.Net.{HasNode};
 ghost use Rattle.bounded_search.specs.Table.{IsRow};
 ghost use Rattle.bounded_search.specs.Known.{IsKnownList};
+ghost use Rattle.bounded_search.specs.RowValue.{row_of};
 ghost use Rattle.bounded_search.specs.Rows.{AsksFor, no_rows};
 
 use crate::Rows;
 use crate::searcher::Searcher;
 use crate::table_row::Row;
+use polyline_geometry::List;
 use road_network::{Network, NodeId};
 use std::alloc::{AllocError, Global};
 use std::marker::Model;
@@ -71,6 +73,21 @@ impl<'n> OwnRows<'n> {
         ensures { IsTrue result ↔ Contains self.now.known n.0 }
     {
         self.rows[n.0 as usize].is_some()
+    }
+
+    /// The rows of the known nodes, by rising number of the node. They are moved out, and none is copied.
+    pub fn into_rows(self, alloc: Global) -> Result<List<Row>, AllocError>
+        ensures { IfOk result (λ found. found
+            ≡ map (row_of self.entry.network self.entry.bound) self.entry.known) }
+    {
+        self.searcher.known();
+        let mut found = List::from_vec(Vec::with_capacity(alloc, self.count as usize)?);
+        for place in self.rows {
+            if let Some(row) = place {
+                found.push(row)?;
+            }
+        }
+        Ok(found)
     }
 
     /// Finds the row of a node, where it is not known.

@@ -1,6 +1,6 @@
 //! Searches for many rows of one network. Serves `search` and `OwnRows`; decided by `IsRow`.
 ghost use Rattle.std.specs.Prelude.{◌≡◌, ◌≤◌, ◌↔◌, IfOk, IsTrue};
-ghost use Rattle.road_network.specs.Net.{HasNode};
+ghost use Rattle.road_network.specs.Net.{HasNode, IsLawful};
 ghost use Rattle.bounded_search.specs.Table.{IsRow};
 
 use crate::dijkstra::Workspace;
@@ -48,6 +48,13 @@ impl<'n> Searcher<'n> {
             bound,
             workspace,
         })
+    }
+
+    /// What the network always meets.
+    pub(crate) fn known(&self)
+        ensures { IsLawful self.now.network }
+    {
+        self.network.known();
     }
 
     /// Whether a row is the row of an origin, as `check_row` decides it.
