@@ -1,2 +1,2 @@
-pub mod RowCopies
+pub mod KnownRows
 pub mod TraceProofs

@@ -1,7 +1,6 @@
 -- The certificate of the matches of traces.
-use Rattle.std.specs.Prelude.{ℕ, Bool, List, length, map}
-use Rattle.std.specs.List.{filter, range_with_len}
-use Rattle.bounded_search.specs.RowValue.{row_of}
+use Rattle.std.specs.Prelude.{List, map}
+use Rattle.bounded_search.specs.RowValue.{rows_where}
 use Rattle.bounded_search.specs.Table.{TableRow}
 use Rattle.cost_model.specs.declared.params.Params.{Params}
 use Rattle.follow_work.specs.Setting.{Setting}
@@ -21,14 +20,9 @@ proof_of n p trace = record {
   pieces = (match_of n p trace).pieces;
 }
 
--- the rows of those of the first so many nodes that pass a test, by rising number
-abbrev pub rows_where : Net → ℕ → (ℕ → Bool) → ℕ → List TableRow
-rows_where n bound test count = map (row_of n bound) (filter test (range_with_len 0 count))
-
 -- the rows of the nodes that some of these traces ask for
 abbrev pub asked_rows : Setting → List Trace → List TableRow
-asked_rows on traces =
-    rows_where on.network on.params.bound (is_asked_by on traces) (length on.network.nodes)
+asked_rows on traces = rows_where on.network on.params.bound (is_asked_by on traces)
 
 -- the proofs of the traces in their order, and the rows that they ask for
 abbrev pub certificate_of : Setting → List Trace → Certificate

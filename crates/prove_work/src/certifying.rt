@@ -7,7 +7,6 @@ ghost use Rattle.trace_match.specs.Match.{asks};
 ghost use Rattle.trace_reader.specs.Trace.{IsLawfulTrace};
 ghost use Rattle.prove_work.specs.Certificates.{certificate_of, proof_of};
 
-use crate::row_copies::known_rows;
 use bounded_search::OwnRows;
 use cost_model::Params;
 use grid_index::Grid;
@@ -21,8 +20,8 @@ use trace_reader::Trace;
 /// The certificate of the matches of traces: their proofs, and the rows of the nodes that they ask
 /// for, by rising number.
 ///
-/// `grid` is of this network, with cells of at least the radius. All proofs are held, and the rows
-/// twice while they are copied. Err says that memory was refused.
+/// `grid` is of this network, with cells of at least the radius. All proofs and rows are held. Err says
+/// that memory was refused.
 pub fn certify_traces(
     alloc: Global,
     net: &Network,
@@ -38,7 +37,8 @@ pub fn certify_traces(
     net.known();
     let mut rows = OwnRows::open(alloc, net, p.bound)?;
     let proofs = prove_traces(alloc, net, grid, p, &mut rows, traces)?;
-    let rows = known_rows(alloc, &mut rows, net.node_count())?;
+    rows.known();
+    let rows = rows.into_rows(alloc)?;
     Ok(Certificate { proofs, rows })
 }
 

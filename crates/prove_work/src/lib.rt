@@ -6,6 +6,5 @@
 #![tactic(auto)]
 
 mod certifying;
-mod row_copies;
 
 pub use certifying::certify_traces;
