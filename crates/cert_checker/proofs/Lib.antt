@@ -37,3 +37,4 @@ pub mod RowTexts
 pub mod ProofTexts
 pub mod MatchTexts
 pub mod BatchLists
+pub mod RowParts

@@ -1,4 +1,5 @@
 pub mod Rows
+pub mod RowParts
 pub mod Case
 pub mod Cells
 pub mod Pieces

@@ -10,7 +10,7 @@ use std::alloc::{AllocError, Global};
 use trace_reader::Trace;
 
 /// From so many points on a batch is full.
-const BATCH_POINTS: usize = 8_000;
+const BATCH_POINTS: usize = 5_000;
 
 /// Where the batch ends that begins with a trace.
 fn batch_end(traces: &[Trace], first: usize) -> usize
@@ -30,7 +30,7 @@ fn batch_end(traces: &[Trace], first: usize) -> usize
     most
 }
 
-/// The traces with their proofs in batches of whole traces with some 8,000 points.
+/// The traces with their proofs in batches of whole traces with some 5,000 points.
 pub fn batches<'a>(
     alloc: Global,
     traces: &'a [Trace],

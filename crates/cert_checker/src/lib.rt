@@ -21,6 +21,8 @@ mod plain_layers;
 mod point_ways;
 mod points;
 mod routes;
+mod row_part;
+mod row_parts;
 mod rows;
 mod searched_rows;
 mod step_ways;

@@ -1,10 +1,15 @@
-//! The rows of a certificate, tried by a searcher. Serves `check_all`; decided by `first_bad_row`.
-ghost use Rattle.std.specs.Prelude.{◌≡◌, ◌≤◌, IfOk};
+//! The rows of a certificate, tried by searchers, side by side. Serves `check_all`; decided by `first_bad_row`.
+ghost use Rattle.std.specs.Prelude.{◌≡◌, ◌≤◌, IfOk, map};
+ghost use Rattle.cert_checker.specs.RowParts.{bad_in_part, first_place};
 ghost use Rattle.cert_checker.specs.Rows.{first_bad_row, is_next_row, is_right_row};
 
+use crate::row_part::RowPart;
+use crate::row_parts::row_parts;
 use bounded_search::{Row, Searcher};
+use rayon::prelude::*;
 use road_network::Network;
 use std::alloc::{AllocError, Global};
+use std::thread::Threads;
 
 /// Whether a row is that of its origin.
 fn is_right(net: &Network, searcher: &mut Searcher, row: &Row) -> bool
@@ -17,42 +22,93 @@ fn is_right(net: &Network, searcher: &mut Searcher, row: &Row) -> bool
 }
 
 /// Whether a row is that of its origin, which is not below `least`.
-fn is_next(net: &Network, searcher: &mut Searcher, least: u32, row: &Row) -> bool
+fn is_next(net: &Network, searcher: &mut Searcher, least: u64, row: &Row) -> bool
     requires { searcher.old.network ≡ net.now }
     ensures next { result ≡ is_next_row net.now searcher.old.bound least row.now }
     ensures same { searcher.new ≡ searcher.old }
 {
-    least <= row.origin().0 && is_right(net, searcher, row)
+    least <= u64::from(row.origin().0) && is_right(net, searcher, row)
 }
 
-/// The place of the first bad row, where the searcher is that of the network.
-fn first_bad(net: &Network, searcher: &mut Searcher, rows: &[Row]) -> Option<u32>
+/// The number of the first bad row of a part, where the searcher is that of the network.
+fn first_bad(net: &Network, searcher: &mut Searcher, part: &RowPart) -> Option<u64>
     requires { searcher.old.network ≡ net.now }
-    ensures { result ≡ first_bad_row net.now searcher.old.bound rows.now }
+    ensures { result ≡ bad_in_part net.now searcher.old.bound part.now }
 {
-    net.known();
-    let mut least = 0;
-    for place in 0..rows.len() {
-        if !is_next(net, searcher, least, &rows[place]) {
-            return Some(place as u32);
+    let mut least = part.least;
+    for place in 0..part.rows.len() {
+        if !is_next(net, searcher, least, &part.rows[place]) {
+            return Some(part.first + place as u64);
         }
-        least = rows[place].origin().0 + 1;
+        least = u64::from(part.rows[place].origin().0) + 1;
     }
     None
 }
 
-/// The place of the first row that is not the row of its origin, or whose origin is not above that of the
-/// row before it, as `check_rows` finds it. With memory for each node it takes less time: one look for
-/// each edge out of a listed node.
-pub fn bad_row(
+/// The number of the first bad row of a part.
+fn bad_in_part(
+    alloc: Global,
+    net: &Network,
+    bound: u32,
+    part: &RowPart,
+) -> Result<Option<u64>, AllocError>
+    requires { bound ≤ 10_000_000 }
+    ensures { IfOk result (λ number. number ≡ bad_in_part net.now bound part.now) }
+{
+    let mut searcher = Searcher::open(alloc, net, bound)?;
+    Ok(first_bad(net, &mut searcher, part))
+}
+
+/// The numbers of the first bad rows of parts, by as many threads as there are processors.
+fn bad_in_parts<R: Threads + Sync>(
+    rt: &R,
+    alloc: Global,
+    net: &Network,
+    bound: u32,
+    parts: &[RowPart],
+) -> Result<Vec<Option<u64>>, AllocError>
+    requires { bound ≤ 10_000_000 }
+    ensures { IfOk result (λ numbers. numbers.items ≡ map (bad_in_part net.now bound) parts.now) }
+{
+    parts
+        .par_iter()
+        .with_min_len(1)
+        .map(
+            |part: &RowPart| -> Result<Option<u64>, AllocError>
+                requires { bound ≤ 10_000_000 }
+                ensures { IfOk result
+                    (λ number. number ≡ bad_in_part net.entry.now bound part.now) }
+            { bad_in_part(alloc, net, bound, part) },
+        )
+        .collect::<Result<Vec<Option<u64>>, AllocError>>(rt, alloc)?
+}
+
+/// The first number of these that is there.
+fn first_place(numbers: &[Option<u64>]) -> Option<u64>
+    ensures { result ≡ first_place numbers.now }
+{
+    for number in numbers {
+        if number.is_some() {
+            return *number;
+        }
+    }
+    None
+}
+
+/// The number of the first row that is not the row of its origin, or whose origin is not above that of the
+/// row before it, as `check_rows` finds it, by as many threads as there are processors. Each takes memory for
+/// each node, and so less time: one look for each edge out of a listed node.
+pub fn bad_row<R: Threads + Sync>(
+    rt: &R,
     alloc: Global,
     net: &Network,
     bound: u32,
     rows: &[Row],
-) -> Result<Option<u32>, AllocError>
+) -> Result<Option<u64>, AllocError>
     requires { bound ≤ 10_000_000 }
-    ensures { IfOk result (λ place. place ≡ first_bad_row net.now bound rows.now) }
+    ensures { IfOk result (λ number. number ≡ first_bad_row net.now bound rows.now) }
 {
-    let mut searcher = Searcher::open(alloc, net, bound)?;
-    Ok(first_bad(net, &mut searcher, rows))
+    let parts = row_parts(alloc, rows)?;
+    let numbers = bad_in_parts(rt, alloc, net, bound, parts.as_slice())?;
+    Ok(first_place(&numbers))
 }

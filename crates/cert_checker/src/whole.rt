@@ -107,12 +107,12 @@ pub fn check_all<R: Threads + Sync>(
     requires traces { All IsLawfulTrace traces.now }
     ensures { IfOk result (λ v. v ≡ verdict net.now p.now traces.now c.now) }
 {
-    let bad = bad_row(alloc, net, p.bound, c.rows.as_slice())?;
+    let bad = bad_row(rt, alloc, net, p.bound, c.rows.as_slice())?;
     if let Some(place) = bad {
         return Ok(Verdict::Refused {
             condition: Condition::Row,
             trace: 0,
-            place: u64::from(place),
+            place,
         });
     }
     if let Some(place) = first_apart(traces, c.proofs.as_slice()) {

@@ -26,13 +26,12 @@ use Rattle.potential_certificate.proofs.RowsRead.{rows_again, rows_take}
 
 -- ---- the code of a read
 
--- what was read up to the last line
-pub read_so_far : (p : Params) (text rest : List ℕ) (proofs : List TraceProof) (behind : List ℕ) (rows : List TableRow) (left : List ℕ) → length text ≤ text_limit → Some rest ≡ after_bytes (first_line p) text
-    → proofs_at text (length rest + 1) rest ≡ Ok (proofs, behind) → all_rows_at behind ≡ (rows, left)
-    → certificate_of p text ≡ certificate_ended text (record { proofs = proofs; rows = rows }) left
-read_so_far p text rest proofs behind rows left short first proofs_are rows_are =
+-- what was read up to the rows
+pub read_so_far : (p : Params) (text rest : List ℕ) (proofs : List TraceProof) (behind : List ℕ) → length text ≤ text_limit → Some rest ≡ after_bytes (first_line p) text
+    → proofs_at text (length rest + 1) rest ≡ Ok (proofs, behind) → certificate_of p text ≡ rows_and_end text proofs (all_rows_at behind)
+read_so_far p text rest proofs behind short first proofs_are =
     let within : nat_lt text_limit (length text) ≡ false = search (rules, short) in
-    rw within (ap (behind_first text) (sym first) ∙ ap (proofs_and_rows text) proofs_are ∙ ap (rows_and_end text proofs) rows_are)
+    rw within (ap (behind_first text) (sym first) ∙ ap (proofs_and_rows text) proofs_are)
 
 pub read_fails : (p : Params) (text rest : List ℕ) (fault : CertFault) → length text ≤ text_limit → Some rest ≡ after_bytes (first_line p) text
     → proofs_at text (length rest + 1) rest ≡ Err fault → certificate_of p text ≡ Err fault
@@ -144,7 +143,7 @@ certificates_read_back p c has short =
     let proofs_are = proofs_again text c.proofs behind (length rest + 1) has.proofs (no_trace c.rows (length c.proofs) (length c.rows)) (omega arith) in
     let rows_are = rows_again c.rows 0 (length behind + 1) last has.rows (no_row (length c.proofs) (length c.rows)) (omega arith) in
     let end : after_bytes last last ≡ Some [] = ap (after_bytes last) (sym (append-nil last)) ∙ after_again last [] in
-    read_so_far p text rest c.proofs behind c.rows last short first proofs_are rows_are ∙ ap (ended text c last) end
+    read_so_far p text rest c.proofs behind short first proofs_are ∙ ap (rows_and_end text c.proofs) rows_are ∙ ap (ended text c last) end
 
 rows_few : (rows : List TableRow) → length rows ≤ length (flat_map row_line rows)
 rows_few [] = omega arith

@@ -80,20 +80,24 @@ rows_take (suc fuel) least text = by_row (λ l t. rows_take fuel l t) (row_from 
 abbrev pub prepended : List TableRow → List TableRow × List ℕ → List TableRow × List ℕ
 prepended front read = (front ++ read.0, read.1)
 
--- the rows so far and those of what is left are those of all
-pub record GoesOn (text : List ℕ) (front : List TableRow) (least : ℕ) (left : List ℕ) : Type 0 where
+-- the rows so far and those of what is left are these
+pub record GoesOn (whole : List TableRow × List ℕ) (front : List TableRow) (least : ℕ) (left : List ℕ) : Type 0 where
   pub fuel : ℕ
   pub enough : length left < fuel
-  pub are : prepended front (rows_at fuel least left) ≡ all_rows_at text
+  pub are : prepended front (rows_at fuel least left) ≡ whole
 
-pub begins : (text : List ℕ) → GoesOn text [] 0 text
-begins text = record { fuel = length text + 1; enough = omega arith; are = refl }
+-- what stands behind these rows is read from `least` on
+abbrev pub read_behind : List TableRow → ℕ → List ℕ → List TableRow × List ℕ
+read_behind front least text = prepended front (rows_at (length text + 1) least text)
 
-pub goes_on : (text : List ℕ) (front : List TableRow) (least : ℕ) (left : List ℕ) (row : TableRow) (next : List ℕ) → row_from least left ≡ Some (row, next)
-    → GoesOn text front least left → GoesOn text (front ++ row ∷ []) (row.origin + 1) next
-goes_on text front least left row next first so_far = by_fuel so_far.fuel so_far.enough so_far.are
+pub begins : (front : List TableRow) (least : ℕ) (text : List ℕ) → GoesOn (read_behind front least text) front least text
+begins front least text = record { fuel = length text + 1; enough = omega arith; are = refl }
+
+pub goes_on : (whole : List TableRow × List ℕ) (front : List TableRow) (least : ℕ) (left : List ℕ) (row : TableRow) (next : List ℕ) → row_from least left ≡ Some (row, next)
+    → GoesOn whole front least left → GoesOn whole (front ++ row ∷ []) (row.origin + 1) next
+goes_on whole front least left row next first so_far = by_fuel so_far.fuel so_far.enough so_far.are
   where
-    by_fuel : (fuel : ℕ) → length left < fuel → prepended front (rows_at fuel least left) ≡ all_rows_at text → GoesOn text (front ++ row ∷ []) (row.origin + 1) next
+    by_fuel : (fuel : ℕ) → length left < fuel → prepended front (rows_at fuel least left) ≡ whole → GoesOn whole (front ++ row ∷ []) (row.origin + 1) next
     by_fuel zero enough are = absurd (omega (arith, enough))
     by_fuel (suc fuel) enough are = record {
       fuel = fuel;
@@ -102,10 +106,30 @@ goes_on text front least left row next first so_far = by_fuel so_far.fuel so_far
           ∙ ap (prepended front) (sym (ap (rows_behind (rows_at fuel) left) first)) ∙ are;
     }
 
-pub ends : (text : List ℕ) (front : List TableRow) (least : ℕ) (left : List ℕ) → row_from least left ≡ None → GoesOn text front least left → all_rows_at text ≡ (front, left)
-ends text front least left none so_far = by_fuel so_far.fuel so_far.enough so_far.are
+pub ends : (whole : List TableRow × List ℕ) (front : List TableRow) (least : ℕ) (left : List ℕ) → row_from least left ≡ None → GoesOn whole front least left → whole ≡ (front, left)
+ends whole front least left none so_far = by_fuel so_far.fuel so_far.enough so_far.are
   where
-    by_fuel : (fuel : ℕ) → length left < fuel → prepended front (rows_at fuel least left) ≡ all_rows_at text → all_rows_at text ≡ (front, left)
+    by_fuel : (fuel : ℕ) → length left < fuel → prepended front (rows_at fuel least left) ≡ whole → whole ≡ (front, left)
     by_fuel zero enough are = absurd (omega (arith, enough))
     by_fuel (suc fuel) enough are =
         sym are ∙ ap (prepended front) (ap (rows_behind (rows_at fuel) left) none) ∙ ap (λ (t : List TableRow). let y : List TableRow × List ℕ = (t, left) in y) (append-nil front)
+
+-- more fuel than the text is long reads the same
+pub same_rows : (fuel more least : ℕ) (text : List ℕ) → length text < fuel → length text < more → rows_at fuel least text ≡ rows_at more least text
+same_rows zero more least text enough others = absurd (omega (arith, enough))
+same_rows (suc fuel) zero least text enough others = absurd (omega (arith, others))
+same_rows (suc fuel) (suc more) least text enough others = by_row (λ l t e o. same_rows fuel more l t e o) (row_from least text) refl
+  where
+    by_row : ((l : ℕ) (t : List ℕ) → length t < fuel → length t < more → rows_at fuel l t ≡ rows_at more l t) → (read : Option (TableRow × List ℕ)) → row_from least text ≡ read
+        → rows_at (suc fuel) least text ≡ rows_at (suc more) least text
+    by_row same None is = ap (rows_behind (rows_at fuel) text) is ∙ sym (ap (rows_behind (rows_at more) text) is)
+    by_row same (Some read) is =
+        let shorter = row_goes_down least text read.0 read.1 is in
+        ap (rows_behind (rows_at fuel) text) is
+        ∙ ap (prepended (read.0 ∷ [])) (same (read.0.origin + 1) read.1 (omega (arith, shorter, enough)) (omega (arith, shorter, others)))
+        ∙ sym (ap (rows_behind (rows_at more) text) is)
+
+-- what is left may be read on its own
+pub read_on : (whole : List TableRow × List ℕ) (front : List TableRow) (least : ℕ) (left : List ℕ) → GoesOn whole front least left → whole ≡ read_behind front least left
+read_on whole front least left so_far =
+    sym so_far.are ∙ ap (prepended front) (same_rows so_far.fuel (length left + 1) least left so_far.enough (omega arith))

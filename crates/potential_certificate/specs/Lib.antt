@@ -2,4 +2,5 @@ pub mod CertificateText
 pub mod Words
 pub mod HasText
 pub mod Reading
+pub mod RowParts
 pub mod Laws

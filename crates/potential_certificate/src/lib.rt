@@ -9,7 +9,8 @@
 //! (`none I` or `layer I rank R cells X0 X1 ..`), directly after that of a piece's last point the line
 //! of the piece, and `end ID`, then a line for each row (`row_text`) by rising origin, and the line
 //! `certified traces T rows R`. It has at most [`TEXT_LIMIT`] bytes. [`write_certificate`] appends it,
-//! and [`read_certificate`] takes exactly the texts of certificates for one set of options.
+//! and [`read_certificate`] takes exactly the texts of certificates for one set of options; so does
+//! [`read_certificate_by_threads`], in less time where there are several processors.
 //!
 //! The text is defined by `certificate_text` in `specs/CertificateText.antt`, which certificates have
 //! one by `HasText`, and what is read by `certificate_of` in `specs/Reading.antt`. Read these and the
@@ -25,6 +26,8 @@ mod proof;
 mod proof_line;
 mod proof_writing;
 mod reading;
+mod row_parts;
+mod rows;
 #[cfg(test)]
 mod tests;
 mod writing;
@@ -32,7 +35,7 @@ mod writing;
 pub use copying::certify;
 pub use fault::{CertFault, WriteFault};
 pub use proof::{Certificate, TraceProof};
-pub use reading::read_certificate;
+pub use reading::{read_certificate, read_certificate_by_threads};
 pub use writing::write_certificate;
 
 /// The most bytes of the text of a certificate.

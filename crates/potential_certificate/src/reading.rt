@@ -1,9 +1,8 @@
 // The text of a certificate, read line by line. Serves all who take one; decided by `certificate_of`.
 ghost use Rattle.std.specs.Prelude.{◌≡◌, ◌⊎◌, ◌<◌, ◌+◌, ◌^◌, ◌==◌, length, IfErr, IfOk, Ok, Err};
 ghost use Rattle.std.specs.List.{count_by, list_any};
-ghost use Rattle.match_text.specs.Reading.{seen};
 ghost use Rattle.potential_certificate.specs.CertificateText.{text_limit};
-ghost use Rattle.potential_certificate.specs.Reading.{all_rows_at, certificate_ended, certificate_of, fault_at, line_count, line_number, proof_at, proofs_at, row_from};
+ghost use Rattle.potential_certificate.specs.Reading.{all_rows_at, certificate_ended, certificate_of, fault_at, line_count, line_number, proof_at, proofs_at, rows_and_end};
 ghost use Rattle.potential_certificate.specs.declared.fault.CertFault.TheVariants.{Memory};
 
 use crate::TEXT_LIMIT;
@@ -11,13 +10,14 @@ use crate::fault::CertFault;
 use crate::lines::{append_first, append_last};
 use crate::proof::{Certificate, TraceProof};
 use crate::proof_line::{ProofLine, next_line, place_after};
-use bounded_search::Row;
+use crate::row_parts::read_rows_by_threads;
+use crate::rows::read_rows;
 use cost_model::Params;
 use match_text::front::after;
 use match_text::{Place, read_trace};
 use polyline_geometry::List;
-use row_text::read_row;
-use std::alloc::{AllocError, Global};
+use std::alloc::Global;
+use std::thread::Threads;
 use trellis::Potentials;
 
 /// The certificate whose text for these options this is.
@@ -29,6 +29,39 @@ pub fn read_certificate(alloc: Global, p: &Params, text: &[u8]) -> Result<Certif
     ensures err { IfErr result (λ fault. (fault ≡ Memory)
         ⊎ (certificate_of p.now text.now ≡ Err fault)) }
 {
+    let (proofs, rest) = read_front(alloc, p, text)?;
+    let (rows, rest) = read_rows(alloc, rest)?;
+    end_certificate(alloc, text, Certificate { proofs, rows }, rest)
+}
+
+/// The same as [`read_certificate`] gives. The rows, nearly all of most texts, are read by as many
+/// threads as there are processors.
+pub fn read_certificate_by_threads<R: Threads + Sync>(
+    rt: &R,
+    alloc: Global,
+    p: &Params,
+    text: &[u8],
+) -> Result<Certificate, CertFault>
+    ensures ok { IfOk result (λ c. certificate_of p.now text.now ≡ Ok c) }
+    ensures err { IfErr result (λ fault. (fault ≡ Memory)
+        ⊎ (certificate_of p.now text.now ≡ Err fault)) }
+{
+    let (proofs, rest) = read_front(alloc, p, text)?;
+    let (rows, rest) = read_rows_by_threads(rt, alloc, rest)?;
+    end_certificate(alloc, text, Certificate { proofs, rows }, rest)
+}
+
+// The proofs, where they stand behind the first line, and what stands behind them.
+fn read_front<'a>(
+    alloc: Global,
+    p: &Params,
+    text: &'a [u8],
+) -> Result<(List<TraceProof>, &'a [u8]), CertFault>
+    ensures ok { IfOk result (λ read. certificate_of p.now text.now
+        ≡ rows_and_end text.now read.0 (all_rows_at read.1.now)) }
+    ensures err { IfErr result (λ fault. (fault ≡ Memory)
+        ⊎ (certificate_of p.now text.now ≡ Err fault)) }
+{
     if text.len() as u64 > TEXT_LIMIT {
         return Err(CertFault::TooLong);
     }
@@ -37,10 +70,7 @@ pub fn read_certificate(alloc: Global, p: &Params, text: &[u8]) -> Result<Certif
     let Some(rest) = after(text, first.as_slice()) else {
         return Err(fault_at(text, text));
     };
-    let (proofs, rest) = read_proofs(alloc, text, rest)?;
-    let (rows, rest) = read_rows(alloc, rest)?;
-    let c = Certificate { proofs, rows };
-    end_certificate(alloc, text, c, rest)
+    read_proofs(alloc, text, rest)
 }
 
 // The certificate, where its last line and nothing behind it is left.
@@ -164,32 +194,4 @@ fn read_proof<'a>(
         pieces,
     };
     Ok((proof, rest))
-}
-
-// The rows at the front by rising origin, and what stands behind them.
-fn read_rows(alloc: Global, text: &[u8]) -> Result<(List<Row>, &[u8]), AllocError>
-    ensures { IfOk result (λ read. all_rows_at text.now ≡ (read.0, read.1.now)) }
-{
-    let mut rows = List::new(alloc);
-    let mut least: u64 = 0;
-    let mut rest = text;
-    while let Some((row, next)) = next_row(alloc, least, rest)? {
-        least = u64::from(row.origin().0) + 1;
-        rows.push(row)?;
-        rest = next;
-    }
-    Ok((rows, rest))
-}
-
-// The row at the front, where its origin is not below `least`, and what stands behind its line.
-fn next_row(alloc: Global, least: u64, text: &[u8]) -> Result<Option<(Row, &[u8])>, AllocError>
-    ensures { IfOk result (λ read. seen read ≡ row_from least text.now) }
-{
-    let Some((row, rest)) = read_row(alloc, text)? else {
-        return Ok(None);
-    };
-    if u64::from(row.origin().0) < least {
-        return Ok(None);
-    }
-    Ok(Some((row, rest)))
 }

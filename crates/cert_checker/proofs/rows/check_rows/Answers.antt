@@ -9,7 +9,7 @@ pub returns-then-not-is_next : goal.returns-then-not-is_next
 returns-then-not-is_next c =
     let s = c.loop-place in
     let row : TableRow = c.index-rows-place.result in
-    bad_row c.args.net.now c.args.bound s.least s.place c.args.rows.now row c.loop-place-test.true (sym c.index-rows-place.is) (sym c.is_next.ensures ∙ c.if-not-is_next.true) ∙ s.invariant.rest
+    bad_row c.args.net.now c.args.bound s.least s.place s.place c.args.rows.now row c.loop-place-test.true (sym c.index-rows-place.is) (sym c.is_next.ensures ∙ c.if-not-is_next.true) ∙ s.invariant.rest
 
 pub loop-place-preserved : goal.loop-place-preserved
 loop-place-preserved c =
@@ -25,8 +25,8 @@ loop-place-preserved c =
     record {
       few = omega (arith, origin, within.0, s.invariant.few);
       within = omega (arith, origin, within.1);
-      rest = ap (λ v. bad_row_from net c.args.bound (v + 1) (s.place + 1) (drop (s.place + 1) rows)) origin ∙ good_row net c.args.bound s.least s.place rows row c.loop-place-test.true place good ∙ s.invariant.rest;
+      rest = ap (λ v. bad_row_from net c.args.bound (v + 1) (s.place + 1) (drop (s.place + 1) rows)) origin ∙ good_row net c.args.bound s.least s.place s.place rows row c.loop-place-test.true place good ∙ s.invariant.rest;
     }
 
 pub returns : goal.returns
-returns c = all_rows c.args.net.now c.args.bound c.loop-place.least c.loop-place.place c.args.rows.now (omega (arith, c.loop-place-test.false)) ∙ c.loop-place.invariant.rest
+returns c = all_rows c.args.net.now c.args.bound c.loop-place.least c.loop-place.place c.loop-place.place c.args.rows.now (omega (arith, c.loop-place-test.false)) ∙ c.loop-place.invariant.rest

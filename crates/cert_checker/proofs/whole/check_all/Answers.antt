@@ -15,8 +15,8 @@ pub returns-in-Some : goal.returns-in-Some
 returns-in-Some g c =
     let n = c.args.net.now in
     let p = c.args.p.now in
-    refused_by_rows n p c.args.traces.now c.args.c.now c.from.result
-    (ap (λ k. Some k) c.from.ensures ∙ sym c.in-Some.is ∙ c.in_ok-bad.ensures ∙ ap (first_bad_row n p.bound) c.as_slice.ensures)
+    refused_by_rows n p c.args.traces.now c.args.c.now c.in-Some.place
+    (sym c.in-Some.is ∙ c.in_ok-bad.ensures ∙ ap (first_bad_row n p.bound) c.as_slice.ensures)
 
 pub returns-in-Some-first_apart : goal.returns-in-Some-first_apart
 returns-in-Some-first_apart g c =
