@@ -9,6 +9,7 @@ use Rattle.cost_model.specs.Options.{IsAccepted}
 use Rattle.road_network.specs.Net.{Edge, IsLawful, Net, edge_name, no_edge}
 use Rattle.trace_reader.specs.declared.trace.Fix.{Fix}
 use Rattle.trace_reader.specs.declared.trace.Trace.{Trace}
+use Rattle.bounded_search.specs.RowValue.{rows_where}
 use Rattle.bounded_search.specs.Table.{TableRow}
 use Rattle.trace_reader.specs.Trace.{IsLawfulTrace}
 use Rattle.matching.specs.declared.parts.Cell.{Cell}
@@ -24,7 +25,7 @@ use Rattle.trace_match.proofs.Lawful.{match_lawful}
 use Rattle.potential_certificate.specs.HasText.{ArePoints, IsCell, IsCellWord, IsPoint, IsProof, label_of}
 use Rattle.potential_certificate.specs.declared.proof.TraceProof.{TraceProof}
 use Rattle.cert_checker.specs.Case.{Case, layer, rank, table, way, width}
-use Rattle.cert_checker.specs.Laws.{HasAskedRows, IsProofOf, rows_where}
+use Rattle.cert_checker.specs.Laws.{HasAskedRows, IsProofOf}
 use Rattle.cert_checker.specs.Verdicts.{case_of, piece_of}
 use Rattle.cert_checker.proofs.PieceTests.{piece_no}
 use Rattle.cert_checker.proofs.PointConditions.{IsRankOf}

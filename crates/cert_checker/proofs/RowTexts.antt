@@ -2,7 +2,7 @@
 use Rattle.std.proofs.Common.{◌<◌, ◌≤◌, ℕ, zero, suc, ◌+◌, ◌==◌, ◌^◌, Bool, true, false, cond, List, [], ◌∷◌, ◌++◌, length, map, Option, Some, None, IfSome, refl, arith}
 use Rattle.std.specs.List.{AllByRecursion, filter, range_with_len}
 use Rattle.std.proofs.lemmas.List.{length-map}
-use Rattle.bounded_search.specs.RowValue.{arrives, entries_from, first_arriving, label_within, or_edge, or_label, row_of}
+use Rattle.bounded_search.specs.RowValue.{arrives, entries_from, first_arriving, label_within, or_edge, or_label, row_of, rows_where}
 use Rattle.bounded_search.specs.Closed.{origin_label}
 use Rattle.bounded_search.specs.Labels.{entry_of}
 use Rattle.bounded_search.specs.Table.{TableRow}
@@ -13,7 +13,6 @@ use Rattle.road_network.specs.Net.{HasNode, IsLawful, Net}
 use Rattle.road_network.specs.declared.EdgeId.{EdgeId}
 use Rattle.row_text.specs.Laws.{EntryFits, IsRowValue}
 use Rattle.potential_certificate.specs.HasText.{AreRowsFrom}
-use Rattle.cert_checker.specs.Laws.{rows_where}
 
 -- a label of at most this distance, by one of the first so many edges
 abbrev IsWithin : ℕ → ℕ → Option Label → Type 0

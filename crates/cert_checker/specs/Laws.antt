@@ -1,13 +1,13 @@
 -- What a verdict says of the matches of traces.
-use Rattle.std.specs.Prelude.{ℕ, ◌≡◌, ◌<◌, ◌^◌, ◌↔◌, Bool, true, List, [], ◌∷◌, length, map}
-use Rattle.std.specs.List.{All, filter, range_with_len}
+use Rattle.std.specs.Prelude.{ℕ, ◌≡◌, ◌<◌, ◌^◌, ◌↔◌, Bool, true, List, [], ◌∷◌, map}
+use Rattle.std.specs.List.{All}
 use Rattle.std.specs.List.Sorted.{IsStrictlyIncreasing}
 use Rattle.cost_model.specs.declared.params.Params.{Params}
 use Rattle.cost_model.specs.Options.{IsAccepted}
 use Rattle.road_network.specs.Net.{HasNode, IsLawful, Net}
 use Rattle.trace_reader.specs.declared.trace.Trace.{Trace}
 use Rattle.trace_reader.specs.Trace.{IsLawfulTrace}
-use Rattle.bounded_search.specs.RowValue.{row_of}
+use Rattle.bounded_search.specs.RowValue.{row_of, rows_where}
 use Rattle.bounded_search.specs.Table.{TableRow}
 use Rattle.trace_match.specs.Match.{asks, match_of, solution_of}
 use Rattle.potential_certificate.specs.HasText.{HasText}
@@ -62,10 +62,6 @@ ProvedAreTheMatches =
     (n : Net) (p : Params) (traces : List Trace) (c : Certificate)
     → IsLawful n → IsAccepted p → All IsLawfulTrace traces
     → (verdict n p traces c ≡ Proved) ↔ IsCertificateOf n p traces c
-
--- the rows of the nodes of the network that pass a test
-abbrev pub rows_where : Net → ℕ → (ℕ → Bool) → List TableRow
-rows_where n bound test = map (row_of n bound) (filter test (range_with_len 0 (length n.nodes)))
 
 -- these proofs with these rows
 abbrev pub with_rows_where : Net → ℕ → (ℕ → Bool) → List TraceProof → Certificate

@@ -1,5 +1,5 @@
 use Rattle.std.specs.List.{AllZip}
-use Rattle.std.proofs.Common.{◌≡◌, IfOk, Some, None, List, length, map, subst, sym, ap, ◌∙◌}
+use Rattle.std.proofs.Common.{◌≡◌, IfOk, None, List, length, map, subst, sym, ap, ◌∙◌}
 use Rattle.potential_certificate.specs.declared.proof.TraceProof.{TraceProof}
 use Rattle.bounded_search.specs.Table.{TableRow}
 use Rattle.cert_checker.specs.Rows.{first_bad_row}
