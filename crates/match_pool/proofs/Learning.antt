@@ -1,167 +1,141 @@
--- What some reader knows after all workers have worked.
-use Rattle.std.proofs.Common.{◌≡◌, ◌⊎◌, ◌↔◌, inl, inr, ℕ, zero, suc, ◌+◌, ◌<◌, ◌≤◌, Bool, true, false, ◌||◌, List, [], ◌∷◌, ◌++◌, map, length, get_or, All, Any, Contains, IfOk, IsOk, OnOk, Result, Ok, Err, true≢false, refl, sym, ap, ◌∙◌, subst, ⊎_elim, append_assoc, arith}
+-- What some reader knows after all workers have worked, and the turns of all workers at each strip.
+use Rattle.std.proofs.Common.{◌≡◌, ◌⊎◌, inl, inr, ℕ, zero, suc, ◌<◌, true, List, [], ◌∷◌, map, length, All, Any, Contains, IsOk, sym, ap, ◌∙◌, subst, ⊎_elim, arith}
 use Rattle.std.specs.Prelude.{slice_index_or}
-use Rattle.std.specs.declared.alloc.AllocError.{AllocError}
-use Rattle.std.specs.List.{AllZip, list_any, range_with_len}
-use Rattle.std.proofs.lemmas.List.{ext_get_or, get_or_default, length-map}
+use Rattle.std.specs.List.{AllZip, range_with_len}
+use Rattle.std.proofs.lemmas.List.{ext_get_or, get_or_default, get_or-map, length-map}
 use Rattle.std.proofs.lemmas.List.FromFn.{get_or-map-range_with_len, length-map-range_with_len}
-use Rattle.std.proofs.lemmas.List.Elements.{All-cons, All-head, All-nil, All-tail, Contains-push_cases}
-use Rattle.std.proofs.lemmas.List.Folds.{Any-from_list_any, list_any_at}
+use Rattle.std.proofs.lemmas.List.Elements.{All-cons, All-head, All-nil, All-tail}
+use Rattle.std.proofs.lemmas.List.Folds.{Any-from_list_any}
 use Rattle.match_text.specs.declared.matched.MatchedTrace.{MatchedTrace}
-use Rattle.row_store.specs.Store.{Reading, is_known_to_any, knows}
-use Rattle.tickets.specs.Tickets.{HasEnded, Opened}
+use Rattle.row_store.specs.Store.{is_known_to_any, knows}
 use Rattle.trace_match.specs.Match.{asks, match_of}
 use Rattle.trace_reader.specs.declared.trace.Trace.{Trace}
-use Rattle.match_pool.specs.Crew.{Ran, reader_of, turn_of}
-use Rattle.match_pool.specs.Gathering.{AllDrawn, AnswersBy, AnswersFor, IsOver}
+use Rattle.match_pool.specs.Crew.{Ran, Toured, reader_of, turns_of}
+use Rattle.match_pool.specs.Dealing.{HasClaims}
+use Rattle.match_pool.specs.Drawing.{number_at}
+use Rattle.match_pool.specs.Gathering.{AllDrawn, CoverTraces, IsPile}
 use Rattle.match_pool.specs.Learning.{LearnAsked}
-use Rattle.match_pool.specs.declared.crew.Turn.{Turn}
+use Rattle.match_pool.specs.Tables.{AreColumnsOf}
+use Rattle.match_pool.specs.Turns.{IsOver, IsStripOf, asked_by}
+use Rattle.match_pool.specs.Working.{Job, StaysReader, asks_at, matched_at, no_trace}
 use Rattle.match_pool.specs.declared.crew.Worker.{Worker}
-use Rattle.match_pool.specs.declared.worker.Done.{Done}
-use Rattle.match_pool.specs.Working.{CanDraw, Job, StaysReader, Works, asks_at, matched_at, no_trace}
+use Rattle.match_pool.specs.declared.turn.Strip.{Strip}
+use Rattle.match_pool.specs.declared.turn.Turn.{Turn}
+use Rattle.match_pool.proofs.Lists.{default_same, of_ok, zip_at, zip_get}
+use Rattle.match_pool.proofs.Tours.{still_knows}
 use Rattle.match_pool.proofs.Turns.{first_of, one_of, second_of}
 
--- some trace of the job asks
-abbrev asked_by : Job → ℕ → Bool
-asked_by j v = list_any (λ (t : Trace). asks j.network j.params t v) j.traces
+-- each worker took its turns at all strips, and its reader stays
+pub record Did (j : Job) (strips : List Strip) (before after : Worker) : Type 0 where
+  pub reader : StaysReader before.reader after.reader
+  pub toured : Toured j strips before after
 
--- the worker's ticket drew nothing before
-abbrev pub IsFresh : Worker → Type 0
-IsFresh w = w.turn.ticket.numbers ≡ []
+pub all_did : (j : Job) (strips : List Strip) (before after : List Worker) → AllZip (Ran j strips) before after → All (λ (w : Worker). IsOk w.outcome) after → AllZip (Did j strips) before after
+all_did j strips [] [] ran ok = ran
+all_did j strips [] (y ∷ ys) ran ok = absurd ran
+all_did j strips (x ∷ xs) [] ran ok = absurd ran
+all_did j strips (x ∷ xs) (y ∷ ys) ran ok = (
+  record { reader = ran.0.reader; toured = of_ok y.outcome (All-head (λ (w : Worker). IsOk w.outcome) y ys ok) ran.0.toured },
+  all_did j strips xs ys ran.1 (All-tail (λ (w : Worker). IsOk w.outcome) y ys ok),
+)
 
--- what a worker did that has answers
-ok_works : (j : Job) (before after : Worker) → Ran j before after → IsOk after.turn.done → (done : List Done) × Works j before.reader before.turn.ticket done after.reader after.turn.ticket
-ok_works j before after ran ok = split after.turn.done ran.works ok
-  where
-    split : (r : Result (List Done) AllocError) → IfOk r (λ done. Works j before.reader before.turn.ticket done after.reader after.turn.ticket) → IsOk r → (done : List Done) × Works j before.reader before.turn.ticket done after.reader after.turn.ticket
-    split (Ok done) w ok = (done, w)
-    split (Err e) w ok = absurd (true≢false (sym ok))
-
--- what the traces of some numbers ask for
-asked_job : (j : Job) (v : ℕ) (numbers : List ℕ) → All (λ k. k < length j.traces) numbers → list_any (asks_at j v) numbers ≡ true → asked_by j v ≡ true
-asked_job j v [] below is = absurd (true≢false (sym is))
-asked_job j v (n ∷ ns) below is = ⊎_elim
-    (λ head. list_any_at (λ (t : Trace). asks j.network j.params t v) j.traces n no_trace (All-head (λ k. k < length j.traces) n ns below) head)
-    (λ tail. asked_job j v ns (All-tail (λ k. k < length j.traces) n ns below) tail)
-    (one_of (asks_at j v n) (list_any (asks_at j v) ns) is)
-
--- each worker did its work
-abbrev AllRan : Job → List Worker → List Worker → Type 0
-AllRan j before after = AllZip (Ran j) before after
-
-abbrev AllOk : List Turn → Type 0
-AllOk turns = All (λ (t : Turn). IsOk t.done) turns
-
-after_known : (j : Job) (v : ℕ) (before after : List Worker) → AllRan j before after → AllOk (map turn_of after) → is_known_to_any (map reader_of after) v ≡ true → (is_known_to_any (map reader_of before) v ≡ true) ⊎ (asked_by j v ≡ true)
-after_known j v [] [] ran ok is = inl is
-after_known j v [] (y ∷ ys) ran ok is = absurd ran
-after_known j v (x ∷ xs) [] ran ok is = absurd ran
-after_known j v (x ∷ xs) (y ∷ ys) ran ok is =
-    let w = (ok_works j x y ran.0 (All-head (λ (t : Turn). IsOk t.done) y.turn (map turn_of ys) ok)).1 in
+after_known : (j : Job) (strips : List Strip) (v : ℕ) (before after : List Worker) → AllZip (Did j strips) before after → is_known_to_any (map reader_of after) v ≡ true → (is_known_to_any (map reader_of before) v ≡ true) ⊎ (asked_by j v ≡ true)
+after_known j strips v [] [] did is = inl is
+after_known j strips v [] (y ∷ ys) did is = absurd did
+after_known j strips v (x ∷ xs) [] did is = absurd did
+after_known j strips v (x ∷ xs) (y ∷ ys) did is =
     let before = is_known_to_any (map reader_of xs) v in
     ⊎_elim
-    (λ head. ⊎_elim (λ old. inl (first_of (knows x.reader v) before old)) (λ asked. inr (asked_job j v w.numbers w.below asked)) ((w.learns v).0 head))
-    (λ tail. ⊎_elim (λ old. inl (second_of (knows x.reader v) before old)) (λ asked. inr asked)
-    (after_known j v xs ys ran.1 (All-tail (λ (t : Turn). IsOk t.done) y.turn (map turn_of ys) ok) tail))
+    (λ head. ⊎_elim (λ old. inl (first_of (knows x.reader v) before old)) (λ asked. inr asked) (did.0.toured.only v head))
+    (λ tail. ⊎_elim (λ old. inl (second_of (knows x.reader v) before old)) (λ asked. inr asked) (after_known j strips v xs ys did.1 tail))
     (one_of (knows y.reader v) (is_known_to_any (map reader_of ys) v) is)
 
-before_known : (j : Job) (v : ℕ) (before after : List Worker) → AllRan j before after → AllOk (map turn_of after) → is_known_to_any (map reader_of before) v ≡ true → is_known_to_any (map reader_of after) v ≡ true
-before_known j v [] [] ran ok is = is
-before_known j v [] (y ∷ ys) ran ok is = absurd ran
-before_known j v (x ∷ xs) [] ran ok is = absurd ran
-before_known j v (x ∷ xs) (y ∷ ys) ran ok is =
-    let w = (ok_works j x y ran.0 (All-head (λ (t : Turn). IsOk t.done) y.turn (map turn_of ys) ok)).1 in
+before_known : (j : Job) (strips : List Strip) (v : ℕ) (before after : List Worker) → AllZip (Did j strips) before after → is_known_to_any (map reader_of before) v ≡ true → is_known_to_any (map reader_of after) v ≡ true
+before_known j strips v [] [] did is = is
+before_known j strips v [] (y ∷ ys) did is = absurd did
+before_known j strips v (x ∷ xs) [] did is = absurd did
+before_known j strips v (x ∷ xs) (y ∷ ys) did is =
     let after = is_known_to_any (map reader_of ys) v in
     ⊎_elim
-    (λ head. first_of (knows y.reader v) after ((w.learns v).1 (inl head)))
-    (λ tail. second_of (knows y.reader v) after (before_known j v xs ys ran.1 (All-tail (λ (t : Turn). IsOk t.done) y.turn (map turn_of ys) ok) tail))
+    (λ head. first_of (knows y.reader v) after (still_knows x.reader y.reader did.0.reader v head))
+    (λ tail. second_of (knows y.reader v) after (before_known j strips v xs ys did.1 tail))
     (one_of (knows x.reader v) (is_known_to_any (map reader_of xs) v) is)
 
--- the numbers of the ticket, of those of the job's traces
-drawn_below : (j : Job) (before after : Worker) (done : List Done) (w : Works j before.reader before.turn.ticket done after.reader after.turn.ticket) → IsFresh before → (k : ℕ) → k < length j.traces → Contains after.turn.ticket.numbers k → Contains w.numbers k
-drawn_below j before after done w fresh k low c =
-    let whole : after.turn.ticket.numbers ≡ w.numbers ++ w.last ∷ [] = w.drawn ∙ ap (λ (l : List ℕ). l ++ (w.numbers ++ w.last ∷ [])) fresh in
-    let here : Contains (w.numbers ++ w.last ∷ []) k = subst (λ (l : List ℕ). Contains l k) whole c in
-    ⊎_elim (λ inside. inside) (λ (same : w.last ≡ k). let above = w.above in absurd (omega (arith, same))) (Contains-push_cases w.numbers w.last k here)
+-- a turn of each worker at one place
+abbrev turns_at : ℕ → Turn → List Worker → List Turn
+turns_at place e workers = map (λ (row : List Turn). slice_index_or row place e) (map turns_of workers)
 
-asked_known : (j : Job) (v : ℕ) (before after : List Worker) → AllRan j before after → AllOk (map turn_of after) → All IsFresh before → (k : ℕ) → k < length j.traces → asks_at j v k ≡ true
-    → Any (λ (t : Turn). Contains t.ticket.numbers k) (map turn_of after) → is_known_to_any (map reader_of after) v ≡ true
-asked_known j v [] [] ran ok fresh k low asks drawn = absurd (let lt = drawn.2 in omega arith)
-asked_known j v [] (y ∷ ys) ran ok fresh k low asks drawn = absurd ran
-asked_known j v (x ∷ xs) [] ran ok fresh k low asks drawn = absurd ran
-asked_known j v (x ∷ xs) (y ∷ ys) ran ok fresh k low asks (zero, t, lt, e, c) =
-    let w = ok_works j x y ran.0 (All-head (λ (t : Turn). IsOk t.done) y.turn (map turn_of ys) ok) in
-    let here : Contains y.turn.ticket.numbers k = subst (λ (u : Turn). Contains u.ticket.numbers k) (sym e) c in
-    let inside = drawn_below j x y w.0 w.1 (All-head IsFresh x xs fresh) k low here in
-    let asked = list_any_at (asks_at j v) w.1.numbers inside.0 k inside.1 (ap (asks_at j v) inside.2 ∙ asks) in
-    first_of (knows y.reader v) (is_known_to_any (map reader_of ys) v) ((w.1.learns v).1 (inr asked))
-asked_known j v (x ∷ xs) (y ∷ ys) ran ok fresh k low asks (suc i, t, lt, e, c) =
+asked_known : (j : Job) (strips : List Strip) (v place rank : ℕ) (d : Strip) (e : Turn) (before after : List Worker) → AllZip (Did j strips) before after → place < length strips → rank < length (slice_index_or strips place d).numbers
+    → asks_at j v (number_at (slice_index_or strips place d).numbers rank) ≡ true → Any (λ (t : Turn). Contains t.ticket.numbers rank) (turns_at place e after) → is_known_to_any (map reader_of after) v ≡ true
+asked_known j strips v place rank d e [] [] did low inside asks any = absurd (let lt = any.2 in omega arith)
+asked_known j strips v place rank d e [] (y ∷ ys) did low inside asks any = absurd did
+asked_known j strips v place rank d e (x ∷ xs) [] did low inside asks any = absurd did
+asked_known j strips v place rank d e (x ∷ xs) (y ∷ ys) did low inside asks (zero, t, lt, same, c) =
+    let taken = did.0.toured.each place d e low in
+    first_of (knows y.reader v) (is_known_to_any (map reader_of ys) v)
+    (taken.learns rank v inside (subst (λ (u : Turn). Contains u.ticket.numbers rank) (sym same) c) asks)
+asked_known j strips v place rank d e (x ∷ xs) (y ∷ ys) did low inside asks (suc i, t, lt, same, c) =
     second_of (knows y.reader v) (is_known_to_any (map reader_of ys) v)
-    (asked_known j v xs ys ran.1 (All-tail (λ (t : Turn). IsOk t.done) y.turn (map turn_of ys) ok) (All-tail IsFresh x xs fresh) k low asks (i, t, omega arith, e, c))
+    (asked_known j strips v place rank d e xs ys did.1 low inside asks (i, t, omega arith, same, c))
 
-pub all_learn : (j : Job) (before after : List Worker) → AllRan j before after → All IsFresh before → AllDrawn (length j.traces) (map turn_of after)
+pub all_learn : (j : Job) (strips : List Strip) (piles : List (List Turn)) (before after : List Worker) → AllZip (Did j strips) before after → CoverTraces j strips → AreColumnsOf (map turns_of after) (length strips) piles → AllZip AllDrawn strips piles
     → LearnAsked j.network j.params j.traces (map reader_of before) (map reader_of after)
-all_learn j before after ran fresh drawn v = (
-  after_known j v before after ran drawn.answered,
+all_learn j strips piles before after did cover columns drawn v = (
+  after_known j strips v before after did,
   λ either. ⊎_elim
-      (before_known j v before after ran drawn.answered)
+      (before_known j strips v before after did)
       (λ asked.
       let some = Any-from_list_any (λ (t : Trace). asks j.network j.params t v) j.traces asked in
       let at : slice_index_or j.traces some.0 no_trace ≡ some.1 = get_or_default j.traces some.0 no_trace some.1 some.2 ∙ some.3 in
-      asked_known j v before after ran drawn.answered fresh some.0 some.2 (ap (λ (t : Trace). asks j.network j.params t v) at ∙ some.4) (drawn.each some.0 some.2))
+      let asks_it : asks_at j v some.0 ≡ true = ap (λ (t : Trace). asks j.network j.params t v) at ∙ some.4 in
+      in_strip some.0 asks_it (cover some.0 some.2))
       either,
 )
+  where
+    in_strip : (k : ℕ) → asks_at j v k ≡ true → Any (λ (s : Strip). Contains s.numbers k) strips → is_known_to_any (map reader_of after) v ≡ true
+    in_strip k asks_it (place, strip, low, same, c) =
+        let s = slice_index_or strips place strip in
+        let here : Contains s.numbers k = subst (λ (u : Strip). Contains u.numbers k) (sym same) c in
+        let number : number_at s.numbers here.0 ≡ k = default_same s.numbers here.0 0 k here.1 ∙ here.2 in
+        let asks_here : asks_at j v (number_at s.numbers here.0) ≡ true = ap (asks_at j v) number ∙ asks_it in
+        let all = zip_get AllDrawn strips piles place strip [] drawn low in
+        let any = all here.0 here.1 in
+        let e : Turn = any.1 in
+        asked_known j strips v place here.0 strip e before after did low here.1 asks_here
+        (subst (Any (λ (t : Turn). Contains t.ticket.numbers here.0)) (columns.each place e low) any)
 
 -- the readers stay those of their stores
-pub readers_stay : (j : Job) (before after : List Worker) → AllRan j before after → AllZip StaysReader (map reader_of before) (map reader_of after)
-readers_stay j [] [] ran = ran
-readers_stay j [] (y ∷ ys) ran = absurd ran
-readers_stay j (x ∷ xs) [] ran = absurd ran
-readers_stay j (x ∷ xs) (y ∷ ys) ran = (ran.0.reader, readers_stay j xs ys ran.1)
+pub readers_stay : (j : Job) (strips : List Strip) (before after : List Worker) → AllZip (Ran j strips) before after → AllZip StaysReader (map reader_of before) (map reader_of after)
+readers_stay j strips [] [] ran = ran
+readers_stay j strips [] (y ∷ ys) ran = absurd ran
+readers_stay j strips (x ∷ xs) [] ran = absurd ran
+readers_stay j strips (x ∷ xs) (y ∷ ys) ran = (ran.0.reader, readers_stay j strips xs ys ran.1)
 
--- each turn is over
-late_last : (n last : ℕ) (xs : List ℕ) → n ≤ last → Any (λ x. n ≤ x) (xs ++ last ∷ [])
-late_last n last [] late = (0, last, omega arith, refl, late)
-late_last n last (x ∷ xs) late = let rest = late_last n last xs late in (suc rest.0, rest.1, (let lt = rest.2 in omega arith), rest.3, rest.4)
+pub rows_wide : (j : Job) (strips : List Strip) (before after : List Worker) → AllZip (Did j strips) before after → All (λ (row : List Turn). length row ≡ length strips) (map turns_of after)
+rows_wide j strips [] [] did = All-nil (λ (row : List Turn). length row ≡ length strips)
+rows_wide j strips [] (y ∷ ys) did = absurd did
+rows_wide j strips (x ∷ xs) [] did = absurd did
+rows_wide j strips (x ∷ xs) (y ∷ ys) did = All-cons (λ (row : List Turn). length row ≡ length strips) y.turns.items (map turns_of ys) did.0.toured.count (rows_wide j strips xs ys did.1)
 
-over : (j : Job) (claims : Opened) (before after : Worker) → Ran j before after → CanDraw (length j.traces) claims before.turn.ticket → IsOver claims after.turn
-over j claims before after ran can = record {
-  own = ran.claims ∙ can.own;
-  ended = ended after.turn.done ran.works;
-}
-  where
-    ended : (r : Result (List Done) AllocError) → IfOk r (λ done. Works j before.reader before.turn.ticket done after.reader after.turn.ticket) → OnOk r (HasEnded claims.count after.turn.ticket)
-    ended (Ok done) w =
-        let whole = w.drawn ∙ sym (append_assoc before.turn.ticket.numbers w.numbers (w.last ∷ [])) in
-        subst (λ (l : List ℕ). Any (λ x. claims.count ≤ x) l) (sym whole) (late_last claims.count w.last (before.turn.ticket.numbers ++ w.numbers) (let above = w.above in omega (arith, can.all)))
-    ended (Err e) w = tt
+overs : (j : Job) (strips : List Strip) (place : ℕ) (d : Strip) (e : Turn) (before after : List Worker) → AllZip (Did j strips) before after → place < length strips → All (IsOver j (slice_index_or strips place d)) (turns_at place e after)
+overs j strips place d e [] [] did low = All-nil (IsOver j (slice_index_or strips place d))
+overs j strips place d e [] (y ∷ ys) did low = absurd did
+overs j strips place d e (x ∷ xs) [] did low = absurd did
+overs j strips place d e (x ∷ xs) (y ∷ ys) did low =
+    All-cons (IsOver j (slice_index_or strips place d)) (slice_index_or y.turns.items place e) (turns_at place e ys) (did.0.toured.each place d e low).over (overs j strips place d e xs ys did.1 low)
 
-pub all_over : (j : Job) (claims : Opened) (before after : List Worker) → AllRan j before after → All (λ (w : Worker). CanDraw (length j.traces) claims w.turn.ticket) before → All (IsOver claims) (map turn_of after)
-all_over j claims [] [] ran can = All-nil (IsOver claims)
-all_over j claims [] (y ∷ ys) ran can = absurd ran
-all_over j claims (x ∷ xs) [] ran can = absurd ran
-all_over j claims (x ∷ xs) (y ∷ ys) ran can =
-    let P : Worker → Type 0 = λ w. CanDraw (length j.traces) claims w.turn.ticket in
-    All-cons (IsOver claims) y.turn (map turn_of ys) (over j claims x y ran.0 (All-head P x xs can)) (all_over j claims xs ys ran.1 (All-tail P x xs can))
-
-answers_by : (j : Job) (before after : Worker) → Ran j before after → IsFresh before → AnswersBy j.first (matched_at j) (length j.traces) after.turn
-answers_by j before after ran fresh = answers after.turn.done ran.works
-  where
-    answers : (r : Result (List Done) AllocError) → IfOk r (λ done. Works j before.reader before.turn.ticket done after.reader after.turn.ticket) → IfOk r (AnswersFor j.first (matched_at j) (length j.traces) after.turn.ticket.numbers)
-    answers (Ok done) w = record {
-      numbers = w.numbers;
-      are = w.answers;
-      below = w.below;
-      all = drawn_below j before after done w fresh;
-    }
-    answers (Err e) w = tt
-
-pub all_answer : (j : Job) (before after : List Worker) → AllRan j before after → All IsFresh before → All (AnswersBy j.first (matched_at j) (length j.traces)) (map turn_of after)
-all_answer j [] [] ran fresh = All-nil (AnswersBy j.first (matched_at j) (length j.traces))
-all_answer j [] (y ∷ ys) ran fresh = absurd ran
-all_answer j (x ∷ xs) [] ran fresh = absurd ran
-all_answer j (x ∷ xs) (y ∷ ys) ran fresh =
-    All-cons (AnswersBy j.first (matched_at j) (length j.traces)) y.turn (map turn_of ys) (answers_by j x y ran.0 (All-head IsFresh x xs fresh)) (all_answer j xs ys ran.1 (All-tail IsFresh x xs fresh))
+pub all_piles : (j : Job) (strips : List Strip) (piles : List (List Turn)) (workers : ℕ) (before after : List Worker) → AllZip (Did j strips) before after → AreColumnsOf (map turns_of after) (length strips) piles
+    → All (HasClaims workers) strips → All (IsStripOf j) strips → length after ≡ workers → AllZip (IsPile j) strips piles
+all_piles j strips piles workers before after did columns claims are count =
+    zip_at (IsPile j) strips piles columns.count (λ place d f low.
+    let pile = slice_index_or piles place f in
+    let at : pile ≡ slice_index_or piles place [] = default_same piles place f [] (let c = columns.count in omega arith) in
+    record {
+      is_strip = are place d low;
+      all = ap (λ (l : List Turn). length l) at ∙ columns.long place low ∙ length-map after turns_of ∙ count ∙ sym (claims place d low).tickets_are;
+      over = λ k t inside. subst (λ (l : List Turn). IsOver j (slice_index_or strips place d) (slice_index_or l k t)) (sym (at ∙ columns.each place t low))
+          (overs j strips place d t before after did low k t (subst (λ (l : List Turn). k < length l) (at ∙ columns.each place t low) inside));
+    })
 
 -- the matches by number are those of the traces
 pub matches_are : (j : Job) → map (matched_at j) (range_with_len 0 (length j.traces)) ≡ map (match_of j.network j.params) j.traces
@@ -174,8 +148,3 @@ matches_are j = ext_get_or none (map (matched_at j) (range_with_len 0 (length j.
   where
     none : MatchedTrace
     none = record { id = 0; labels = []; pieces = [] }
-
-    get_or-map : {A B : Type 0} (f : A → B) (l : List A) (i : ℕ) (d : A) (e : B) → i < length l → get_or (map f l) i e ≡ f (get_or l i d)
-    get_or-map f [] i d e lt = absurd (omega arith)
-    get_or-map f (x ∷ xs) zero d e lt = refl
-    get_or-map f (x ∷ xs) (suc i) d e lt = get_or-map f xs i d e (omega arith)

@@ -1,6 +1,11 @@
+pub mod Columns
 pub mod Found
-pub mod Hiring
+pub mod Hired
 pub mod Learning
+pub mod Lists
 pub mod Slots
+pub mod Spots
+pub mod Taken
+pub mod Tours
 pub mod Turns
 pub mod Yields

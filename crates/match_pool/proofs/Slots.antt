@@ -1,5 +1,5 @@
 -- Slots that answers fill, and the tickets that drew their numbers.
-use Rattle.std.proofs.Common.{◌≡◌, ◌≢◌, ◌⊎◌, inl, inr, ℕ, zero, suc, ◌+◌, ◌-◌, ◌<◌, ◌≤◌, cond, eqb, List, [], ◌∷◌, ◌++◌, map, length, get_or, set, replicate, ne_eqb, Option, Some, None, All, Any, Contains, IsSome, IfOk, IsOk, Result, Ok, Err, length-set, refl, sym, ap, ◌∙◌, subst, ⊎_elim, arith}
+use Rattle.std.proofs.Common.{◌≡◌, ◌≢◌, ◌⊎◌, inl, inr, ℕ, zero, suc, ◌+◌, ◌-◌, ◌<◌, ◌≤◌, cond, eqb, List, [], ◌∷◌, ◌++◌, map, length, set, ne_eqb, Option, Some, None, All, Any, Contains, IsSome, refl, sym, ap, ◌∙◌, subst, ⊎_elim, arith}
 use Rattle.std.specs.Prelude.{slice_get, slice_index_or}
 use Rattle.std.specs.List.{range_with_len, sum_by}
 use Rattle.std.proofs.lemmas.Bool.{cases_eq}
@@ -7,10 +7,14 @@ use Rattle.std.proofs.lemmas.List.Elements.{All-map, All-nil, All-push, All-weak
 use Rattle.std.proofs.lemmas.List.Sums.{sum_by-cons}
 use Rattle.match_text.specs.declared.matched.MatchedTrace.{MatchedTrace}
 use Rattle.tickets.specs.Tickets.{Drawn, times}
-use Rattle.match_pool.specs.declared.crew.Turn.{Turn}
+use Rattle.match_pool.specs.declared.turn.Strip.{Strip}
+use Rattle.match_pool.specs.declared.turn.Turn.{Turn}
 use Rattle.match_pool.specs.declared.worker.Done.{Done}
-use Rattle.match_pool.specs.Gathering.{AnswersBy, AnswersFor, Fills}
-use Rattle.match_pool.specs.Working.{done_by}
+use Rattle.match_pool.specs.Drawing.{number_at}
+use Rattle.match_pool.specs.Gathering.{Fills}
+use Rattle.match_pool.specs.Turns.{AnswersFor}
+use Rattle.match_pool.specs.Working.{Job, done_by, matched_at}
+use Rattle.match_pool.proofs.Lists.{default_same}
 use Rattle.match_pool.proofs.Yields.{last_by}
 
 get_set : {A : Type 0} (l : List A) (i : ℕ) (x : A) → i < length l → slice_get (set l i x) i ≡ Some x
@@ -59,40 +63,38 @@ fills_more first matched yielded answer old mid fills low numbers e =
 abbrev pub no_match : Option MatchedTrace
 no_match = None
 
-blank_at : (n k : ℕ) → k < n → slice_get (replicate n no_match) k ≡ Some no_match
-blank_at zero k lt = absurd (omega arith)
-blank_at (suc n) zero lt = refl
-blank_at (suc n) (suc k) lt = blank_at n k (omega arith)
+-- the answers of some turns are put into their slots
+abbrev pub Holds : Job → List ℕ → List Turn → List (Option MatchedTrace) → List (Option MatchedTrace) → Type 0
+Holds j strip turns old new =
+    (k : ℕ) → k < length old → (slice_get new k ≡ Some (Some (matched_at j k)))
+    ⊎ ((slice_get new k ≡ slice_get old k) × ((rank : ℕ) → rank < length strip → number_at strip rank ≡ k → All (λ (t : Turn). Contains t.ticket.numbers rank → ⊥) turns))
 
--- what the slots hold after some turns: the match of each number that one of their tickets drew, and else nothing
-abbrev pub Holds : (ℕ → MatchedTrace) → ℕ → List Turn → List (Option MatchedTrace) → Type 0
-Holds matched count turns slots =
-    (k : ℕ) → k < count → (slice_get slots k ≡ Some (Some (matched k))) ⊎ ((slice_get slots k ≡ Some no_match) × All (λ (t : Turn). Contains t.ticket.numbers k → ⊥) turns)
+pub holds_none : (j : Job) (strip : List ℕ) (slots : List (Option MatchedTrace)) → Holds j strip [] slots slots
+holds_none j strip slots k low = inr (refl, λ rank inside is. All-nil (λ (t : Turn). Contains t.ticket.numbers rank → ⊥))
 
-pub holds_none : (matched : ℕ → MatchedTrace) (count : ℕ) → Holds matched count [] (replicate count no_match)
-holds_none matched count k low = inr (blank_at count k low, All-nil (λ (t : Turn). Contains t.ticket.numbers k → ⊥))
-
--- the answers of a turn that has them
-pub answers_of : (first : ℕ) (matched : ℕ → MatchedTrace) (count : ℕ) (turn : Turn) (done : List Done) → turn.done ≡ Ok done → AnswersBy first matched count turn → AnswersFor first matched count turn.ticket.numbers done
-answers_of first matched count turn done is answers = subst (λ r. IfOk r (AnswersFor first matched count turn.ticket.numbers)) is answers
-
--- the places of its answers are among those of the slots
-pub places_inside : (first : ℕ) (matched : ℕ → MatchedTrace) (count : ℕ) (drawn : List ℕ) (done : List Done) → AnswersFor first matched count drawn done → All (λ (d : Done). (first ≤ d.place) × (d.place < first + count)) done
-places_inside first matched count drawn done a =
-    subst (All (λ (d : Done). (first ≤ d.place) × (d.place < first + count))) (sym a.are)
-    (All-map (λ (d : Done). (first ≤ d.place) × (d.place < first + count)) (done_by first matched) a.numbers
-    (All-weaker (λ k. k < count) (λ k. (first ≤ first + k) × (first + k < first + count)) (λ k low. (omega arith, omega arith)) a.numbers a.below))
+-- the places of a turn's answers are among those of the slots
+pub places_inside : (j : Job) (strip drawn : List ℕ) (done : List Done) → AnswersFor j strip drawn done → All (λ (d : Done). (j.first ≤ d.place) × (d.place < j.first + length j.traces)) done
+places_inside j strip drawn done a =
+    let count = length j.traces in
+    subst (All (λ (d : Done). (j.first ≤ d.place) × (d.place < j.first + count))) (sym a.are)
+    (All-map (λ (d : Done). (j.first ≤ d.place) × (d.place < j.first + count)) (done_by j.first (matched_at j)) a.numbers
+    (All-weaker (λ k. k < count) (λ k. (j.first ≤ j.first + k) × (j.first + k < j.first + count)) (λ k low. (omega arith, omega arith)) a.numbers a.below))
 
 -- one more turn
-pub holds_more : (first : ℕ) (matched : ℕ → MatchedTrace) (count : ℕ) (turns : List Turn) (turn : Turn) (done : List Done) (old new : List (Option MatchedTrace))
-    → turn.done ≡ Ok done → AnswersBy first matched count turn → length old ≡ count → Holds matched count turns old
-    → ((numbers : List ℕ) → done ≡ map (done_by first matched) numbers → Fills matched numbers old new)
-    → Holds matched count (turns ++ turn ∷ []) new
-holds_more first matched count turns turn done old new is answers long h fills k low =
-    let a = answers_of first matched count turn done is answers in
+pub holds_more : (j : Job) (strip : List ℕ) (turns : List Turn) (turn : Turn) (old mid new : List (Option MatchedTrace))
+    → AnswersFor j strip turn.ticket.numbers turn.done → length mid ≡ length old → Holds j strip turns old mid
+    → ((numbers : List ℕ) → turn.done ≡ map (done_by j.first (matched_at j)) numbers → Fills (matched_at j) numbers mid new)
+    → Holds j strip (turns ++ turn ∷ []) old new
+holds_more j strip turns turn old mid new a long h fills k low =
     ⊎_elim (λ e. inl e)
-    (λ r. ⊎_elim (λ e. inl (r.0 ∙ e)) (λ s. inr (r.0 ∙ s.0, All-push (λ (t : Turn). Contains t.ticket.numbers k → ⊥) turns turn s.1 (λ c. r.1 (a.all k low c)))) (h k low))
-    (fills a.numbers a.are k (let l = long in omega arith))
+    (λ r. ⊎_elim (λ e. inl (r.0 ∙ e))
+    (λ s. inr (
+      r.0 ∙ s.0,
+      λ rank inside is. All-push (λ (t : Turn). Contains t.ticket.numbers rank → ⊥) turns turn (s.1 rank inside is)
+          (λ c. r.1 (subst (λ (m : ℕ). Contains a.numbers m) is (a.all rank inside c))),
+    ))
+    (h k low))
+    (fills a.numbers a.are k (omega arith))
 
 -- who drew a number
 times_some : (x : ℕ) (xs : List ℕ) → 1 ≤ times x xs → Contains xs x
@@ -117,13 +119,38 @@ some_ticket k (turn ∷ turns) some = elim (cases_eq (times k turn.ticket.number
   | inr more ↦ (0, turn, omega arith, refl, times_some k turn.ticket.numbers (omega (arith, more)))
 ]
 
--- all slots are filled
-pub all_hold : (matched : ℕ → MatchedTrace) (count : ℕ) (turns : List Turn) (slots : List (Option MatchedTrace)) → Holds matched count turns slots → ((k : ℕ) → k < count → Any (λ (t : Turn). Contains t.ticket.numbers k) turns)
-    → (k : ℕ) → k < count → slice_get slots k ≡ Some (Some (matched k))
-all_hold matched count turns slots h drawn k low =
-    ⊎_elim (λ e. e)
-    (λ r. let d = drawn k low in absurd (subst (λ (t : Turn). Contains t.ticket.numbers k → ⊥) d.3 (r.1 d.0 d.1 d.2) d.4))
+-- where each rank was drawn, the strip's slots are filled
+pub strip_filled : (j : Job) (strip : List ℕ) (turns : List Turn) (old new : List (Option MatchedTrace)) → Holds j strip turns old new
+    → ((rank : ℕ) → rank < length strip → Any (λ (t : Turn). Contains t.ticket.numbers rank) turns) → Fills (matched_at j) strip old new
+strip_filled j strip turns old new h drawn k low =
+    ⊎_elim (λ e. inl e)
+    (λ r. inr (
+      r.0,
+      λ c.
+          let at : number_at strip c.0 ≡ k = default_same strip c.0 0 k c.1 ∙ c.2 in
+          let d = drawn c.0 c.1 in
+          subst (λ (t : Turn). Contains t.ticket.numbers c.0 → ⊥) d.3 (r.1 c.0 c.1 at d.0 d.1 d.2) d.4,
+    ))
     (h k low)
+
+-- the traces of these strips have their matches
+abbrev pub AreIn : Job → List Strip → List (Option MatchedTrace) → Type 0
+AreIn j strips slots = (k : ℕ) → k < length j.traces → Any (λ (s : Strip). Contains s.numbers k) strips → slice_get slots k ≡ Some (Some (matched_at j k))
+
+pub none_in : (j : Job) (slots : List (Option MatchedTrace)) → AreIn j [] slots
+none_in j slots k low any = absurd (let lt = any.2 in omega arith)
+
+any_last : {X : Type 0} (P : X → Type 0) (xs : List X) (x : X) → Any P (xs ++ x ∷ []) → Any P xs ⊎ P x
+any_last P [] x (zero, y, lt, e, p) = inr (subst P (sym e) p)
+any_last P [] x (suc k, y, lt, e, p) = absurd (omega arith)
+any_last P (z ∷ xs) x (zero, y, lt, e, p) = inl (zero, y, omega arith, e, p)
+any_last P (z ∷ xs) x (suc k, y, lt, e, p) = ⊎_elim (λ r. inl (suc r.0, r.1, (let l = r.2 in omega arith), r.3, r.4)) (λ q. inr q) (any_last P xs x (k, y, omega arith, e, p))
+
+pub more_in : (j : Job) (strips : List Strip) (strip : Strip) (old new : List (Option MatchedTrace)) → length old ≡ length j.traces → AreIn j strips old → Fills (matched_at j) strip.numbers old new → AreIn j (strips ++ strip ∷ []) new
+more_in j strips strip old new long are fills k low any =
+    ⊎_elim (λ e. e)
+    (λ r. ⊎_elim (λ before. r.0 ∙ are k low before) (λ here. absurd (r.1 here)) (any_last (λ (s : Strip). Contains s.numbers k) strips strip any))
+    (fills k (omega arith))
 
 read_of : {A : Type 0} (l : List A) (k : ℕ) (d x : A) → slice_get l k ≡ Some x → slice_index_or l k d ≡ x
 read_of [] k d x e = absurd (cc)

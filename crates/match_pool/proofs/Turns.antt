@@ -2,31 +2,34 @@
 use Rattle.std.proofs.Common.{◌≡◌, ◌⊎◌, ◌↔◌, ℕ, zero, suc, ◌+◌, ◌<◌, ◌≤◌, Bool, true, false, ◌||◌, List, [], ◌∷◌, ◌++◌, map, length, is_some, Option, Some, None, Contains, All, true≢false, refl, sym, ap, ◌∙◌, subst, inl, inr, ⊎_elim, arith, append-nil, append_assoc}
 use Rattle.std.specs.Prelude.{slice_get, slice_index_or}
 use Rattle.std.proofs.lemmas.List.{map-append}
-use Rattle.std.proofs.lemmas.List.Elements.{All-push, All-nil}
+use Rattle.std.proofs.lemmas.List.Elements.{All-head, All-nil, All-push, All-tail}
+use Rattle.std.proofs.lemmas.List.FromFn.{get_or-range_with_len, length-range_with_len}
 use Rattle.std.proofs.lemmas.List.Folds.{list_any-append}
-use Rattle.std.specs.List.{list_any}
+use Rattle.std.specs.List.{list_any, range_with_len}
 use Rattle.bounded_search.specs.Known.{known_nodes}
 use Rattle.bounded_search.specs.Rows.{AsksAll}
 use Rattle.bounded_search.specs.Table.{TableRow}
 use Rattle.bounded_search.proofs.KnownNodes.{known_inside, knows_by}
 use Rattle.match_text.specs.declared.matched.MatchedTrace.{MatchedTrace}
 use Rattle.row_store.specs.Store.{Reading, knows, rows_state}
+use Rattle.tickets.specs.Tickets.{Drawn}
 use Rattle.match_pool.specs.declared.worker.Done.{Done}
+use Rattle.match_pool.specs.Drawing.{WorksAt, number_at}
 use Rattle.match_pool.specs.Working.{Job, Works, LearnsAsked, asks_at, done_by, matched_at}
 
--- what holds at each turn
-pub record Working (j : Job) (reader : Reading) (drawn : List ℕ) (done : List Done) (reader' : Reading) (drawn' : List ℕ) : Type 0 where
-  pub numbers : List ℕ
-  pub drawn_are : drawn' ≡ drawn ++ numbers
-  pub below : All (λ k. k < length j.traces) numbers
-  pub answers : done ≡ map (done_by j.first (matched_at j)) numbers
-  pub learns : LearnsAsked j numbers reader reader'
+-- what holds at each draw
+pub record Working (j : Job) (strip : List ℕ) (reader : Reading) (drawn : List ℕ) (done : List Done) (reader' : Reading) (drawn' : List ℕ) : Type 0 where
+  pub ranks : List ℕ
+  pub drawn_are : drawn' ≡ drawn ++ ranks
+  pub below : All (λ k. k < length strip) ranks
+  pub answers : done ≡ map (done_by j.first (matched_at j)) (map (number_at strip) ranks)
+  pub learns : LearnsAsked j (map (number_at strip) ranks) reader reader'
 
-pub starts : (j : Job) (reader : Reading) (drawn : List ℕ) → Working j reader drawn [] reader drawn
-starts j reader drawn = record {
-  numbers = [];
+pub starts : (j : Job) (strip : List ℕ) (reader : Reading) (drawn : List ℕ) → Working j strip reader drawn [] reader drawn
+starts j strip reader drawn = record {
+  ranks = [];
   drawn_are = sym (append-nil drawn);
-  below = All-nil (λ k. k < length j.traces);
+  below = All-nil (λ k. k < length strip);
   answers = refl;
   learns = λ v. (λ h. inl h, λ h. ⊎_elim (λ old. old) (λ (is : false ≡ true). cc) h);
 }
@@ -92,16 +95,45 @@ learns_more j numbers k before mid after so_far asked v =
           h),
     )
 
-pub goes_on : (j : Job) (reader : Reading) (drawn : List ℕ) (done : List Done) (mid : Reading) (drawn_mid : List ℕ) (k : ℕ) (matched : MatchedTrace) (done' : List Done) (after : Reading) (drawn' : List ℕ)
-    → Working j reader drawn done mid drawn_mid → k < length j.traces → drawn' ≡ drawn_mid ++ k ∷ []
-    → matched ≡ matched_at j k
-    → done' ≡ done ++ record { place = j.first + k; matched = matched } ∷ []
-    → AsksAll (rows_state mid) (rows_state after) (λ v. asks_at j v k ≡ true)
-    → Working j reader drawn done' after drawn'
-goes_on j reader drawn done mid drawn_mid k matched done' after drawn' w below drew is more asked = record {
-  numbers = w.numbers ++ k ∷ [];
-  drawn_are = drew ∙ ap (λ (l : List ℕ). l ++ k ∷ []) w.drawn_are ∙ append_assoc drawn w.numbers (k ∷ []);
-  below = All-push (λ n. n < length j.traces) w.numbers k w.below below;
-  answers = more ∙ (λ i. w.answers i ++ record { place = j.first + k; matched = is i } ∷ []) ∙ sym (map-append (done_by j.first (matched_at j)) w.numbers (k ∷ []));
-  learns = learns_more j w.numbers k reader mid after w.learns asked;
-}
+pub goes_on : (j : Job) (strip : List ℕ) (reader : Reading) (drawn : List ℕ) (done : List Done) (mid : Reading) (drawn_mid : List ℕ) (k : ℕ) (matched : MatchedTrace) (done' : List Done) (after : Reading) (drawn' : List ℕ)
+    → Working j strip reader drawn done mid drawn_mid → k < length strip → drawn' ≡ drawn_mid ++ k ∷ []
+    → matched ≡ matched_at j (number_at strip k)
+    → done' ≡ done ++ record { place = j.first + number_at strip k; matched = matched } ∷ []
+    → AsksAll (rows_state mid) (rows_state after) (λ v. asks_at j v (number_at strip k) ≡ true)
+    → Working j strip reader drawn done' after drawn'
+goes_on j strip reader drawn done mid drawn_mid k matched done' after drawn' w below drew is more asked =
+    let at = number_at strip in
+    let answer = done_by j.first (matched_at j) in
+    let longer : map at (w.ranks ++ k ∷ []) ≡ map at w.ranks ++ at k ∷ [] = map-append at w.ranks (k ∷ []) in
+    record {
+      ranks = w.ranks ++ k ∷ [];
+      drawn_are = drew ∙ ap (λ (l : List ℕ). l ++ k ∷ []) w.drawn_are ∙ append_assoc drawn w.ranks (k ∷ []);
+      below = All-push (λ n. n < length strip) w.ranks k w.below below;
+      answers = more ∙ (λ i. w.answers i ++ record { place = j.first + at k; matched = is i } ∷ []) ∙ sym (map-append answer (map at w.ranks) (at k ∷ [])) ∙ ap (map answer) (sym longer);
+      learns = subst (λ (l : List ℕ). LearnsAsked j l reader after) (sym longer) (learns_more j (map at w.ranks) (at k) reader mid after w.learns asked);
+    }
+
+-- a strip of all numbers in their order
+same_ranks : (n : ℕ) (ranks : List ℕ) → All (λ k. k < n) ranks → map (number_at (range_with_len 0 n)) ranks ≡ ranks
+same_ranks n [] below = refl
+same_ranks n (k ∷ ks) below =
+    let head : number_at (range_with_len 0 n) k ≡ k = get_or-range_with_len 0 n k 0 (All-head (λ x. x < n) k ks below) ∙ omega arith in
+    let tail = same_ranks n ks (All-tail (λ x. x < n) k ks below) in
+    λ i. head i ∷ tail i
+
+pub works_on_all : (j : Job) (strip : List ℕ) (reader : Reading) (ticket : Drawn) (done : List Done) (reader' : Reading) (ticket' : Drawn) → strip ≡ range_with_len 0 (length j.traces)
+    → WorksAt j strip reader ticket done reader' ticket' → Works j reader ticket done reader' ticket'
+works_on_all j strip reader ticket done reader' ticket' whole w =
+    let n = length j.traces in
+    let long : length strip ≡ n = ap (λ (l : List ℕ). length l) whole ∙ length-range_with_len 0 n in
+    let below : All (λ k. k < n) w.ranks = subst (λ (m : ℕ). All (λ k. k < m) w.ranks) long w.below in
+    let same : map (number_at strip) w.ranks ≡ w.ranks = ap (λ (l : List ℕ). map (number_at l) w.ranks) whole ∙ same_ranks n w.ranks below in
+    record {
+      numbers = w.ranks;
+      last = w.last;
+      drawn = w.drawn;
+      below = below;
+      above = (let late = w.above in omega (arith, long));
+      answers = w.answers ∙ ap (map (done_by j.first (matched_at j))) same;
+      learns = subst (λ (l : List ℕ). LearnsAsked j l reader reader') same w.learns;
+    }

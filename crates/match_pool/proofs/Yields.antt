@@ -1,5 +1,5 @@
 -- Lists that a loop takes item by item.
-use Rattle.std.proofs.Common.{◌≡◌, ℕ, zero, suc, ◌+◌, ◌<◌, List, [], ◌∷◌, ◌++◌, map, length, refl, sym, ap, ◌∙◌, subst, append_assoc, append-nil, arith}
+use Rattle.std.proofs.Common.{◌≡◌, ℕ, suc, ◌<◌, List, [], ◌∷◌, ◌++◌, map, length, refl, sym, ap, ◌∙◌, subst, append_assoc, append-nil, arith}
 use Rattle.std.specs.List.{AllZip}
 use Rattle.std.specs.Prelude.{slice_index_or}
 
@@ -31,3 +31,14 @@ zip_from R [] [] same each = tt
 zip_from R [] (y ∷ ys) same each = absurd (omega arith)
 zip_from R (x ∷ xs) [] same each = absurd (omega arith)
 zip_from R (x ∷ xs) (y ∷ ys) same each = (each 0 x (omega arith), zip_from R xs ys (omega arith) (λ i d low. each (suc i) d (omega arith)))
+
+-- the item that is taken next stands behind those that were taken
+pub next_at : {X : Type 0} (yielded left rest all : List X) (x : X) → yielded ++ left ≡ all → left ≡ x ∷ rest → (length yielded < length all) × ((d : X) → slice_index_or all (length yielded) d ≡ x)
+next_at [] left rest all x whole step =
+    let e : x ∷ rest ≡ all = sym step ∙ whole in
+    (subst (λ l. 0 < length l) e (omega arith), λ d. ap (λ l. slice_index_or l 0 d) (sym e))
+next_at (y ∷ ys) left rest [] x whole step = absurd (cc)
+next_at (y ∷ ys) left rest (z ∷ zs) x whole step =
+    let tail : ys ++ left ≡ zs = cc in
+    let r = next_at ys left rest zs x tail step in
+    ((let lt = r.0 in omega arith), λ d. r.1 d)

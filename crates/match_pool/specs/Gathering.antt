@@ -1,25 +1,16 @@
 -- How the answers of all turns come together.
-use Rattle.std.specs.Prelude.{◌≡◌, ◌<◌, ◌⊎◌, ℕ, List, map, length, slice_get, Option, Some, None, All, Any, Contains, IfOk, OnOk, IsOk}
+use Rattle.std.specs.Prelude.{◌≡◌, ◌<◌, ◌⊎◌, ℕ, List, length, slice_get, Option, Some, All, Any, Contains}
 use Rattle.match_text.specs.declared.matched.MatchedTrace.{MatchedTrace}
-use Rattle.tickets.specs.Tickets.{Opened, HasEnded}
-use Rattle.match_pool.specs.declared.crew.Turn.{Turn}
-use Rattle.match_pool.specs.declared.worker.Done.{Done}
-use Rattle.match_pool.specs.Working.{done_by}
+use Rattle.match_pool.specs.declared.turn.Strip.{Strip}
+use Rattle.match_pool.specs.declared.turn.Turn.{Turn}
+use Rattle.match_pool.specs.Turns.{IsOver, IsStripOf}
+use Rattle.match_pool.specs.Working.{Job}
 
--- the turn is over: its ticket is of these claims, and has ended
-pub record IsOver (claims : Opened) (turn : Turn) : Type 0 where
-  pub own : turn.ticket.claims ≡ claims.name
-  pub ended : OnOk turn.done (HasEnded claims.count turn.ticket)
-
--- answers for some of the first numbers, each the match by its number, for all of them that the ticket drew
-pub record AnswersFor (first : ℕ) (matched : ℕ → MatchedTrace) (count : ℕ) (drawn : List ℕ) (done : List Done) : Type 0 where
-  pub numbers : List ℕ
-  pub are : done ≡ map (done_by first matched) numbers
-  pub below : All (λ k. k < count) numbers
-  pub all : (k : ℕ) → k < count → Contains drawn k → Contains numbers k
-
-abbrev pub AnswersBy : ℕ → (ℕ → MatchedTrace) → ℕ → Turn → Type 0
-AnswersBy first matched count turn = IfOk turn.done (AnswersFor first matched count turn.ticket.numbers)
+-- the turns of all workers at a strip are over
+pub record IsPile (j : Job) (strip : Strip) (turns : List Turn) : Type 0 where
+  pub is_strip : IsStripOf j strip
+  pub all : length turns ≡ strip.claims.seats
+  pub over : All (IsOver j strip) turns
 
 -- the slots of these numbers have their matches, and the others what they had
 abbrev pub Fills : (ℕ → MatchedTrace) → List ℕ → List (Option MatchedTrace) → List (Option MatchedTrace) → Type 0
@@ -27,7 +18,10 @@ Fills matched numbers old new =
     (k : ℕ) → k < length old
     → (slice_get new k ≡ Some (Some (matched k))) ⊎ ((slice_get new k ≡ slice_get old k) × (Contains numbers k → ⊥))
 
--- each turn has answers, and each of the first numbers was drawn by some ticket
-pub record AllDrawn (count : ℕ) (turns : List Turn) : Type 0 where
-  pub answered : All (λ t. IsOk t.done) turns
-  pub each : (k : ℕ) → k < count → Any (λ t. Contains t.ticket.numbers k) turns
+-- each rank of the strip was drawn in one of the turns
+abbrev pub AllDrawn : Strip → List Turn → Type 0
+AllDrawn strip turns = (rank : ℕ) → rank < length strip.numbers → Any (λ t. Contains t.ticket.numbers rank) turns
+
+-- each trace of the job stands in a strip
+abbrev pub CoverTraces : Job → List Strip → Type 0
+CoverTraces j strips = (k : ℕ) → k < length j.traces → Any (λ s. Contains s.numbers k) strips

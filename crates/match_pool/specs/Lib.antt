@@ -1,5 +1,10 @@
 pub mod Answers
 pub mod Crew
+pub mod Dealing
+pub mod Drawing
 pub mod Gathering
 pub mod Learning
+pub mod Strips
+pub mod Tables
+pub mod Turns
 pub mod Working

@@ -6,9 +6,13 @@ ghost use Rattle.trace_match.specs.Match.{match_of};
 ghost use Rattle.match_pool.specs.Learning.{AreReadersFor, LearnAsked};
 ghost use Rattle.match_pool.specs.Working.{AreJobTraces, StaysReader};
 
+use crate::batch::Batch;
 use crate::crew::Crew;
+use crate::dealing::deal;
 use crate::gate::Gate;
 use crate::gathering::gather;
+use crate::strips::cut;
+use crate::tables::columns_of;
 use cost_model::Params;
 use grid_index::Grid;
 use match_text::MatchedTrace;
@@ -17,7 +21,6 @@ use road_network::Network;
 use row_store::Reader;
 use std::alloc::{AllocError, Global};
 use std::thread::Threads;
-use tickets::Claims;
 use trace_reader::Trace;
 
 /// The matches of all traces, in their order, by one worker for each reader.
@@ -45,10 +48,21 @@ pub fn match_all<'s, R: Threads + Sync, G: Gate>(
     ensures learns { OnOk result
         (LearnAsked net.now p.now traces.now readers.old readers.new) }
 {
-    let seats = readers.len() as u32;
-    let (claims, tickets) = Claims::open(alloc, traces.len() as u64, seats)?;
-    let mut crew = Crew::hire(alloc, readers, tickets)?;
-    crew.run(rt, alloc, net, grid, p, first, traces, &claims, gate);
+    let batch = Batch {
+        alloc,
+        net,
+        grid,
+        params: p,
+        first,
+        traces,
+    };
+    let workers = readers.len();
+    let cuts = cut(alloc, traces, workers)?;
+    let (strips, hands) = deal(alloc, cuts, workers as u32)?;
+    let mut crew = Crew::hire(alloc, readers, hands)?;
+    let outcome = crew.run(rt, &batch, strips.as_slice(), gate);
     let turns = crew.dismiss(readers);
-    gather(alloc, claims, first, traces.len(), turns)
+    outcome?;
+    let piles = columns_of(alloc, turns, strips.len())?;
+    gather(&batch, strips, piles)
 }

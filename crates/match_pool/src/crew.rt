@@ -1,100 +1,108 @@
-//! Workers in threads. Serves `match_all`; decided by `Ran`.
-ghost use Rattle.std.specs.Prelude.{◌≡◌, ◌<◌, ◌≤◌, ◌+◌, ℕ, All, IfOk, OnErr, length, map, slice_index_or, vec_capacity};
+//! Workers in threads. Serves `match_all`; decided by `Toured`.
+ghost use Rattle.std.specs.Prelude.{◌≡◌, ◌<◌, ◌≤◌, ◌+◌, ℕ, All, IfOk, IsOk, OnErr, OnOk, length, map, slice_index_or, vec_capacity};
 ghost use Rattle.std.specs.List.{AllZip};
-ghost use Rattle.trace_match.specs.Ground.{IsGridFor};
-ghost use Rattle.match_pool.specs.Working.{AreJobTraces, job};
-ghost use Rattle.match_pool.specs.Crew.{CanRun, HasRoom, IsCrew, KeepsRoom, Ran, reader_of, turn_of};
+ghost use Rattle.match_pool.specs.Drawing.{job_of};
+ghost use Rattle.match_pool.specs.Crew.{CanTour, HasRoom, IsCrew, KeepsRoom, Ran, Toured, Tours, reader_of, turns_of};
+ghost use Rattle.match_pool.specs.Working.{StaysReader};
 
+use crate::batch::Batch;
 use crate::gate::Gate;
-use crate::worker::{Done, work};
-use cost_model::Params;
-use grid_index::Grid;
+use crate::turn::{Strip, Turn};
 use polyline_geometry::List;
-use road_network::Network;
 use row_store::Reader;
 use std::alloc::{AllocError, Global};
 use std::thread::Threads;
 use std::{mem, thread};
-use tickets::{Claims, Ticket};
-use trace_reader::Trace;
 
-/// A ticket, and what was done by the numbers that it drew.
-#[derive(Drop)]
-pub struct Turn {
-    pub ticket: Ticket,
-    pub done: Result<List<Done>, AllocError>,
-}
-
-/// A reader with its turn.
+/// A reader, its turn at each strip, and whether memory was refused in one of them.
 #[derive(Drop)]
 pub struct Worker<'s> {
     pub reader: Reader<'s>,
-    pub turn: Turn,
+    pub turns: Vec<Turn>,
+    pub outcome: Result<(), AllocError>,
 }
 
 impl<'s> Worker<'s> {
-    /// Does its work.
-    fn run<G: Gate>(
+    /// Takes its turns from one strip on and before another.
+    fn take_turns<G: Gate>(
         &mut self,
-        alloc: Global,
-        net: &Network,
-        grid: &Grid,
-        p: &Params,
-        first: u64,
-        traces: &[Trace],
-        claims: &Claims,
+        batch: &Batch,
+        strips: &[Strip],
+        from: usize,
+        past: usize,
         gate: &G,
-    )
-        requires ground { IsGridFor net.now p.now grid.now }
-        requires traces { AreJobTraces first traces.now }
-        requires can { CanRun net.now p.now (length traces.now) claims.now self.old }
-        ensures { Ran (job net.now p.now first traces.now) self.old self.new }
+    ) -> Result<(), AllocError>
+        requires can { CanTour (job_of batch.now) strips.now from past self.old }
+        requires past { (from ≤ past) × (past ≤ length strips.now) }
+        ensures reader { StaysReader self.old.reader self.new.reader }
+        ensures toured { OnOk result (Tours (job_of batch.now) strips.now from past self.old self.new) }
     {
-        self.turn.done = work(
-            alloc,
-            net,
-            grid,
-            p,
-            first,
-            traces,
-            claims,
-            &mut self.turn.ticket,
-            &mut self.reader,
-            gate,
-        );
+        for place in from..past {
+            self.turns[place].take(batch, &strips[place], &mut self.reader, gate)?;
+        }
+        Ok(())
+    }
+
+    /// Takes its turns at all strips, from its own on and round.
+    fn tour<G: Gate>(
+        &mut self,
+        batch: &Batch,
+        strips: &[Strip],
+        own: usize,
+        gate: &G,
+    ) -> Result<(), AllocError>
+        requires can { CanTour (job_of batch.now) strips.now 0 (length strips.now) self.old }
+        requires own { own ≤ length strips.now }
+        ensures reader { StaysReader self.old.reader self.new.reader }
+        ensures toured { OnOk result (Toured (job_of batch.now) strips.now self.old self.new) }
+    {
+        self.take_turns(batch, strips, own, strips.len(), gate)?;
+        self.take_turns(batch, strips, 0, own, gate)
+    }
+
+    /// Does its work.
+    fn run<G: Gate>(&mut self, batch: &Batch, strips: &[Strip], own: usize, gate: &G)
+        requires can { CanTour (job_of batch.now) strips.now 0 (length strips.now) self.old }
+        requires own { own ≤ length strips.now }
+        ensures { Ran (job_of batch.now) strips.now self.old self.new }
+    {
+        self.outcome = self.tour(batch, strips, own, gate);
     }
 }
 
-/// Runs each worker, in a thread of its own where there is one.
+/// Runs each worker, in a thread of its own where there is one. Each begins at a strip of its own.
 fn run_all<'s, R: Threads + Sync, G: Gate>(
     rt: &R,
-    alloc: Global,
-    net: &Network,
-    grid: &Grid,
-    p: &Params,
-    first: u64,
-    traces: &[Trace],
-    claims: &Claims,
+    batch: &Batch,
+    strips: &[Strip],
     workers: &mut [Worker<'s>],
     gate: &G,
 )
-    requires ground { IsGridFor net.now p.now grid.now }
-    requires traces { AreJobTraces first traces.now }
-    requires can { All (CanRun net.now p.now (length traces.now) claims.now) workers.old }
-    ensures { (i : ℕ) (d : _) → i < length workers.old → Ran (job net.now p.now first traces.now)
+    requires count { length workers.old ≤ length strips.now }
+    requires can { All (CanTour (job_of batch.now) strips.now 0 (length strips.now)) workers.old }
+    ensures { (i : ℕ) (d : _) → i < length workers.old → Ran (job_of batch.now) strips.now
         (slice_index_or workers.old i d) (slice_index_or workers.new i d) }
 {
     thread::for_each_mut(
         rt,
         workers,
         64,
-        &|_, worker: &mut Worker<'_>|
-            requires { IsGridFor net.now p.now grid.now × AreJobTraces first traces.now
-                × CanRun net.now p.now (length traces.now) claims.now worker.now }
-            ensures { Ran (job net.entry.now p.entry.now first traces.entry.now)
-                worker.entry.now worker.exit.now }
-        { worker.run(alloc, net, grid, p, first, traces, claims, gate) },
+        &|place, worker: &mut Worker<'_>|
+            requires { (place < length strips.now)
+                × CanTour (job_of batch.now) strips.now 0 (length strips.now) worker.now }
+            ensures { Ran (job_of batch.entry.now) strips.entry.now worker.entry.now worker.exit.now }
+        { worker.run(batch, strips, place, gate) },
     );
+}
+
+/// Err where one of the workers was refused memory.
+fn outcome_of(workers: &[Worker<'_>]) -> Result<(), AllocError>
+    ensures { OnOk result (All (λ w. IsOk w.outcome) workers.now) }
+{
+    for worker in workers {
+        worker.outcome?;
+    }
+    Ok(())
 }
 
 /// Workers, and room for what is left of them.
@@ -102,18 +110,19 @@ fn run_all<'s, R: Threads + Sync, G: Gate>(
 pub struct Crew<'s> {
     pub workers: Vec<Worker<'s>>,
     pub readers: Vec<Reader<'s>>,
-    pub turns: Vec<Turn>,
+    pub turns: Vec<List<Turn>>,
 }
 
 impl<'s> Crew<'s> {
-    /// Takes the readers out of their list, and gives a ticket to each. After Err they are still there.
+    /// Takes the readers out of their list, and gives a turn at each strip to each. After Err they are
+    /// still there.
     pub fn hire(
         alloc: Global,
         readers: &mut List<Reader<'s>>,
-        mut tickets: List<Ticket>,
+        mut hands: Vec<List<Turn>>,
     ) -> Result<Crew<'s>, AllocError>
-        requires { length tickets ≡ length readers.old }
-        ensures crew { IfOk result (IsCrew readers.old tickets) }
+        requires { length hands.items ≡ length readers.old }
+        ensures crew { IfOk result (IsCrew readers.old hands.items) }
         ensures err { OnErr result (readers.new ≡ readers.old) }
     {
         let count = readers.len();
@@ -122,14 +131,15 @@ impl<'s> Crew<'s> {
         let turns = Vec::with_capacity(alloc, count)?;
         let taken = mem::replace(readers, List::new(alloc)).into_vec();
         for reader in taken {
-            let Some(ticket) = tickets.pop() else {
+            let Some(hand) = hands.pop() else {
                 unreachable!()
             };
-            let turn = Turn {
-                ticket,
-                done: Err(AllocError),
+            let worker = Worker {
+                reader,
+                turns: hand.into_vec(),
+                outcome: Ok(()),
             };
-            let Ok(()) = workers.push(Worker { reader, turn }) else {
+            let Ok(()) = workers.push(worker) else {
                 unreachable!()
             };
         }
@@ -140,37 +150,32 @@ impl<'s> Crew<'s> {
         })
     }
 
-    /// Lets all workers work, each in a thread of its own where there is one.
+    /// Lets all workers work, each in a thread of its own where there is one. Err says that memory was
+    /// refused to one of them.
     pub fn run<R: Threads + Sync, G: Gate>(
         &mut self,
         rt: &R,
-        alloc: Global,
-        net: &Network,
-        grid: &Grid,
-        p: &Params,
-        first: u64,
-        traces: &[Trace],
-        claims: &Claims,
+        batch: &Batch,
+        strips: &[Strip],
         gate: &G,
-    )
-        requires ground { IsGridFor net.now p.now grid.now }
-        requires traces { AreJobTraces first traces.now }
-        requires can { All (CanRun net.now p.now (length traces.now) claims.now) self.old.workers.items }
-        ensures ran { AllZip (Ran (job net.now p.now first traces.now))
-            self.old.workers.items self.new.workers.items }
+    ) -> Result<(), AllocError>
+        requires count { length self.old.workers.items ≤ length strips.now }
+        requires can { All (CanTour (job_of batch.now) strips.now 0 (length strips.now))
+            self.old.workers.items }
+        ensures ran { AllZip (Ran (job_of batch.now) strips.now) self.old.workers.items self.new.workers.items }
+        ensures all { OnOk result (All (λ w. IsOk w.outcome) self.new.workers.items) }
         ensures room { KeepsRoom self.old self.new }
     {
         let workers = self.workers.as_mut_slice();
-        run_all(
-            rt, alloc, net, grid, p, first, traces, claims, workers, gate,
-        );
+        run_all(rt, batch, strips, workers, gate);
+        outcome_of(self.workers.as_slice())
     }
 
-    /// Puts the readers back into their list, and hands out the turns. Takes no memory.
-    pub fn dismiss(self, readers: &mut List<Reader<'s>>) -> Vec<Turn>
+    /// Puts the readers back into their list, and hands out the turns of each worker. Takes no memory.
+    pub fn dismiss(self, readers: &mut List<Reader<'s>>) -> Vec<List<Turn>>
         requires { HasRoom self }
         ensures readers { readers.new ≡ map reader_of self.entry.workers.items }
-        ensures turns { result.items ≡ map turn_of self.entry.workers.items }
+        ensures turns { result.items ≡ map turns_of self.entry.workers.items }
     {
         let Crew {
             workers,
@@ -178,11 +183,10 @@ impl<'s> Crew<'s> {
             mut turns,
         } = self;
         for worker in workers {
-            let Worker { reader, turn } = worker;
-            let Ok(()) = home.push(reader) else {
+            let Ok(()) = home.push(worker.reader) else {
                 unreachable!()
             };
-            let Ok(()) = turns.push(turn) else {
+            let Ok(()) = turns.push(List::from_vec(worker.turns)) else {
                 unreachable!()
             };
         }

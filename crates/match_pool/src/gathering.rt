@@ -1,16 +1,18 @@
-//! The answers of all workers, in the order of the traces. Serves `match_all`; decided by `AnswersBy`.
+//! The answers of all workers, in the order of the traces. Serves `match_all`; decided by `Fills`.
 ghost use Rattle.std.specs.Prelude.{◌≡◌, ◌<◌, ◌≤◌, ◌+◌, ℕ, All, IfOk, OnOk, IsSome, None, Some, length, map, replicate};
-ghost use Rattle.std.specs.List.{range_with_len};
+ghost use Rattle.std.specs.List.{AllZip};
 ghost use Rattle.match_text.specs.declared.matched.MatchedTrace.{MatchedTrace as AMatchedTrace};
-ghost use Rattle.match_pool.specs.Gathering.{AllDrawn, AnswersBy, Fills, IsOver};
-ghost use Rattle.match_pool.specs.Working.{done_by};
+ghost use Rattle.trace_match.specs.Match.{match_of};
+ghost use Rattle.match_pool.specs.Drawing.{job_of};
+ghost use Rattle.match_pool.specs.Gathering.{AllDrawn, CoverTraces, Fills, IsPile};
+ghost use Rattle.match_pool.specs.Working.{done_by, matched_at};
 
-use crate::crew::Turn;
+use crate::batch::Batch;
+use crate::turn::{Strip, Turn};
 use crate::worker::Done;
 use match_text::MatchedTrace;
 use polyline_geometry::List;
 use std::alloc::{AllocError, Global};
-use tickets::Claims;
 
 /// As many empty slots.
 fn blank(alloc: Global, count: usize) -> Result<Vec<Option<MatchedTrace>>, AllocError>
@@ -37,6 +39,30 @@ fn place(slots: &mut Vec<Option<MatchedTrace>>, first: u64, done: List<Done>)
     }
 }
 
+/// Fills the slots of a strip's traces by the turns of all workers at it.
+fn gather_strip(
+    batch: &Batch,
+    slots: &mut Vec<Option<MatchedTrace>>,
+    strip: Strip,
+    turns: List<Turn>,
+) -> Result<(), AllocError>
+    requires slots { length slots.old.items ≡ length batch.now.traces.now }
+    requires turns { IsPile (job_of batch.now) strip turns }
+    ensures count { length slots.new.items ≡ length slots.old.items }
+    ensures filled { OnOk result
+        (Fills (matched_at (job_of batch.now)) strip.numbers slots.old.items slots.new.items) }
+    ensures drawn { OnOk result (AllDrawn strip turns) }
+{
+    let mut tickets = List::new(batch.alloc);
+    for turn in turns.into_vec() {
+        let Turn { ticket, done } = turn;
+        place(slots, batch.first, done);
+        tickets.push(ticket)?;
+    }
+    strip.claims.gather(tickets);
+    Ok(())
+}
+
 /// What stands in the slots.
 fn filled(alloc: Global, slots: Vec<Option<MatchedTrace>>) -> Result<List<MatchedTrace>, AllocError>
     requires { All IsSome slots.items }
@@ -50,28 +76,25 @@ fn filled(alloc: Global, slots: Vec<Option<MatchedTrace>>) -> Result<List<Matche
     Ok(List::from_vec(all))
 }
 
-/// The answers for so many traces, in their order.
+/// The answers for the traces of the batch, in their order, by the turns at each strip.
 pub fn gather(
-    alloc: Global,
-    claims: Claims,
-    first: u64,
-    count: usize,
-    turns: Vec<Turn>,
+    batch: &Batch,
+    strips: Vec<Strip>,
+    piles: Vec<List<Turn>>,
 ) -> Result<List<MatchedTrace>, AllocError>
-    requires claims { (claims.count ≡ count) × (length turns.items ≡ claims.seats) }
-    requires turns { All (IsOver claims) turns.items }
-    requires answers { (matched : ℕ → AMatchedTrace) × All (AnswersBy first matched count) turns.items }
-    ensures drawn { OnOk result (AllDrawn count turns.items) }
-    ensures answers { (matched : ℕ → AMatchedTrace) → All (AnswersBy first matched count) turns.items
-        → IfOk result (λ all. all ≡ map matched (range_with_len 0 count)) }
+    requires piles { AllZip (IsPile (job_of batch.now)) strips.items piles.items }
+    requires whole { CoverTraces (job_of batch.now) strips.items }
+    ensures drawn { OnOk result (AllZip AllDrawn strips.items piles.items) }
+    ensures matched { IfOk result
+        (λ all. all ≡ map (match_of batch.now.net.now batch.now.params.now) batch.now.traces.now) }
 {
-    let mut slots = blank(alloc, count)?;
-    let mut tickets = List::new(alloc);
-    for turn in turns {
-        let Turn { ticket, done } = turn;
-        place(&mut slots, first, done?);
-        tickets.push(ticket)?;
+    let mut slots = blank(batch.alloc, batch.traces.len())?;
+    let mut rest = piles.into_iter();
+    for strip in strips {
+        let Some(turns) = rest.next() else {
+            unreachable!()
+        };
+        gather_strip(batch, &mut slots, strip, turns)?;
     }
-    claims.gather(tickets);
-    filled(alloc, slots)
+    filled(batch.alloc, slots)
 }

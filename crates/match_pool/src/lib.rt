@@ -13,10 +13,16 @@
 
 mod all;
 mod answer;
+mod batch;
 mod crew;
+mod dealing;
+mod drawing;
 mod gate;
 mod gathering;
 mod routes;
+mod strips;
+mod tables;
+mod turn;
 mod worker;
 
 pub use all::match_all;

@@ -3,8 +3,10 @@ ghost use Rattle.std.specs.Prelude.{◌≡◌, ◌≤◌, IfOk, length};
 ghost use Rattle.trace_match.specs.Ground.{IsGridFor};
 ghost use Rattle.match_pool.specs.Working.{AreJobTraces, CanDraw, IsReaderFor, StaysReader, Works, job};
 
-use crate::answer::match_one;
+use crate::batch::Batch;
+use crate::drawing::draw_from;
 use crate::gate::Gate;
+use crate::strips::numbers_below;
 use cost_model::Params;
 use grid_index::Grid;
 use match_text::MatchedTrace;
@@ -48,16 +50,14 @@ pub fn work<'s, G: Gate>(
     ensures works { IfOk result (λ done. Works (job net.now p.now first traces.now)
         reader.old ticket.old done reader.new ticket.new) }
 {
-    let mut done = List::new(alloc);
-    while let Some(number) = claims.draw(ticket) {
-        let place = first + number;
-        gate.begin(place, reader.store());
-        let answer = match_one(alloc, net, grid, p, reader, &traces[number as usize])?;
-        gate.end(place, reader.store());
-        done.push(Done {
-            place,
-            matched: answer.matched,
-        })?;
-    }
-    Ok(done)
+    let batch = Batch {
+        alloc,
+        net,
+        grid,
+        params: p,
+        first,
+        traces,
+    };
+    let numbers = numbers_below(alloc, traces.len())?;
+    draw_from(&batch, numbers.as_slice(), claims, ticket, reader, gate)
 }

@@ -1,17 +1,18 @@
-use Rattle.std.proofs.Common.{◌≡◌, [], ◌∷◌, ℕ, List, All, IfOk, OnOk, Result, Ok, Err, length, map, vec_capacity, ◌≤◌, refl, sym, ap, subst, ◌∙◌, arith}
+use Rattle.std.proofs.Common.{◌≡◌, ◌≤◌, ◌^◌, [], ◌∷◌, ℕ, List, All, OnOk, Result, Ok, Err, length, map, vec_capacity, refl, sym, ap, subst, ◌∙◌, arith}
 use Rattle.std.specs.List.{AllZip}
 use Rattle.std.proofs.lemmas.List.{length-map}
+use Rattle.std.proofs.lemmas.List.Elements.{All-weaker}
 use Rattle.std.proofs.lemmas.Slice.Zip.{AllZip-long}
 use Rattle.row_store.specs.Store.{Reading}
-use Rattle.match_pool.specs.Crew.{Ran, reader_of, turn_of}
-use Rattle.match_pool.specs.Gathering.{AllDrawn, AnswersBy, IsOver}
+use Rattle.match_pool.specs.Crew.{CanTour, Ran, reader_of}
+use Rattle.match_pool.specs.Dealing.{numbers_of}
 use Rattle.match_pool.specs.Learning.{LearnAsked}
-use Rattle.match_pool.specs.Working.{Job, StaysReader, job, matched_at}
-use Rattle.match_pool.specs.declared.crew.Crew.{Crew}
-use Rattle.match_pool.specs.declared.crew.Turn.{Turn}
-use Rattle.match_pool.specs.declared.crew.Worker.{Worker}
-use Rattle.match_pool.proofs.Hiring.{all_can_run, all_draw, all_fresh}
-use Rattle.match_pool.proofs.Learning.{all_answer, all_learn, all_over, matches_are, readers_stay}
+use Rattle.match_pool.specs.Tables.{AreColumnsOf}
+use Rattle.match_pool.specs.Working.{StaysReader, job}
+use Rattle.match_pool.specs.declared.turn.Strip.{Strip}
+use Rattle.match_pool.specs.declared.turn.Turn.{Turn}
+use Rattle.match_pool.proofs.Hired.{all_can_tour, strips_are, strips_cover}
+use Rattle.match_pool.proofs.Learning.{all_did, all_learn, all_piles, readers_stay, rows_wide}
 use Rattle.match_pool.proofs.all.match_all.Goals as goal
 
 -- readers that were left alone stay
@@ -23,30 +24,49 @@ on_ok : {A E : Type 0} {P Q : Type 0} (r : Result A E) → OnOk r P → (P → Q
 on_ok (Ok x) h f = f h
 on_ok (Err e) h f = tt
 
-if_ok : {A E : Type 0} {P Q : A → Type 0} (r : Result A E) → IfOk r P → ((x : A) → P x → Q x) → IfOk r Q
-if_ok (Ok x) h f = f x h
-if_ok (Err e) h f = tt
+pub deal-requires-clause-cuts : goal.deal-requires-clause-cuts
+deal-requires-clause-cuts g c =
+    let few = c.requires.traces.few in
+    All-weaker (λ (l : List ℕ). length l ≤ length c.args.traces.now) (λ (l : List ℕ). length l ≤ 2 ^ 32) (λ l short. omega (arith, few)) c.in_ok-cuts.cuts.items c.in_ok-cuts.ensures.strips.short
 
-pub returns-in_err-claims-clause-readers : goal.returns-in_err-claims-clause-readers
-returns-in_err-claims-clause-readers g c = unmoved c.args.readers.now
+pub hire-requires : goal.hire-requires
+hire-requires g c = c.in_ok-strips.ensures.count ∙ c.len-workers.ensures
 
 pub returns-in_err-crew-clause-readers : goal.returns-in_err-crew-clause-readers
 returns-in_err-crew-clause-readers g c = subst (AllZip StaysReader c.args.readers.now) (sym c.in_err-crew.ensures.err) (unmoved c.args.readers.now)
 
-pub run-requires-clause-can : goal.run-requires-clause-can
-run-requires-clause-can g c lifetimes within =
-    let hired = c.in_ok-crew.ensures.crew in
+pub returns-in_err-cuts-clause-readers : goal.returns-in_err-cuts-clause-readers
+returns-in_err-cuts-clause-readers g c = unmoved c.args.readers.now
+
+pub returns-in_err-strips-clause-readers : goal.returns-in_err-strips-clause-readers
+returns-in_err-strips-clause-readers g c = unmoved c.args.readers.now
+
+pub run-outcome-requires-clause-count : goal.run-outcome-requires-clause-count
+run-outcome-requires-clause-count g c lifetimes within =
     let before = c.in_ok-crew.crew.workers.items in
-    let count = length c.args.traces.now in
-    let claims = c.in_ok-claims.claims in
-    all_can_run c.args.net.now c.args.p.now claims count c.args.readers.now before hired.readers_are c.requires.readers.each
-    (all_draw claims count c.in_ok-claims.tickets before c.in_ok-claims.ensures.claims.0 hired.tickets_are c.in_ok-claims.ensures.tickets.1)
+    let strips = c.in_ok-strips.strips.items in
+    let readers = sym (length-map before reader_of) ∙ ap (λ (l : List Reading). length l) c.in_ok-crew.ensures.crew.readers_are in
+    let cuts = sym (length-map strips numbers_of) ∙ ap (λ (l : List (List ℕ)). length l) c.in_ok-strips.ensures.cuts_are ∙ c.in_ok-cuts.ensures.count in
+    let same = ap (λ (l : List Strip). length l) c.as_slice.ensures.value in
+    let many = c.len-workers.ensures in
+    omega (arith, readers, cuts, same, many)
+
+pub run-outcome-requires-clause-can : goal.run-outcome-requires-clause-can
+run-outcome-requires-clause-can g c lifetimes within =
+    let j = job c.args.net.now c.args.p.now c.args.first c.args.traces.now in
+    let before = c.in_ok-crew.crew.workers.items in
+    let strips = c.in_ok-strips.strips.items in
+    let hands = c.in_ok-strips.hands.items in
+    let dealt = c.in_ok-strips.ensures in
+    let are = strips_are j c.in_ok-cuts.cuts.items _ strips hands c.in_ok-cuts.ensures.strips dealt in
+    subst (λ (l : List Strip). All (CanTour j l 0 (length l)) before) (sym c.as_slice.ensures.value)
+    (all_can_tour j c.args.readers.now strips hands before c.in_ok-crew.ensures.crew.readers_are c.requires.readers.each are dealt.fresh c.in_ok-crew.ensures.crew.turns_are)
 
 pub dismiss-turns-requires : goal.dismiss-turns-requires
 dismiss-turns-requires g c =
     let room = c.in_ok-crew.ensures.crew.room in
-    let kept = c.run.ensures.room in
-    let many = AllZip-long _ c.in_ok-crew.crew.workers.items c.run.new.self.workers.items c.run.ensures.ran in
+    let kept = c.run-outcome.ensures.room in
+    let many = AllZip-long _ c.in_ok-crew.crew.workers.items c.run-outcome.new.self.workers.items c.run-outcome.ensures.ran in
     record {
       no_readers = ap (λ v. v.items) kept.readers ∙ room.no_readers;
       no_turns = ap (λ v. v.items) kept.turns ∙ room.no_turns;
@@ -54,56 +74,86 @@ dismiss-turns-requires g c =
       turns = (let wide = ap (λ v. vec_capacity v) kept.turns in let fits = room.turns in omega arith);
     }
 
-pub gather-requires-clause-claims : goal.gather-requires-clause-claims
-gather-requires-clause-claims g c =
+pub returns-in_err-outcome-clause-readers : goal.returns-in_err-outcome-clause-readers
+returns-in_err-outcome-clause-readers g c =
+    let j = job c.args.net.now c.args.p.now c.args.first c.args.traces.now in
     let before = c.in_ok-crew.crew.workers.items in
-    let after = c.run.new.self.workers.items in
-    let many = AllZip-long _ before after c.run.ensures.ran in
-    let turns = ap (λ (l : List Turn). length l) c.dismiss-turns.ensures.turns ∙ length-map after turn_of in
+    let after = c.run-outcome.new.self.workers.items in
+    let strips = c.in_ok-strips.strips.items in
+    let ran = subst (λ (l : List Strip). AllZip (Ran j l) before after) c.as_slice.ensures.value c.run-outcome.ensures.ran in
+    subst (λ (rs : List Reading). AllZip StaysReader rs c.dismiss-turns.new.readers) c.in_ok-crew.ensures.crew.readers_are
+    (subst (AllZip StaysReader (map reader_of before)) (sym c.dismiss-turns.ensures.readers) (readers_stay j strips before after ran))
+
+pub returns-in_err-piles-clause-readers : goal.returns-in_err-piles-clause-readers
+returns-in_err-piles-clause-readers g c =
+    let j = job c.args.net.now c.args.p.now c.args.first c.args.traces.now in
+    let before = c.in_ok-crew.crew.workers.items in
+    let after = c.run-outcome.new.self.workers.items in
+    let strips = c.in_ok-strips.strips.items in
+    let ran = subst (λ (l : List Strip). AllZip (Ran j l) before after) c.as_slice.ensures.value c.run-outcome.ensures.ran in
+    subst (λ (rs : List Reading). AllZip StaysReader rs c.dismiss-turns.new.readers) c.in_ok-crew.ensures.crew.readers_are
+    (subst (AllZip StaysReader (map reader_of before)) (sym c.dismiss-turns.ensures.readers) (readers_stay j strips before after ran))
+
+pub columns_of-requires : goal.columns_of-requires
+columns_of-requires g c =
+    let j = job c.args.net.now c.args.p.now c.args.first c.args.traces.now in
+    let before = c.in_ok-crew.crew.workers.items in
+    let after = c.run-outcome.new.self.workers.items in
+    let strips = c.in_ok-strips.strips.items in
+    let ran = subst (λ (l : List Strip). AllZip (Ran j l) before after) c.as_slice.ensures.value c.run-outcome.ensures.ran in
+    let did = all_did j strips before after ran c.in_ok-outcome.ensures.all in
+    let width : c.len.result ≡ length strips = (let many = c.len.ensures in let whole = c.in_ok-strips.strips.ok.0 in omega (arith, many, whole)) in
+    subst (λ (n : ℕ). All (λ (row : List Turn). length row ≡ n) c.dismiss-turns.result.items) (sym width)
+    (subst (λ (rows : List (List Turn)). All (λ (row : List Turn). length row ≡ length strips) rows) (sym c.dismiss-turns.ensures.turns) (rows_wide j strips before after did))
+
+pub gather-requires-clause-piles : goal.gather-requires-clause-piles
+gather-requires-clause-piles g c =
+    let j = job c.args.net.now c.args.p.now c.args.first c.args.traces.now in
+    let before = c.in_ok-crew.crew.workers.items in
+    let after = c.run-outcome.new.self.workers.items in
+    let strips = c.in_ok-strips.strips.items in
+    let ran = subst (λ (l : List Strip). AllZip (Ran j l) before after) c.as_slice.ensures.value c.run-outcome.ensures.ran in
+    let did = all_did j strips before after ran c.in_ok-outcome.ensures.all in
+    let width : c.len.result ≡ length strips = (let many = c.len.ensures in let whole = c.in_ok-strips.strips.ok.0 in omega (arith, many, whole)) in
+    let piles = c.in_ok-piles.piles.items in
+    let columns = subst (λ (rows : List (List Turn)). AreColumnsOf rows (length strips) piles) c.dismiss-turns.ensures.turns
+    (subst (λ (n : ℕ). AreColumnsOf c.dismiss-turns.result.items n piles) width c.in_ok-piles.ensures) in
+    let dealt = c.in_ok-strips.ensures in
+    let are = strips_are j c.in_ok-cuts.cuts.items _ strips c.in_ok-strips.hands.items c.in_ok-cuts.ensures.strips dealt in
     let readers = sym (length-map before reader_of) ∙ ap (λ (l : List Reading). length l) c.in_ok-crew.ensures.crew.readers_are in
-    (c.in_ok-claims.ensures.claims.0, turns ∙ many ∙ readers ∙ sym c.len-seats.ensures ∙ sym c.in_ok-claims.ensures.claims.1)
+    let count = AllZip-long _ before after ran ∙ readers ∙ sym c.len-workers.ensures in
+    all_piles j strips piles c.len-workers.result before after did columns dealt.claims are count
 
-pub gather-requires-clause-turns : goal.gather-requires-clause-turns
-gather-requires-clause-turns g c =
-    let hired = c.in_ok-crew.ensures.crew in
-    let before = c.in_ok-crew.crew.workers.items in
-    let claims = c.in_ok-claims.claims in
+pub gather-requires-clause-whole : goal.gather-requires-clause-whole
+gather-requires-clause-whole g c =
     let j = job c.args.net.now c.args.p.now c.args.first c.args.traces.now in
-    let draw = all_draw claims (length c.args.traces.now) c.in_ok-claims.tickets before c.in_ok-claims.ensures.claims.0 hired.tickets_are c.in_ok-claims.ensures.tickets.1 in
-    subst (All (IsOver claims)) (sym c.dismiss-turns.ensures.turns) (all_over j claims before c.run.new.self.workers.items c.run.ensures.ran draw)
-
-pub gather-requires-clause-answers : goal.gather-requires-clause-answers
-gather-requires-clause-answers g c =
-    let before = c.in_ok-crew.crew.workers.items in
-    let j = job c.args.net.now c.args.p.now c.args.first c.args.traces.now in
-    let fresh = all_fresh c.in_ok-claims.claims.name c.in_ok-claims.tickets before c.in_ok-crew.ensures.crew.tickets_are c.in_ok-claims.ensures.tickets.1 in
-    (matched_at j, subst (All (AnswersBy c.args.first (matched_at j) (length c.args.traces.now))) (sym c.dismiss-turns.ensures.turns) (all_answer j before c.run.new.self.workers.items c.run.ensures.ran fresh))
-
-pub returns-clause-matched : goal.returns-clause-matched
-returns-clause-matched g c =
-    let before = c.in_ok-crew.crew.workers.items in
-    let j = job c.args.net.now c.args.p.now c.args.first c.args.traces.now in
-    let fresh = all_fresh c.in_ok-claims.claims.name c.in_ok-claims.tickets before c.in_ok-crew.ensures.crew.tickets_are c.in_ok-claims.ensures.tickets.1 in
-    let answers = subst (All (AnswersBy c.args.first (matched_at j) (length c.args.traces.now))) (sym c.dismiss-turns.ensures.turns) (all_answer j before c.run.new.self.workers.items c.run.ensures.ran fresh) in
-    if_ok c.gather.result (c.gather.ensures.answers (matched_at j) answers) (λ all are. are ∙ matches_are j)
+    strips_cover j c.in_ok-cuts.cuts.items _ c.in_ok-strips.strips.items c.in_ok-strips.hands.items c.in_ok-cuts.ensures.strips c.in_ok-strips.ensures
 
 pub returns-clause-readers : goal.returns-clause-readers
 returns-clause-readers g c =
-    let before = c.in_ok-crew.crew.workers.items in
     let j = job c.args.net.now c.args.p.now c.args.first c.args.traces.now in
-    let stay = readers_stay j before c.run.new.self.workers.items c.run.ensures.ran in
-    subst (λ rs. AllZip StaysReader rs c.dismiss-turns.new.readers) c.in_ok-crew.ensures.crew.readers_are
-    (subst (AllZip StaysReader (map reader_of before)) (sym c.dismiss-turns.ensures.readers) stay)
+    let before = c.in_ok-crew.crew.workers.items in
+    let after = c.run-outcome.new.self.workers.items in
+    let strips = c.in_ok-strips.strips.items in
+    let ran = subst (λ (l : List Strip). AllZip (Ran j l) before after) c.as_slice.ensures.value c.run-outcome.ensures.ran in
+    subst (λ (rs : List Reading). AllZip StaysReader rs c.dismiss-turns.new.readers) c.in_ok-crew.ensures.crew.readers_are
+    (subst (AllZip StaysReader (map reader_of before)) (sym c.dismiss-turns.ensures.readers) (readers_stay j strips before after ran))
 
 pub returns-clause-learns : goal.returns-clause-learns
 returns-clause-learns g c =
+    let j = job c.args.net.now c.args.p.now c.args.first c.args.traces.now in
     let before = c.in_ok-crew.crew.workers.items in
-    let after = c.run.new.self.workers.items in
+    let after = c.run-outcome.new.self.workers.items in
+    let strips = c.in_ok-strips.strips.items in
+    let ran = subst (λ (l : List Strip). AllZip (Ran j l) before after) c.as_slice.ensures.value c.run-outcome.ensures.ran in
+    let did = all_did j strips before after ran c.in_ok-outcome.ensures.all in
+    let width : c.len.result ≡ length strips = (let many = c.len.ensures in let whole = c.in_ok-strips.strips.ok.0 in omega (arith, many, whole)) in
+    let piles = c.in_ok-piles.piles.items in
+    let columns = subst (λ (rows : List (List Turn)). AreColumnsOf rows (length strips) piles) c.dismiss-turns.ensures.turns
+    (subst (λ (n : ℕ). AreColumnsOf c.dismiss-turns.result.items n piles) width c.in_ok-piles.ensures) in
     let n = c.args.net.now in
     let p = c.args.p.now in
-    let j = job n p c.args.first c.args.traces.now in
-    let fresh = all_fresh c.in_ok-claims.claims.name c.in_ok-claims.tickets before c.in_ok-crew.ensures.crew.tickets_are c.in_ok-claims.ensures.tickets.1 in
+    let cover = strips_cover j c.in_ok-cuts.cuts.items _ strips c.in_ok-strips.hands.items c.in_ok-cuts.ensures.strips c.in_ok-strips.ensures in
     on_ok c.gather.result c.gather.ensures.drawn (λ drawn.
-    let learn = all_learn j before after c.run.ensures.ran fresh (subst (AllDrawn (length c.args.traces.now)) c.dismiss-turns.ensures.turns drawn) in
-    subst (λ rs. LearnAsked n p c.args.traces.now rs c.dismiss-turns.new.readers) c.in_ok-crew.ensures.crew.readers_are
-    (subst (LearnAsked n p c.args.traces.now (map reader_of before)) (sym c.dismiss-turns.ensures.readers) learn))
+    subst (λ (rs : List Reading). LearnAsked n p c.args.traces.now rs c.dismiss-turns.new.readers) c.in_ok-crew.ensures.crew.readers_are
+    (subst (LearnAsked n p c.args.traces.now (map reader_of before)) (sym c.dismiss-turns.ensures.readers) (all_learn j strips piles before after did cover columns drawn)))

@@ -1,24 +1,17 @@
-use Rattle.std.proofs.Common.{◌≡◌, ◌∷◌, [], ◌++◌, ℕ, ◌+◌, ◌<◌, ◌≤◌, List, All, Any, Contains, IfOk, OnOk, IsOk, IsSome, Result, Ok, Err, Some, length, map, true≢false, refl, sym, ap, subst, ◌∙◌, arith}
+use Rattle.std.proofs.Common.{◌≡◌, ◌∷◌, [], ◌++◌, ℕ, ◌+◌, ◌<◌, List, Any, Contains, IfOk, OnOk, Result, Ok, Err, Some, length, map, rules, refl, sym, ap, subst, ◌∙◌, arith}
+use Rattle.std.specs.List.{AllZip, range_with_len}
+use Rattle.std.specs.Prelude.{slice_get}
 use Rattle.std.specs.Vec.Iter.{into_iter_items}
-use Rattle.std.specs.List.{range_with_len}
-use Rattle.std.proofs.lemmas.List.{map-append}
-use Rattle.std.proofs.lemmas.List.Elements.{All-head, All-map, All-push, All-tail, All-weaker}
-use Rattle.match_text.specs.declared.matched.MatchedTrace.{MatchedTrace}
-use Rattle.tickets.proofs.Moves.{all_front, all_last}
-use Rattle.tickets.specs.Tickets.{Drawn, HasEnded}
-use Rattle.match_pool.specs.Gathering.{AllDrawn, AnswersBy, IsOver}
-use Rattle.match_pool.specs.declared.crew.Turn.{Turn}
-use Rattle.match_pool.specs.declared.worker.Done.{Done}
-use Rattle.match_pool.proofs.Slots.{all_from, all_hold, answers_of, holds_more, places_inside, some_in_each, some_ticket}
+use Rattle.std.proofs.lemmas.List.{length-replicate}
+use Rattle.match_pool.specs.Drawing.{job_of}
+use Rattle.match_pool.specs.Gathering.{AllDrawn, IsPile}
+use Rattle.match_pool.specs.Working.{matched_at}
+use Rattle.match_pool.specs.declared.turn.Strip.{Strip}
+use Rattle.match_pool.proofs.Learning.{matches_are}
+use Rattle.match_pool.proofs.Lists.{zip_long, zip_push}
+use Rattle.match_pool.proofs.Slots.{all_from, more_in, no_match, none_in, some_in_each}
 use Rattle.match_pool.proofs.Yields.{ends, goes_on}
 use Rattle.match_pool.proofs.gathering.gather.Goals as goal
-
-abbrev ticket_of : Turn → Drawn
-ticket_of t = t.ticket
-
-of_ok : {A E : Type 0} (P : Type 0) (r : Result A E) → IsOk r → OnOk r P → P
-of_ok P (Ok x) ok h = h
-of_ok P (Err e) ok h = absurd (true≢false (sym ok))
 
 on_each : {A E : Type 0} (P : Type 0) (r : Result A E) → P → OnOk r P
 on_each P (Ok x) h = h
@@ -28,87 +21,79 @@ if_ok : {A E : Type 0} {P Q : A → Type 0} (r : Result A E) → IfOk r P → ((
 if_ok (Ok x) h f = f x h
 if_ok (Err e) h f = tt
 
-pub place-requires : goal.place-requires
-place-requires c =
-    let at = c.loop-turn in
-    let i = at.invariant in
-    let turn = c.in-Some.turn in
-    let matched = i.answers.0 in
-    let P = AnswersBy c.args.first matched c.args.count in
-    let mine = All-head P turn (into_iter_items c.next.new.self) (subst (All P) c.in-Some.ensures.steps.0 i.answers.1) in
-    let a = answers_of c.args.first matched c.args.count turn c.in_ok-done.field-0 c.in_ok-done.was mine in
-    subst (λ n. All (λ (d : Done). (c.args.first ≤ d.place) × (d.place < c.args.first + n)) c.in_ok-done.field-0) (sym i.count)
-    (places_inside c.args.first matched c.args.count turn.ticket.numbers c.in_ok-done.field-0 a)
-
-pub loop-turn-preserved : goal.loop-turn-preserved
-loop-turn-preserved c =
-    let at = c.loop-turn in
-    let i = at.invariant in
-    let turn = c.in-Some.turn in
-    let steps = c.in-Some.ensures.steps in
-    let rest = into_iter_items c.next.new.self in
-    let matched = i.answers.0 in
-    let P = AnswersBy c.args.first matched c.args.count in
+pub loop-strip-init : goal.loop-strip-init
+loop-strip-init c =
+    let j = job_of c.args.batch.now in
     record {
-      whole = goes_on at.yielded _ _ _ turn i.whole steps.0;
-      left = (let was = i.left in let gone = steps.1 in let short = ap (λ (l : List Turn). length l) steps.0 in omega arith);
-      answers = (matched, All-tail P turn rest (subst (All P) steps.0 i.answers.1));
-      tickets = c.in_ok-push.ensures.ok ∙ ap (λ (l : List Drawn). l ++ turn.ticket ∷ []) i.tickets ∙ sym (map-append ticket_of at.yielded (turn ∷ []));
-      answered = All-push (λ (t : Turn). IsOk t.done) at.yielded turn i.answered (subst IsOk (sym c.in_ok-done.was) refl);
-      count = c.place.ensures.count ∙ i.count;
-      holds = λ m all. holds_more c.args.first m c.args.count at.yielded turn c.in_ok-done.field-0 at.slots.items _ c.in_ok-done.was
-          (all_last (AnswersBy c.args.first m c.args.count) at.yielded turn all) i.count
-          (i.holds m (all_front (AnswersBy c.args.first m c.args.count) at.yielded (turn ∷ []) all)) (c.place.ensures.filled m);
+      whole = refl;
+      left = search rules;
+      piles = subst (λ (l : List Strip). AllZip (IsPile j) l (into_iter_items c.into_iter-rest.result)) (sym c.into_iter-strip-iterator.ensures.into_iter_gives.0)
+          (subst (AllZip (IsPile j) c.args.strips.items) (sym c.into_iter-rest.ensures.rest) c.requires.piles);
+      count = ap (λ l. length l) c.in_ok-slots.ensures ∙ length-replicate (length c.args.batch.now.traces.now) no_match;
+      past = ([], refl, tt);
+      matched = none_in j c.in_ok-slots.slots.items;
     }
 
-pub gather-requires-clause-own : goal.gather-requires-clause-own
-gather-requires-clause-own c =
-    let at = c.loop-turn in
+pub gather_strip-requires-clause-turns : goal.gather_strip-requires-clause-turns
+gather_strip-requires-clause-turns c =
+    let at = c.loop-strip in
     let i = at.invariant in
-    let all = ends at.yielded _ _ i.whole (sym i.left ∙ c.in-None.ensures.steps.0) ∙ c.into_iter-turn-iterator.ensures.into_iter_gives.0 in
-    let turns = c.args.turns.items in
-    subst (All (λ (t : Drawn). t.claims ≡ c.args.claims.name)) (sym (i.tickets ∙ ap (map ticket_of) all))
-    (All-map (λ (t : Drawn). t.claims ≡ c.args.claims.name) ticket_of turns (All-weaker (IsOver c.args.claims) (λ (t : Turn). t.ticket.claims ≡ c.args.claims.name) (λ t o. o.own) turns c.requires.turns))
+    let j = job_of c.args.batch.now in
+    let strip = c.in-Some.strip in
+    let left = into_iter_items c.next.new.self in
+    let both = subst (AllZip (IsPile j) (strip ∷ left)) c.in-Some-next.ensures.items (subst (λ (l : List Strip). AllZip (IsPile j) l (into_iter_items at.rest)) c.in-Some.ensures.steps.0 i.piles) in
+    both.0
 
-pub gather-requires-clause-ended : goal.gather-requires-clause-ended
-gather-requires-clause-ended c =
-    let at = c.loop-turn in
+pub loop-strip-preserved : goal.loop-strip-preserved
+loop-strip-preserved c =
+    let at = c.loop-strip in
     let i = at.invariant in
-    let all = ends at.yielded _ _ i.whole (sym i.left ∙ c.in-None.ensures.steps.0) ∙ c.into_iter-turn-iterator.ensures.into_iter_gives.0 in
-    let turns = c.args.turns.items in
-    let answered = subst (All (λ (t : Turn). IsOk t.done)) all i.answered in
-    let over = c.requires.turns in
-    let ended : All (λ (t : Turn). HasEnded c.args.claims.count t.ticket) turns = λ k d low. of_ok _ _ (answered k d low) (over k d low).ended in
-    subst (All (HasEnded c.args.claims.count)) (sym (i.tickets ∙ ap (map ticket_of) all)) (All-map (HasEnded c.args.claims.count) ticket_of turns ended)
+    let j = job_of c.args.batch.now in
+    let strip = c.in-Some.strip in
+    let steps = c.in-Some.ensures.steps in
+    let left = into_iter_items c.next.new.self in
+    let turns = c.in-Some-next.turns in
+    let rest = into_iter_items c.next-in-loop-strip.new.self in
+    let popped : into_iter_items at.rest ≡ turns ∷ rest = c.in-Some-next.ensures.items in
+    let both = subst (AllZip (IsPile j) (strip ∷ left)) popped (subst (λ (l : List Strip). AllZip (IsPile j) l (into_iter_items at.rest)) steps.0 i.piles) in
+    let did = c.in_ok-gather_strip.ensures in
+    record {
+      whole = goes_on at.yielded _ _ _ strip i.whole steps.0;
+      left = (let was = i.left in let gone = steps.1 in let short = ap (λ (l : List Strip). length l) steps.0 in omega arith);
+      piles = both.1;
+      count = did.count ∙ i.count;
+      past = (i.past.0 ++ turns ∷ [], goes_on i.past.0 (into_iter_items at.rest) rest _ turns i.past.1 popped, zip_push AllDrawn at.yielded i.past.0 strip turns i.past.2 did.drawn);
+      matched = more_in j at.yielded strip at.slots.items c.gather_strip.new.slots.items i.count i.matched did.filled;
+    }
 
 pub filled-requires : goal.filled-requires
 filled-requires c =
-    let at = c.loop-turn in
+    let at = c.loop-strip in
     let i = at.invariant in
-    let all = ends at.yielded _ _ i.whole (sym i.left ∙ c.in-None.ensures.steps.0) ∙ c.into_iter-turn-iterator.ensures.into_iter_gives.0 in
-    let matched = c.requires.answers.0 in
-    let answers = subst (All (AnswersBy c.args.first matched c.args.count)) (sym all) c.requires.answers.1 in
-    let drawn : (k : ℕ) → k < c.args.count → Any (λ (t : Turn). Contains t.ticket.numbers k) at.yielded = λ k low. some_ticket k at.yielded
-    (let once = rw i.tickets at (c.gather.ensures k (let counted = c.requires.claims.0 in omega arith)) in omega arith) in
-    some_in_each matched at.slots.items (λ k low. all_hold matched c.args.count at.yielded at.slots.items (i.holds matched answers) drawn k (let many = i.count in omega arith))
+    let j = job_of c.args.batch.now in
+    let all = ends at.yielded _ _ i.whole (sym i.left ∙ c.in-None.ensures.steps.0) ∙ c.into_iter-strip-iterator.ensures.into_iter_gives.0 in
+    some_in_each (matched_at j) at.slots.items
+    (λ k low. let lt : k < length c.args.batch.now.traces.now = (let count = i.count in omega (arith, low, count)) in i.matched k lt (subst (Any (λ (s : Strip). Contains s.numbers k)) (sym all) (c.requires.whole k lt)))
+
+pub returns-clause-matched : goal.returns-clause-matched
+returns-clause-matched c =
+    let at = c.loop-strip in
+    let i = at.invariant in
+    let j = job_of c.args.batch.now in
+    let all = ends at.yielded _ _ i.whole (sym i.left ∙ c.in-None.ensures.steps.0) ∙ c.into_iter-strip-iterator.ensures.into_iter_gives.0 in
+    let each : (k : ℕ) → k < length at.slots.items → slice_get at.slots.items k ≡ Some (Some (matched_at j k)) =
+    (λ k low. let lt : k < length c.args.batch.now.traces.now = (let count = i.count in omega (arith, low, count)) in i.matched k lt (subst (Any (λ (s : Strip). Contains s.numbers k)) (sym all) (c.requires.whole k lt))) in
+    if_ok c.filled.result c.filled.ensures (λ xs e.
+    all_from (matched_at j) 0 at.slots.items xs e (λ k low. let zero : 0 + k ≡ k = omega arith in rw zero (each k low))
+    ∙ ap (λ (n : ℕ). map (matched_at j) (range_with_len 0 n)) i.count
+    ∙ matches_are j)
 
 pub returns-clause-drawn : goal.returns-clause-drawn
 returns-clause-drawn c =
-    let at = c.loop-turn in
+    let at = c.loop-strip in
     let i = at.invariant in
-    let all = ends at.yielded _ _ i.whole (sym i.left ∙ c.in-None.ensures.steps.0) ∙ c.into_iter-turn-iterator.ensures.into_iter_gives.0 in
-    let drawn : (k : ℕ) → k < c.args.count → Any (λ (t : Turn). Contains t.ticket.numbers k) at.yielded = λ k low. some_ticket k at.yielded
-    (let once = rw i.tickets at (c.gather.ensures k (let counted = c.requires.claims.0 in omega arith)) in omega arith) in
-    on_each _ c.filled.result (subst (AllDrawn c.args.count) all (record { answered = i.answered; each = drawn }))
-
-pub returns-clause-answers : goal.returns-clause-answers
-returns-clause-answers c matched given =
-    let at = c.loop-turn in
-    let i = at.invariant in
-    let all = ends at.yielded _ _ i.whole (sym i.left ∙ c.in-None.ensures.steps.0) ∙ c.into_iter-turn-iterator.ensures.into_iter_gives.0 in
-    let answers = subst (All (AnswersBy c.args.first matched c.args.count)) (sym all) given in
-    let drawn : (k : ℕ) → k < c.args.count → Any (λ (t : Turn). Contains t.ticket.numbers k) at.yielded = λ k low. some_ticket k at.yielded
-    (let once = rw i.tickets at (c.gather.ensures k (let counted = c.requires.claims.0 in omega arith)) in omega arith) in
-    if_ok c.filled.result c.filled.ensures (λ xs e.
-    all_from matched 0 at.slots.items xs e (λ k low. let zero : 0 + k ≡ k = omega arith in rw zero (all_hold matched c.args.count at.yielded at.slots.items (i.holds matched answers) drawn k (let many = i.count in omega arith)))
-    ∙ ap (λ n. map matched (range_with_len 0 n)) i.count)
+    let none = sym i.left ∙ c.in-None.ensures.steps.0 in
+    let strips = ends at.yielded _ _ i.whole none ∙ c.into_iter-strip-iterator.ensures.into_iter_gives.0 in
+    let long = zip_long (IsPile (job_of c.args.batch.now)) (into_iter_items at.strip-iterator) (into_iter_items at.rest) i.piles in
+    let piles = ends i.past.0 (into_iter_items at.rest) _ i.past.1 (long ∙ none) ∙ c.into_iter-rest.ensures.rest in
+    on_each _ c.filled.result (subst (λ (l : List Strip). AllZip AllDrawn l c.args.piles.items) strips (subst (AllZip AllDrawn at.yielded) piles i.past.2))

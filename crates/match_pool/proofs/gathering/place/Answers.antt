@@ -1,4 +1,4 @@
-use Rattle.std.proofs.Common.{ℕ, All, ◌+◌, ◌<◌, ◌≤◌, List, length, length-set, ap, ◌∙◌, subst, arith}
+use Rattle.std.proofs.Common.{All, ◌+◌, ◌<◌, ◌≤◌, length, length-set, ap, ◌∙◌, subst, arith}
 use Rattle.std.proofs.lemmas.List.Elements.{All-head, All-rest}
 use Rattle.std.specs.Vec.Iter.{into_iter_items}
 use Rattle.match_pool.specs.declared.worker.Done.{Done}

@@ -2,10 +2,10 @@ use Rattle.std.proofs.Common.{◌≡◌, ◌∷◌, [], ◌++◌, List, All, Con
 use Rattle.std.proofs.lemmas.List.{map-append}
 use Rattle.std.proofs.lemmas.List.Elements.{All-contains_itself, All-nil, All-push}
 use Rattle.tickets.proofs.Moves.{all_front, all_last}
-use Rattle.tickets.specs.Tickets.{Drawn}
 use Rattle.row_store.specs.Store.{Reading}
 use Rattle.match_pool.specs.Crew.{reader_of}
 use Rattle.match_pool.specs.declared.crew.Worker.{Worker}
+use Rattle.match_pool.specs.declared.turn.Turn.{Turn}
 use Rattle.match_pool.proofs.Yields.{goes_on}
 use Rattle.match_pool.proofs.crew.Crew.hire.Goals as goal
 
@@ -17,8 +17,8 @@ loop-reader-init c =
       whole = refl;
       left = search rules;
       readers = ap (map reader_of) c.in_ok-workers.ensures.items;
-      tickets = rw c.in_ok-workers.ensures.items (All-nil (λ (w : Worker). Contains c.args.tickets w.turn.ticket));
-      unused = All-contains_itself c.args.tickets;
+      turns = rw c.in_ok-workers.ensures.items (All-nil (λ (w : Worker). Contains c.args.hands.items w.turns.items));
+      unused = All-contains_itself c.args.hands.items;
       count = c.requires ∙ sym many;
       room = (let none = c.in_ok-workers.ensures.len in let exact = c.in_ok-workers.ensures.exact in let count = c.len-count.ensures in omega arith);
     }
@@ -30,18 +30,18 @@ loop-reader-preserved c =
     let reader = c.in-Some.reader in
     let steps = c.in-Some.ensures.steps in
     let short = ap (λ (l : List Reading). length l) steps.0 in
-    let ticket = c.in-Some-pop.ticket in
-    let left = c.pop.new.self in
-    let popped = c.in-Some-pop.ensures.some in
-    let P = Contains c.args.tickets in
-    let unused = subst (λ (l : List Drawn). All P l) popped i.unused in
-    let fewer = ap (λ (l : List Drawn). length l) popped ∙ length-append left (ticket ∷ []) in
+    let hand = c.in-Some-pop.hand in
+    let left = c.pop.new.self.items in
+    let popped : at.hands.items ≡ left ++ hand ∷ [] = c.in-Some-pop.ensures.items in
+    let P = Contains c.args.hands.items in
+    let unused = subst (λ (l : List (List Turn)). All P l) popped i.unused in
+    let fewer = ap (λ (l : List (List Turn)). length l) popped ∙ length-append left (hand ∷ []) in
     record {
       whole = goes_on at.yielded _ _ _ reader i.whole steps.0;
       left = (let was = i.left in let gone = steps.1 in omega arith);
       readers = ap (map reader_of) c.in-Ok.ensures.items ∙ map-append reader_of at.workers.items _ ∙ ap (λ (l : List Reading). l ++ reader ∷ []) i.readers;
-      tickets = rw c.in-Ok.ensures.items (All-push (λ (w : Worker). Contains c.args.tickets w.turn.ticket) at.workers.items _ i.tickets (all_last P left ticket unused));
-      unused = all_front P left (ticket ∷ []) unused;
+      turns = rw c.in-Ok.ensures.items (All-push (λ (w : Worker). Contains c.args.hands.items w.turns.items) at.workers.items _ i.turns (subst P (sym c.into_vec.ensures) (all_last P left hand unused)));
+      unused = all_front P left (hand ∷ []) unused;
       count = (let count = i.count in omega arith);
       room = (let room = i.room in let longer = c.in-Ok.ensures.len in let wide = c.in-Ok.ensures.capacity in omega arith);
     }

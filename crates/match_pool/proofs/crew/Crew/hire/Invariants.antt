@@ -9,8 +9,8 @@ invariant-loop-reader l = record {
   whole : l.yielded ++ into_iter_items l.reader-iterator ≡ into_iter_items l.initial.reader-iterator;
   left : into_iter_len l.reader-iterator ≡ length (into_iter_items l.reader-iterator);
   readers : map reader_of l.workers.items ≡ l.yielded;
-  tickets : All (λ (w : Worker). Contains l.initial.tickets w.turn.ticket) l.workers.items;
-  unused : All (Contains l.initial.tickets) l.tickets;
-  count : length l.tickets ≡ length (into_iter_items l.reader-iterator);
+  turns : All (λ (w : Worker). Contains l.initial.hands.items w.turns.items) l.workers.items;
+  unused : All (Contains l.initial.hands.items) l.hands.items;
+  count : length l.hands.items ≡ length (into_iter_items l.reader-iterator);
   room : vec_len l.workers + length (into_iter_items l.reader-iterator) ≤ vec_capacity l.workers;
 }

@@ -2,14 +2,14 @@ use Rattle.std.proofs.Common.{◌≡◌, List, length, vec_len, rules, sym, ap, 
 use Rattle.std.specs.List.{AllZip}
 use Rattle.std.proofs.lemmas.List.{with_items_is}
 use Rattle.match_pool.specs.Crew.{Ran}
-use Rattle.match_pool.specs.Working.{job}
+use Rattle.match_pool.specs.Drawing.{job_of}
 use Rattle.match_pool.specs.declared.crew.Worker.{Worker}
 use Rattle.match_pool.proofs.Yields.{zip_from}
 use Rattle.match_pool.proofs.crew.Crew.run.Goals as goal
 
 pub returns-clause-ran : goal.returns-clause-ran
 returns-clause-ran g c =
-    let did = Ran (job c.args.net.now c.args.p.now c.args.first c.args.traces.now) in
+    let did = Ran (job_of c.args.batch.now) c.args.strips.now in
     let crew = c.args.self.now.workers in
     let lent = c.as_mut_slice-workers.result.now in
     let left = c.run_all.new.workers in

@@ -1,0 +1,51 @@
+use Rattle.std.proofs.Common.{◌≡◌, ◌<◌, ◌+◌, ◌∷◌, ◌++◌, ◌∙◌, ℕ, List, [], Result, Ok, Err, IfOk, length, length-set, set, slice_index_or, sym, subst, ap, arith}
+use Rattle.std.proofs.lemmas.List.{get_or_read, length-replicate}
+use Rattle.match_pool.specs.Strips.{AreStripsOf}
+use Rattle.match_pool.specs.declared.strips.Spot.{Spot}
+use Rattle.match_pool.proofs.Lists.{default_same}
+use Rattle.match_pool.proofs.Spots.{Cutting, cut_all, cut_more, cut_none, one_strip}
+use Rattle.match_pool.proofs.strips.cut.Goals as goal
+
+if_ok : {A E : Type 0} {P Q : A → Type 0} (r : Result A E) → IfOk r P → ((x : A) → P x → Q x) → IfOk r Q
+if_ok (Ok x) h f = f x h
+if_ok (Err e) h f = tt
+
+pub returns-then-count-eq1-clause-strips : goal.returns-then-count-eq1-clause-strips
+returns-then-count-eq1-clause-strips c =
+    let n = length c.args.traces.now in
+    if_ok c.one_strip.result c.one_strip.ensures (λ strips is. subst (AreStripsOf n) (sym is) (one_strip n))
+
+pub loop-rank-init : goal.loop-rank-init
+loop-rank-init c =
+    let n = length c.args.traces.now in
+    record {
+      count = ap (λ (l : List (List ℕ)). length l) c.in_ok-strips.ensures ∙ length-replicate c.args.count [];
+      cutting = subst (Cutting n c.in_ok-spots.spots.items 0) (sym c.in_ok-strips.ensures) (cut_none n c.args.count c.in_ok-spots.spots.items);
+    }
+
+pub loop-rank-preserved : goal.loop-rank-preserved
+loop-rank-preserved c =
+    let at = c.loop-rank in
+    let i = at.invariant in
+    let n = length c.args.traces.now in
+    let spots = c.in_ok-spots.spots.items in
+    let strips = at.strips.items in
+    let s = c.min.result in
+    let x = c.index.result.now.number in
+    let low : s < length strips = (let least = c.min.ensures in let count = i.count in let some = c.requires.count in omega (arith, least, count, some)) in
+    let inside : at.rank < length spots = (let test = c.loop-rank-test.true in let end = c.len-rank-end.ensures in let whole = c.in_ok-spots.spots.ok.0 in omega (arith, test, end, whole)) in
+    let is : (d : Spot) → (slice_index_or spots at.rank d).number ≡ x = λ d. ap (λ (y : Spot). y.number) (default_same spots at.rank d c.index.result.now inside ∙ sym c.index.ensures) in
+    let lt : x < n = subst (λ (k : ℕ). k < n) (is c.index.result.now) (c.in_ok-spots.ensures.inside at.rank c.index.result.now inside) in
+    let here : c.index_mut.result.now ≡ slice_index_or strips s [] = get_or_read strips s c.index_mut.result.now low c.index_mut.ensures.value [] in
+    record {
+      count = length-set _ _ _ ∙ i.count;
+      cutting = subst (λ (l : List ℕ). Cutting n spots (at.rank + 1) (set strips s l)) (sym (c.in_ok-push.ensures.ok ∙ ap (λ (l : List ℕ). l ++ x ∷ []) here)) (cut_more n at.rank spots strips s x low lt is i.cutting);
+    }
+
+pub returns-clause-strips : goal.returns-clause-strips
+returns-clause-strips c =
+    let at = c.loop-rank in
+    let n = length c.args.traces.now in
+    let spots = c.in_ok-spots.spots.items in
+    let all : at.rank ≡ length spots = (let test = c.loop-rank-test.false in let most = at.auto.rank-end in let end = c.len-rank-end.ensures in let whole = c.in_ok-spots.spots.ok.0 in omega (arith, test, most, end, whole)) in
+    cut_all n spots at.strips.items c.in_ok-spots.ensures (subst (λ (r : ℕ). Cutting n spots r at.strips.items) all at.invariant.cutting)

@@ -1,0 +1,53 @@
+//! What one worker does at one strip. Serves `work` and `match_all`; decided by `WorksAt`.
+ghost use Rattle.std.specs.Prelude.{◌≡◌, ◌<◌, ◌≤◌, All, IfOk, length};
+ghost use Rattle.match_pool.specs.Drawing.{WorksAt, job_of};
+ghost use Rattle.match_pool.specs.Working.{CanDraw, IsReaderFor, StaysReader};
+
+use crate::answer::match_one;
+use crate::batch::Batch;
+use crate::gate::Gate;
+use crate::worker::Done;
+use polyline_geometry::List;
+use row_store::Reader;
+use std::alloc::AllocError;
+use tickets::{Claims, Ticket};
+
+/// Matches each trace of a strip whose rank in it the ticket draws, until there is none left. `numbers`
+/// are those of the strip's traces in the batch.
+pub fn draw_from<'s, G: Gate>(
+    batch: &Batch,
+    numbers: &[usize],
+    claims: &Claims,
+    ticket: &mut Ticket,
+    reader: &mut Reader<'s>,
+    gate: &G,
+) -> Result<List<Done>, AllocError>
+    requires numbers { All (λ k. k < length batch.now.traces.now) numbers.now }
+    requires ticket { CanDraw (length numbers.now) claims.now ticket.old }
+    requires reader { IsReaderFor batch.now.net.now batch.now.params.now reader.old }
+    ensures reader { StaysReader reader.old reader.new }
+    ensures claims { ticket.new.claims ≡ ticket.old.claims }
+    ensures works { IfOk result (λ done. WorksAt (job_of batch.now) numbers.now
+        reader.old ticket.old done reader.new ticket.new) }
+{
+    let mut done = List::new(batch.alloc);
+    while let Some(rank) = claims.draw(ticket) {
+        let number = numbers[rank as usize];
+        let place = batch.first + number as u64;
+        gate.begin(place, reader.store());
+        let answer = match_one(
+            batch.alloc,
+            batch.net,
+            batch.grid,
+            batch.params,
+            reader,
+            &batch.traces[number],
+        )?;
+        gate.end(place, reader.store());
+        done.push(Done {
+            place,
+            matched: answer.matched,
+        })?;
+    }
+    Ok(done)
+}
