@@ -196,8 +196,8 @@ pub stopped : (on : Setting) (s s' : SessionsState) (rows : RowsState) (tally : 
     → TakesTraces (streams_job on) after before more old new (Err stop)
 stopped on s s' rows tally after before more old new (TooLong id) (Refused refusal line) has streams stops = (
   stops.0,
-  ap (option_map too_long_line) (room-append before more has.room ∙ streams.0) ∙ ap (λ l. Some l) (sym stops.1),
-  streamed-grows on s rows tally before more old new has streams.1,
+  ap (option_map too_long_line) (room-append before more has.room ∙ streams.full) ∙ ap (λ l. Some l) (sym stops.1),
+  streamed-grows on s rows tally before more old new has streams.written,
 )
 stopped on s s' rows tally after before more old new (NotOpen id) (Refused refusal line) has streams stops = absurd stops
 stopped on s s' rows tally after before more old new Memory (Refused refusal line) has streams stops = absurd stops

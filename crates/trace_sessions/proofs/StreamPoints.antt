@@ -14,7 +14,7 @@ use Rattle.trace_match.specs.Match.{place_of}
 use Rattle.trace_reader.specs.declared.trace.Fix.{Fix}
 use Rattle.trace_reader.specs.Trace.{IsLawfulTrace}
 use Rattle.trace_sessions.specs.Sessions.{Pair, fixes_and, fixes_of, with_fix}
-use Rattle.trace_sessions.specs.StreamText.{Point, fixes_among, full_id, has_room, led_by, lines_of_fix, stream_lines, trace_of, with_points}
+use Rattle.trace_sessions.specs.StreamText.{Point, fixes_among, full_id, has_room, led_by, lines_of_fix, stream_lines, trace_of, with_points, with_taken}
 use Rattle.trace_sessions.specs.Streaming.{AreLawful, fixes_in}
 
 -- ---- the fixes of an id
@@ -150,12 +150,37 @@ full-stays n p pairs (x ∷ front) back id full = step (has_room pairs x.0) full
     step true is more = let rest = more is in (rest.0, ap (λ ls. one ++ ls) rest.1)
     step false is more = (is, refl)
 
+-- the points that are taken behind others which all had room
+pub taken-append : (pairs : List Pair) (front back : List Point) → full_id pairs front ≡ None → with_taken pairs (front ++ back) ≡ with_taken (with_points pairs front) back
+taken-append pairs [] back room = refl
+taken-append pairs (x ∷ front) back room = step (has_room pairs x.0) room (taken-append (with_fix pairs x.0 x.1) front back)
+  where
+    step : (b : Bool) → cond b (full_id (with_fix pairs x.0 x.1) front) (Some x.0) ≡ None
+        → (full_id (with_fix pairs x.0 x.1) front ≡ None → with_taken (with_fix pairs x.0 x.1) (front ++ back) ≡ with_taken (with_points (with_fix pairs x.0 x.1) front) back)
+        → cond b (with_taken (with_fix pairs x.0 x.1) (front ++ back)) pairs ≡ with_taken (with_points (with_fix pairs x.0 x.1) front) back
+    step true is more = more is
+    step false is more = absurd cc
+
+-- and behind a point without room none is
+pub taken-stays : (pairs : List Pair) (front back : List Point) (id : ℕ) → full_id pairs front ≡ Some id → with_taken pairs (front ++ back) ≡ with_taken pairs front
+taken-stays pairs [] back id full = absurd cc
+taken-stays pairs (x ∷ front) back id full = step (has_room pairs x.0) full (taken-stays (with_fix pairs x.0 x.1) front back id)
+  where
+    step : (b : Bool) → cond b (full_id (with_fix pairs x.0 x.1) front) (Some x.0) ≡ Some id
+        → (full_id (with_fix pairs x.0 x.1) front ≡ Some id → with_taken (with_fix pairs x.0 x.1) (front ++ back) ≡ with_taken (with_fix pairs x.0 x.1) front)
+        → cond b (with_taken (with_fix pairs x.0 x.1) (front ++ back)) pairs ≡ cond b (with_taken (with_fix pairs x.0 x.1) front) pairs
+    step true is more = more is
+    step false is more = refl
+
 -- one point
 pub one-full : (pairs : List Pair) (x : Point) → has_room pairs x.0 ≡ true → full_id pairs (x ∷ []) ≡ None
 one-full pairs x is = ap (λ b. cond b None (Some x.0)) is
 
 pub not-full : (pairs : List Pair) (x : Point) → has_room pairs x.0 ≡ false → full_id pairs (x ∷ []) ≡ Some x.0
 not-full pairs x is = ap (λ b. cond b None (Some x.0)) is
+
+pub none-more : (pairs : List Pair) (x : Point) → has_room pairs x.0 ≡ false → with_taken pairs (x ∷ []) ≡ pairs
+none-more pairs x is = ap (λ b. cond b (with_fix pairs x.0 x.1) pairs) is
 
 -- ---- sums over the ids
 

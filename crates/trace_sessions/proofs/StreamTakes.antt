@@ -31,7 +31,7 @@ use Rattle.trace_sessions.specs.Following.{pieces_among}
 use Rattle.trace_sessions.specs.ItemText.{AreItemsOf, item_lines}
 use Rattle.trace_sessions.specs.Sessions.{AsksFedTo, AsksFixes, IsFeedFault, Keeps, Pair, SessionsState, TakesFix, fixes_and, fixes_of, with_fix}
 use Rattle.trace_sessions.specs.SessionsInside.{session_at, session_in}
-use Rattle.trace_sessions.specs.StreamText.{Point, first_line, fixes_among, fragment_points, full_id, has_room, led_by, lines_of_fix, stream_lines, trace_of, with_points}
+use Rattle.trace_sessions.specs.StreamText.{Point, first_line, fixes_among, fragment_points, full_id, has_room, led_by, lines_of_fix, stream_lines, trace_of, with_points, with_taken}
 use Rattle.trace_sessions.specs.Streaming.{AreLawful, AsksSome, AsksStream, CanStream, Streams, TakesPoints, pieces_told}
 use Rattle.trace_sessions.specs.StreamingInside.{heading, lines_of_items}
 use Rattle.trace_sessions.proofs.FollowLines.{none_handed}
@@ -40,7 +40,7 @@ use Rattle.trace_sessions.proofs.FollowedPoints.{lies_behind}
 use Rattle.trace_sessions.proofs.PieceCounts.{among-append}
 use Rattle.trace_sessions.proofs.SessionFixes.{count_of, no-ok, opened-is, stands-in}
 use Rattle.trace_sessions.proofs.StreamLines.{told-few}
-use Rattle.trace_sessions.proofs.StreamPoints.{fixes-behind, fixes-with, fixes_in-behind, full-append, full-stays, lawful-insert, lines-append, not-full, one-full, sound-at, sum-insert, with-append}
+use Rattle.trace_sessions.proofs.StreamPoints.{fixes-behind, fixes-with, fixes_in-behind, full-append, full-stays, lawful-insert, lines-append, none-more, not-full, one-full, sound-at, sum-insert, taken-append, taken-stays, with-append}
 
 abbrev layers : Net → Params → List Fix → List Layer
 layers n p fixes = map (layer_of n p) fixes
@@ -119,15 +119,21 @@ point-taken old new pairs id fix items point count text text' keeps fed at count
       counted = told-with n p pairs id fix items grown ∙ ap (λ k. pieces_told n p pairs + k) (sym counted);
     }
 
-pub point-refused : (old new : SessionsState) (pairs : List Pair) (id : ℕ) (fix : Fix) (fault : SessionFault) (text : List ℕ) → Keeps old pairs → IsFeedFault old id fault
+pub point-refused : (old new : SessionsState) (pairs : List Pair) (id : ℕ) (fix : Fix) (fault : SessionFault) (text : List ℕ) → Keeps old pairs → IsFeedFault old id fault → new ≡ old
     → Streams old pairs ((id, fix) ∷ []) new text text (Err fault)
-point-refused old new pairs id fix fault text keeps (inl memory) = subst (λ f. Streams old pairs ((id, fix) ∷ []) new text text (Err f)) (sym memory) tt
-point-refused old new pairs id fix fault text keeps (inr full) =
+point-refused old new pairs id fix fault text keeps (inl memory) same = subst (λ f. Streams old pairs ((id, fix) ∷ []) new text text (Err f)) (sym memory) tt
+point-refused old new pairs id fix fault text keeps (inr full) same =
     let none = room-not pairs id (full.1 pairs keeps) in
     let no_lines : stream_lines old.network old.params pairs ((id, fix) ∷ []) ≡ [] =
     ap (λ b. cond b (led_by id (lines_of_fix old.network old.params id (fixes_of pairs id) fix) ++ []) []) none in
     subst (λ f. Streams old pairs ((id, fix) ∷ []) new text text (Err f)) (sym full.0)
-    (not-full pairs (id, fix) none, sym (ap (λ ls. text ++ concat ls) no_lines ∙ append-nil text))
+    (record {
+      network = ap (λ (s : SessionsState). s.network) same;
+      params = ap (λ (s : SessionsState). s.params) same;
+      full = not-full pairs (id, fix) none;
+      stands = subst (λ s. Keeps s (with_taken pairs ((id, fix) ∷ []))) (sym same) (subst (Keeps old) (sym (none-more pairs (id, fix) none)) keeps);
+      written = sym (ap (λ ls. text ++ concat ls) no_lines ∙ append-nil text);
+    })
 
 -- ---- lawful pairs stay lawful
 
@@ -187,16 +193,20 @@ refused-then s0 s1 s2 pairs front back rest t0 t1 t2 k (TooLong id) one two =
     let next = with_points pairs front in
     let lines = stream_lines n p pairs front in
     let more = stream_lines n p next back in
-    let stays = full-stays n p next back rest id two.0 in (
-      full-append pairs front (back ++ rest) one.room ∙ stays.0,
-      of_state (λ m q. t2 ≡ t1 ++ concat (stream_lines m q next back)) one.network one.params two.1
+    let stays = full-stays n p next back rest id two.full in
+    record {
+      network = two.network ∙ one.network;
+      params = two.params ∙ one.params;
+      full = full-append pairs front (back ++ rest) one.room ∙ stays.0;
+      stands = subst (Keeps s2) (sym (taken-append pairs front (back ++ rest) one.room ∙ taken-stays next back rest id two.full)) two.stands;
+      written = of_state (λ m q. t2 ≡ t1 ++ concat (stream_lines m q next back)) one.network one.params two.written
           ∙ ap (λ t. t ++ concat more) one.written
           ∙ append_assoc t0 (concat lines) (concat more)
           ∙ ap (λ t. t0 ++ t)
           (sym (concat-append lines more)
           ∙ ap (λ ls. concat (lines ++ ls)) (sym stays.1)
-          ∙ ap concat (sym (lines-append n p pairs front (back ++ rest) one.room))),
-    )
+          ∙ ap concat (sym (lines-append n p pairs front (back ++ rest) one.room)));
+    }
 
 -- no points yet
 pub none-taken : (s : SessionsState) (pairs : List Pair) (text : List ℕ) → Keeps s pairs → TakesPoints s pairs [] s text text 0

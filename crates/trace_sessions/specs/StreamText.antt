@@ -38,6 +38,12 @@ with_points pairs (x ∷ more) = with_points (with_fix pairs x.0 x.1) more
 abbrev pub has_room : List Pair → ℕ → Bool
 has_room pairs id = nat_lt (length (fixes_of pairs id)) 100_000
 
+-- and where the points before the first whose id has no room do so
+abbrev pub with_taken : List Pair → List Point → List Pair
+with_taken pairs [] = pairs
+with_taken pairs (x ∷ more) =
+    if has_room pairs x.0 then with_taken (with_fix pairs x.0 x.1) more else pairs
+
 -- ---- lines
 
 -- with the id and a space before each

@@ -14,7 +14,7 @@ use Rattle.trace_sessions.specs.declared.sessions.SessionFault.{SessionFault}
 use Rattle.trace_sessions.specs.declared.sessions.SessionFault.TheVariants.{Memory, NotOpen, TooLong}
 use Rattle.trace_sessions.specs.Following.{pieces_among}
 use Rattle.trace_sessions.specs.Sessions.{AsksFixes, IsSessionOf, Keeps, Pair, SessionsState, fixes_of}
-use Rattle.trace_sessions.specs.StreamText.{Point, closing_lines, full_id, lines_at_end, stream_lines, trace_of, with_points}
+use Rattle.trace_sessions.specs.StreamText.{Point, closing_lines, full_id, lines_at_end, stream_lines, trace_of, with_points, with_taken}
 
 -- how many fixes the ids have
 abbrev pub fixes_in : List Pair → ℕ
@@ -55,13 +55,21 @@ pub record TakesPoints (old : SessionsState) (pairs : List Pair) (points : List 
   pub counted : pieces_told old.network old.params (with_points pairs points)
       ≡ pieces_told old.network old.params pairs + pieces
 
--- or the id of one of them was full, and the lines of those before it were written; or memory ran out
+-- the id of one of them was full: those before it were taken, and their lines written
+pub record TakesUntilFull (old : SessionsState) (pairs : List Pair) (points : List Point)
+    (new : SessionsState) (text text' : List ℕ) (id : ℕ) : Type 0 where
+  pub network : new.network ≡ old.network
+  pub params : new.params ≡ old.params
+  pub full : full_id pairs points ≡ Some id
+  pub stands : Keeps new (with_taken pairs points)
+  pub written : text' ≡ text ++ concat (stream_lines old.network old.params pairs points)
+
+-- all were taken, or those before a full id, or memory ran out
 abbrev pub Streams : SessionsState → List Pair → List Point → SessionsState → List ℕ → List ℕ
     → Result ℕ SessionFault → Type 0
 Streams old pairs points new text text' (Ok pieces) = TakesPoints old pairs points new text text' pieces
 Streams old pairs points new text text' (Err (TooLong id)) =
-    (full_id pairs points ≡ Some id)
-    × (text' ≡ text ++ concat (stream_lines old.network old.params pairs points))
+    TakesUntilFull old pairs points new text text' id
 Streams old pairs points new text text' (Err (NotOpen id)) = ⊥
 Streams old pairs points new text text' (Err Memory) = Unit {0}
 
