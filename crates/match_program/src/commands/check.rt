@@ -16,7 +16,9 @@ use cost_model::Params;
 use decimal_text::write_unsigned;
 use edge_io::{Shelf, Sink};
 use polyline_geometry::List;
-use potential_certificate::{CertFault, Certificate, TEXT_LIMIT, TraceProof, read_certificate};
+use potential_certificate::{
+    CertFault, Certificate, TEXT_LIMIT, TraceProof, read_certificate_by_threads,
+};
 use program_frame::{File, Refusal, Stop, load_network, load_traces, put_text, read_file};
 use road_network::Network;
 use std::alloc::{AllocError, Global};
@@ -53,11 +55,16 @@ fn refuse_text(alloc: Global, fault: CertFault) -> Stop
 }
 
 // The certificate of a text, which is dropped.
-fn read_proofs(alloc: Global, options: &Params, text: Vec<u8>) -> Result<Certificate, Stop>
+fn read_proofs<R: Threads + Sync>(
+    rt: &R,
+    alloc: Global,
+    options: &Params,
+    text: Vec<u8>,
+) -> Result<Certificate, Stop>
     ensures said { Accepts Refusal.Certificate (certificate_in options.now text.items) result }
     ensures few { IfOk result (λ certificate. pieces_proved certificate < 2 ^ 63) }
 {
-    match read_certificate(alloc, options, &text) {
+    match read_certificate_by_threads(rt, alloc, options, &text) {
         Ok(certificate) => Ok(certificate),
         Err(fault) => Err(refuse_text(alloc, fault)),
     }
@@ -122,7 +129,7 @@ fn accept_certificate<R: Threads + Sync>(
         (check_said (record { network = roads.now; params = options.now }) traces.now text.items)
         result }
 {
-    let certificate = read_proofs(alloc, options, text)?;
+    let certificate = read_proofs(rt, alloc, options, text)?;
     check_proofs(rt, alloc, roads, options, traces, &certificate)?;
     let mut line = List::new(alloc);
     match append_proved(&certificate, &mut line) {
