@@ -3,7 +3,7 @@
 //! [`check_rows`] tries the rows that the rest stands on, [`check_trace`] one trace, and [`check_all`] a
 //! whole certificate. The verdict on a trace is `trace_verdict` in `specs/Verdicts.antt`, and that on a
 //! certificate `verdict` in `specs/Whole.antt`. [`laws`] has that they prove the matches of traces, and
-//! nothing else.
+//! nothing else. Certificates, right and forged, are tried by the crate `cert_tests`.
 #![tactic(auto)]
 
 mod batch;
@@ -35,8 +35,3 @@ mod whole;
 pub use rows::check_rows;
 pub use verdict::{Condition, Verdict};
 pub use whole::{check_all, check_trace};
-
-#[cfg(test)]
-mod certificate_tests;
-#[cfg(test)]
-mod tests;

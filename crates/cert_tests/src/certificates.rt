@@ -5,8 +5,8 @@ ghost use Rattle.polyline_geometry.specs.Plane.{InRange};
 ghost use Rattle.trace_match.specs.Match.{place_of};
 ghost use Rattle.trace_reader.specs.Trace.{IsLawfulTrace};
 
-use crate::{Condition, Verdict, check_all, check_rows, check_trace};
 use bounded_search::Row;
+use cert_checker::{Condition, Verdict, check_all, check_rows, check_trace};
 use cost_model::Params;
 use match_text::Routed;
 use polyline_geometry::List;

@@ -1,5 +1,6 @@
-use crate::check_rows;
+//! Rows that are right, and rows that are not.
 use bounded_search::{Entry, Row};
+use cert_checker::check_rows;
 use polyline_geometry::List;
 use road_network::{EdgeId, Network, NodeId, read_network};
 use std::alloc::{AllocError, Global};
