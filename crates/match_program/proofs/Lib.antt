@@ -1,3 +1,4 @@
+pub mod AcceptedOptions
 pub mod Asked
 pub mod Asking
 pub mod CheckedProofs
@@ -19,3 +20,4 @@ pub mod StreamTotals
 pub mod ReadIds
 pub mod ReadNetworks
 pub mod ProvedFiles
+pub mod ProvedRuns

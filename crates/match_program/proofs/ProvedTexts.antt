@@ -34,7 +34,7 @@ not_above : (a b : ℕ) → nat_lt a b ≡ false → b ≤ a
 not_above a b is = grind (arith, nat_tests)
 
 -- the text that is written is that of the certificate, within the limit
-written : (whole : List ℕ) (text : List ℕ) (long : Bool) → nat_lt text_limit (length whole) ≡ long → cond {A = Result (List ℕ) (List ℕ)} long (Err certificate_too_long) (Ok whole) ≡ Ok text
+pub written : (whole : List ℕ) (text : List ℕ) (long : Bool) → nat_lt text_limit (length whole) ≡ long → cond {A = Result (List ℕ) (List ℕ)} long (Err certificate_too_long) (Ok whole) ≡ Ok text
     → (whole ≡ text) × (length whole ≤ text_limit)
 written whole text true is said = absurd (cc)
 written whole text false is said = (cc, not_above text_limit (length whole) is)

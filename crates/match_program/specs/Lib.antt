@@ -2,6 +2,7 @@ pub mod Matched
 pub mod MatcherInside
 pub mod ProvedTexts
 pub mod ProvedFiles
+pub mod ProvedRuns
 pub mod RunLines
 pub mod Setting
 pub mod Sharing

@@ -1,5 +1,6 @@
 //! Laws on what a run writes. Each function is there for its clause and does nothing.
 ghost use Rattle.match_program.specs.ProvedFiles.{ProvedFilesAreAccepted};
+ghost use Rattle.match_program.specs.ProvedRuns.{ProvedRunsAreAccepted};
 ghost use Rattle.match_program.specs.ProvedTexts.{ProvedTextsAreAccepted};
 ghost use Rattle.match_program.specs.TableFiles.{TableFilesChangeNothing};
 ghost use Rattle.match_program.specs.Workers.{WorkersChangeNothing};
@@ -22,4 +23,10 @@ pub fn proved_texts_are_accepted()
 /// What `prove` writes of two files, `check` accepts with the same files and options.
 pub fn proved_files_are_accepted()
     ensures { ProvedFilesAreAccepted }
+{}
+
+/// Where a run of `prove` is done, a run of `check` with its text as the certificate file is done, with
+/// the same files and options.
+pub fn proved_runs_are_accepted()
+    ensures { ProvedRunsAreAccepted }
 {}

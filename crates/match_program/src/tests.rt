@@ -4,7 +4,7 @@ mod refusals;
 use crate::run::run;
 use decimal_text::write_unsigned;
 use edge_io::{MemoryShelf, MemorySink};
-use match_pool::OpenGate;
+use match_pool::{Gate, OpenGate};
 use polyline_geometry::List;
 use std::alloc::{AllocError, Global};
 use std::test::Fail;
@@ -156,21 +156,48 @@ fn words(alloc: Global, all: &[&str]) -> Result<Vec<String>, AllocError> {
     Ok(words)
 }
 
+// How a run ended.
+#[derive(Drop)]
+struct Ended {
+    status: u8,
+    out: MemorySink,
+    err: MemorySink,
+}
+
+impl Ended {
+    fn is(&self, status: u8, out: &[u8], err: &[u8]) -> bool {
+        self.status == status && self.out.bytes() == out && self.err.bytes() == err
+    }
+}
+
+// Ends the run of these words over a shelf, where the puts of these numbers on out and on err fail.
+fn run_to_end<R: Threads + Sync, G: Gate>(
+    rt: &R,
+    alloc: Global,
+    all: &[&str],
+    mut shelf: MemoryShelf,
+    puts: [&[u64]; 2],
+    gate: &G,
+) -> Result<Ended, AllocError> {
+    let mut out = MemorySink::new(alloc, numbers(alloc, puts[0])?);
+    let mut err = MemorySink::new(alloc, numbers(alloc, puts[1])?);
+    let words = words(alloc, all)?;
+    let status = run(rt, alloc, &words, &mut shelf, &mut out, &mut err, gate);
+    Ok(Ended { status, out, err })
+}
+
 // Whether a run gives what the case wants.
 fn is_as_wanted<R: Threads + Sync>(rt: &R, alloc: Global, case: &Case) -> Result<bool, AllocError> {
-    let mut shelf = shelf(alloc, STRAIGHT, case.traces, case.fail[0])?;
-    let mut out = MemorySink::new(alloc, numbers(alloc, case.fail[1])?);
-    let mut err = MemorySink::new(alloc, numbers(alloc, case.fail[2])?);
-    let words = words(alloc, case.words)?;
-    let status = run(rt, alloc, &words, &mut shelf, &mut out, &mut err, &OpenGate);
-    Ok(status == case.status && out.bytes() == case.out && err.bytes() == case.err)
+    let [reads, outs, errs] = case.fail;
+    let shelf = shelf(alloc, STRAIGHT, case.traces, reads)?;
+    let ended = run_to_end(rt, alloc, case.words, shelf, [outs, errs], &OpenGate)?;
+    Ok(ended.is(case.status, case.out, case.err))
 }
 
 #[test]
 fn failed_calls_show_in_the_status(rt: HostRuntime) -> Result<(), Fail> {
     for case in &CASES {
-        let wanted = is_as_wanted(&rt, rt.alloc(), case)?;
-        assert!(rt; wanted, "{}", case.shows);
+        assert!(rt; is_as_wanted(&rt, rt.alloc(), case)?, "{}", case.shows);
     }
     Ok(())
 }
@@ -200,70 +227,47 @@ fn many_texts(alloc: Global, count: u64) -> Result<List<u8>, AllocError> {
     Ok(text)
 }
 
-// Whether a run of `match` with these failing calls of the shelf ends with this status, line and
-// text.
-fn ends_so<R: Threads + Sync>(
-    rt: &R,
-    alloc: Global,
-    mut shelf: MemoryShelf,
-    status: u8,
-    line: &[u8],
-    text: &[u8],
-) -> Result<bool, AllocError> {
-    let mut out = MemorySink::new(alloc, List::new(alloc));
-    let mut err = MemorySink::new(alloc, List::new(alloc));
-    let words = words(alloc, MATCH)?;
-    let ended = run(rt, alloc, &words, &mut shelf, &mut out, &mut err, &OpenGate);
-    Ok(ended == status && out.bytes() == text && err.bytes() == line)
-}
-
 // A network of more than 65,536 bytes comes with two calls, and its end with the third.
-#[test]
-fn a_long_network_is_read_in_chunks(rt: HostRuntime) -> Result<(), Fail> {
-    let alloc = rt.alloc();
+fn is_long_network_cut<R: Threads + Sync>(rt: &R, alloc: Global) -> Result<bool, AllocError> {
     let long = many_traces(alloc, 6_000)?;
     let shelf = shelf(alloc, long.as_slice(), TWO_TRACES, &[3])?;
-    assert!(rt; ends_so(&rt, alloc, shelf, 3, b"fmm: cannot read network\n", b"")?);
+    let ended = run_to_end(rt, alloc, MATCH, shelf, [&[], &[]], &OpenGate)?;
+    Ok(ended.is(3, b"", b"fmm: cannot read network\n"))
+}
+
+#[test]
+fn a_long_network_is_read_in_chunks(rt: HostRuntime) -> Result<(), Fail> {
+    assert!(rt; is_long_network_cut(&rt, rt.alloc())?);
     Ok(())
 }
 
 // Of 6,000 traces, in two chunks, 23 batches are written before the fifth call, which is to tell
 // the end of the file.
-#[test]
-fn long_traces_are_read_in_chunks(rt: HostRuntime) -> Result<(), Fail> {
-    let alloc = rt.alloc();
+fn are_long_traces_cut<R: Threads + Sync>(rt: &R, alloc: Global) -> Result<bool, AllocError> {
     let long = many_traces(alloc, 6_000)?;
     let texts = many_texts(alloc, 5_888)?;
     let shelf = shelf(alloc, STRAIGHT, long.as_slice(), &[5])?;
-    assert!(rt;
-        ends_so(
-            &rt,
-            alloc,
-            shelf,
-            3,
-            b"fmm: cannot read traces\n",
-            texts.as_slice()
-        )?
-    );
+    let ended = run_to_end(rt, alloc, MATCH, shelf, [&[], &[]], &OpenGate)?;
+    Ok(ended.is(3, texts.as_slice(), b"fmm: cannot read traces\n"))
+}
+
+#[test]
+fn long_traces_are_read_in_chunks(rt: HostRuntime) -> Result<(), Fail> {
+    assert!(rt; are_long_traces_cut(&rt, rt.alloc())?);
     Ok(())
 }
 
 // The fault stands in the first chunk, so the second is not read.
-#[test]
-fn nothing_is_read_behind_a_fault(rt: HostRuntime) -> Result<(), Fail> {
-    let alloc = rt.alloc();
+fn is_fault_said_first<R: Threads + Sync>(rt: &R, alloc: Global) -> Result<bool, AllocError> {
     let mut long = bytes(alloc, FAULTY)?;
     long.extend_from_slice(many_traces(alloc, 6_000)?.as_slice())?;
     let shelf = shelf(alloc, STRAIGHT, long.as_slice(), &[4])?;
-    assert!(rt;
-        ends_so(
-            &rt,
-            alloc,
-            shelf,
-            6,
-            b"traces line 5 field 2: bad number\n",
-            TWO_TEXTS
-        )?
-    );
+    let ended = run_to_end(rt, alloc, MATCH, shelf, [&[], &[]], &OpenGate)?;
+    Ok(ended.is(6, TWO_TEXTS, b"traces line 5 field 2: bad number\n"))
+}
+
+#[test]
+fn nothing_is_read_behind_a_fault(rt: HostRuntime) -> Result<(), Fail> {
+    assert!(rt; is_fault_said_first(&rt, rt.alloc())?);
     Ok(())
 }

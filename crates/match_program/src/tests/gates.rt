@@ -2,10 +2,8 @@
 // the rows of one store. Each gate shows it through `run`.
 ghost use Rattle.std.specs.Prelude.{◌≡◌, IfOk, IfSome};
 
-use super::{STRAIGHT, many_texts, many_traces, numbers, shelf, words};
-use crate::run::run;
+use super::{STRAIGHT, many_texts, many_traces, run_to_end, shelf};
 use bounded_search::{Entry, Row};
-use edge_io::MemorySink;
 use match_pool::Gate;
 use polyline_geometry::List;
 use road_network::{EdgeId, NodeId};
@@ -17,21 +15,18 @@ use std::test::Fail;
 use std::thread;
 use std::thread::Threads;
 
-// Whether `match` by so many workers ends with status 0 and writes this text.
+// Whether `match` by two workers ends with status 0 and writes this text.
 fn gives<R: Threads + Sync, G: Gate>(
     rt: &R,
     alloc: Global,
-    workers: &str,
     traces: &[u8],
     text: &[u8],
     gate: &G,
 ) -> Result<bool, AllocError> {
-    let mut shelf = shelf(alloc, STRAIGHT, traces, &[])?;
-    let mut out = MemorySink::new(alloc, numbers(alloc, &[])?);
-    let mut err = MemorySink::new(alloc, numbers(alloc, &[])?);
-    let words = words(alloc, &["match", "net", "tra", "--workers", workers])?;
-    let status = run(rt, alloc, &words, &mut shelf, &mut out, &mut err, gate);
-    Ok(status == 0 && out.bytes() == text)
+    let shelf = shelf(alloc, STRAIGHT, traces, &[])?;
+    let words = ["match", "net", "tra", "--workers", "2"];
+    let ended = run_to_end(rt, alloc, &words, shelf, [&[], &[]], gate)?;
+    Ok(ended.is(0, text, b""))
 }
 
 // The text of so many traces of one point, with the total line.
@@ -86,15 +81,26 @@ impl Gate for Holder {
     }
 }
 
+// Whether two workers match as many traces and one more, where one is held until the others have ended.
+fn end_beside<R: Threads + Sync>(
+    rt: &R,
+    alloc: Global,
+    held: u64,
+    others: u64,
+    total: &[u8],
+) -> Result<bool, AllocError> {
+    let count = others.saturating_add(1);
+    let traces = many_traces(alloc, count)?;
+    let text = whole_text(alloc, count, total)?;
+    let gate = Holder::new(held, others);
+    let given = gives(rt, alloc, traces.as_slice(), text.as_slice(), &gate)?;
+    Ok(given && gate.late.load(SeqCst) == 0)
+}
+
 // Workers that run one after the other fail here: the second trace never ends while the first is held.
 #[test]
 fn workers_run_beside_each_other(rt: HostRuntime) -> Result<(), Fail> {
-    let alloc = rt.alloc();
-    let traces = many_traces(alloc, 2)?;
-    let text = whole_text(alloc, 2, TWO)?;
-    let gate = Holder::new(0, 1);
-    assert!(rt; gives(&rt, alloc, "2", traces.as_slice(), text.as_slice(), &gate)?);
-    assert!(rt; gate.late.load(SeqCst) == 0);
+    assert!(rt; end_beside(&rt, rt.alloc(), 0, 1, TWO)?);
     Ok(())
 }
 
@@ -102,13 +108,8 @@ fn workers_run_beside_each_other(rt: HostRuntime) -> Result<(), Fail> {
 // of that part never end.
 #[test]
 fn no_worker_has_a_fixed_part(rt: HostRuntime) -> Result<(), Fail> {
-    let alloc = rt.alloc();
-    let traces = many_traces(alloc, 4)?;
-    let text = whole_text(alloc, 4, FOUR)?;
     for held in 0..4 {
-        let gate = Holder::new(held, 3);
-        assert!(rt; gives(&rt, alloc, "2", traces.as_slice(), text.as_slice(), &gate)?);
-        assert!(rt; gate.late.load(SeqCst) == 0);
+        assert!(rt; end_beside(&rt, rt.alloc(), held, 3, FOUR)?);
     }
     Ok(())
 }
@@ -203,16 +204,20 @@ impl Gate for Planter {
     }
 }
 
-// Workers with rows of their own past the store fail here: the cell of node 2 is empty afterwards, and
-// takes the wrong row.
-#[test]
-fn workers_share_the_store(rt: HostRuntime) -> Result<(), Fail> {
-    let alloc = rt.alloc();
+// Whether a trace is matched as always where a gate plants rows, and both looks of the gate find them.
+fn share_the_store<R: Threads + Sync>(rt: &R, alloc: Global) -> Result<bool, AllocError> {
     let gate = Planter {
         alloc,
         steps: AtomicU64::new(0),
     };
-    assert!(rt; gives(&rt, alloc, "2", ALONG, ALONG_TEXT, &gate)?);
-    assert!(rt; gate.steps.load(SeqCst) == 2);
+    let given = gives(rt, alloc, ALONG, ALONG_TEXT, &gate)?;
+    Ok(given && gate.steps.load(SeqCst) == 2)
+}
+
+// Workers with rows of their own past the store fail here: the cell of node 2 is empty afterwards, and
+// takes the wrong row.
+#[test]
+fn workers_share_the_store(rt: HostRuntime) -> Result<(), Fail> {
+    assert!(rt; share_the_store(&rt, rt.alloc())?);
     Ok(())
 }

@@ -1,7 +1,6 @@
 // Each read and each put fails in turn, and files come a few bytes at a time.
-use super::{FAULTY, STRAIGHT, bytes, numbers, words};
-use crate::run::run;
-use edge_io::{MemoryShelf, MemorySink};
+use super::{Ended, FAULTY, STRAIGHT, bytes, numbers, run_to_end};
+use edge_io::MemoryShelf;
 use match_pool::OpenGate;
 use polyline_geometry::List;
 use std::alloc::{AllocError, Global};
@@ -119,14 +118,6 @@ const RUNS: [Run; 8] = [
     },
 ];
 
-// How a run ended.
-#[derive(Drop)]
-struct Ended {
-    status: u8,
-    out: MemorySink,
-    err: MemorySink,
-}
-
 impl Ended {
     // It ended with this status and line, and with a beginning of the text of another run.
     fn is_cut(&self, status: u8, line: &[u8], whole: &Ended) -> bool {
@@ -154,12 +145,8 @@ fn end<R: Threads + Sync>(
     files.push((bytes(alloc, b"tra")?, bytes(alloc, it.traces)?))?;
     files.push((bytes(alloc, b"tab")?, bytes(alloc, TABLE)?))?;
     files.push((bytes(alloc, b"cert")?, bytes(alloc, CERTIFICATE)?))?;
-    let mut shelf = MemoryShelf::drip(alloc, files, numbers(alloc, reads)?, most.max(1));
-    let mut out = MemorySink::new(alloc, numbers(alloc, puts)?);
-    let mut err = MemorySink::new(alloc, List::new(alloc));
-    let words = words(alloc, it.words)?;
-    let status = run(rt, alloc, &words, &mut shelf, &mut out, &mut err, &OpenGate);
-    Ok(Ended { status, out, err })
+    let shelf = MemoryShelf::drip(alloc, files, numbers(alloc, reads)?, most.max(1));
+    run_to_end(rt, alloc, it.words, shelf, [puts, &[]], &OpenGate)
 }
 
 // Whether a run ends as it has to where each of its reads fails in turn, and then the one behind the last.
@@ -218,15 +205,25 @@ fn each_put_fails_in_turn(rt: HostRuntime) -> Result<(), Fail> {
     Ok(())
 }
 
+// Whether a run ends as always where its files come by one, two and seven bytes.
+fn is_same_by_drops<R: Threads + Sync>(
+    rt: &R,
+    alloc: Global,
+    it: &Run,
+) -> Result<bool, AllocError> {
+    let whole = end(rt, alloc, it, &[], &[], u32::MAX)?;
+    for most in [1, 2, 7] {
+        if !end(rt, alloc, it, &[], &[], most)?.is_same(&whole) {
+            return Ok(false);
+        }
+    }
+    Ok(true)
+}
+
 #[test]
 fn files_come_by_drops(rt: HostRuntime) -> Result<(), Fail> {
-    let alloc = rt.alloc();
     for it in &RUNS {
-        let whole = end(&rt, alloc, it, &[], &[], u32::MAX)?;
-        for most in [1, 2, 7] {
-            let same = end(&rt, alloc, it, &[], &[], most)?;
-            assert!(rt; same.is_same(&whole), "{}", it.shows);
-        }
+        assert!(rt; is_same_by_drops(&rt, rt.alloc(), it)?, "{}", it.shows);
     }
     Ok(())
 }
