@@ -25,11 +25,11 @@ use trace_reader::Trace;
 
 /// The matches of all traces, in their order, by one worker for each reader.
 ///
-/// There are 1 to 64 readers, and as many strips of the map, into which the traces are cut. Each worker
-/// draws traces of the strip at its own place, then of the next ones round, and matches them with its
-/// reader, in a thread of its own where there is one. So most rows are asked for by one worker alone.
-/// `first` is the place of the first trace in the file, from 0, by which the gate is told of the traces.
-/// Err says that memory was refused; the readers are there all the same.
+/// There are 1 to 64 readers. The traces are cut into as many strips of the map, so that a worker mostly
+/// meets the rows that it found itself. Each worker draws the traces of its own strip, and then those that
+/// are left of the others, with its reader, in a thread of its own where there is one. `first` is the place
+/// of the first trace in the file, from 0, by which the gate is told of the traces. Err says that memory was
+/// refused; the readers are there all the same.
 pub fn match_all<'s, R: Threads + Sync, G: Gate>(
     rt: &R,
     alloc: Global,

@@ -2,8 +2,10 @@
 //!
 //! - [`match_one`] matches one trace by the rows of any [`bounded_search::Rows`]: the candidates of its
 //!   fixes, their ranks and pieces, and the routes.
-//! - [`match_all`] matches many: each of its workers has a [`row_store::Reader`] of one shared store, and
-//!   does its [`work`] on the traces whose numbers it draws from one word. No call waits.
+//! - [`match_all`] matches many: it cuts them into strips of the map, one for each worker, each with a word
+//!   from which its traces are drawn. A worker has a [`row_store::Reader`] of one shared store. It draws from
+//!   its own strip until there is none left, and then from the others. No call waits.
+//! - [`work`] does the same for one worker and one word.
 //! - A [`Gate`] is told of each trace.
 //!
 //! What the match is, `match_of` in trace_match's `specs/Match.antt` says, and `asks` there which rows
