@@ -1,6 +1,6 @@
 -- What a run of `prove` writes, a run of `check` finds proved.
-use Rattle.std.proofs.Common.{◌≡◌, ℕ, ◌<◌, ◌≤◌, ◌+◌, List, length, Option, Some, None, Result, Ok, Err, refl, sym, ◌∙◌, ap, subst, arith}
-use Rattle.std.specs.Prelude.{nat_lt, take}
+use Rattle.std.proofs.Common.{◌≡◌, ℕ, ◌≤◌, ◌+◌, List, length, Option, Some, None, Result, Ok, Err, refl, sym, ◌∙◌, ap, subst, arith}
+use Rattle.std.specs.Prelude.{nat_lt}
 use Rattle.std.specs.Result.{result_map_both}
 use Rattle.std.proofs.lemmas.List.{take_all}
 use Rattle.cert_checker.specs.Rows.{first_bad_row}
@@ -8,11 +8,8 @@ use Rattle.cert_checker.specs.Whole.{verdict}
 use Rattle.command_line.specs.FaultLine.{fault_line}
 use Rattle.command_line.specs.Options.{and_then as then_ok}
 use Rattle.command_line.specs.Work.{PlainCommand}
-use Rattle.command_line.specs.Work.PlainWork.{check_files, prove_files}
 use Rattle.command_line.specs.Words.{command_of}
 use Rattle.command_line.specs.declared.fault.WordsFault.{WordsFault}
-use Rattle.cost_model.specs.declared.params.Params.{Params}
-use Rattle.cost_model.specs.Options.{IsAccepted}
 use Rattle.potential_certificate.specs.CertificateText.{text_limit}
 use Rattle.potential_certificate.specs.declared.proof.Certificate.{Certificate}
 use Rattle.program_frame.specs.Outcome.{Outcome, done_with, refused_with, seen}
@@ -22,12 +19,11 @@ use Rattle.program_frame.specs.Refusals.{network_limit, network_said, trace_limi
 use Rattle.program_frame.specs.WholeTraces.{traces_said}
 use Rattle.program_frame.specs.declared.stop.File.{File}
 use Rattle.program_frame.specs.declared.stop.File.TheVariants.{Certificate as OfCertificate, Network, Traces}
-use Rattle.road_network.specs.Net.{Net}
 use Rattle.trace_reader.specs.declared.trace.Trace.{Trace}
 use Rattle.match_program.specs.ProvedRuns.{ProvedRunsAreAccepted}
 use Rattle.match_program.specs.Setting.{Setting}
 use Rattle.match_program.specs.Words.{asked_by, command_plan}
-use Rattle.match_program.specs.commands.Check.{certificate_in, check_plan, check_said, proved_line, proved_or_refused, verdict_said}
+use Rattle.match_program.specs.commands.Check.{certificate_in, check_said, proved_line, proved_or_refused, verdict_said}
 use Rattle.match_program.specs.commands.Prove.{prove_plan, prove_said, text_of_proofs}
 use Rattle.match_program.proofs.AcceptedOptions.{accepted_words}
 use Rattle.match_program.proofs.ProvedFiles.{proved_files_are_accepted}
