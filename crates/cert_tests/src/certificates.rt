@@ -22,19 +22,118 @@ const TWO_EDGES: &[u8] = b"edge,from,to,line\n10,1,2,0 0;10000 0\n11,2,3,10000 0
 const TWIN_EDGES: &[u8] =
     b"edge,from,to,line\n20,1,2,0 0;10000 0\n5,1,2,0 0;10000 0\n7,2,3,10000 0;20000 0\n";
 
-const FIRST: &[u8] = b"fmm-certificate 1 k 8 radius 10000 sigma 1000 beta 1000 bound 300000\n";
+/// The certificate of the trace 7 of `two_fixes`, line by line.
+const LINES: [&[u8]; 9] = [
+    b"fmm-certificate 1 k 8 radius 10000 sigma 1000 beta 1000 bound 300000\n",
+    b"trace 7\n",
+    b"layer 0 rank 0 cells 45 40545\n",
+    b"layer 1 rank 0 cells 112<0 1568<0\n",
+    b"piece 0 1 cost 112 route 10\n",
+    b"end 7\n",
+    b"row 1 1:0:- 2:10000:1\n",
+    b"row 2 2:0:-\n",
+    b"certified traces 1 rows 2\n",
+];
 
-const POINTS: &[u8] =
-    b"layer 0 rank 0 cells 45 40545\nlayer 1 rank 0 cells 112<0 1568<0\npiece 0 1 cost 112 route 10\n";
+/// What stands in place of the lines of the certificate from one on and before another.
+type Change = (usize, usize, &'static [u8]);
 
-const TWO_PIECES: &[u8] =
-    b"layer 0 rank 0 cells 45 40545\npiece 0 0 cost 45 route 10\nlayer 1 rank 0 cells 45 545\npiece 1 1 cost 45 route 10\n";
+const NO_CHANGE: Change = (0, 0, b"");
 
-const ROWS: &[u8] = b"row 1 1:0:- 2:10000:1\nrow 2 2:0:-\ncertified traces 1 rows 2\n";
+const ANOTHER_ID: Change = (
+    1,
+    6,
+    b"trace 8\nlayer 0 rank 0 cells 45 40545\nlayer 1 rank 0 cells 112<0 1568<0\npiece 0 1 cost 112 route 10\nend 8\n",
+);
 
-const ONE_ROW: &[u8] = b"row 1 1:0:- 2:10000:1\ncertified traces 1 rows 1\n";
+/// Forged certificates, and the condition that fails of each, with its place.
+const FORGED: [(Change, Condition, u64); 14] = [
+    (ANOTHER_ID, Condition::Trace, 0),
+    ((6, 7, b"row 1 1:0:- 2:10001:1\n"), Condition::Row, 0),
+    ((7, 9, b"certified traces 1 rows 1\n"), Condition::Row, 1),
+    (
+        (2, 3, b"layer 0 rank 0 cells 45\n"),
+        Condition::Candidates,
+        0,
+    ),
+    ((2, 5, b""), Condition::Candidates, 0),
+    (
+        (2, 3, b"layer 0 rank 0 cells 46 40545\n"),
+        Condition::FirstCost,
+        0,
+    ),
+    (
+        (3, 4, b"layer 1 rank 0 cells 112<0 -\n"),
+        Condition::Relaxed,
+        1,
+    ),
+    (
+        (3, 4, b"layer 1 rank 0 cells 113<0 1568<0\n"),
+        Condition::Relaxed,
+        1,
+    ),
+    (
+        (3, 4, b"layer 1 rank 0 cells 111<0 1568<0\n"),
+        Condition::Tight,
+        1,
+    ),
+    (
+        (3, 4, b"layer 1 rank 0 cells 112<1 1568<0\n"),
+        Condition::Tight,
+        1,
+    ),
+    (
+        (3, 4, b"layer 1 rank 1 cells 112<0 1568<0\n"),
+        Condition::Chosen,
+        1,
+    ),
+    (
+        (4, 5, b"piece 0 1 cost 113 route 10\n"),
+        Condition::Chosen,
+        1,
+    ),
+    (
+        (4, 5, b"piece 0 1 cost 112 route 11\n"),
+        Condition::Route,
+        1,
+    ),
+    (
+        (
+            3,
+            5,
+            b"piece 0 0 cost 45 route 10\nlayer 1 rank 0 cells 45 545\npiece 1 1 cost 45 route 10\n",
+        ),
+        Condition::Break,
+        1,
+    ),
+];
 
-const NO_ROWS: &[u8] = b"certified traces 1 rows 0\n";
+/// No trace.
+const NO_TRACES: Change = (
+    1,
+    9,
+    b"row 1 1:0:- 2:10000:1\nrow 2 2:0:-\ncertified traces 0 rows 2\n",
+);
+
+/// Two pieces of one point each, without rows, as a gap of time makes them.
+const TWO_PIECES: Change = (
+    3,
+    9,
+    b"piece 0 0 cost 45 route 10\nlayer 1 rank 0 cells 45 545\npiece 1 1 cost 45 route 10\nend 7\ncertified traces 1 rows 0\n",
+);
+
+/// A tie of two ways to an edge behind twins, and the same with the pointer to the second way.
+const TIED: Change = (
+    2,
+    9,
+    b"layer 0 rank 0 cells 0 0\nlayer 1 rank 0 cells 0<0\npiece 0 1 cost 0 route 20 7\nend 7\nrow 1 1:0:- 2:10000:2\ncertified traces 1 rows 1\n",
+);
+
+const SECOND_WAY: Change = (
+    2,
+    9,
+    b"layer 0 rank 0 cells 0 0\nlayer 1 rank 0 cells 0<1\npiece 0 1 cost 0 route 20 7\nend 7\nrow 1 1:0:- 2:10000:2\ncertified traces 1 rows 1\n",
+);
 
 const GAP: Params = Params {
     gap: 60,
@@ -69,18 +168,31 @@ fn two_fixes(time: u32) -> [Fix; 2] {
     ]
 }
 
-/// The certificate of the trace 7, or of the trace 8, with these lines of its points and rows.
-fn certificate(
-    alloc: Global,
-    id: &[u8],
-    points: &[u8],
-    rows: &[u8],
-) -> Result<Certificate, CertFault> {
+/// Fixes on the twins and on the edge behind them.
+const TIED_FIXES: [Fix; 2] = [
+    Fix {
+        x: 5_000,
+        y: 0,
+        time: 0,
+    },
+    Fix {
+        x: 15_000,
+        y: 0,
+        time: 0,
+    },
+];
+
+/// The certificate with such a change.
+fn certificate(alloc: Global, change: Change) -> Result<Certificate, CertFault> {
+    let (first, end, new) = change;
     let mut text = List::new(alloc);
-    for part in [
-        FIRST, b"trace ", id, b"\n", points, b"end ", id, b"\n", rows,
-    ] {
-        text.extend_from_slice(part)?;
+    for (place, line) in LINES.iter().enumerate() {
+        if place == first {
+            text.extend_from_slice(new)?;
+        }
+        if place < first || end <= place {
+            text.extend_from_slice(line)?;
+        }
     }
     read_certificate(alloc, &Params::DEFAULT, text.as_slice())
 }
@@ -127,6 +239,20 @@ fn on_all<R: Threads + Sync>(
     Ok(Some(check_all(rt, alloc, net, &p, traces, c)?))
 }
 
+/// The verdict on a changed certificate of some traces.
+fn on_changed<R: Threads + Sync>(
+    rt: &R,
+    alloc: Global,
+    network: &[u8],
+    p: Params,
+    traces: &[Trace],
+    change: Change,
+) -> Result<Option<Verdict>, Fail> {
+    let net = read_network(alloc, network)?;
+    let c = certificate(alloc, change)?;
+    Ok(on_all(rt, alloc, &net, p, traces, &c)?)
+}
+
 /// The verdict on the proof of trace 3. None where the rows are not right.
 fn on_trace(
     alloc: Global,
@@ -144,157 +270,56 @@ fn on_trace(
     Ok(Some(check_trace(alloc, net, &p, rows, 3, trace, proof)?))
 }
 
+/// What is put behind a proof.
+#[derive(Clone, Copy)]
+enum More {
+    Nothing,
+    /// A rank.
+    Rank,
+    /// A piece without route, from one point to another.
+    Piece(u32, u32),
+}
+
+fn append_more(alloc: Global, proof: &mut TraceProof, more: More) -> Result<(), AllocError> {
+    match more {
+        More::Nothing => Ok(()),
+        More::Rank => proof.ranks.push(None),
+        More::Piece(first, last) => proof.pieces.push(Routed {
+            first,
+            last,
+            cost: 0,
+            route: List::new(alloc),
+        }),
+    }
+}
+
+/// The first proof of a changed certificate, with more behind it, and the rows.
+fn forged_proof(
+    alloc: Global,
+    change: Change,
+    more: More,
+) -> Result<(TraceProof, List<Row>), Fail> {
+    let Certificate { mut proofs, rows } = certificate(alloc, change)?;
+    let mut proof = proofs.pop().ok_or("no proof")?;
+    append_more(alloc, &mut proof, more)?;
+    Ok((proof, rows))
+}
+
+/// The verdict on the trace 7 of two fixes, by the proof of a changed certificate with more behind it.
+fn on_forged(alloc: Global, change: Change, more: More) -> Result<Option<Verdict>, Fail> {
+    let (proof, rows) = forged_proof(alloc, change, more)?;
+    let net = read_network(alloc, TWO_EDGES)?;
+    let trace = trace(alloc, two_fixes(0))?;
+    Ok(on_trace(alloc, &net, rows.as_slice(), &trace, &proof)?)
+}
+
 /// What is refused at this place of the first trace, or of the whole.
-fn refused(condition: Condition, place: u64) -> Verdict {
-    Verdict::Refused {
+fn refused(condition: Condition, place: u64) -> Option<Verdict> {
+    Some(Verdict::Refused {
         condition,
         trace: 0,
         place,
-    }
-}
-
-#[test]
-fn the_first_condition_that_fails(rt: HostRuntime) -> Result<(), Fail> {
-    let alloc = rt.alloc();
-    let net = read_network(alloc, TWO_EDGES)?;
-    let traces = [trace(alloc, two_fixes(0))?];
-    let cases: [(&[u8], &[u8], &[u8], Verdict); 15] = [
-        (b"7", POINTS, ROWS, Verdict::Proved),
-        (b"8", POINTS, ROWS, refused(Condition::Trace, 0)),
-        (
-            b"7",
-            POINTS,
-            b"row 1 1:0:- 2:10001:1\nrow 2 2:0:-\ncertified traces 1 rows 2\n",
-            refused(Condition::Row, 0),
-        ),
-        (b"7", POINTS, ONE_ROW, refused(Condition::Row, 1)),
-        (
-            b"7",
-            b"layer 0 rank 0 cells 45\nlayer 1 rank 0 cells 112<0 1568<0\npiece 0 1 cost 112 route 10\n",
-            ROWS,
-            refused(Condition::Candidates, 0),
-        ),
-        (
-            b"7",
-            b"layer 0 rank 0 cells 46 40545\nlayer 1 rank 0 cells 112<0 1568<0\npiece 0 1 cost 112 route 10\n",
-            ROWS,
-            refused(Condition::FirstCost, 0),
-        ),
-        (
-            b"7",
-            b"layer 0 rank 0 cells 45 40545\nlayer 1 rank 0 cells 112<0 -\npiece 0 1 cost 112 route 10\n",
-            ROWS,
-            refused(Condition::Relaxed, 1),
-        ),
-        (
-            b"7",
-            b"layer 0 rank 0 cells 45 40545\nlayer 1 rank 0 cells 113<0 1568<0\npiece 0 1 cost 112 route 10\n",
-            ROWS,
-            refused(Condition::Relaxed, 1),
-        ),
-        (
-            b"7",
-            b"layer 0 rank 0 cells 45 40545\nlayer 1 rank 0 cells 111<0 1568<0\npiece 0 1 cost 112 route 10\n",
-            ROWS,
-            refused(Condition::Tight, 1),
-        ),
-        (
-            b"7",
-            b"layer 0 rank 0 cells 45 40545\nlayer 1 rank 0 cells 112<1 1568<0\npiece 0 1 cost 112 route 10\n",
-            ROWS,
-            refused(Condition::Tight, 1),
-        ),
-        (
-            b"7",
-            b"layer 0 rank 0 cells 45 40545\nlayer 1 rank 1 cells 112<0 1568<0\npiece 0 1 cost 112 route 10\n",
-            ROWS,
-            refused(Condition::Chosen, 1),
-        ),
-        (
-            b"7",
-            b"layer 0 rank 0 cells 45 40545\nlayer 1 rank 0 cells 112<0 1568<0\npiece 0 1 cost 113 route 10\n",
-            ROWS,
-            refused(Condition::Chosen, 1),
-        ),
-        (
-            b"7",
-            b"layer 0 rank 0 cells 45 40545\nlayer 1 rank 0 cells 112<0 1568<0\npiece 0 1 cost 112 route 11\n",
-            ROWS,
-            refused(Condition::Route, 1),
-        ),
-        (b"7", TWO_PIECES, ROWS, refused(Condition::Break, 1)),
-        (b"7", b"", ROWS, refused(Condition::Candidates, 0)),
-    ];
-    for (id, points, rows, verdict) in cases {
-        let c = certificate(alloc, id, points, rows)?;
-        let found = on_all(&rt, alloc, &net, Params::DEFAULT, &traces, &c)?;
-        assert_eq!(rt; found, Some(verdict));
-    }
-    Ok(())
-}
-
-#[test]
-fn another_id_and_a_gap(rt: HostRuntime) -> Result<(), Fail> {
-    let alloc = rt.alloc();
-    let net = read_network(alloc, TWO_EDGES)?;
-    let mut other = certificate(alloc, b"8", POINTS, ROWS)?;
-    let proof = other.proofs.pop().expect(&rt, "a proof");
-    let here = trace(alloc, two_fixes(0))?;
-    let found = on_trace(alloc, &net, other.rows.as_slice(), &here, &proof)?;
-    assert_eq!(rt; found, Some(Verdict::Proved));
-    let c = certificate(alloc, b"7", TWO_PIECES, NO_ROWS)?;
-    let late = [trace(alloc, two_fixes(61))?];
-    let found = on_all(&rt, alloc, &net, GAP, &late, &c)?;
-    assert_eq!(rt; found, Some(Verdict::Proved));
-    Ok(())
-}
-
-#[test]
-fn the_first_way_of_a_tie(rt: HostRuntime) -> Result<(), Fail> {
-    let alloc = rt.alloc();
-    let net = read_network(alloc, TWIN_EDGES)?;
-    let fixes = [
-        Fix {
-            x: 5_000,
-            y: 0,
-            time: 0,
-        },
-        Fix {
-            x: 15_000,
-            y: 0,
-            time: 0,
-        },
-    ];
-    let traces = [trace(alloc, fixes)?];
-    let row: &[u8] = b"row 1 1:0:- 2:10000:2\ncertified traces 1 rows 1\n";
-    let cases: [(&[u8], Verdict); 2] = [
-        (
-            b"layer 0 rank 0 cells 0 0\nlayer 1 rank 0 cells 0<0\npiece 0 1 cost 0 route 20 7\n",
-            Verdict::Proved,
-        ),
-        (
-            b"layer 0 rank 0 cells 0 0\nlayer 1 rank 0 cells 0<1\npiece 0 1 cost 0 route 20 7\n",
-            refused(Condition::Pointer, 1),
-        ),
-    ];
-    for (points, verdict) in cases {
-        let c = certificate(alloc, b"7", points, row)?;
-        assert_eq!(rt;
-            on_all(&rt, alloc, &net, NARROW, &traces, &c)?,
-            Some(verdict)
-        );
-    }
-    Ok(())
-}
-
-/// A piece without route.
-fn piece(alloc: Global, first: u32, last: u32) -> Routed {
-    Routed {
-        first,
-        last,
-        cost: 0,
-        route: List::new(alloc),
-    }
+    })
 }
 
 /// What is refused at this place of trace 3.
@@ -307,42 +332,85 @@ fn refused_alone(condition: Condition, place: u64) -> Option<Verdict> {
 }
 
 #[test]
-fn proofs_that_no_text_holds(rt: HostRuntime) -> Result<(), Fail> {
-    let alloc = rt.alloc();
-    let net = read_network(alloc, TWO_EDGES)?;
-    let trace = trace(alloc, two_fixes(0))?;
-    let cases = [
-        (Some((1, 0)), refused_alone(Condition::Break, 0)),
-        (Some((1, 1)), refused_alone(Condition::Break, 0)),
-        (Some((2, 2)), refused_alone(Condition::Break, 1)),
-        (None, refused_alone(Condition::Candidates, 1)),
-    ];
-    for (more, verdict) in cases {
-        let mut c = certificate(alloc, b"7", POINTS, ROWS)?;
-        let mut proof = c.proofs.pop().expect(&rt, "a proof");
-        match more {
-            Some((first, last)) => proof.pieces.push(piece(alloc, first, last))?,
-            None => proof.ranks.push(None)?,
-        }
-        assert_eq!(rt;
-            on_trace(alloc, &net, c.rows.as_slice(), &trace, &proof)?,
-            verdict
-        );
+fn the_first_condition_that_fails(rt: HostRuntime) -> Result<(), Fail> {
+    let traces = [trace(rt.alloc(), two_fixes(0))?];
+    for (change, condition, place) in FORGED {
+        let found = on_changed(&rt, rt.alloc(), TWO_EDGES, Params::DEFAULT, &traces, change)?;
+        assert_eq!(rt; found, refused(condition, place));
+    }
+    Ok(())
+}
+
+#[test]
+fn certificates_that_prove(rt: HostRuntime) -> Result<(), Fail> {
+    for (change, time, p) in [(NO_CHANGE, 0, Params::DEFAULT), (TWO_PIECES, 61, GAP)] {
+        let traces = [trace(rt.alloc(), two_fixes(time))?];
+        let found = on_changed(&rt, rt.alloc(), TWO_EDGES, p, &traces, change)?;
+        assert_eq!(rt; found, Some(Verdict::Proved));
+    }
+    Ok(())
+}
+
+#[test]
+fn the_first_way_of_a_tie(rt: HostRuntime) -> Result<(), Fail> {
+    let traces = [trace(rt.alloc(), TIED_FIXES)?];
+    for (change, verdict) in [
+        (TIED, Some(Verdict::Proved)),
+        (SECOND_WAY, refused(Condition::Pointer, 1)),
+    ] {
+        let found = on_changed(&rt, rt.alloc(), TWIN_EDGES, NARROW, &traces, change)?;
+        assert_eq!(rt; found, verdict);
     }
     Ok(())
 }
 
 #[test]
 fn numbers_of_traces(rt: HostRuntime) -> Result<(), Fail> {
-    let alloc = rt.alloc();
-    let net = read_network(alloc, TWO_EDGES)?;
-    let mut c = certificate(alloc, b"7", POINTS, ROWS)?;
-    c.proofs.truncate(0);
-    let none: [Trace; 0] = [];
-    let found = on_all(&rt, alloc, &net, Params::DEFAULT, &none, &c)?;
-    assert_eq!(rt; found, Some(Verdict::Proved));
-    let traces = [trace(alloc, two_fixes(0))?];
-    let found = on_all(&rt, alloc, &net, Params::DEFAULT, &traces, &c)?;
-    assert_eq!(rt; found, Some(refused(Condition::Trace, 0)));
+    let traces = [trace(rt.alloc(), two_fixes(0))?];
+    for (count, verdict) in [
+        (0, Some(Verdict::Proved)),
+        (1, refused(Condition::Trace, 0)),
+    ] {
+        let found = on_changed(
+            &rt,
+            rt.alloc(),
+            TWO_EDGES,
+            Params::DEFAULT,
+            &traces[..count],
+            NO_TRACES,
+        )?;
+        assert_eq!(rt; found, verdict);
+    }
+    Ok(())
+}
+
+// An id is no part of the proof of one trace. The other proofs have what no text can hold.
+#[test]
+fn proofs_of_one_trace(rt: HostRuntime) -> Result<(), Fail> {
+    for (change, more, verdict) in [
+        (ANOTHER_ID, More::Nothing, Some(Verdict::Proved)),
+        (
+            NO_CHANGE,
+            More::Piece(1, 0),
+            refused_alone(Condition::Break, 0),
+        ),
+        (
+            NO_CHANGE,
+            More::Piece(1, 1),
+            refused_alone(Condition::Break, 0),
+        ),
+        (
+            NO_CHANGE,
+            More::Piece(2, 2),
+            refused_alone(Condition::Break, 1),
+        ),
+        (
+            NO_CHANGE,
+            More::Rank,
+            refused_alone(Condition::Candidates, 1),
+        ),
+    ] {
+        assert_eq!(rt; on_forged(rt.alloc(), change, more)?, verdict);
+    }
     Ok(())
 }
