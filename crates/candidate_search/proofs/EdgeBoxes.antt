@@ -1,6 +1,6 @@
 -- Edges whose boxes are far from a box of points.
 use Rattle.std.specs.Prelude.{◌&&◌}
-use Rattle.std.proofs.Common.{◌≡◌, ℕ, ◌+◌, ◌*◌, ◌<◌, ◌≤◌, Bool, true, false, T, List, [], ◌∷◌, ◌++◌, length, get_or, map, take, All, refl, sym, ap, ◌∙◌, subst, arith, ℤ, pos, negsuc, ◌+ℤ◌, ◌-ℤ◌, ◌≤ℤ◌, ⊎_elim}
+use Rattle.std.proofs.Common.{◌≡◌, ℕ, ◌+◌, ◌*◌, ◌<◌, ◌≤◌, Bool, true, false, T, List, [], ◌∷◌, ◌++◌, get_or, map, All, refl, sym, ap, ◌∙◌, subst, arith, ℤ, pos, negsuc, ◌+ℤ◌, ◌-ℤ◌, ◌≤ℤ◌, ⊎_elim}
 use Rattle.std.specs.Int.Signed.{le_z}
 use Rattle.std.specs.Int.RustNames.{unsigned_abs}
 use Rattle.std.proofs.lemmas.Int.{ints}
@@ -12,17 +12,21 @@ use Rattle.polyline_geometry.proofs.Nearest.{snap_line-meets}
 use Rattle.road_network.specs.Net.{Net, IsLawful, edge_line}
 use Rattle.road_network.specs.Near.{candidate_at}
 use Rattle.grid_index.specs.Runs.{IsBelow}
-use Rattle.std.proofs.lemmas.List.{map-append, take_more}
+use Rattle.std.proofs.lemmas.List.{map-append}
 use Rattle.std.proofs.lemmas.List.Elements.{All-push}
 use Rattle.std.proofs.lemmas.List.FromFn.{map-range_with_len_more}
 use Rattle.std.specs.List.{range_with_len}
 use Rattle.grid_index.proofs.RunBoxes.{below_twice, ≤ℤ_twice}
 use Rattle.candidate_search.specs.declared.boxes.Corners.{Corners}
 use Rattle.candidate_search.specs.declared.boxes.EdgeBox.{EdgeBox}
+use Rattle.candidate_search.specs.declared.placed.Placed.{Placed}
 use Rattle.candidate_search.specs.Boxes.{AreCorners, AreGrown, IsEdgeBox, IsInside, overlap, touches}
 
 abbrev pub origin : Point
 origin = record { x = pos 0; y = pos 0 }
+
+abbrev pub no_point : Placed
+no_point = record { place = 0; at = origin }
 
 low_side : (l a q : ℤ) (r : ℕ) → l ≤ℤ a → unsigned_abs (a -ℤ q) ≤ r → (l -ℤ pos r) ≤ℤ q
 low_side (pos l) (pos a) (pos q) r h k = omega (arith, ints, h, k)
@@ -99,15 +103,14 @@ far_edge net radius c d at b lawful is grown inside apart =
     (cases_lt (radius * radius) (candidate_at net at b.edge.0).d2)
 
 -- the corners with one more place
-pub taken_point : (points : List Point) (i : ℕ) (p : Point) (c d : Corners) → i < length points → get_or points i p ≡ p → AreCorners (take i points) c
-    → InRange d.low → InRange d.high → IsBelow d.low c.low → IsBelow d.low p → IsBelow c.high d.high → IsBelow p d.high → AreCorners (take (i + 1) points) d
-taken_point points i p c d lt is h low_in high_in low first high second = record {
+pub one_more_inside : (points : List Point) (p : Point) (c d : Corners) → AreCorners points c → InRange d.low → InRange d.high → IsBelow d.low c.low → IsBelow d.low p
+    → IsBelow c.high d.high → IsBelow p d.high → AreCorners (points ++ p ∷ []) d
+one_more_inside points p c d h low_in high_in low first high second = record {
   low_in = low_in;
   high_in = high_in;
-  each = subst (All (IsInside d)) (sym (take_more points i p lt ∙ ap (λ v. take i points ++ v ∷ []) is))
-      (All-push (IsInside d) (take i points) p
-      (λ k e under. let q = h.each k e under in record { above = below_twice d.low c.low (get_or (take i points) k e) low q.above; below = below_twice (get_or (take i points) k e) c.high d.high q.below high })
-      (record { above = first; below = second }));
+  each = All-push (IsInside d) points p
+      (λ k e under. let q = h.each k e under in record { above = below_twice d.low c.low (get_or points k e) low q.above; below = below_twice (get_or points k e) c.high d.high q.below high })
+      (record { above = first; below = second });
 }
 
 map_itself : (l : List ℕ) → map (λ x. x) l ≡ l

@@ -3,7 +3,9 @@ pub mod Found
 pub mod Taken
 pub mod BestLists
 pub mod EdgeBoxes
+pub mod Parts
 pub mod Shared
+pub mod Written
 pub mod Visiting
 pub mod Reached
 pub mod Visited

@@ -1,10 +1,10 @@
 -- Candidates among the edges that are near some points.
-use Rattle.std.proofs.Common.{◌≡◌, ℕ, suc, ◌+◌, ◌-◌, ◌*◌, ◌<◌, ◌≤◌, Bool, true, false, cond, leb, List, [], ◌∷◌, ◌++◌, length, get_or, map, take, drop, All, refl, sym, ap, ◌∙◌, subst, arith}
+use Rattle.std.proofs.Common.{◌≡◌, ℕ, suc, ◌+◌, ◌*◌, ◌<◌, ◌≤◌, Bool, true, false, cond, leb, List, [], ◌∷◌, ◌++◌, length, get_or, map, take, All, refl, sym, ap, ◌∙◌, subst, arith}
 use Rattle.std.specs.List.{filter, range_with_len}
-use Rattle.std.proofs.Math.Seq.{take-add}
+use Rattle.std.specs.List.Sorted.{IsPermutation}
 use Rattle.std.proofs.lemmas.Bool.{lt-leb}
-use Rattle.std.proofs.lemmas.List.{append_assoc, get_or-map, get_or-take, length-map, length-take-le, map-append, take-append-drop, take_more}
-use Rattle.std.proofs.lemmas.List.Elements.{All-drop, All-filter, All-take}
+use Rattle.std.proofs.lemmas.List.{get_or-map, get_or-take, length-map, length-take-le, map-append, take_more}
+use Rattle.std.proofs.lemmas.List.Elements.{All-filter}
 use Rattle.std.proofs.lemmas.List.FromFn.{get_or-range_with_len, length-range_with_len}
 use Rattle.std.proofs.lemmas.List.Kept.{AllPairs-filter}
 use Rattle.std.proofs.lemmas.Simd.{map-map}
@@ -14,9 +14,12 @@ use Rattle.road_network.specs.Net.{Net, IsLawful}
 use Rattle.road_network.specs.Near.{candidate_at, candidates, in_order, within}
 use Rattle.candidate_search.specs.declared.boxes.Corners.{Corners}
 use Rattle.candidate_search.specs.declared.boxes.EdgeBox.{EdgeBox}
-use Rattle.candidate_search.specs.Boxes.{AreBoxes, AreBoxesFor, AreCorners, AreEnough, AreGrown, IsEdgeBox, touches}
+use Rattle.candidate_search.specs.Boxes.{AreBoxes, AreBoxesFor, AreCorners, AreEnough, AreGrown, IsEdgeBox, IsInside, touches}
 use Rattle.candidate_search.specs.Nearest.{IsFound, nearest, with_one}
+use Rattle.candidate_search.specs.declared.placed.Placed.{Placed}
+use Rattle.candidate_search.specs.Placed.{points_of}
 use Rattle.candidate_search.proofs.EdgeBoxes.{far_edge, origin}
+use Rattle.candidate_search.proofs.Parts.{All-parts}
 use Rattle.candidate_search.proofs.Order.{nearest_push}
 
 abbrev pub no_box : EdgeBox
@@ -43,31 +46,39 @@ same_within net radius at test (b ∷ boxes) h =
     ]
     in both (test b) refl
 
--- the boxes that touch the grown box of points are enough for these
-pub enough_near : (net : Net) (radius : ℕ) (c d : Corners) (boxes near : List EdgeBox) (points : List Point) → IsLawful net → AreBoxesFor net radius boxes points
-    → AreCorners points c → AreGrown radius c d → near ≡ filter (λ b. touches d b.corners) boxes → AreBoxesFor net radius near points
-enough_near net radius c d boxes near points lawful h corners grown is =
+-- the boxes that touch the grown box of a group are enough for it
+pub enough_near : (net : Net) (radius : ℕ) (c d : Corners) (boxes near : List EdgeBox) (group : List Placed) → IsLawful net → AreBoxesFor net radius boxes group
+    → AreCorners (points_of group) c → AreGrown radius c d → near ≡ filter (λ b. touches d b.corners) boxes → AreBoxesFor net radius near group
+enough_near net radius c d boxes near group lawful h corners grown is =
     let test = λ (b : EdgeBox). touches d b.corners in
-    subst (λ l. AreBoxesFor net radius l points) (sym is) (record {
+    subst (λ l. AreBoxesFor net radius l group) (sym is) (record {
       are = record {
         rising = AllPairs-filter (λ a b. a.edge.0 < b.edge.0) test boxes h.are.rising;
         each = All-filter test (IsEdgeBox net) boxes h.are.each;
       };
-      enough = λ i at lt.
-          let p = get_or points i at in
-          same_within net radius p test boxes (λ j b under apart. far_edge net radius c d p (get_or boxes j b) lawful (h.are.each j b under) grown (corners.each i at lt) apart)
-          ∙ h.enough i at lt;
+      enough = λ i x lt.
+          let p = (get_or group i x).at in
+          let inside : IsInside c p = subst (IsInside c) (get_or-map (λ (y : Placed). y.at) group i x origin lt) (corners.each i origin (omega (arith, lt, length-map group (λ (y : Placed). y.at)))) in
+          same_within net radius p test boxes (λ j b under apart. far_edge net radius c d p (get_or boxes j b) lawful (h.are.each j b under) grown inside apart)
+          ∙ h.enough i x lt;
     })
 
--- boxes of all edges
-pub all_enough : (net : Net) (radius : ℕ) (boxes : List EdgeBox) (points : List Point) → AreBoxes net boxes → map (λ b. b.edge.0) boxes ≡ range_with_len 0 (length net.edges)
-    → AreBoxesFor net radius boxes points
-all_enough net radius boxes points are all = record {
+-- the boxes of all edges are enough for any group
+pub all_enough : (net : Net) (radius : ℕ) (boxes : List EdgeBox) (group : List Placed) → AreBoxes net boxes → map (λ b. b.edge.0) boxes ≡ range_with_len 0 (length net.edges)
+    → AreBoxesFor net radius boxes group
+all_enough net radius boxes group are all = record {
   are = are;
-  enough = λ i at lt.
-      let p = get_or points i at in
+  enough = λ i x lt.
+      let p = (get_or group i x).at in
       ap (within radius) (sym (map-map (candidate_at net p) (λ (b : EdgeBox). b.edge.0) boxes) ∙ ap (map (candidate_at net p)) all);
 }
+
+-- boxes for a group are boxes for a part of it
+pub for_part : (net : Net) (radius : ℕ) (boxes : List EdgeBox) (group below above : List Placed) → IsPermutation group (below ++ above) → AreBoxesFor net radius boxes group
+    → AreBoxesFor net radius boxes below × AreBoxesFor net radius boxes above
+for_part net radius boxes group below above all h =
+    let parts = All-parts (λ (x : Placed). AreEnough net radius boxes x.at) group below above all h.enough in
+    (record { are = h.are; enough = parts.0 }, record { are = h.are; enough = parts.1 })
 
 -- the boxes of edges by rising number
 pub boxes_rise : (net : Net) (boxes : List EdgeBox) (count : ℕ) → All (IsEdgeBox net) boxes → map (λ b. b.edge.0) boxes ≡ range_with_len 0 count → AreBoxes net boxes
@@ -116,25 +127,3 @@ found_below k e f found le h = record {
 pub all_taken : (net : Net) (k radius : ℕ) (at : Point) (boxes : List EdgeBox) (found : List Candidate) → AreEnough net radius boxes at
     → found ≡ nearest k radius (map (of_box net at) boxes) → found ≡ candidates net k radius at
 all_taken net k radius at boxes found enough is = is ∙ ap (λ l. take k (in_order l)) enough
-
--- boxes for points are boxes for a part of them
-pub for_front : (net : Net) (radius n : ℕ) (boxes : List EdgeBox) (points : List Point) → AreBoxesFor net radius boxes points → AreBoxesFor net radius boxes (take n points)
-for_front net radius n boxes points h = record { are = h.are; enough = All-take (AreEnough net radius boxes) n points h.enough }
-
-pub for_rest : (net : Net) (radius n : ℕ) (boxes : List EdgeBox) (points : List Point) → AreBoxesFor net radius boxes points → AreBoxesFor net radius boxes (drop n points)
-for_rest net radius n boxes points h = record { are = h.are; enough = All-drop (AreEnough net radius boxes) n points h.enough }
-
--- the lists of two halves
-pub joined : {X Y : Type 0} (f : X → Y) (n : ℕ) (points : List X) (old mid new : List Y) → mid ≡ old ++ map f (take n points) → new ≡ mid ++ map f (drop n points)
-    → new ≡ old ++ map f points
-joined f n points old mid new first second =
-    second ∙ ap (λ l. l ++ map f (drop n points)) first ∙ append_assoc old (map f (take n points)) (map f (drop n points))
-    ∙ ap (λ l. old ++ l) (sym (map-append f (take n points) (drop n points)) ∙ ap (map f) (take-append-drop n points))
-
--- the lists of a group behind those of the points before it
-pub grouped : {X Y : Type 0} (f : X → Y) (from to : ℕ) (points : List X) (mid new : List Y) → from ≤ to → mid ≡ map f (take from points)
-    → new ≡ mid ++ map f (take (to - from) (drop from points)) → new ≡ map f (take to points)
-grouped f from to points mid new le first second =
-    let e : from + (to - from) ≡ to = omega (arith, le) in
-    second ∙ ap (λ l. l ++ map f (take (to - from) (drop from points))) first
-    ∙ sym (ap (λ n. map f (take n points)) (sym e) ∙ ap (map f) (take-add from (to - from) points) ∙ map-append f (take from points) (take (to - from) (drop from points)))

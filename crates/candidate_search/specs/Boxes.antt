@@ -10,6 +10,7 @@ use Rattle.road_network.specs.Near.{all_snaps, candidate_at, within}
 use Rattle.grid_index.specs.Runs.{IsBelow}
 use Rattle.candidate_search.specs.declared.boxes.Corners.{Corners}
 use Rattle.candidate_search.specs.declared.boxes.EdgeBox.{EdgeBox}
+use Rattle.candidate_search.specs.declared.placed.Placed.{Placed}
 
 -- the place lies between the corners
 pub record IsInside (c : Corners) (q : Point) : Type 0 where
@@ -50,7 +51,7 @@ abbrev pub AreEnough : Net → ℕ → List EdgeBox → Point → Type 0
 AreEnough net radius boxes at =
     within radius (map (λ b. candidate_at net at b.edge.0) boxes) ≡ within radius (all_snaps net at)
 
--- boxes of all edges that are near one of the points
-pub record AreBoxesFor (net : Net) (radius : ℕ) (boxes : List EdgeBox) (points : List Point) : Type 0 where
+-- boxes of all edges that are near a point of the group
+pub record AreBoxesFor (net : Net) (radius : ℕ) (boxes : List EdgeBox) (group : List Placed) : Type 0 where
   pub are : AreBoxes net boxes
-  pub enough : All (AreEnough net radius boxes) points
+  pub enough : All (λ x. AreEnough net radius boxes x.at) group

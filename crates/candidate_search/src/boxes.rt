@@ -1,12 +1,15 @@
-//! Boxes of edges, and those of them that are near a box of points. Serves `candidates_plain_all`;
-//! decided by `AreBoxes` and `touches`.
-ghost use Rattle.std.specs.Prelude.{◌≡◌, ◌<◌, ◌≤◌, All, IfOk, length, map, pos, ◌+ℤ◌, ◌-ℤ◌};
+//! Boxes of edges, and those of them that are near a box of points. Serves `EdgeScan`; decided by
+//! `AreBoxes` and `touches`.
+ghost use Rattle.std.specs.Prelude.{◌≡◌, ◌<◌, ◌≤◌, ◌++◌, ◌∷◌, [], List as ListOf, All, IfOk, length, map, pos, ◌+ℤ◌, ◌-ℤ◌};
 ghost use Rattle.std.specs.Int.RustNames.{unsigned_abs};
 ghost use Rattle.std.specs.List.{filter, range_with_len};
+ghost use Rattle.polyline_geometry.specs.declared.plane.Point.{Point as PointOf};
 ghost use Rattle.polyline_geometry.specs.Plane.{InRange};
 ghost use Rattle.road_network.specs.Net.{HasEdge};
 ghost use Rattle.candidate_search.specs.Boxes.{AreBoxes, AreCorners, AreGrown, IsEdgeBox, overlap, touches};
+ghost use Rattle.candidate_search.specs.Placed.{points_of};
 
+use crate::placed::Placed;
 use grid_index::{high_corner, low_corner};
 use polyline_geometry::Point;
 use road_network::{EdgeId, Network};
@@ -17,6 +20,15 @@ use std::alloc::{AllocError, Global};
 pub(crate) struct Corners {
     pub(crate) low: Point,
     pub(crate) high: Point,
+}
+
+/// A line along an axis, which parts points: those on it lie below.
+#[derive(Clone, Copy)]
+pub(crate) enum Cut {
+    /// Points up to this x lie below.
+    X(i32),
+    /// Points up to this y lie below.
+    Y(i32),
 }
 
 /// An edge, with a box that holds its line.
@@ -51,25 +63,80 @@ fn overlap(low: i32, high: i32, first: i32, last: i32) -> bool
     low <= last && first <= high
 }
 
+impl Cut {
+    /// Whether a place lies below.
+    pub(crate) fn has_below(self, at: Point) -> bool {
+        match self {
+            Cut::X(x) => at.x <= x,
+            Cut::Y(y) => at.y <= y,
+        }
+    }
+}
+
 impl Corners {
+    /// The corners of a box that holds this place alone.
+    fn at(place: Point) -> Corners
+        requires { InRange place }
+        ensures { AreCorners [] result }
+    {
+        Corners {
+            low: place,
+            high: place,
+        }
+    }
+
+    /// The corners of the least box that also holds this place.
+    fn with(self, place: Point) -> Corners
+        requires low { InRange self.low }
+        requires high { InRange self.high }
+        requires place { InRange place }
+        ensures { (points : ListOf PointOf) → AreCorners points self
+            → AreCorners (points ++ place ∷ []) result }
+    {
+        Corners {
+            low: low_corner(self.low, place),
+            high: high_corner(self.high, place),
+        }
+    }
+
     /// The corners of the least box that holds these places.
     pub(crate) fn of(points: &[Point]) -> Corners
         requires some { 0 < length points.now }
         requires in_range { All InRange points.now }
         ensures { AreCorners points.now result }
     {
-        let first = points[0];
-        let mut corners = Corners {
-            low: first,
-            high: first,
-        };
+        let mut corners = Corners::at(points[0]);
         for point in points {
-            corners = Corners {
-                low: low_corner(corners.low, *point),
-                high: high_corner(corners.high, *point),
-            };
+            corners = corners.with(*point);
         }
         corners
+    }
+
+    /// The corners of the least box that holds these points.
+    pub(crate) fn around(group: &[Placed]) -> Corners
+        requires some { 0 < length group.now }
+        requires in_range { All (λ x. InRange x.at) group.now }
+        ensures { AreCorners (points_of group.now) result }
+    {
+        let mut corners = Corners::at(group[0].at);
+        for point in group {
+            corners = corners.with(point.at);
+        }
+        corners
+    }
+
+    /// The line across the middle of the longer side.
+    pub(crate) fn middle(self) -> Cut
+        requires low { InRange self.low }
+        requires high { InRange self.high }
+    {
+        let width = self.high.x - self.low.x;
+        let height = self.high.y - self.low.y;
+        if width >= height {
+            Cut::X((self.low.x + self.high.x) / 2)
+        } else {
+            Cut::Y((self.low.y + self.high.y) / 2)
+        }
     }
 
     /// The corners that lie farther out by `reach`, in cm.

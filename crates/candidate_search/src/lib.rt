@@ -7,21 +7,23 @@
 //! where its box is nearer than the farthest that is kept. No root is taken of the segments before the
 //! nearest: the network keeps the offsets of their points.
 //!
-//! [`candidates_plain_all`] answers the same for many points, by a scan of all edges that neighbouring
-//! points share.
+//! An [`EdgeScan`] answers the same for many points, by a scan of all edges that points which lie near
+//! each other share, and [`candidates_plain_all`] by one that it makes.
 #![tactic(auto)]
 
-mod all_points;
 mod best;
 mod boxes;
+mod edge_scan;
+mod groups;
 #[cfg(test)]
 mod many_points_tests;
 mod nearest;
+mod placed;
 mod search;
 #[cfg(test)]
 mod tests;
 mod visit;
 mod wanted;
 
-pub use all_points::candidates_plain_all;
+pub use edge_scan::{EdgeScan, candidates_plain_all};
 pub use search::{candidates, candidates_plain};

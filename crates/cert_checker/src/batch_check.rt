@@ -43,7 +43,7 @@ fn verdict_on_batch(alloc: Global, ground: &Ground, batch: &Batch) -> Result<Ver
         ground.now.rows.now batch.now) }
 {
     let fixes = fixes(alloc, batch.traces)?;
-    let layers = plain_layers(alloc, ground.net, ground.params, fixes.as_slice())?;
+    let layers = plain_layers(alloc, ground, fixes.as_slice())?;
     let mut first = 0;
     for place in 0..batch.traces.len() {
         let count = batch.traces[place].fixes.len();

@@ -1,12 +1,11 @@
 //! The fixes of traces with their candidates, by a scan of all edges that neighbouring fixes share.
 //! Serves `check_trace`; decided by `layer_of`.
 ghost use Rattle.std.specs.Prelude.{◌≡◌, ◌<◌, ◌^◌, All, IfOk, length, map};
-ghost use Rattle.cost_model.specs.Options.{IsAccepted};
 ghost use Rattle.polyline_geometry.specs.Plane.{InRange};
 ghost use Rattle.road_network.specs.Near.{candidates};
 ghost use Rattle.trace_match.specs.Match.{layer_of, place_of};
 
-use candidate_search::candidates_plain_all;
+use crate::ground::Ground;
 use cost_model::Params;
 use matching::Layer;
 use polyline_geometry::{List, Point};
@@ -51,16 +50,17 @@ fn with_candidates(
 /// Fixes with their candidates.
 pub fn plain_layers(
     alloc: Global,
-    net: &Network,
-    p: &Params,
+    ground: &Ground,
     fixes: &[Fix],
 ) -> Result<List<Layer>, AllocError>
-    requires options { IsAccepted p.now }
     requires places { All (λ fix. InRange (place_of fix)) fixes.now }
     requires few { length fixes.now < 2 ^ 32 }
-    ensures { IfOk result (λ layers. layers ≡ map (layer_of net.now p.now) fixes.now) }
+    ensures { IfOk result (λ layers.
+        layers ≡ map (layer_of ground.now.net.now ground.now.params.now) fixes.now) }
 {
     let points = places(alloc, fixes)?;
-    let lists = candidates_plain_all(alloc, net, p, points.as_slice())?;
-    with_candidates(alloc, net, p, fixes, lists)
+    let lists = ground
+        .scan
+        .candidates(alloc, ground.params, points.as_slice())?;
+    with_candidates(alloc, ground.net, ground.params, fixes, lists)
 }

@@ -16,6 +16,7 @@ use crate::trace_case::TraceCase;
 use crate::trace_check::trace_verdict;
 use crate::verdict::{Condition, Verdict};
 use bounded_search::Row;
+use candidate_search::EdgeScan;
 use cost_model::Params;
 use potential_certificate::{Certificate, TraceProof};
 use road_network::Network;
@@ -44,9 +45,11 @@ pub fn check_trace(
     ensures { IfOk result (λ v. v
         ≡ trace_verdict number (case_of net.now p.now rows.now trace.now proof.now)) }
 {
+    let scan = EdgeScan::open(alloc, net)?;
     let placed = PlacedRows::of(alloc, net, rows)?;
     let ground = Ground {
         net,
+        scan: &scan,
         params: p,
         rows: &placed,
     };
@@ -65,7 +68,7 @@ fn verdict_on(
     ensures { IfOk result (λ v. v ≡ trace_verdict number (case_of ground.now.net.now
         ground.now.params.now ground.now.rows.now trace.now proof.now)) }
 {
-    let layers = plain_layers(alloc, ground.net, ground.params, trace.fixes.as_slice())?;
+    let layers = plain_layers(alloc, ground, trace.fixes.as_slice())?;
     let case = TraceCase {
         net: ground.net,
         params: ground.params,
@@ -122,9 +125,11 @@ pub fn check_all<R: Threads + Sync>(
             place,
         });
     }
+    let scan = EdgeScan::open(alloc, net)?;
     let placed = PlacedRows::of(alloc, net, c.rows.as_slice())?;
     let ground = Ground {
         net,
+        scan: &scan,
         params: p,
         rows: &placed,
     };

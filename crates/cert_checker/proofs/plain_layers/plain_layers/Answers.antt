@@ -13,9 +13,14 @@ places_mapped : (n : Net) (p : Params) (fixes : List Fix) → map (candidates n 
 places_mapped n p [] = refl
 places_mapped n p (fix ∷ fixes) = ap (λ xs. candidates n p.k p.radius (place_of fix) ∷ xs) (places_mapped n p fixes)
 
-pub candidates_plain_all-requires-clause-points : goal.candidates_plain_all-requires-clause-points
-candidates_plain_all-requires-clause-points c =
+pub candidates-requires-clause-points : goal.candidates-requires-clause-points
+candidates-requires-clause-points c =
     subst (λ (points : List Point). All InRange points) (sym (c.as_slice.ensures ∙ c.in_ok-points.ensures)) (All-map InRange place_of c.args.fixes.now c.requires.places)
 
 pub with_candidates-requires : goal.with_candidates-requires
-with_candidates-requires c = c.in_ok-lists.ensures ∙ ap (map (candidates c.args.net.now c.args.p.now.k c.args.p.now.radius)) (c.as_slice.ensures ∙ c.in_ok-points.ensures) ∙ places_mapped c.args.net.now c.args.p.now c.args.fixes.now
+with_candidates-requires c =
+    let ground = c.args.ground.now in
+    let p = ground.params.now in
+    let fixes = c.args.fixes.now in
+    c.in_ok-lists.ensures ∙ ap (map (candidates ground.scan.now p.k p.radius)) (c.as_slice.ensures ∙ c.in_ok-points.ensures)
+    ∙ ap (λ (n : Net). map (candidates n p.k p.radius) (map place_of fixes)) ground.same ∙ places_mapped ground.net.now p fixes

@@ -2,7 +2,7 @@ use Rattle.std.proofs.Common.{◌+◌, get_or, ap, arith}
 use Rattle.std.proofs.lemmas.List.{get_or_default}
 use Rattle.candidate_search.specs.declared.boxes.EdgeBox.{EdgeBox}
 use Rattle.candidate_search.proofs.Shared.{found_below, no_box, taken_box}
-use Rattle.candidate_search.proofs.all_points.candidates_among.Goals as goal
+use Rattle.candidate_search.proofs.groups.candidates_among.Goals as goal
 
 pub consider-requires-clause-found : goal.consider-requires-clause-found
 consider-requires-clause-found c = c.loop-place.invariant.found c.loop-place.place no_box (omega arith) c.loop-place-test.true

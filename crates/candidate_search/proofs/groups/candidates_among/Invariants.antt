@@ -2,7 +2,7 @@ use Rattle.std.proofs.Common.{◌≡◌, ℕ, ◌<◌, ◌≤◌, get_or, length
 use Rattle.candidate_search.specs.declared.boxes.EdgeBox.{EdgeBox}
 use Rattle.candidate_search.specs.Nearest.{IsFound, nearest}
 use Rattle.candidate_search.proofs.Shared.{of_box}
-use Rattle.candidate_search.proofs.all_points.candidates_among.Given as goal
+use Rattle.candidate_search.proofs.groups.candidates_among.Given as goal
 
 abbrev pub invariant-loop-place : goal.invariant-loop-place
 invariant-loop-place l = record {

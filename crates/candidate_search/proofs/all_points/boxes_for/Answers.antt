@@ -1,7 +1,0 @@
-use Rattle.candidate_search.proofs.Shared.{enough_near}
-use Rattle.candidate_search.proofs.all_points.boxes_for.Goals as goal
-
-pub returns : goal.returns
-returns c =
-    enough_near c.args.net.now c.args.p.now.radius c.of.result c.grown.result c.args.boxes.now c.in_ok-near.near.items c.args.points.now c.known.ensures
-    c.requires.boxes c.of.ensures c.grown.ensures c.in_ok-near.ensures

@@ -1,0 +1,73 @@
+use Rattle.std.proofs.Common.{IfSome, List, All, ap, arith, length, sym, subst}
+use Rattle.road_network.specs.Near.{candidates}
+use Rattle.candidate_search.specs.declared.boxes.EdgeBox.{EdgeBox}
+use Rattle.candidate_search.specs.Boxes.{AreBoxesFor}
+use Rattle.candidate_search.specs.Placed.{AreHalves, AreWritten, IsAsked, IsPlaced}
+use Rattle.candidate_search.proofs.Parts.{All-parts, shorter}
+use Rattle.candidate_search.proofs.Shared.{for_part}
+use Rattle.candidate_search.proofs.Written.{Lists, both_written}
+use Rattle.candidate_search.proofs.groups.+list_group.Goals as goal
+
+pub list_group-requires : goal.list_group-requires
+list_group-requires t c =
+    let net = c.args.net.now in
+    let radius = c.args.p.now.radius in
+    let n = length c.args.lists.now in
+    let group = c.args.group.now in
+    let below = c.in-Some.halves.below.items in
+    let above = c.in-Some.halves.above.items in
+    let are : AreHalves group c.in-Some.halves = subst (λ o. IfSome o (AreHalves group)) c.in-Some.is c.in_ok-cut_in_two.ensures in
+    let slice = sym c.as_slice.ensures.value in
+    let fewer = (shorter group below above are.all are.below are.above).0 in (
+      omega (arith, fewer, ap length c.as_slice.ensures.value, c.decreases),
+      (
+        c.requires.options,
+        (
+          subst (All (IsAsked n)) slice (All-parts (IsAsked n) group below above are.all c.requires.group).0,
+          subst (AreBoxesFor net radius c.as_slice-boxes.result.now) slice
+              (subst (λ (l : List EdgeBox). AreBoxesFor net radius l below) (sym c.as_slice-boxes.ensures.value) (for_part net radius c.in_ok-near.near.items group below above are.all c.in_ok-near.ensures).0),
+        ),
+      ),
+    )
+
+pub list_group-requires-in-Some : goal.list_group-requires-in-Some
+list_group-requires-in-Some t c =
+    let net = c.args.net.now in
+    let radius = c.args.p.now.radius in
+    let n = length c.args.lists.now in
+    let group = c.args.group.now in
+    let below = c.in-Some.halves.below.items in
+    let above = c.in-Some.halves.above.items in
+    let are : AreHalves group c.in-Some.halves = subst (λ o. IfSome o (AreHalves group)) c.in-Some.is c.in_ok-cut_in_two.ensures in
+    let slice = sym c.as_slice-in-Some.ensures.value in
+    let fewer = (shorter group below above are.all are.below are.above).1 in (
+      omega (arith, fewer, ap length c.as_slice-in-Some.ensures.value, c.decreases),
+      (
+        c.requires.options,
+        (
+          subst (λ m. All (IsAsked m) c.as_slice-in-Some.result.now) (sym c.list_group.auto.lists)
+              (subst (All (IsAsked n)) slice (All-parts (IsAsked n) group below above are.all c.requires.group).1),
+          subst (AreBoxesFor net radius c.as_slice-boxes.result.now) slice
+              (subst (λ (l : List EdgeBox). AreBoxesFor net radius l above) (sym c.as_slice-boxes.ensures.value) (for_part net radius c.in_ok-near.near.items group below above are.all c.in_ok-near.ensures).1),
+        ),
+      ),
+    )
+
+pub returns : goal.returns
+returns t c = λ points placed.
+    let own = candidates c.args.net.now c.args.p.now.k c.args.p.now.radius in
+    let group = c.args.group.now in
+    let below = c.in-Some.halves.below.items in
+    let above = c.in-Some.halves.above.items in
+    let are : AreHalves group c.in-Some.halves = subst (λ o. IfSome o (AreHalves group)) c.in-Some.is c.in_ok-cut_in_two.ensures in
+    let parts = All-parts (IsPlaced points) group below above are.all placed in
+    let old : Lists = c.args.lists.now in
+    let mid : Lists = c.list_group.new.lists in
+    let new : Lists = c.list_group-in-Some.new.lists in
+    let first : AreWritten own points old mid below = subst (AreWritten own points old mid) c.as_slice.ensures.value
+    (c.in_ok-list_group-in-Some.ensures points (subst (All (IsPlaced points)) (sym c.as_slice.ensures.value) parts.0))
+    in
+    let second : AreWritten own points mid new above = subst (AreWritten own points mid new) c.as_slice-in-Some.ensures.value
+    (c.in_ok-list_group-in-Some-2.ensures points (subst (All (IsPlaced points)) (sym c.as_slice-in-Some.ensures.value) parts.1))
+    in
+    both_written own points old mid new group below above are.all parts.0 first second

@@ -1,0 +1,92 @@
+//! Scans of all edges of a network. Decided by road_network's `candidates`.
+ghost use Rattle.std.specs.Prelude.{◌≡◌, ◌<◌, ◌^◌, All, IfOk, length, map};
+ghost use Rattle.polyline_geometry.specs.Plane.{InRange};
+ghost use Rattle.cost_model.specs.Options.{IsAccepted};
+ghost use Rattle.road_network.specs.Near.{candidates};
+
+use crate::boxes::{EdgeBox, boxes_of};
+use crate::groups::{empty_lists, list_group};
+use crate::placed::with_places;
+use cost_model::Params;
+use polyline_geometry::{List, Point};
+use road_network::{Candidate, Network};
+use std::alloc::{AllocError, Global};
+use std::marker::Model;
+
+/// The boxes of all edges of a network, to be asked for the candidates of many points.
+#[derive(Drop)]
+pub struct EdgeScan<'n> {
+    net: &'n Network,
+    boxes: Vec<EdgeBox>,
+}
+
+impl<'n> Model for EdgeScan<'n> {
+    ghost use Rattle.road_network.specs.Net.{Net};
+
+    ghost Value = { Net };
+
+    ghost use Rattle.candidate_search.specs.Scanned.{HasAllBoxes, scanned};
+
+    ghost view = { scanned };
+
+    ghost invariant = { HasAllBoxes };
+}
+
+impl<'n> EdgeScan<'n> {
+    /// A scan of this network's edges. Takes 20 bytes for each edge, and a look at each point of its
+    /// line.
+    pub fn open(alloc: Global, net: &'n Network) -> Result<EdgeScan<'n>, AllocError>
+        ensures { IfOk result (λ scan. scan ≡ net.now) }
+    {
+        let boxes = boxes_of(alloc, net)?;
+        Ok(EdgeScan { net, boxes })
+    }
+
+    /// The candidates of each point, without a grid.
+    ///
+    /// The points are cut in two by where they lie, again and again, and each part looks only at the
+    /// boxes that are near the part that it was cut from. So points that lie near each other share most
+    /// of the work, in whatever order they come.
+    pub fn candidates(
+        &self,
+        alloc: Global,
+        p: &Params,
+        points: &[Point],
+    ) -> Result<List<List<Candidate>>, AllocError>
+        requires options { IsAccepted p.now }
+        requires points { All InRange points.now }
+        requires few { length points.now < 2 ^ 32 }
+        ensures { IfOk result (λ lists.
+            lists ≡ map (candidates self.now p.now.k p.now.radius) points.now) }
+    {
+        let group = with_places(alloc, points)?;
+        let mut lists = empty_lists(alloc, points.len())?;
+        list_group(
+            alloc,
+            self.net,
+            p,
+            self.boxes.as_slice(),
+            group.as_slice(),
+            &mut lists,
+        )?;
+        Ok(List::from_vec(lists))
+    }
+}
+
+/// The candidates of each point, by a scan of all edges that is made for this call. For many calls take
+/// an [`EdgeScan`].
+pub fn candidates_plain_all(
+    alloc: Global,
+    net: &Network,
+    p: &Params,
+    points: &[Point],
+) -> Result<List<List<Candidate>>, AllocError>
+    requires options { IsAccepted p.now }
+    requires points { All InRange points.now }
+    requires few { length points.now < 2 ^ 32 }
+    ensures { IfOk result (λ lists.
+        lists ≡ map (candidates net.now p.now.k p.now.radius) points.now) }
+{
+    let scan = EdgeScan::open(alloc, net)?;
+    scan.candidates(alloc, p, points)
+}

@@ -1,0 +1,124 @@
+//! The candidates of groups of points, among the edges whose boxes are near a group. Serves `EdgeScan`;
+//! decided by `AreWritten`.
+ghost use Rattle.std.specs.Prelude.{◌≡◌, ◌<◌, List as ListOf, All, IfOk, OnOk, [], length, replicate};
+ghost use Rattle.polyline_geometry.specs.declared.plane.Point.{Point as PointOf};
+ghost use Rattle.polyline_geometry.specs.Plane.{InRange};
+ghost use Rattle.cost_model.specs.Options.{IsAccepted};
+ghost use Rattle.road_network.specs.Near.{candidates};
+ghost use Rattle.candidate_search.specs.Boxes.{AreBoxes, AreBoxesFor, AreCorners, AreEnough};
+ghost use Rattle.candidate_search.specs.Placed.{AreWritten, IsAsked, IsPlaced, points_of};
+
+use crate::boxes::{Corners, EdgeBox, boxes_near};
+use crate::nearest::consider;
+use crate::placed::{Placed, cut_in_two};
+use crate::search::search_for;
+use cost_model::Params;
+use polyline_geometry::{List, Point};
+use road_network::{Candidate, Network};
+use std::alloc::{AllocError, Global};
+
+/// So many empty lists.
+pub(crate) fn empty_lists(alloc: Global, count: usize) -> Result<Vec<List<Candidate>>, AllocError>
+    ensures { IfOk result (λ lists. lists.items ≡ replicate count []) }
+{
+    let mut lists = Vec::with_capacity(alloc, count)?;
+    for _ in 0..count {
+        lists.push(List::new(alloc))?;
+    }
+    Ok(lists)
+}
+
+/// The candidates of a point, among the edges of these boxes.
+fn candidates_among(
+    alloc: Global,
+    net: &Network,
+    p: &Params,
+    boxes: &[EdgeBox],
+    at: Point,
+) -> Result<List<Candidate>, AllocError>
+    requires options { IsAccepted p.now }
+    requires at_in { InRange at }
+    requires boxes { AreBoxes net.now boxes.now }
+    requires enough { AreEnough net.now p.now.radius boxes.now at }
+    ensures { IfOk result (λ list. list ≡ candidates net.now p.now.k p.now.radius at) }
+{
+    let search = search_for(p, at);
+    let mut found = Vec::with_capacity(alloc, search.k + 1)?;
+    for place in 0..boxes.len() {
+        consider(net, &mut found, search, boxes[place].edge)?;
+    }
+    Ok(List::from_vec(found))
+}
+
+/// Writes the candidates of each point of a group at its place.
+fn list_each(
+    alloc: Global,
+    net: &Network,
+    p: &Params,
+    boxes: &[EdgeBox],
+    group: &[Placed],
+    lists: &mut [List<Candidate>],
+) -> Result<(), AllocError>
+    requires options { IsAccepted p.now }
+    requires group { All (IsAsked (length lists.old)) group.now }
+    requires boxes { AreBoxesFor net.now p.now.radius boxes.now group.now }
+    ensures { OnOk result ((points : ListOf PointOf) → All (IsPlaced points) group.now
+        → AreWritten (candidates net.now p.now.k p.now.radius) points lists.old lists.new group.now) }
+{
+    for index in 0..group.len() {
+        let point = group[index];
+        lists[point.place as usize] = candidates_among(alloc, net, p, boxes, point.at)?;
+    }
+    Ok(())
+}
+
+/// Those of the boxes that are near a group, with these corners.
+fn boxes_for(
+    alloc: Global,
+    net: &Network,
+    p: &Params,
+    boxes: &[EdgeBox],
+    group: &[Placed],
+    corners: Corners,
+) -> Result<Vec<EdgeBox>, AllocError>
+    requires options { IsAccepted p.now }
+    requires corners { AreCorners (points_of group.now) corners }
+    requires boxes { AreBoxesFor net.now p.now.radius boxes.now group.now }
+    ensures { IfOk result (λ near. AreBoxesFor net.now p.now.radius near.items group.now) }
+{
+    net.known();
+    let near = boxes_near(alloc, boxes, corners.grown(p.radius))?;
+    Ok(near)
+}
+
+/// Writes the candidates of each point of a group at its place. Parts of the group look only at the boxes
+/// that are near the whole of it.
+pub(crate) fn list_group(
+    alloc: Global,
+    net: &Network,
+    p: &Params,
+    boxes: &[EdgeBox],
+    group: &[Placed],
+    lists: &mut [List<Candidate>],
+) -> Result<(), AllocError>
+    requires options { IsAccepted p.now }
+    requires group { All (IsAsked (length lists.old)) group.now }
+    requires boxes { AreBoxesFor net.now p.now.radius boxes.now group.now }
+    ensures { OnOk result ((points : ListOf PointOf) → All (IsPlaced points) group.now
+        → AreWritten (candidates net.now p.now.k p.now.radius) points lists.old lists.new group.now) }
+{
+    if group.is_empty() {
+        return Ok(());
+    }
+    let corners = Corners::around(group);
+    let near = boxes_for(alloc, net, p, boxes, group, corners)?;
+    let boxes = near.as_slice();
+    match cut_in_two(alloc, group, corners)? {
+        None => list_each(alloc, net, p, boxes, group, lists),
+        Some(halves) => {
+            list_group(alloc, net, p, boxes, halves.below.as_slice(), lists)?;
+            list_group(alloc, net, p, boxes, halves.above.as_slice(), lists)?;
+            Ok(())
+        }
+    }
+}

@@ -1,0 +1,85 @@
+//! Points with their places, and groups of them cut in two by where they lie. Serves `EdgeScan`; decided
+//! by `IsPlaced` and `AreHalves`.
+ghost use Rattle.std.specs.Prelude.{◌<◌, ◌^◌, ◌++◌, ◌∷◌, [], IfOk, IfSome, OnOk, length};
+ghost use Rattle.std.specs.List.Sorted.{IsPermutation};
+ghost use Rattle.polyline_geometry.specs.Plane.{InRange};
+ghost use Rattle.candidate_search.specs.Placed.{AreHalves, ArePlaced, both};
+
+use crate::boxes::{Corners, Cut};
+use polyline_geometry::Point;
+use std::alloc::{AllocError, Global};
+
+/// How many points share the last look at boxes.
+const FEW: usize = 4;
+
+/// A point with its place among those that are asked for.
+#[derive(Clone, Copy)]
+pub(crate) struct Placed {
+    pub(crate) place: u32,
+    pub(crate) at: Point,
+}
+
+/// The points of a group, cut in two.
+#[derive(Drop)]
+pub(crate) struct Halves {
+    pub(crate) below: Vec<Placed>,
+    pub(crate) above: Vec<Placed>,
+}
+
+/// Points with their places.
+pub(crate) fn with_places(alloc: Global, points: &[Point]) -> Result<Vec<Placed>, AllocError>
+    requires { length points.now < 2 ^ 32 }
+    ensures { IfOk result (λ group. ArePlaced points.now group.items) }
+{
+    let mut group = Vec::with_capacity(alloc, points.len())?;
+    for place in 0..points.len() {
+        group.push(Placed {
+            place: place as u32,
+            at: points[place],
+        })?;
+    }
+    Ok(group)
+}
+
+impl Halves {
+    /// Takes one more point, on its side of the cut.
+    fn take(&mut self, cut: Cut, point: Placed) -> Result<(), AllocError>
+        ensures { OnOk result (IsPermutation (both self.old ++ point ∷ []) (both self.new)) }
+    {
+        if cut.has_below(point.at) {
+            self.below.push(point)?;
+            Ok(())
+        } else {
+            self.above.push(point)?;
+            Ok(())
+        }
+    }
+}
+
+/// The points of a group on each side of the middle of its corners; None where they are few, or all on
+/// one side.
+pub(crate) fn cut_in_two(
+    alloc: Global,
+    group: &[Placed],
+    corners: Corners,
+) -> Result<Option<Halves>, AllocError>
+    requires low { InRange corners.low }
+    requires high { InRange corners.high }
+    ensures { IfOk result (λ halves. IfSome halves (AreHalves group.now)) }
+{
+    if group.len() <= FEW {
+        return Ok(None);
+    }
+    let cut = corners.middle();
+    let mut halves = Halves {
+        below: Vec::new(alloc),
+        above: Vec::new(alloc),
+    };
+    for point in group {
+        halves.take(cut, *point)?;
+    }
+    if halves.below.is_empty() || halves.above.is_empty() {
+        return Ok(None);
+    }
+    Ok(Some(halves))
+}
