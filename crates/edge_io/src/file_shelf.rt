@@ -1,6 +1,6 @@
 // The files of a runtime. Serves the program's `main`; decided by the clauses of `Shelf::read`,
 // which say nothing of a real file's bytes.
-ghost use Rattle.std.specs.Prelude.{◌≡◌, ◌≤◌, ◌^◌, None, length, IfOk};
+ghost use Rattle.std.specs.Prelude.{◌≡◌, ◌+◌, ◌≤◌, ◌^◌, None, length, take, IfOk, IfErr};
 ghost use Rattle.edge_io.specs.State.{new_shelf};
 
 use crate::noting::fail_read;
@@ -42,6 +42,30 @@ impl<R: Files + Drop> FileShelf<R> {
             rt,
             current: None,
             failed: List::new(alloc),
+        }
+    }
+
+    // Appends what one read of a file brings, and says how many bytes that is. After an error
+    // nothing is appended.
+    fn append(&mut self, name: &str, at: u64, into: &mut Vec<u8>, most: u32) -> io::Result<usize>
+        requires { at ≤ 2 ^ 40 }
+        ensures ok { IfOk result (λ n. (n ≤ most) × (length into.new.items ≡ length into.old.items + n)
+            × (take (length into.old.items) into.new.items ≡ into.old.items)) }
+        ensures err { IfErr result (λ _. into.new.items ≡ into.old.items) }
+        ensures failed { self.new.failed ≡ self.old.failed }
+    {
+        let before = into.len();
+        into.resize(before + most as usize, 0)?;
+        let buffer = &mut into[before..];
+        match read_at(self.alloc, &self.rt, &mut self.current, name, at, buffer) {
+            Ok(count) => {
+                into.truncate(before + count);
+                Ok(count)
+            }
+            Err(error) => {
+                into.truncate(before);
+                Err(error)
+            }
         }
     }
 }
@@ -103,14 +127,7 @@ impl<R: Files + Drop> Shelf for FileShelf<R> {
     ghost state = { λ s. record { holds = None; failed = s.failed } };
 
     fn read(&mut self, name: &str, at: u64, into: &mut Vec<u8>, most: u32) -> Taken {
-        let before = into.len();
-        if into.resize(before + most as usize, 0).is_err() {
-            return Taken::NoMemory;
-        }
-        let buffer = &mut into[before..];
-        let read = read_at(self.alloc, &self.rt, &mut self.current, name, at, buffer);
-        into.truncate(before + read.as_ref().map_or(0, |count| *count));
-        match read {
+        match self.append(name, at, into, most) {
             Ok(0) => Taken::End,
             Ok(count) => Taken::Got(count as u32),
             Err(error) if error.kind() == ErrorKind::OutOfMemory => Taken::NoMemory,

@@ -57,24 +57,24 @@ pub header-read : (fields : List (List ℕ)) (a b c d : List ℕ) (p q r s : Boo
     → (((p && q) && r) && s) ≡ is_header fields
 header-read fields a b c d p q r s is hp hq hr hs = rw (is, ← hp, ← hq, ← hr, ← hs) (four-header p q r s)
 
--- a file, by its length, its header and its records
+-- a file, by its length
 pub file-long : (bytes : List ℕ) → 134_217_728 < length bytes → network_of bytes ≡ Err fault.FileTooLong
 unfolding network_of
 file-long bytes h = rw (lt-true 134_217_728 (length bytes) h) refl
 
-pub file-empty : (bytes : List ℕ) → length bytes ≤ 134_217_728 → records default_config (strip_bom bytes) ≡ [] → network_of bytes ≡ Err fault.BadHeader
-unfolding network_of network_of_records
-file-empty bytes h none = rw (lt-false 134_217_728 (length bytes) h, none) refl
+pub file-short : (bytes : List ℕ) → length bytes ≤ 134_217_728 → network_of bytes ≡ network_of_records (records default_config (strip_bom bytes))
+unfolding network_of
+file-short bytes h = rw (lt-false 134_217_728 (length bytes) h) refl
 
--- the records of a file after its first
-pub record Begins (bytes : List ℕ) (names : List (List ℕ)) (rest : List (List (List ℕ))) : Type 0 where
-  pub short : length bytes ≤ 134_217_728
-  pub first : records default_config (strip_bom bytes) ≡ names ∷ rest
+-- the records of a file, by the first of them
+pub network-empty : (rows : List (List (List ℕ))) → rows ≡ [] → network_of_records rows ≡ Err fault.BadHeader
+unfolding network_of_records
+network-empty rows none = rw none refl
 
-pub file-headless : (bytes : List ℕ) (names : List (List ℕ)) (rest : List (List (List ℕ))) → Begins bytes names rest → is_header names ≡ false → network_of bytes ≡ Err fault.BadHeader
-unfolding network_of network_of_records
-file-headless bytes names rest h other = rw (lt-false 134_217_728 (length bytes) h.short, h.first, other) refl
+pub network-headless : (rows : List (List (List ℕ))) (names : List (List ℕ)) (rest : List (List (List ℕ))) → rows ≡ names ∷ rest → is_header names ≡ false → network_of_records rows ≡ Err fault.BadHeader
+unfolding network_of_records
+network-headless rows names rest first other = rw (first, other) refl
 
-pub file-read : (bytes : List ℕ) (names : List (List ℕ)) (rest : List (List (List ℕ))) → Begins bytes names rest → is_header names ≡ true → network_of bytes ≡ add_records no_net rest
-unfolding network_of network_of_records
-file-read bytes names rest h headed = rw (lt-false 134_217_728 (length bytes) h.short, h.first, headed) refl
+pub network-read : (rows : List (List (List ℕ))) (names : List (List ℕ)) (rest : List (List (List ℕ))) → rows ≡ names ∷ rest → is_header names ≡ true → network_of_records rows ≡ add_records no_net rest
+unfolding network_of_records
+network-read rows names rest first headed = rw (first, headed) refl

@@ -1,4 +1,5 @@
 pub mod Adding
+pub mod Arcs
 pub mod FaultText
 pub mod Finished
 pub mod Growing
@@ -6,6 +7,7 @@ pub mod Least
 pub mod Leaving
 pub mod Lines
 pub mod Names
+pub mod Parts
 pub mod Places
 pub mod Readings
 pub mod Records

@@ -6,6 +6,7 @@ pub mod Places
 pub mod NetworkFile
 pub mod FaultLine
 pub mod Rows
+pub mod Adjacent
 pub mod Between
 pub mod Drafted
 pub mod EdgeNames

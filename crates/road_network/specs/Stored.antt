@@ -49,7 +49,7 @@ pub record IsKept (a : Inside) : Type 0 where
   pub lawful : IsLawful (shown a)
   pub stored : All (IsStored a.points.items) a.edges.items
   pub offsets : AreOffsets a.points.items a.edges.items a.offsets.items
-  pub starts : length a.starts.items ≡ length a.nodes.items + 1
+  pub starts : length a.adjacency.starts.items ≡ length a.nodes.items + 1
   pub lists : (v : ℕ) → v < length a.nodes.items
-      → IsLeavingList (shown a) a.starts.items a.leaving.items v
-  pub arcs : a.arcs.items ≡ map (arc_of (shown a)) a.leaving.items
+      → IsLeavingList (shown a) a.adjacency.starts.items a.adjacency.leaving.items v
+  pub arcs : a.adjacency.arcs.items ≡ map (arc_of (shown a)) a.adjacency.leaving.items

@@ -7,7 +7,7 @@ ghost use Rattle.road_network.specs.NetworkFile.{add_row, first_fault, limit_fau
 ghost use Rattle.road_network.specs.Drafted.{drafted, IsDraft};
 ghost use Rattle.road_network.specs.Rows.{row_with};
 
-use crate::counting::{arcs_of, place_edges, starts_of};
+use crate::counting::adjacency_of;
 use crate::edge_names::note_name;
 use crate::fault::NetworkFault;
 use crate::limits::{EDGE_LIMIT, LENGTH_LIMIT, NODE_LIMIT, POINT_LIMIT};
@@ -25,7 +25,6 @@ pub(crate) struct RowHead {
 }
 
 /// A network whose edges are still being read.
-#[derive(Drop)]
 pub(crate) struct Draft {
     nodes: IndexSet<u64>,
     names: Option<IndexSet<u32>>,
@@ -33,6 +32,20 @@ pub(crate) struct Draft {
     points: List<Point>,
     offsets: List<u32>,
     alloc: Global,
+}
+
+// By hand, so that the functions that drop a draft call this one.
+impl Drop for Draft {
+    fn drop(self) {
+        let Draft {
+            nodes: _,
+            names: _,
+            edges: _,
+            points: _,
+            offsets: _,
+            alloc: _,
+        } = self;
+    }
 }
 
 /// The place, from 1, of the first point that equals the one before it.
@@ -167,26 +180,22 @@ impl Draft {
         requires { IsDraft self }
         ensures { IfOk result (λ n. n ≡ drafted self) }
     {
+        let adjacency = adjacency_of(alloc, self.nodes.len(), self.edges.as_slice())?;
+        let nodes = self.nodes.as_slice().to_vec(alloc)?;
         let Draft {
-            nodes,
+            nodes: _,
             names: _,
             edges,
             points,
             offsets,
             alloc: _,
         } = self;
-        let starts = starts_of(alloc, nodes.len(), edges.as_slice())?;
-        let leaving = place_edges(alloc, starts.as_slice(), edges.as_slice())?;
-        let arcs = arcs_of(alloc, edges.as_slice(), leaving.as_slice())?;
-        let nodes = nodes.as_slice().to_vec(alloc)?;
         Ok(Network {
             nodes,
             edges: edges.into_vec(),
             points: points.into_vec(),
             offsets: offsets.into_vec(),
-            starts,
-            leaving,
-            arcs,
+            adjacency,
         })
     }
 }

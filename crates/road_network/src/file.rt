@@ -5,7 +5,7 @@ ghost use Rattle.csv.specs.Records.{fields_of};
 ghost use Rattle.road_network.specs.Between.{IsBetween, IsNext, records_left, text_left};
 ghost use Rattle.road_network.specs.Drafted.{drafted, IsDraft};
 ghost use Rattle.road_network.specs.declared.limits.TheConstants.{FILE_LIMIT};
-ghost use Rattle.road_network.specs.NetworkFile.{add_record, add_records, is_header, network_of, no_net};
+ghost use Rattle.road_network.specs.NetworkFile.{add_record, add_records, is_header, network_of, network_of_records, no_net};
 
 use crate::Network;
 use crate::draft::Draft;
@@ -82,6 +82,27 @@ fn is_header(row: &ByteRecord) -> bool
     is_edge & is_from & is_to & is_line
 }
 
+/// The network of the records of a file, the first of which is the header, or the first fault.
+fn read_records(
+    alloc: Global,
+    reader: &mut Reader<&[u8]>,
+    row: &mut ByteRecord,
+) -> Result<Network, NetworkFault>
+    requires between { IsBetween reader.old }
+    requires small { length (text_left reader.old) ≤ FILE_LIMIT }
+    ensures network { IfOk result (λ n. network_of_records (records_left reader.old) ≡ Ok n) }
+    ensures fault { IfErr result
+        (λ e. e ≢ NetworkFault.Memory → network_of_records (records_left reader.old) ≡ Err e) }
+{
+    if !read_next(reader, row)? {
+        return Err(NetworkFault::BadHeader);
+    }
+    if !is_header(row) {
+        return Err(NetworkFault::BadHeader);
+    }
+    read_edges(alloc, reader, row)
+}
+
 /// The network of a file, or its first fault, or `Memory` where memory is wanting. The file is read
 /// once, a record at a time; nothing of it is kept but the ids and the points. A file above the
 /// limit takes no memory.
@@ -98,11 +119,5 @@ pub fn read_network(alloc: Global, bytes: &[u8]) -> Result<Network, NetworkFault
         .flexible(true)
         .from_reader(alloc, bytes);
     let mut row = ByteRecord::new(alloc);
-    if !read_next(&mut reader, &mut row)? {
-        return Err(NetworkFault::BadHeader);
-    }
-    if !is_header(&row) {
-        return Err(NetworkFault::BadHeader);
-    }
-    read_edges(alloc, &mut reader, &mut row)
+    read_records(alloc, &mut reader, &mut row)
 }

@@ -28,6 +28,7 @@ mod limits;
 #[cfg(test)]
 mod tests;
 
+use counting::Adjacency;
 pub use fault::NetworkFault;
 pub use file::read_network;
 pub use laws::{candidates_are_nearest, candidates_differ};
@@ -72,18 +73,15 @@ struct StoredEdge {
     end: usize,
 }
 
-/// A network: nodes and directed edges with lines. All points lie in one list, and so do the
-/// leaving edges of all nodes: those of node v are `leaving[starts[v]..starts[v + 1]]`. Their arcs
-/// lie in the same order, and the offsets of all points in the order of the points.
+/// A network: nodes and directed edges with lines. All points lie in one list, the offsets of all
+/// points lie in the order of the points, and `adjacency` has the leaving edges of each node.
 #[derive(Drop)]
 pub struct Network {
     nodes: Vec<u64>,
     edges: Vec<StoredEdge>,
     points: Vec<Point>,
     offsets: Vec<u32>,
-    starts: Vec<u32>,
-    leaving: Vec<EdgeId>,
-    arcs: Vec<Arc>,
+    adjacency: Adjacency,
 }
 
 impl Model for Network {
@@ -179,16 +177,15 @@ impl Network {
     }
 
     /// The edges that begin at a node, by rising number.
-    #[tactic(auto, using(crate::proofs::Leaving::leaving_each, crate::proofs::Leaving::leaving_every))]
     pub fn out(&self, n: NodeId) -> &[EdgeId]
         requires { HasNode self.now n.0 }
         ensures list { result.now ≡ leaving self.now n.0 }
         ensures each { All (λ e. HasEdge self.now e.0 × (source self.now e.0 ≡ n.0)) result.now }
         ensures every { ContainsLeaving self.now n.0 result.now }
     {
-        let first = self.starts[n.0 as usize] as usize;
-        let end = self.starts[n.0 as usize + 1] as usize;
-        &self.leaving[first..end]
+        let first = self.adjacency.starts[n.0 as usize] as usize;
+        let end = self.adjacency.starts[n.0 as usize + 1] as usize;
+        &self.adjacency.leaving[first..end]
     }
 
     /// The edges that begin at a node, by rising number, each with where it ends and its length.
@@ -198,8 +195,8 @@ impl Network {
         ensures { result.now ≡ map (arc_of self.now) (leaving self.now n.0) }
     {
         let place = n.0 as usize;
-        let first = self.starts[place] as usize;
-        let end = self.starts[place + 1] as usize;
-        &self.arcs[first..end]
+        let first = self.adjacency.starts[place] as usize;
+        let end = self.adjacency.starts[place + 1] as usize;
+        &self.adjacency.arcs[first..end]
     }
 }

@@ -1,0 +1,30 @@
+use Rattle.std.proofs.Common.{◌∙◌, sym, arith}
+use Rattle.csv.specs.Records.{fields_of}
+use Rattle.road_network.specs.Between.{records_left}
+use Rattle.road_network.proofs.Adding.{network-empty, network-headless, network-read}
+use Rattle.road_network.proofs.file.read_records.Goals as goal
+
+pub read_edges-requires-clause-small : goal.read_edges-requires-clause-small
+read_edges-requires-clause-small c =
+    let next = c.in_ok-read_next.ensures.next c.if-not-branch.false in
+    omega (arith, c.requires.small, next.shorter)
+
+pub returns-clause-network : goal.returns-clause-network
+returns-clause-network c =
+    let next = c.in_ok-read_next.ensures.next c.if-not-branch.false in
+    rw (network-read (records_left c.args.reader.now) (fields_of c.read_next.new.row) (records_left c.read_next.new.reader) next.first (sym c.is_header.ensures ∙ c.if-not-is_header.false))
+    c.read_edges.ensures.network
+
+pub returns-clause-fault : goal.returns-clause-fault
+returns-clause-fault c =
+    let next = c.in_ok-read_next.ensures.next c.if-not-branch.false in
+    rw (network-read (records_left c.args.reader.now) (fields_of c.read_next.new.row) (records_left c.read_next.new.reader) next.first (sym c.is_header.ensures ∙ c.if-not-is_header.false))
+    c.read_edges.ensures.fault
+
+pub returns-then-not-branch-clause-fault : goal.returns-then-not-branch-clause-fault
+returns-then-not-branch-clause-fault c = λ _. network-empty (records_left c.args.reader.now) (c.in_ok-read_next.ensures.end c.if-not-branch.true)
+
+pub returns-then-not-is_header-clause-fault : goal.returns-then-not-is_header-clause-fault
+returns-then-not-is_header-clause-fault c =
+    let next = c.in_ok-read_next.ensures.next c.if-not-branch.false in
+    λ _. network-headless (records_left c.args.reader.now) (fields_of c.read_next.new.row) (records_left c.read_next.new.reader) next.first (sym c.is_header.ensures ∙ c.if-not-is_header.true)
