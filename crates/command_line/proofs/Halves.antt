@@ -1,4 +1,4 @@
--- The options are those of the first half and then those of the second.
+-- The options are those of the first half, and then those of the second.
 use Rattle.std.proofs.Common.{◌≡◌, ℕ, List, Option, refl, sym}
 use Rattle.std.specs.Prelude.{Result, Ok, Err}
 use Rattle.cost_model.specs.declared.params.TheConstants.Params.{DEFAULT}
