@@ -1,8 +1,9 @@
 //! Rows that one owner finds and keeps. Serves all who ask for rows; decided by `Rows`.
 ghost use Rattle.std.specs.Prelude.{◌≡◌, ◌≤◌, ◌↔◌, length, map, Contains, IfOk, OnErr, IsTrue, IsOk};
-ghost use Rattle.road_network.specs.Net.{HasNode};
-ghost use Rattle.bounded_search.specs.Table.{IsRow};
-ghost use Rattle.bounded_search.specs.Known.{IsKnownList};
+ghost use Rattle.road_network.specs.Net.{HasNode, IsLawful};
+ghost use Rattle.bounded_search.specs.Table.{BoundedTable, IsRow};
+ghost use Rattle.bounded_search.specs.Known.{IsKnownList, known_nodes};
+ghost use Rattle.bounded_search.specs.OwnInside.{HoldsRows};
 ghost use Rattle.bounded_search.specs.RowValue.{row_of};
 ghost use Rattle.bounded_search.specs.Rows.{AsksFor, no_rows};
 
@@ -81,13 +82,7 @@ impl<'n> OwnRows<'n> {
             ≡ map (row_of self.entry.network self.entry.bound) self.entry.known) }
     {
         self.searcher.known();
-        let mut found = List::from_vec(Vec::with_capacity(alloc, self.count as usize)?);
-        for place in self.rows {
-            if let Some(row) = place {
-                found.push(row)?;
-            }
-        }
-        Ok(found)
+        rows_in(alloc, self.rows, self.count)
     }
 
     /// Finds the row of a node, where it is not known.
@@ -114,6 +109,22 @@ impl<'n> OwnRows<'n> {
     {
         self.rows[n.0 as usize].as_ref().unwrap()
     }
+}
+
+// The rows that stand in places, of which `count` have one, in their order. They are moved out, and
+// none is copied.
+fn rows_in(alloc: Global, places: Vec<Option<Row>>, count: u32) -> Result<List<Row>, AllocError>
+    ensures { (table : BoundedTable) → IsLawful table.network → HoldsRows table places.items
+        → IfOk result (λ found. found
+        ≡ map (row_of table.network table.bound) (known_nodes places.items)) }
+{
+    let mut found = List::from_vec(Vec::with_capacity(alloc, count as usize)?);
+    for place in places {
+        if let Some(row) = place {
+            found.push(row)?;
+        }
+    }
+    Ok(found)
 }
 
 impl<'n> Rows for OwnRows<'n> {

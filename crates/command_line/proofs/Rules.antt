@@ -37,7 +37,7 @@ module _ {X : Type 0} (f : X → Shape) where
   one_more_in app [] shape = refl
   one_more_in app (s ∷ shapes) shape = one_more_in (with_subcommand app s) shapes shape
 
-  pub one_more_command : (app : App) (xs : List X) (i : ℕ) (d : X) → i < length xs
-      → with_subcommand (with_commands app (map f (take i xs))) (f (get_or xs i d)) ≡ with_commands app (map f (take (i + 1) xs))
-  one_more_command app xs i d low = one_more_in app (map f (take i xs)) (f (get_or xs i d))
-      ∙ ap (with_commands app) (map_one_more f xs i d low)
+  pub one_more_command : (app before : App) (xs : List X) (i : ℕ) (d : X) → i < length xs
+      → before ≡ with_commands app (map f (take i xs)) → with_subcommand before (f (get_or xs i d)) ≡ with_commands app (map f (take (i + 1) xs))
+  one_more_command app before xs i d low so_far = ap (λ a. with_subcommand a (f (get_or xs i d))) so_far
+      ∙ (one_more_in app (map f (take i xs)) (f (get_or xs i d)) ∙ ap (with_commands app) (map_one_more f xs i d low))

@@ -1,6 +1,6 @@
 -- The program as the code builds it, one word and one command after the other.
-use Rattle.std.specs.Prelude.{ℕ, List, [], ◌∷◌, ◌++◌, map}
-use Rattle.clap.specs.Words.{App, Rule, Shape, with_subcommand}
+use Rattle.std.specs.Prelude.{ℕ, List, [], ◌∷◌, ◌++◌, map, codes, true}
+use Rattle.clap.specs.Words.{App, Rule, Shape, new_app, with_subcommand}
 use Rattle.clap.specs.Simple.{on_top}
 use Rattle.command_line.specs.Syntax.{argument_rule, command_shape, option_rule}
 use Rattle.command_line.specs.declared.syntax.Form.{Form}
@@ -14,6 +14,12 @@ rule_of_word Argument = argument_rule
 -- the command with these behind its arguments
 abbrev pub with_rules : App → List Rule → App
 with_rules app rules = on_top (λ shape. record shape { rules = shape.rules ++ rules }) app
+
+-- the program before it has commands
+abbrev pub bare_program : App
+bare_program =
+    on_top (λ shape. record shape { no_binary_name = true; subcommand_required = true })
+    (new_app (codes "fmm"))
 
 -- the program with these commands
 abbrev pub with_commands : App → List Shape → App

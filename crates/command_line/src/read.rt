@@ -3,6 +3,7 @@ ghost use Rattle.std.specs.Prelude.{◌≡◌, IfOk, option_map};
 ghost use Rattle.clap.specs.Words.{first_of, found_of, rows_of};
 ghost use Rattle.cost_model.specs.Options.{IsAccepted, IsWithin};
 ghost use Rattle.command_line.specs.Options.{option_of, options_of};
+ghost use Rattle.command_line.specs.Halves.{limits_of, model_of};
 ghost use Rattle.command_line.specs.Values.{name_of, range_of, value_of};
 
 use crate::fault::WordsFault;
@@ -20,9 +21,19 @@ pub fn text_of<'a>(found: &ArgMatches<'a>, name: &str) -> Option<&'a str>
 }
 
 /// The options that the words give, and the defaults of the others.
-#[tactic(auto, unfolding(crate::specs::Options::options_of))]
+#[tactic(auto, using(crate::proofs::Halves::in_halves))]
 pub fn read_options(found: &ArgMatches) -> Result<Params, WordsFault>
     ensures value { result ≡ options_of (λ name. first_of name (rows_of (found_of found.now))) }
+    ensures accepted { IfOk result IsAccepted }
+{
+    let params = read_model(found)?;
+    read_limits(found, params)
+}
+
+// The options that decide which roads and costs a point has, and the defaults of the others.
+#[tactic(auto, unfolding(crate::specs::Halves::model_of))]
+fn read_model(found: &ArgMatches) -> Result<Params, WordsFault>
+    ensures value { result ≡ model_of (λ name. first_of name (rows_of (found_of found.now))) }
     ensures accepted { IfOk result IsAccepted }
 {
     let default = Params::DEFAULT;
@@ -31,10 +42,25 @@ pub fn read_options(found: &ArgMatches) -> Result<Params, WordsFault>
         radius: read_option(found, ValueName::Radius, default.radius)?,
         sigma: read_option(found, ValueName::Sigma, default.sigma)?,
         beta: read_option(found, ValueName::Beta, default.beta)?,
+        ..default
+    })
+}
+
+// The options that limit walks, workers and pieces, beside those of `model`.
+#[tactic(auto, unfolding(crate::specs::Halves::limits_of))]
+fn read_limits(found: &ArgMatches, model: Params) -> Result<Params, WordsFault>
+    requires { IsAccepted model }
+    ensures value { result
+        ≡ limits_of (λ name. first_of name (rows_of (found_of found.now))) model }
+    ensures accepted { IfOk result IsAccepted }
+{
+    let default = Params::DEFAULT;
+    Ok(Params {
         bound: read_option(found, ValueName::Bound, default.bound)?,
         workers: read_option(found, ValueName::Workers, default.workers)?,
         back: read_option(found, ValueName::Back, default.back)?,
         gap: read_option(found, ValueName::Gap, default.gap)?,
+        ..model
     })
 }
 

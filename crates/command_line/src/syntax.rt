@@ -1,9 +1,9 @@
 // The program as `clap` reads its words. Serves `read_command`; decided by `program`.
 ghost use Rattle.std.specs.Prelude.{◌≡◌, map, false, IfOk};
-ghost use Rattle.clap.specs.Words.{app_of, rule_of, shape_of};
+ghost use Rattle.clap.specs.Words.{app_of, rule_of, shape_of, with_subcommand};
 ghost use Rattle.clap.specs.declared.builder.command.Command.TheViews.{out-Command};
 ghost use Rattle.command_line.specs.Options.{all_options};
-ghost use Rattle.command_line.specs.Building.{form_shape, rule_of_word, with_rules};
+ghost use Rattle.command_line.specs.Building.{bare_program, form_shape, rule_of_word, with_rules};
 ghost use Rattle.command_line.specs.Syntax.{option_rule, program};
 ghost use Rattle.command_line.specs.Values.{name_of};
 
@@ -34,7 +34,7 @@ const FORMS: [Form; 7] = [
 ];
 
 /// What a word behind the command is.
-#[derive(Clone, Copy, PartialEq, Eq, Debug)]
+#[derive(Clone, Copy)]
 pub enum WordRole {
     /// The value of an option, which stands behind `--` and the option's name.
     Option,
@@ -46,18 +46,36 @@ pub enum WordRole {
 pub fn program<'a>(alloc: Global) -> Result<Command<'a>, AllocError>
     ensures { IfOk result (λ c. app_of c ≡ program) }
 {
-    let mut program = Command::new(alloc, "fmm")
-        .no_binary_name(true)
-        .subcommand_required(true);
-    for form in FORMS {
-        program = program.subcommand(command(alloc, form)?)?;
+    let mut program = bare_program(alloc);
+    for form in &FORMS {
+        program = with_command(alloc, program, form)?;
     }
     Ok(program)
 }
 
+// The program with no subcommand yet.
+fn bare_program<'a>(alloc: Global) -> Command<'a>
+    ensures { app_of result ≡ bare_program }
+{
+    Command::new(alloc, "fmm")
+        .no_binary_name(true)
+        .subcommand_required(true)
+}
+
+fn with_command<'a>(
+    alloc: Global,
+    program: Command<'a>,
+    form: &Form,
+) -> Result<Command<'a>, AllocError>
+    ensures { IfOk result
+        (λ c. app_of c ≡ with_subcommand (app_of program.entry) (form_shape form.now)) }
+{
+    program.subcommand(command(alloc, form)?)
+}
+
 // A command that takes the options of every command, then its own, and then its arguments.
-fn command<'a>(alloc: Global, form: Form) -> Result<Command<'a>, AllocError>
-    ensures shape { IfOk result (λ c. shape_of c ≡ form_shape form) }
+fn command<'a>(alloc: Global, form: &Form) -> Result<Command<'a>, AllocError>
+    ensures shape { IfOk result (λ c. shape_of c ≡ form_shape form.now) }
     ensures local { IfOk result (λ c. (out-Command c).has_globals ≡ false) }
 {
     let command = with_options(alloc, Command::new(alloc, form.name))?;
@@ -72,7 +90,7 @@ fn with_options<'a>(alloc: Global, command: Command<'a>) -> Result<Command<'a>, 
     ensures local { IfOk result (λ c. (out-Command c).has_globals ≡ false) }
 {
     let mut command = command;
-    for option in ValueName::OPTIONS {
+    for option in &ValueName::OPTIONS {
         command = command.arg(arg(alloc, option.name(), WordRole::Option))?;
     }
     Ok(command)

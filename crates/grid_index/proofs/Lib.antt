@@ -1,4 +1,5 @@
 pub mod RunBoxes
+pub mod Parts
 pub mod Places
 pub mod Slots
 pub mod Entering

@@ -39,7 +39,7 @@ around (pos p) (negsuc z) reach h k l = (omega (arith, ints), omega (arith, ints
 around (negsuc p) (pos z) reach h k l = (omega (arith, ints), omega (arith, ints))
 around (negsuc p) (negsuc z) reach h k l = (omega (arith, ints), omega (arith, ints))
 
-div_rises : (x y n : ℕ) → 0 < n → x ≤ y → x / n ≤ y / n
+pub div_rises : (x y n : ℕ) → 0 < n → x ≤ y → x / n ≤ y / n
 div_rises x y n h k = let m = div-mul-le_self x n in le-div (x / n) y n h (omega (arith, m, k))
 
 -- a coordinate that lies from `low` to `high`, both shifted, has a cell from that of `low` to that of `high`

@@ -1,5 +1,5 @@
 -- Where the entries of each slot begin.
-use Rattle.std.proofs.Common.{◌≡◌, ℕ, ◌+◌, ◌<◌, ◌≤◌, List, [], ◌∷◌, ◌++◌, length, get_or, sym, ap, subst, arith, length-append, ⊎_elim}
+use Rattle.std.proofs.Common.{◌≡◌, ℕ, ◌+◌, ◌<◌, ◌≤◌, List, [], ◌∷◌, ◌++◌, length, get_or, refl, sym, ap, subst, arith, length-append, ⊎_elim}
 use Rattle.std.specs.List.Sorted.{IsNonDecreasingBy}
 use Rattle.std.proofs.lemmas.Bool.{cases_lt}
 use Rattle.std.proofs.lemmas.List.{get_or_append_left, get_or_default, get_or_push}
@@ -35,3 +35,6 @@ starts_more entries starts more count place h k e =
 
 pub start_none : (entries : List Entry) → IsStart entries 0 0
 start_none entries = record { within = omega arith; before = λ i d lt. absurd (omega (arith, lt)); after = λ i d le lt. omega arith }
+
+pub starts_none : (entries : List Entry) → AreStarts entries [] 0
+starts_none entries = record { count_is = refl; each = λ slot lt. absurd (omega (arith, lt)) }

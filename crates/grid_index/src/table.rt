@@ -7,7 +7,7 @@ ghost use Rattle.grid_index.specs.GridOf.{runs_at};
 ghost use Rattle.grid_index.specs.Runs.{HasCorners};
 ghost use Rattle.grid_index.specs.Table.{Appends, AppendsOne, Gathers, HasParts, IsTableOf, grid_of};
 
-use crate::cells::{Cells, slot};
+use crate::cells::Cells;
 use crate::entries::{Entries, Entry, Layout};
 use crate::runs::Run;
 use crate::starts::starts_of;
@@ -78,12 +78,12 @@ impl Table {
         })
     }
 
-    /// The runs at the cell of a column and a row. A remainder by a power of 2 takes no division.
+    /// The runs at the cell of a column and a row.
     pub(crate) fn runs_at(&self, column: u32, row: u32) -> &[Run]
         requires { HasParts self.now }
         ensures { (net : Net) → result.now ≡ runs_at (grid_of net self.now) column row }
     {
-        let slot = slot(column, row, 1 << self.layout.width_bits) as usize;
+        let slot = self.layout.slot(column, row) as usize;
         &self.members[self.starts[slot]..self.starts[slot + 1]]
     }
 

@@ -6,8 +6,8 @@ use Rattle.edge_io.specs.State.{SinkState}
 use Rattle.edge_io.proofs.KnownBytes.{appends_more, prefix_whole, prefix_longer, prefix_after}
 use Rattle.trace_reader.specs.declared.trace.Trace.{Trace}
 use Rattle.trace_reader.specs.declared.fault.TraceFault.{TraceFault}
-use Rattle.program_frame.specs.Batches.{Holds, Later, PutsBefore, WritesBatch, WritesFull, with_later}
-use Rattle.program_frame.specs.Jobs.{Grows, IsBounded, JobText, TakesTraces, given_by, refused_behind, traces_give}
+use Rattle.program_frame.specs.Batches.{Holds, IsHeld, Later, PutsBefore, WritesBatch, WritesFull, with_later}
+use Rattle.program_frame.specs.Jobs.{CanTake, Grows, IsBounded, JobText, TakesTraces, given_by, refused_behind, traces_give}
 use Rattle.program_frame.specs.Outcome.{Outcome}
 use Rattle.program_frame.specs.Performs.{FailsToPut}
 use Rattle.program_frame.specs.Refusals.{RefusesTraces}
@@ -151,6 +151,12 @@ takes_held hand holds = hand.takes holds.taken holds.had (subst IsBounded holds.
 
 taken_ok : {job : JobText} {taken waiting : List Trace} {given : List ℕ} → Grows job taken waiting [] given → Taken job taken waiting given
 taken_ok {job} {taken} grows = record { is = grows.is ∙ ap (λ t. job.texts taken ++ t) (sym grows.grown) }
+
+-- the job can take all that waits
+pub can_take : {job : JobText} {has : Has} {out : SinkState} {waiting slice : List Trace} → IsHeld job has out waiting → slice ≡ waiting → CanTake has slice
+can_take {has = has} held same =
+    let holds = held.2 in
+    subst (CanTake has) (sym same) (holds.taken, holds.had, subst IsBounded holds.are holds.bounded, holds.few)
 
 -- the text of all that waited was not put
 pub write_unput : {job : JobText} {has : Has} {base out : SinkState} {traces waiting : List Trace} (has' : Has) (out' : SinkState) (given : List ℕ) (stop : Stop) → Handed job has has' waiting given (Ok tt) → Holds job has base out traces waiting → FailsToPut out out' given stop → StopsAs Later (with_later job traces) base out' stop

@@ -136,6 +136,14 @@ pub record IsUnderway (job : JobText) (has has' : List Trace → Type 0) (chunk 
   pub whole : chunk ≡ front ++ rest
   pub goes : (base : SinkState) (fed : List ℕ) → IsBetween job has base first fed reader waiting → IsBetween job has' base out (fed ++ front) reader' waiting'
 
+-- nothing of it was taken
+pub not_begun : {job : JobText} {has : Has} {chunk : List ℕ} {out : SinkState} {reader : TraceReader} {waiting : List Trace} → IsUnderway job has has chunk chunk out out reader reader waiting waiting
+not_begun {job} {has} {chunk} {out} {reader} {waiting} = record {
+  front = [];
+  whole = refl;
+  goes = λ base fed between. subst (λ b. IsBetween job has base out b reader waiting) (sym (append-nil fed)) between;
+}
+
 pub all_in : {job : JobText} {has has' : Has} {chunk rest : List ℕ} {first out : SinkState} {reader reader' : TraceReader} {waiting waiting' : List Trace} → IsUnderway job has has' chunk rest first out reader reader' waiting waiting' → rest ≡ [] → (base : SinkState) (fed : List ℕ) → IsBetween job has base first fed reader waiting → IsBetween job has' base out (fed ++ chunk) reader' waiting'
 all_in {job} {has} {has'} {chunk} {rest} {first} {out} {reader} {reader'} {waiting} {waiting'} underway none base fed between =
     subst (λ p. IsBetween job has' base out (fed ++ p) reader' waiting') (sym (underway.whole ∙ ap (λ r. underway.front ++ r) none ∙ append-nil underway.front)) (underway.goes base fed between)

@@ -1,13 +1,12 @@
 -- The traces of a file that is fed whole to a reader.
-use Rattle.std.proofs.Common.{◌≡◌, ◌≢◌, ℕ, ◌+◌, ◌≤◌, List, [], ◌++◌, length, take, drop, Some, None, Result, Ok, Err, refl, sym, ◌∙◌, ap, subst, arith, append-nil, length-append}
+use Rattle.std.proofs.Common.{◌≡◌, ◌≢◌, ℕ, ◌+◌, ◌≤◌, List, [], ◌++◌, length, take, drop, Some, None, Result, Ok, Err, refl, sym, ◌∙◌, ap, subst, arith, length-append}
 use Rattle.std.proofs.lemmas.List.{take-append-drop, take-take}
 use Rattle.std.specs.declared.option.Option.{Option}
 use Rattle.edge_io.specs.Shelf.{Reads}
 use Rattle.edge_io.specs.State.{ShelfState}
 use Rattle.edge_io.specs.declared.shelf.Taken.TheVariants.{End, Got}
-use Rattle.trace_reader.specs.Fault.{fault_line}
 use Rattle.trace_reader.specs.Reader.{Closes, EndsFaulty, Ends, Fails, StandsFor}
-use Rattle.trace_reader.specs.Reading.{closed, fault_in, file_fault, file_traces}
+use Rattle.trace_reader.specs.Reading.{file_fault, file_traces}
 use Rattle.trace_reader.specs.declared.fault.TraceFault.{TraceFault}
 use Rattle.trace_reader.specs.declared.fault.TraceFault.TheVariants.{Memory}
 use Rattle.trace_reader.specs.declared.reader.TraceReader.{TraceReader}

@@ -1,7 +1,23 @@
-use Rattle.std.proofs.Common.{ℕ, ◌≡◌, ◌+◌, ◌-◌, ◌/◌, ◌≤◌, min, max, rules, subst}
+use Rattle.std.proofs.Common.{ℕ, ◌≡◌, ◌+◌, ◌-◌, ◌*◌, ◌/◌, ◌≤◌, min, max, rules, subst, arith, mul-le-mul}
 use Rattle.grid_index.specs.Cells.{shifted}
 use Rattle.grid_index.proofs.NearestCells.{gaps_least}
 use Rattle.grid_index.proofs.nearest_cell.cell_distance2.Goals as goal
+
+pub overflow_mul-result : goal.overflow_mul-result
+overflow_mul-result c =
+    let x : c.gap-x.result * c.gap-x.result ≤ 2_147_483_648 * 2_147_483_648 = mul-le-mul c.gap-x.ensures.small c.gap-x.ensures.small in
+    omega (arith, x)
+
+pub overflow_mul-result-2 : goal.overflow_mul-result-2
+overflow_mul-result-2 c =
+    let y : c.gap-y.result * c.gap-y.result ≤ 2_147_483_648 * 2_147_483_648 = mul-le-mul c.gap-y.ensures.small c.gap-y.ensures.small in
+    omega (arith, y)
+
+pub overflow_add-result : goal.overflow_add-result
+overflow_add-result c =
+    let x : c.gap-x.result * c.gap-x.result ≤ 2_147_483_648 * 2_147_483_648 = mul-le-mul c.gap-x.ensures.small c.gap-x.ensures.small in
+    let y : c.gap-y.result * c.gap-y.result ≤ 2_147_483_648 * 2_147_483_648 = mul-le-mul c.gap-y.ensures.small c.gap-y.ensures.small in
+    omega (arith, x, y)
 
 pub returns : goal.returns
 returns c = λ net r q is cell inside.

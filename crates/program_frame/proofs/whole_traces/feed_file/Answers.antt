@@ -1,4 +1,4 @@
-use Rattle.std.proofs.Common.{◌≡◌, ◌≤◌, ◌+◌, ◌++◌, length, refl, rules, sym, ◌∙◌, ap, subst, arith}
+use Rattle.std.proofs.Common.{◌≡◌, length, refl, ◌∙◌, ap, arith}
 use Rattle.edge_io.specs.declared.shelf.Taken.TheVariants.{End, Got}
 use Rattle.program_frame.proofs.Reading.{reads_as}
 use Rattle.program_frame.proofs.WholeReading.{chunk_refused, fed_to_end, fed_to_limit, holds_more, holds_nothing, no_memory, not_read}

@@ -1,7 +1,18 @@
-use Rattle.std.proofs.Common.{◌≡◌, [], length, sym, ap, refl, arith}
+use Rattle.std.proofs.Common.{◌≡◌, [], ◌∷◌, None, length, length-append, sym, ap, refl, arith}
 use Rattle.bounded_search.specs.Known.{known_nodes}
-use Rattle.bounded_search.proofs.KnownNodes.{known_none}
+use Rattle.bounded_search.proofs.KnownNodes.{known_none, none_more}
 use Rattle.bounded_search.proofs.own_rows.OwnRows.open.Goals as goal
+
+pub loop-init : goal.loop-init
+loop-init c = rw c.in_ok-rows.ensures.items (record { count = refl; none = λ k row e. absurd cc })
+
+pub loop-preserved : goal.loop-preserved
+loop-preserved c =
+    let s = c.loop in
+    rw c.in_ok-push.ensures.items (record {
+      count = omega (arith, length-append s.rows.items (None ∷ []), s.invariant.count);
+      none = none_more s.rows.items s.invariant.none;
+    })
 
 pub invariant_of-result : goal.invariant_of-result
 invariant_of-result c =

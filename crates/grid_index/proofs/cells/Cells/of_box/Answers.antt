@@ -1,6 +1,7 @@
 use Rattle.std.proofs.Common.{◌≡◌, ◌≤◌, rules, arith}
 use Rattle.grid_index.specs.Cells.{shifted}
-use Rattle.grid_index.proofs.Places.{between, cell_within}
+use Rattle.std.proofs.Math.Nat.{div-le_self}
+use Rattle.grid_index.proofs.Places.{between, cell_within, div_rises}
 use Rattle.grid_index.proofs.cells.Cells.of_box.Goals as goal
 
 pub returns-clause-covers : goal.returns-clause-covers
@@ -19,3 +20,23 @@ returns-clause-covers c = λ q inside.
     let h = cell_within side c.min.result c.max.result q.x c.requires.side xl xh in
     let k = cell_within side c.min-2.result c.max-2.result q.y c.requires.side yl yh in
     record { left = h.0; right = h.1; bottom = k.0; top = k.1 }
+
+pub overflow_add-result : goal.overflow_add-result
+overflow_add-result c =
+    let less = div-le_self c.max.result c.args.side in
+    omega (arith, less, c.max.ensures, c.shifted-ax.ensures.high, c.shifted-bx.ensures.high)
+
+pub overflow_add-result-2 : goal.overflow_add-result-2
+overflow_add-result-2 c =
+    let less = div-le_self c.max-2.result c.args.side in
+    omega (arith, less, c.max-2.ensures, c.shifted-ay.ensures.high, c.shifted-by.ensures.high)
+
+pub returns-clause-columns : goal.returns-clause-columns
+returns-clause-columns c =
+    let up = div_rises c.min.result c.max.result c.args.side c.requires.side (omega (arith, c.min.ensures, c.max.ensures)) in
+    omega (arith, up)
+
+pub returns-clause-rows : goal.returns-clause-rows
+returns-clause-rows c =
+    let up = div_rises c.min-2.result c.max-2.result c.args.side c.requires.side (omega (arith, c.min-2.ensures, c.max-2.ensures)) in
+    omega (arith, up)

@@ -1,9 +1,9 @@
-use Rattle.std.proofs.Common.{◌++◌, ◌∙◌, sym, subst, take}
+use Rattle.std.proofs.Common.{◌++◌, ◌∙◌, sym, subst, take, refl}
 use Rattle.std.proofs.lemmas.Result.{err_from_is_err_and}
 use Rattle.program_frame.specs.Batches.{IsBetween}
 use Rattle.program_frame.specs.Jobs.{bytes_give}
 use Rattle.program_frame.specs.Streams.{StopsAt}
-use Rattle.program_frame.proofs.ChunkEnds.{all_in, none_left, some_more, stops_chunk}
+use Rattle.program_frame.proofs.ChunkEnds.{all_in, none_left, not_begun, some_more, stops_chunk}
 use Rattle.program_frame.proofs.batches.Batches.take_chunk.Goals as goal
 
 pub take_some-requires-clause-ready : goal.take_some-requires-clause-ready
@@ -32,3 +32,6 @@ loop-rest-preserved g c =
 pub returns-clause-takes : goal.returns-clause-takes
 returns-clause-takes g c base fed between =
     all_in c.loop-rest.invariant.underway (none_left c.loop-rest.rest.now c.is_empty.result c.loop-rest-test.false c.is_empty.ensures) base fed between
+
+pub loop-rest-init : goal.loop-rest-init
+loop-rest-init g c = record { text = refl; underway = not_begun }
