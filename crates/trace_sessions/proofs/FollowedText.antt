@@ -5,12 +5,12 @@ use Rattle.std.proofs.lemmas.List.Concat.{flat_map-append}
 use Rattle.std.proofs.lemmas.List.Folds.{concat-append}
 use Rattle.cost_model.specs.declared.params.Params.{Params}
 use Rattle.road_network.specs.Net.{Net}
-use Rattle.match_text.specs.MatchText.{end_line, trace_line}
+use Rattle.match_text.specs.MatchText.{trace_line}
 use Rattle.online_commit.specs.declared.items.Item.{Item}
 use Rattle.trace_match.specs.Match.{layers_of}
 use Rattle.trace_reader.specs.declared.trace.Trace.{Trace}
-use Rattle.trace_sessions.specs.FollowText.{finish_line, fix_line, follow_text, handed_at, last_lines, left_of, point_lines}
-use Rattle.trace_sessions.specs.ItemText.{item_lines}
+use Rattle.trace_sessions.specs.FollowText.{follow_text, handed_at, left_of, point_lines}
+use Rattle.trace_sessions.specs.StreamingInside.{rest_lines, step_lines}
 
 -- the lines of the first i points
 abbrev first_lines : Net → Params → Trace → ℕ → List (List ℕ)
@@ -37,43 +37,33 @@ pub text_begins : (n : Net) (p : Params) (trace : Trace) (base new : List ℕ) �
 text_begins n p trace base new written = written ∙ ap (λ (t : List ℕ). base ++ t) (sym (append-nil (trace_line trace.id)))
 
 -- the lines of the next point were written
-pub text_next : (n : Net) (p : Params) (trace : Trace) (i point : ℕ) (items : List Item) (base old one new : List ℕ) → old ≡ base ++ text_so_far n p trace i → point ≡ i → items ≡ handed_at n p (layers_of n p trace) i
-    → one ≡ old ++ fix_line point → new ≡ one ++ concat (item_lines n None items) → new ≡ base ++ text_so_far n p trace (i + 1)
-text_next n p trace i point items base old one new before at are fix written =
+pub text_next : (n : Net) (p : Params) (trace : Trace) (i point : ℕ) (items : List Item) (base old new : List ℕ) → old ≡ base ++ text_so_far n p trace i → point ≡ i → items ≡ handed_at n p (layers_of n p trace) i
+    → new ≡ old ++ concat (step_lines n None point items) → new ≡ base ++ text_so_far n p trace (i + 1)
+text_next n p trace i point items base old new before at are written =
     let lines = concat (first_lines n p trace i) in
     let head = trace_line trace.id in
-    let step = fix_line i ++ concat (item_lines n None (handed_at n p (layers_of n p trace) i)) in
+    let step = concat (point_lines n p (layers_of n p trace) i) in
     let grown : concat (first_lines n p trace (i + 1)) ≡ lines ++ step =
     ap concat (more_lines n p trace i) ∙ concat-append (first_lines n p trace i) (point_lines n p (layers_of n p trace) i) in
     written
-    ∙ ap (λ (t : List ℕ). t ++ concat (item_lines n None items)) (fix ∙ ap (λ (k : ℕ). old ++ fix_line k) at)
-    ∙ append_assoc old (fix_line i) (concat (item_lines n None items))
-    ∙ ap (λ (xs : List Item). old ++ (fix_line i ++ concat (item_lines n None xs))) are
+    ∙ ap (λ (k : ℕ). old ++ concat (step_lines n None k items)) at
+    ∙ ap (λ (xs : List Item). old ++ concat (step_lines n None i xs)) are
     ∙ ap (λ (t : List ℕ). t ++ step) before
     ∙ append_assoc base (head ++ lines) step
     ∙ ap (λ (t : List ℕ). base ++ t) (append_assoc head lines step ∙ ap (λ (t : List ℕ). head ++ t) (sym grown))
 
 -- the last lines were written
-pub text_ends : (n : Net) (p : Params) (trace : Trace) (i : ℕ) (items : List Item) (base old one two new : List ℕ) → old ≡ base ++ text_so_far n p trace i → i ≡ length (layers_of n p trace)
-    → items ≡ left_of n p (layers_of n p trace) → one ≡ old ++ finish_line → two ≡ one ++ concat (item_lines n None items) → new ≡ two ++ end_line trace.id → new ≡ base ++ follow_text n p trace
-text_ends n p trace i items base old one two new before all are finish written ended =
+pub text_ends : (n : Net) (p : Params) (trace : Trace) (i : ℕ) (items : List Item) (base old new : List ℕ) → old ≡ base ++ text_so_far n p trace i → i ≡ length (layers_of n p trace)
+    → items ≡ left_of n p (layers_of n p trace) → new ≡ old ++ concat (rest_lines n None trace.id items) → new ≡ base ++ follow_text n p trace
+text_ends n p trace i items base old new before all are written =
     let whole = layers_of n p trace in
     let head = trace_line trace.id in
     let points = first_lines n p trace (length whole) in
     let lines = concat points in
-    let last = finish_line ++ concat (item_lines n None (left_of n p whole)) in
-    let end = end_line trace.id in
-    let ending : concat (last_lines n p whole ++ end ∷ []) ≡ last ++ end = concat-append (last_lines n p whole) (end ∷ []) ∙ ap (λ (t : List ℕ). last ++ t) (append-nil end) in
-    let text : follow_text n p trace ≡ head ++ (lines ++ (last ++ end)) =
-    ap (λ (t : List ℕ). head ++ t) (concat-append points (last_lines n p whole ++ end ∷ []) ∙ ap (λ (t : List ℕ). lines ++ t) ending) in
+    let rest = rest_lines n None trace.id (left_of n p whole) in
     let start : old ≡ base ++ (head ++ lines) = before ∙ ap (λ (k : ℕ). base ++ text_so_far n p trace k) all in
-    let behind : two ≡ old ++ last =
     written
-    ∙ ap (λ (t : List ℕ). t ++ concat (item_lines n None items)) finish
-    ∙ append_assoc old finish_line (concat (item_lines n None items))
-    ∙ ap (λ (xs : List Item). old ++ (finish_line ++ concat (item_lines n None xs))) are in
-    ended
-    ∙ ap (λ (t : List ℕ). t ++ end) (behind ∙ ap (λ (t : List ℕ). t ++ last) start)
-    ∙ append_assoc (base ++ (head ++ lines)) last end
-    ∙ append_assoc base (head ++ lines) (last ++ end)
-    ∙ ap (λ (t : List ℕ). base ++ t) (append_assoc head lines (last ++ end) ∙ sym text)
+    ∙ ap (λ (xs : List Item). old ++ concat (rest_lines n None trace.id xs)) are
+    ∙ ap (λ (t : List ℕ). t ++ concat rest) start
+    ∙ append_assoc base (head ++ lines) (concat rest)
+    ∙ ap (λ (t : List ℕ). base ++ t) (append_assoc head lines (concat rest) ∙ ap (λ (t : List ℕ). head ++ t) (sym (concat-append points rest)))

@@ -20,10 +20,12 @@ use Rattle.trace_reader.specs.Trace.{IsLawfulTrace}
 use Rattle.online_commit.specs.Items.{handed}
 use Rattle.online_commit.specs.Session.{AsksFinished, AsksPoints, Session, StandsFor}
 use Rattle.trace_sessions.specs.Following.{pieces_among}
+use Rattle.trace_sessions.specs.ItemText.{Stays}
 use Rattle.trace_sessions.specs.Sessions.{IsPairOf, IsSessionOf, Keeps, KeepsEach, Pair, SessionsState, fixes_of}
 use Rattle.trace_sessions.specs.StreamText.{closing_lines, lines_at_end, trace_of}
 use Rattle.trace_sessions.specs.Streaming.{AreLawful, AsksSome, CanEnd, CanStream, EndsPair, EndsPairs, fixes_in, pieces_of_all, pieces_told}
 use Rattle.trace_sessions.proofs.StreamLines.{few-pieces}
+use Rattle.trace_sessions.proofs.Written.{stays-behind}
 
 -- ---- the fixes of an id that stands once
 
@@ -173,6 +175,12 @@ ended-err s whole left id session t0 t r0 r r' pieces is has asks pairs keeps =
     only_then old.asks
     (ended-asks s pairs old.front next.rest next.pair id session r r' (old.parts ∙ ap (λ ps. old.front ++ ps) next.parts) keeps.different next.is asks)
     (λ v either. ⊎_elim (λ asked. asked) (λ asked. asked) either)
+
+-- and what stood in the text stays
+pub ended-stays : (s : SessionsState) (more : ℕ) (whole : List (ℕ × Session)) (t0 t t' : List ℕ) (r0 r : RowsState) (pieces : ℕ) → CanStream s more → HasEnded s whole t0 t r0 r pieces → Stays t t' → Stays t0 t'
+ended-stays s more whole t0 t t' r0 r pieces can has stays =
+    let old = has can.pairs can.keeps in
+    stays-behind t0 (concat (closing_lines s.network s.params old.front)) t t' old.written stays
 
 -- the number of pieces stays in its range
 pub ended-few : (s : SessionsState) (more : ℕ) (left : List (ℕ × Session)) (t0 t : List ℕ) (r0 r : RowsState) (pieces : ℕ) → IsAccepted s.params → CanStream s more → HasEnded s left t0 t r0 r pieces → pieces < 2 ^ 62

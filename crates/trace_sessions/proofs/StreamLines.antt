@@ -23,7 +23,7 @@ use Rattle.trace_sessions.specs.ItemText.{AreItemsOf, item_line, item_lines, lea
 use Rattle.trace_sessions.specs.Sessions.{IsSessionOf, Pair}
 use Rattle.trace_sessions.specs.StreamText.{led_by, lines_at_end, trace_of}
 use Rattle.trace_sessions.specs.Streaming.{AreLawful, fixes_in, pieces_of_all, pieces_told}
-use Rattle.trace_sessions.specs.StreamingInside.{heading, lines_of_items}
+use Rattle.trace_sessions.specs.StreamingInside.{heading, lines_of_items, rest_lines, step_lines}
 use Rattle.trace_sessions.proofs.FollowLines.{left_behind}
 use Rattle.trace_sessions.proofs.FollowedPoints.{drop_behind, lies_behind}
 use Rattle.trace_sessions.proofs.ItemEdges.{items_edges}
@@ -37,9 +37,6 @@ lead id = lead_of (Some id)
 led-items : (n : Net) (id : ℕ) (items : List Item) → led_by id (item_lines n None items) ≡ item_lines n (Some id) items
 led-items n id [] = refl
 led-items n id (x ∷ items) = ap (λ ls. (lead id ++ item_line n x) ∷ ls) (led-items n id items)
-
-led-text : (n : Net) (id : ℕ) (items : List Item) → concat (led_by id (item_lines n None items)) ≡ concat (item_lines n (Some id) items)
-led-text n id items = ap concat (led-items n id items)
 
 -- a lead and a line behind a text
 led-line : (id : ℕ) (t0 t1 t2 text : List ℕ) → t1 ≡ t0 ++ lead id → t2 ≡ t1 ++ text → t2 ≡ t0 ++ (lead id ++ text)
@@ -55,38 +52,29 @@ pub first-heading : (id point : ℕ) (t0 t1 t2 : List ℕ) → point ≤ 0 → t
 first-heading id zero t0 t1 t2 first one two = led-line id t0 t1 t2 (trace_line id) one two ∙ ap (λ t. t0 ++ t) (sym (append-nil (lead id ++ trace_line id)))
 first-heading id (suc point) t0 t1 t2 first one two = absurd (omega (arith, first))
 
-pub point-text : (n : Net) (id point : ℕ) (items : List Item) (t0 t1 t2 t3 t4 : List ℕ) → t1 ≡ t0 ++ concat (led_by id (heading id point)) → t2 ≡ t1 ++ lead id → t3 ≡ t2 ++ fix_line point
-    → t4 ≡ t3 ++ concat (item_lines n (Some id) items) → t4 ≡ t0 ++ concat (lines_of_items n id point items)
-point-text n id point items t0 t1 t2 t3 t4 first one two three =
+pub step-led : (n : Net) (id point : ℕ) (items : List Item) → step_lines n (Some id) point items ≡ led_by id (fix_line point ∷ item_lines n None items)
+step-led n id point items = ap (λ ls. (lead id ++ fix_line point) ∷ ls) (sym (led-items n id items))
+
+pub point-text : (n : Net) (id point : ℕ) (items : List Item) (t0 t1 t2 : List ℕ) → t1 ≡ t0 ++ concat (led_by id (heading id point)) → t2 ≡ t1 ++ concat (step_lines n (Some id) point items)
+    → t2 ≡ t0 ++ concat (lines_of_items n id point items)
+point-text n id point items t0 t1 t2 first rest =
     let head = led_by id (heading id point) in
-    let own = led_by id (item_lines n None items) in
-    let line = lead id ++ fix_line point in
-    let rest : t4 ≡ t1 ++ (line ++ concat own) =
-    three ∙ ap (λ t. t3 ++ t) (sym (led-text n id items)) ∙ ap (λ t. t ++ concat own) (led-line id t1 t2 t3 (fix_line point) one two) ∙ append_assoc t1 line (concat own) in
-    rest ∙ ap (λ t. t ++ (line ++ concat own)) first ∙ append_assoc t0 (concat head) (line ++ concat own)
+    let step = led_by id (fix_line point ∷ item_lines n None items) in
+    rest ∙ ap (λ ls. t1 ++ concat ls) (step-led n id point items) ∙ ap (λ t. t ++ concat step) first ∙ append_assoc t0 (concat head) (concat step)
     ∙ ap (λ t. t0 ++ t)
-    (sym (concat-append head (line ∷ own)) ∙ ap concat (sym (map-append (λ text. lead id ++ text) (heading id point) (fix_line point ∷ item_lines n None items))))
+    (sym (concat-append head step) ∙ ap concat (sym (map-append (λ text. lead id ++ text) (heading id point) (fix_line point ∷ item_lines n None items))))
 
 -- ---- the end of an id
 
-pub end-text : (n : Net) (p : Params) (id : ℕ) (fixes : List Fix) (items : List Item) (t0 t1 t2 t3 t4 t5 : List ℕ) → items ≡ left_of n p (map (layer_of n p) fixes)
-    → t1 ≡ t0 ++ lead id → t2 ≡ t1 ++ finish_line → t3 ≡ t2 ++ concat (item_lines n (Some id) items) → t4 ≡ t3 ++ lead id → t5 ≡ t4 ++ end_line id
-    → t5 ≡ t0 ++ concat (lines_at_end n p (id, fixes))
-end-text n p id fixes items t0 t1 t2 t3 t4 t5 are one two three four five =
-    let own = led_by id (item_lines n None items) in
-    let first = lead id ++ finish_line in
-    let last = lead id ++ end_line id in
-    let front : t3 ≡ t0 ++ (first ++ concat own) =
-    three ∙ ap (λ t. t2 ++ t) (sym (led-text n id items)) ∙ ap (λ t. t ++ concat own) (led-line id t0 t1 t2 finish_line one two) ∙ append_assoc t0 first (concat own) in
-    led-line id t3 t4 t5 (end_line id) four five
-    ∙ ap (λ t. t ++ last) front
-    ∙ append_assoc t0 (first ++ concat own) last
-    ∙ ap (λ t. t0 ++ t)
-    (append_assoc first (concat own) last
-    ∙ ap (λ t. first ++ (concat own ++ t)) (sym (append-nil last))
-    ∙ ap (λ t. first ++ t) (sym (concat-append own (last ∷ [])))
-    ∙ ap (λ ls. first ++ concat ls) (sym (map-append (λ text. lead id ++ text) (item_lines n None items) (end_line id ∷ [])))
-    ∙ ap (λ xs. concat (led_by id ((finish_line ∷ item_lines n None xs) ++ end_line id ∷ []))) are)
+rest-led : (n : Net) (id : ℕ) (items : List Item) → rest_lines n (Some id) id items ≡ led_by id ((finish_line ∷ item_lines n None items) ++ end_line id ∷ [])
+rest-led n id items =
+    ap (λ ls. (lead id ++ finish_line) ∷ (ls ++ (lead id ++ end_line id) ∷ [])) (sym (led-items n id items))
+    ∙ sym (map-append (λ text. lead id ++ text) (finish_line ∷ item_lines n None items) (end_line id ∷ []))
+
+pub end-text : (n : Net) (p : Params) (id : ℕ) (fixes : List Fix) (items : List Item) (t0 t1 : List ℕ) → items ≡ left_of n p (map (layer_of n p) fixes)
+    → t1 ≡ t0 ++ concat (rest_lines n (Some id) id items) → t1 ≡ t0 ++ concat (lines_at_end n p (id, fixes))
+end-text n p id fixes items t0 t1 are written =
+    written ∙ ap (λ ls. t0 ++ concat ls) (rest-led n id items ∙ ap (λ xs. led_by id ((finish_line ∷ item_lines n None xs) ++ end_line id ∷ [])) are)
 
 -- what a session of these fixes hands out at the end
 pub record IsRest (n : Net) (p : Params) (fixes : List Fix) (items : List Item) : Type 0 where

@@ -40,6 +40,7 @@ use Rattle.trace_sessions.proofs.FollowedPoints.{lies_behind}
 use Rattle.trace_sessions.proofs.PieceCounts.{among-append}
 use Rattle.trace_sessions.proofs.SessionFixes.{count_of, no-ok, opened-is, stands-in}
 use Rattle.trace_sessions.proofs.StreamLines.{told-few}
+use Rattle.trace_sessions.proofs.Written.{stays-behind, stays-itself}
 use Rattle.trace_sessions.proofs.StreamPoints.{fixes-behind, fixes-with, fixes_in-behind, full-append, full-stays, lawful-insert, lines-append, none-more, not-full, one-full, sound-at, sum-insert, taken-append, taken-stays, with-append}
 
 abbrev layers : Net → Params → List Fix → List Layer
@@ -121,7 +122,7 @@ point-taken old new pairs id fix items point count text text' keeps fed at count
 
 pub point-refused : (old new : SessionsState) (pairs : List Pair) (id : ℕ) (fix : Fix) (fault : SessionFault) (text : List ℕ) → Keeps old pairs → IsFeedFault old id fault → new ≡ old
     → Streams old pairs ((id, fix) ∷ []) new text text (Err fault)
-point-refused old new pairs id fix fault text keeps (inl memory) same = subst (λ f. Streams old pairs ((id, fix) ∷ []) new text text (Err f)) (sym memory) tt
+point-refused old new pairs id fix fault text keeps (inl memory) same = subst (λ f. Streams old pairs ((id, fix) ∷ []) new text text (Err f)) (sym memory) (stays-itself text)
 point-refused old new pairs id fix fault text keeps (inr full) same =
     let none = room-not pairs id (full.1 pairs keeps) in
     let no_lines : stream_lines old.network old.params pairs ((id, fix) ∷ []) ≡ [] =
@@ -185,7 +186,7 @@ takes-then s0 s1 s2 pairs front back t0 t1 t2 k1 k2 one two =
 
 pub refused-then : (s0 s1 s2 : SessionsState) (pairs : List Pair) (front back rest : List Point) (t0 t1 t2 : List ℕ) (k : ℕ) (fault : SessionFault) → TakesPoints s0 pairs front s1 t0 t1 k
     → Streams s1 (with_points pairs front) back s2 t1 t2 (Err fault) → Streams s0 pairs (front ++ (back ++ rest)) s2 t0 t2 (Err fault)
-refused-then s0 s1 s2 pairs front back rest t0 t1 t2 k Memory one two = tt
+refused-then s0 s1 s2 pairs front back rest t0 t1 t2 k Memory one two = stays-behind t0 (concat (stream_lines s0.network s0.params pairs front)) t1 t2 one.written two
 refused-then s0 s1 s2 pairs front back rest t0 t1 t2 k (NotOpen id) one two = absurd two
 refused-then s0 s1 s2 pairs front back rest t0 t1 t2 k (TooLong id) one two =
     let n = s0.network in

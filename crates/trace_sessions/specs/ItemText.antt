@@ -1,5 +1,5 @@
 -- The lines of what is handed out, with edges by the ids of the network file.
-use Rattle.std.specs.Prelude.{ℕ, List, [], ◌∷◌, ◌++◌, Option, Some, None, map}
+use Rattle.std.specs.Prelude.{◌≡◌, ℕ, List, [], ◌∷◌, ◌++◌, Option, Some, None, length, map, take}
 use Rattle.std.specs.List.{All}
 use Rattle.decimal_text.specs.Number.{decimal}
 use Rattle.road_network.specs.Net.{Net, HasEdge}
@@ -33,3 +33,7 @@ IsItemOf n (Closed piece route) = All (λ e. HasEdge n e.0) route
 
 abbrev pub AreItemsOf : Net → List Item → Type 0
 AreItemsOf n items = All (IsItemOf n) items
+
+-- what stood in a text still stands at its front
+abbrev pub Stays : (text text' : List ℕ) → Type 0
+Stays text text' = take (length text) text' ≡ text

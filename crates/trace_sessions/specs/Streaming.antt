@@ -13,6 +13,7 @@ use Rattle.online_commit.specs.Session.{Session}
 use Rattle.trace_sessions.specs.declared.sessions.SessionFault.{SessionFault}
 use Rattle.trace_sessions.specs.declared.sessions.SessionFault.TheVariants.{Memory, NotOpen, TooLong}
 use Rattle.trace_sessions.specs.Following.{pieces_among}
+use Rattle.trace_sessions.specs.ItemText.{Stays}
 use Rattle.trace_sessions.specs.Sessions.{AsksFixes, IsSessionOf, Keeps, Pair, SessionsState, fixes_of}
 use Rattle.trace_sessions.specs.StreamText.{Point, closing_lines, full_id, lines_at_end, stream_lines, trace_of, with_points, with_taken}
 
@@ -64,14 +65,14 @@ pub record TakesUntilFull (old : SessionsState) (pairs : List Pair) (points : Li
   pub stands : Keeps new (with_taken pairs points)
   pub written : text' ≡ text ++ concat (stream_lines old.network old.params pairs points)
 
--- all were taken, or those before a full id, or memory ran out
+-- all were taken, or those before a full id, or memory ran out and what stood in the text still stands
 abbrev pub Streams : SessionsState → List Pair → List Point → SessionsState → List ℕ → List ℕ
     → Result ℕ SessionFault → Type 0
 Streams old pairs points new text text' (Ok pieces) = TakesPoints old pairs points new text text' pieces
 Streams old pairs points new text text' (Err (TooLong id)) =
     TakesUntilFull old pairs points new text text' id
 Streams old pairs points new text text' (Err (NotOpen id)) = ⊥
-Streams old pairs points new text text' (Err Memory) = Unit {0}
+Streams old pairs points new text text' (Err Memory) = Stays text text'
 
 -- what taking points leaves of the rows: nothing became known but what some id asks for with them, and
 -- after Ok all that it asks for is known and was not asked for before

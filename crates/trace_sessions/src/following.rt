@@ -1,13 +1,16 @@
 //! A trace that is followed point by point. Serves `follow`; decided by `follow_text`.
-ghost use Rattle.std.specs.Prelude.{◌≡◌, ◌++◌, true, IfOk, OnOk};
+ghost use Rattle.std.specs.Prelude.{◌≡◌, ◌++◌, true, IfOk, OnOk, OnErr};
+ghost use Rattle.std.specs.List.{concat};
 ghost use Rattle.bounded_search.specs.Rows.{AreRowsOf, AsksAs};
 ghost use Rattle.trace_match.specs.Ground.{IsGridFor};
 ghost use Rattle.trace_match.specs.Match.{asks};
 ghost use Rattle.trace_reader.specs.Trace.{IsLawfulTrace};
-ghost use Rattle.trace_sessions.specs.FollowText.{finish_line, fix_line, follow_text};
+ghost use Rattle.trace_sessions.specs.FollowText.{fix_line, follow_text};
 ghost use Rattle.trace_sessions.specs.Following.{IsPieceCount, pieces_among};
+ghost use Rattle.trace_sessions.specs.ItemText.{AreItemsOf, Stays};
+ghost use Rattle.trace_sessions.specs.StreamingInside.{rest_lines, step_lines};
 
-use crate::items::write_items;
+use crate::items::{write_items, write_lead};
 use bounded_search::Rows;
 use cost_model::Params;
 use decimal_text::write_unsigned;
@@ -26,7 +29,7 @@ use trace_reader::Trace;
 /// `grid` is of this network, with cells of at least the radius, and `rows` are of this network and
 /// the bound of these options. Each point is matched as it comes: the candidates of one point at a
 /// time are found, and those of the points of the open piece are kept. Err says that memory was
-/// refused; what was known is still known then, and a part of the text may stand at the end.
+/// refused; `into` is as before then, and what was known is still known.
 pub fn follow_trace<R: Rows>(
     alloc: Global,
     net: &Network,
@@ -40,6 +43,34 @@ pub fn follow_trace<R: Rows>(
     requires rows { AreRowsOf (R.state rows.old) net.now p.now.bound }
     requires trace { IsLawfulTrace trace.now }
     ensures text { OnOk result (into.new ≡ into.old ++ follow_text net.now p.now trace.now) }
+    ensures err { OnErr result (into.new ≡ into.old) }
+    ensures pieces { IfOk result (IsPieceCount net.now p.now trace.now) }
+    ensures asks { AsksAs (R.state rows.old) (λ _ v. asks net.now p.now trace.now v ≡ true)
+        result (R.state rows.new) }
+{
+    let len = into.len();
+    let followed = append_followed(alloc, net, grid, p, rows, trace, into);
+    if followed.is_err() {
+        into.truncate(len);
+    }
+    followed
+}
+
+// Appends the follow text of a trace. After Err a part of it may stand at the end.
+fn append_followed<R: Rows>(
+    alloc: Global,
+    net: &Network,
+    grid: &Grid,
+    p: &Params,
+    rows: &mut R,
+    trace: &Trace,
+    into: &mut List<u8>,
+) -> Result<u64, AllocError>
+    requires ground { IsGridFor net.now p.now grid.now }
+    requires rows { AreRowsOf (R.state rows.old) net.now p.now.bound }
+    requires trace { IsLawfulTrace trace.now }
+    ensures text { OnOk result (into.new ≡ into.old ++ follow_text net.now p.now trace.now) }
+    ensures err { OnErr result (Stays into.old into.new) }
     ensures pieces { IfOk result (IsPieceCount net.now p.now trace.now) }
     ensures asks { AsksAs (R.state rows.old) (λ _ v. asks net.now p.now trace.now v ≡ true)
         result (R.state rows.new) }
@@ -52,31 +83,64 @@ pub fn follow_trace<R: Rows>(
         let point = session.count();
         let layer = layer(alloc, net, grid, p, fix)?;
         let items = session.feed(layer, rows)?;
-        write_fix(point, into)?;
-        write_items(alloc, net, None, items.as_slice(), into)?;
+        write_step(alloc, net, None, point, items.as_slice(), into)?;
         pieces += count_pieces(items.as_slice());
     }
     let items = session.finish(rows)?;
-    write_finish(into)?;
-    write_items(alloc, net, None, items.as_slice(), into)?;
-    write_end(trace.id, into)?;
+    write_rest(alloc, net, None, trace.id, items.as_slice(), into)?;
     Ok(pieces + count_pieces(items.as_slice()))
 }
 
-/// Appends the line `fix I`. After Err a part of it may stand at the end.
-pub fn write_fix(point: u32, into: &mut List<u8>) -> Result<(), AllocError>
-    ensures { OnOk result (into.new ≡ into.old ++ fix_line point) }
+/// Appends the line `fix I` of a point and the lines of its items, each after the lead and a space if
+/// there is a lead. After Err a part of them may stand at the end.
+pub fn write_step(
+    alloc: Global,
+    net: &Network,
+    lead: Option<u32>,
+    point: u32,
+    items: &[Item],
+    into: &mut List<u8>,
+) -> Result<(), AllocError>
+    requires { AreItemsOf net.now items.now }
+    ensures ok { OnOk result
+        (into.new ≡ into.old ++ concat (step_lines net.now lead point items.now)) }
+    ensures err { OnErr result (Stays into.old into.new) }
+{
+    write_lead(lead, into)?;
+    write_fix(point, into)?;
+    write_items(alloc, net, lead, items, into)
+}
+
+/// Appends the line `finish`, the lines of the items that were left, and the line that ends the trace,
+/// each after the lead and a space if there is a lead. After Err a part of them may stand at the end.
+pub fn write_rest(
+    alloc: Global,
+    net: &Network,
+    lead: Option<u32>,
+    id: u32,
+    items: &[Item],
+    into: &mut List<u8>,
+) -> Result<(), AllocError>
+    requires { AreItemsOf net.now items.now }
+    ensures ok { OnOk result
+        (into.new ≡ into.old ++ concat (rest_lines net.now lead id items.now)) }
+    ensures err { OnErr result (Stays into.old into.new) }
+{
+    write_lead(lead, into)?;
+    into.extend_from_slice(b"finish\n")?;
+    write_items(alloc, net, lead, items, into)?;
+    write_lead(lead, into)?;
+    write_end(id, into)
+}
+
+// Appends the line `fix I`. After Err a part of it may stand at the end.
+fn write_fix(point: u32, into: &mut List<u8>) -> Result<(), AllocError>
+    ensures ok { OnOk result (into.new ≡ into.old ++ fix_line point) }
+    ensures err { OnErr result (Stays into.old into.new) }
 {
     into.extend_from_slice(b"fix ")?;
     write_unsigned(u64::from(point), into)?;
     into.extend_from_slice(b"\n")
-}
-
-/// Appends the line `finish`.
-pub fn write_finish(into: &mut List<u8>) -> Result<(), AllocError>
-    ensures { OnOk result (into.new ≡ into.old ++ finish_line) }
-{
-    into.extend_from_slice(b"finish\n")
 }
 
 /// How many of these items are pieces.

@@ -1,9 +1,9 @@
 //! The lines of what is handed out. Serves those who follow traces; decided by `item_lines`.
-ghost use Rattle.std.specs.Prelude.{◌≡◌, ◌++◌, length, take, OnOk, OnErr};
+ghost use Rattle.std.specs.Prelude.{◌≡◌, ◌++◌, OnOk, OnErr};
 ghost use Rattle.std.specs.List.{concat};
 ghost use Rattle.road_network.specs.Net.{HasEdge};
 ghost use Rattle.trace_match.specs.Match.{label_on};
-ghost use Rattle.trace_sessions.specs.ItemText.{AreItemsOf, IsItemOf, item_line, item_lines, lead_of};
+ghost use Rattle.trace_sessions.specs.ItemText.{AreItemsOf, IsItemOf, Stays, item_line, item_lines, lead_of};
 
 use itoa::write_digits;
 use match_text::{Label, write_label, write_piece};
@@ -49,7 +49,7 @@ fn append_items(
 ) -> Result<(), AllocError>
     requires { AreItemsOf net.now items.now }
     ensures ok { OnOk result (into.new ≡ into.old ++ concat (item_lines net.now id items.now)) }
-    ensures err { OnErr result (take (length into.old) into.new ≡ into.old) }
+    ensures err { OnErr result (Stays into.old into.new) }
 {
     for item in items {
         write_lead(id, into)?;

@@ -1,24 +1,24 @@
 //! A stream of points of many traces, whose lines are written as they become certain. Serves `streams`;
 //! decided by `stream_lines` and `closing_lines`.
-ghost use Rattle.std.specs.Prelude.{◌≡◌, ◌++◌, ◌∷◌, [], List as ListOf, IfOk, OnOk, length};
+ghost use Rattle.std.specs.Prelude.{◌≡◌, ◌++◌, ◌∷◌, [], List as ListOf, IfOk, OnOk, OnErr, length};
 ghost use Rattle.std.specs.List.{concat};
 ghost use Rattle.polyline_geometry.specs.Plane.{InRange};
 ghost use Rattle.bounded_search.specs.Rows.{AreRowsOf, AsksOnly};
 ghost use Rattle.online_commit.specs.Session.{AsksFinished};
 ghost use Rattle.trace_match.specs.Match.{place_of};
 ghost use Rattle.trace_reader.specs.Trace.{IsLawfulTrace};
-ghost use Rattle.trace_sessions.specs.ItemText.{AreItemsOf};
+ghost use Rattle.trace_sessions.specs.ItemText.{AreItemsOf, Stays};
 ghost use Rattle.trace_sessions.specs.Sessions.{IsSessionOf, Keeps, Pair};
 ghost use Rattle.trace_sessions.specs.StreamText.{fragment_points, led_by};
 ghost use Rattle.trace_sessions.specs.Streaming.{AsksSome, AsksStream, CanEnd, CanStream, EndsPair, EndsPairs, Streams};
 ghost use Rattle.trace_sessions.specs.StreamingInside.{heading, lines_of_items};
 
 use super::{SessionFault, Sessions};
-use crate::following::{count_pieces, write_finish, write_fix};
-use crate::items::{write_items, write_lead};
+use crate::following::{count_pieces, write_rest, write_step};
+use crate::items::write_lead;
 use bounded_search::Rows;
 use indexmap::IndexMap;
-use match_text::{write_end, write_trace};
+use match_text::write_trace;
 use online_commit::{Item, Online};
 use polyline_geometry::List;
 use road_network::Network;
@@ -35,13 +35,12 @@ impl<'n> Sessions<'n> {
         into: &mut List<u8>,
     ) -> Result<(), AllocError>
         requires { AreItemsOf self.now.network items.now }
-        ensures { OnOk result
+        ensures ok { OnOk result
             (into.new ≡ into.old ++ concat (lines_of_items self.now.network id point items.now)) }
+        ensures err { OnErr result (Stays into.old into.new) }
     {
         write_heading(id, point, into)?;
-        write_lead(Some(id), into)?;
-        write_fix(point, into)?;
-        write_items(self.alloc, self.net, Some(id), items, into)
+        write_step(self.alloc, self.net, Some(id), point, items, into)
     }
 
     // Takes the next point of the id and appends its lines.
@@ -69,8 +68,8 @@ impl<'n> Sessions<'n> {
 
     /// Takes the points of a fragment of a trace, each as by [`Sessions::feed`], appends their lines,
     /// and answers how many pieces they closed. `TooLong` says that the id had 100,000 points before
-    /// one of them; the lines of those before it are appended then. After `Memory` a part of the lines
-    /// may stand at the end.
+    /// one of them; the lines of those before it are appended then. After `Memory` what stood in `into`
+    /// still stands, and a part of the lines may stand behind it.
     pub fn stream<R: Rows>(
         &mut self,
         trace: &Trace,
@@ -95,8 +94,8 @@ impl<'n> Sessions<'n> {
     }
 
     /// Ends all traces, in order of first appearance: appends their last lines, and answers how many
-    /// pieces they closed. Then there are no sessions, after Err too, and a part of the lines may stand
-    /// at the end after Err. Takes the time of the items of each.
+    /// pieces they closed. Then there are no sessions, after Err too. After Err what stood in `into`
+    /// still stands, and a part of the lines may stand behind it. Takes the time of the items of each.
     pub fn close_all<R: Rows>(
         &mut self,
         rows: &mut R,
@@ -106,6 +105,7 @@ impl<'n> Sessions<'n> {
         requires can { CanStream self.old 0 }
         ensures ends { (pairs : ListOf Pair) → Keeps self.old pairs
             → IfOk result (EndsPairs self.old pairs into.old into.new) }
+        ensures err { OnErr result (Stays into.old into.new) }
         ensures none { Keeps self.new [] }
         ensures asks { (pairs : ListOf Pair) → Keeps self.old pairs
             → AsksOnly (R.state rows.old) (R.state rows.new) (AsksSome self.old pairs) }
@@ -124,7 +124,8 @@ impl<'n> Sessions<'n> {
 
 // Appends the line that begins the trace, before its first point.
 fn write_heading(id: u32, point: u32, into: &mut List<u8>) -> Result<(), AllocError>
-    ensures { OnOk result (into.new ≡ into.old ++ concat (led_by id (heading id point))) }
+    ensures ok { OnOk result (into.new ≡ into.old ++ concat (led_by id (heading id point))) }
+    ensures err { OnErr result (Stays into.old into.new) }
 {
     if point > 0 {
         return Ok(());
@@ -146,15 +147,12 @@ fn end_session<R: Rows>(
     requires can { CanEnd net.now session id }
     ensures ends { (fixes : ListOf Fix) → IsSessionOf net.now session.entry.params session.entry fixes
         → IfOk result (EndsPair net.now session.entry.params (id, fixes) into.old into.new) }
+    ensures err { OnErr result (Stays into.old into.new) }
     ensures asks { AsksFinished session.entry (R.state rows.old) (R.state rows.new) }
 {
     net.known();
     let mut session = session;
     let items = session.finish(rows)?;
-    write_lead(Some(id), into)?;
-    write_finish(into)?;
-    write_items(alloc, net, Some(id), items.as_slice(), into)?;
-    write_lead(Some(id), into)?;
-    write_end(id, into)?;
+    write_rest(alloc, net, Some(id), id, items.as_slice(), into)?;
     Ok(count_pieces(items.as_slice()))
 }

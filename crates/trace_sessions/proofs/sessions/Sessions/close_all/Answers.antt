@@ -1,5 +1,6 @@
 use Rattle.std.proofs.Common.{◌∙◌, ap, arith}
-use Rattle.trace_sessions.proofs.StreamEnds.{all-ended, ended-can, ended-err, ended-few, ended-next, ended-rows, none-ended}
+use Rattle.trace_sessions.proofs.StreamEnds.{all-ended, ended-can, ended-err, ended-few, ended-next, ended-rows, ended-stays, none-ended}
+use Rattle.trace_sessions.proofs.SessionFixes.{on-err}
 use Rattle.trace_sessions.proofs.sessions.Sessions.close_all.Goals as goal
 
 pub loop-id-init : goal.loop-id-init
@@ -17,6 +18,9 @@ end_session-requires-clause-can g c =
 
 pub returns-in_err-count-clause-asks : goal.returns-in_err-count-clause-asks
 returns-in_err-count-clause-asks g c = ended-err _ _ _ _ _ _ _ _ _ _ _ c.in-Some.ensures.steps c.loop-id.invariant c.end_session.ensures.asks
+
+pub returns-in_err-count-clause-err : goal.returns-in_err-count-clause-err
+returns-in_err-count-clause-err g c = on-err c.from_residual.result (ended-stays _ _ _ _ _ _ _ _ _ c.requires.can c.loop-id.invariant c.in_err-count.ensures.err)
 
 pub overflow_add-pieces : goal.overflow_add-pieces
 overflow_add-pieces g c =

@@ -35,7 +35,7 @@ returns-clause-streams g c pairs keeps =
     point-taken s c.feed.new.self pairs c.args.id c.args.fix c.in_ok-items.items c.points-point.result c.count_pieces.result old c.write_point.new.into keeps fed
     (c.points-point.ensures ∙ points-in s pairs c.args.id keeps)
     (c.count_pieces.ensures ∙ ap pieces_among c.as_slice-2.ensures)
-    (c.in_ok-write_point.ensures
+    (c.in_ok-write_point.ensures.ok
     ∙ ap (λ m. old ++ concat (lines_of_items m c.args.id c.points-point.result c.as_slice.result.now)) fed.network
     ∙ ap (λ xs. old ++ concat (lines_of_items s.network c.args.id c.points-point.result xs)) c.as_slice.ensures)
 

@@ -10,8 +10,8 @@ finish-requires g c = record {
   rows = subst (λ m. AreRowsOf (g.R.Rows.state c.args.rows.now) m c.args.session.params.bound) (sym c.requires.can.is.network) c.requires.rows;
 }
 
-pub write_items-requires : goal.write_items-requires
-write_items-requires g c =
+pub write_rest-requires : goal.write_rest-requires
+write_rest-requires g c =
     let can = c.requires.can in
     let rest = rest-of c.args.net.now c.args.session c.finish.new.self can.fixes c.in_ok-items.items can.is c.in_ok-items.ensures.finished in
     subst (AreItemsOf c.args.net.now) (sym c.as_slice.ensures)
@@ -24,7 +24,6 @@ returns-clause-ends g c fixes is =
     let items = c.in_ok-items.items in
     let rest = rest-of n c.args.session c.finish.new.self fixes items is c.in_ok-items.ensures.finished in
     record {
-      written = end-text n p c.args.id fixes c.as_slice.result.now c.args.into.now c.write_lead.new.into c.write_finish.new.into c.write_items.new.into c.write_lead-2.new.into c.write_end.new.into
-          (c.as_slice.ensures ∙ rest.are) c.in_ok-write_lead.ensures.ok c.in_ok-write_finish.ensures c.in_ok-write_items.ensures.ok c.in_ok-write_lead-2.ensures.ok c.in_ok-write_end.ensures.ok;
+      written = end-text n p c.args.id fixes c.as_slice.result.now c.args.into.now c.write_rest.new.into (c.as_slice.ensures ∙ rest.are) c.in_ok-write_rest.ensures.ok;
       counted = end-counted n p c.args.id fixes items c.count_pieces.result rest (c.count_pieces.ensures ∙ ap pieces_among c.as_slice-2.ensures);
     }

@@ -3,7 +3,7 @@ use Rattle.bounded_search.specs.Rows.{AsksAll}
 use Rattle.online_commit.specs.Session.{AsksPoints}
 use Rattle.trace_sessions.proofs.FollowedPoints.{HasFollowed, first_layers}
 use Rattle.trace_sessions.proofs.FollowedText.{text_so_far}
-use Rattle.trace_sessions.proofs.following.follow_trace.Given as goal
+use Rattle.trace_sessions.proofs.following.append_followed.Given as goal
 
 abbrev pub invariant-loop-fix : goal.invariant-loop-fix
 invariant-loop-fix g l = record {

@@ -1,15 +1,17 @@
 use Rattle.std.proofs.Common.{◌≤◌, ◌+◌, ◌∙◌, sym, ap, subst, arith, length}
 use Rattle.std.proofs.lemmas.List.{length-map}
 use Rattle.bounded_search.specs.Rows.{AsksAll}
-use Rattle.bounded_search.proofs.Asking.{keeps_err, keeps_then}
+use Rattle.bounded_search.proofs.Asking.{keeps_err, keeps_itself, keeps_then}
 use Rattle.trace_match.specs.Match.{layer_of}
 use Rattle.online_commit.specs.Session.{AsksPoints}
 use Rattle.trace_sessions.specs.Following.{pieces_among}
 use Rattle.trace_sessions.specs.ItemText.{AreItemsOf}
 use Rattle.trace_sessions.proofs.FollowedPoints.{all_counted, all_fed, all_layers, can_feed, fed_count, few_followed, first_layers, last_left, left_lies, none_followed, turned}
-use Rattle.trace_sessions.proofs.FollowedRows.{all_asked, next_asked, none_asked}
+use Rattle.trace_sessions.proofs.FollowedRows.{all_asked, next_asked, none_asked, session_rows}
 use Rattle.trace_sessions.proofs.FollowedText.{text_begins, text_ends, text_next}
-use Rattle.trace_sessions.proofs.following.follow_trace.Goals as goal
+use Rattle.trace_sessions.proofs.SessionFixes.{on-err}
+use Rattle.trace_sessions.proofs.Written.{stays-behind, stays-itself}
+use Rattle.trace_sessions.proofs.following.append_followed.Goals as goal
 
 pub loop-fix-init : goal.loop-fix-init
 loop-fix-init g c = record {
@@ -23,20 +25,53 @@ feed-requires-clause-layer g c =
     can_feed c.args.net.now c.args.p.now c.args.trace.now c.as_slice-fix-items.result.now c.loop-fix.fix-index _ c.in_ok-layer.layer c.loop-fix.session c.loop-fix.pieces
     c.requires.ground.options c.requires.trace c.as_slice-fix-items.ensures c.loop-fix-test.true c.in_ok-layer.ensures c.loop-fix.invariant.followed
 
+pub returns-in_err-layer-clause-err : goal.returns-in_err-layer-clause-err
+returns-in_err-layer-clause-err g c = on-err c.from_residual-in_err-layer.result (stays-behind c.args.into.now _ c.loop-fix.into c.loop-fix.into c.loop-fix.invariant.text (stays-itself c.loop-fix.into))
+
+pub returns-in_err-items-clause-err : goal.returns-in_err-items-clause-err
+returns-in_err-items-clause-err g c = on-err c.from_residual-in_err-items.result (stays-behind c.args.into.now _ c.loop-fix.into c.loop-fix.into c.loop-fix.invariant.text (stays-itself c.loop-fix.into))
+
+pub returns-in_err-write_step-clause-err : goal.returns-in_err-write_step-clause-err
+returns-in_err-write_step-clause-err g c = on-err c.from_residual-in_err-write_step.result (stays-behind c.args.into.now _ c.loop-fix.into c.write_step.new.into c.loop-fix.invariant.text c.in_err-write_step.ensures.err)
+
+pub returns-in_err-items-2-clause-err : goal.returns-in_err-items-2-clause-err
+returns-in_err-items-2-clause-err g c = on-err c.from_residual-in_err-items-2.result (stays-behind c.args.into.now _ c.loop-fix.into c.loop-fix.into c.loop-fix.invariant.text (stays-itself c.loop-fix.into))
+
+pub returns-in_err-write_rest-clause-err : goal.returns-in_err-write_rest-clause-err
+returns-in_err-write_rest-clause-err g c = on-err c.from_residual-in_err-write_rest.result (stays-behind c.args.into.now _ c.loop-fix.into c.write_rest.new.into c.loop-fix.invariant.text c.in_err-write_rest.ensures.err)
+
+pub returns-in_err-write_trace-clause-asks : goal.returns-in_err-write_trace-clause-asks
+returns-in_err-write_trace-clause-asks g c = keeps_err (keeps_itself (g.R.Rows.state c.args.rows.now)) c.from_residual.ensures.0
+
+pub returns-in_err-layer-clause-asks : goal.returns-in_err-layer-clause-asks
+returns-in_err-layer-clause-asks g c = keeps_err c.loop-fix.invariant.asked.only.keeps c.from_residual-in_err-layer.ensures.0
+
+pub feed-requires-clause-rows : goal.feed-requires-clause-rows
+feed-requires-clause-rows g c =
+    session_rows c.args.net.now c.args.p.now c.loop-fix.session (g.R.Rows.state c.args.rows.now) (g.R.Rows.state c.loop-fix.rows) _ c.loop-fix.invariant.followed.network c.loop-fix.invariant.followed.params c.requires.rows c.loop-fix.invariant.asked
+
+pub finish-requires : goal.finish-requires
+finish-requires g c = record {
+  rows = session_rows c.args.net.now c.args.p.now c.loop-fix.session (g.R.Rows.state c.args.rows.now) (g.R.Rows.state c.loop-fix.rows) _ c.loop-fix.invariant.followed.network c.loop-fix.invariant.followed.params c.requires.rows c.loop-fix.invariant.asked;
+}
+
+pub returns-in_err-items-2-clause-asks : goal.returns-in_err-items-2-clause-asks
+returns-in_err-items-2-clause-asks g c = keeps_err (keeps_then c.loop-fix.invariant.asked.only.keeps c.finish.ensures.asks.keeps) c.from_residual-in_err-items-2.ensures.0
+
+pub returns-in_err-write_rest-clause-asks : goal.returns-in_err-write_rest-clause-asks
+returns-in_err-write_rest-clause-asks g c = keeps_err (keeps_then c.loop-fix.invariant.asked.only.keeps c.finish.ensures.asks.keeps) c.from_residual-in_err-write_rest.ensures.0
+
 pub returns-in_err-items-clause-asks : goal.returns-in_err-items-clause-asks
 returns-in_err-items-clause-asks g c = keeps_err (keeps_then c.loop-fix.invariant.asked.only.keeps c.feed.ensures.asks.keeps) c.from_residual-in_err-items.ensures.0
 
-pub returns-in_err-write_fix-clause-asks : goal.returns-in_err-write_fix-clause-asks
-returns-in_err-write_fix-clause-asks g c = keeps_err (keeps_then c.loop-fix.invariant.asked.only.keeps c.feed.ensures.asks.keeps) c.from_residual-in_err-write_fix.ensures.0
-
-pub write_items-requires : goal.write_items-requires
-write_items-requires g c =
+pub write_step-requires : goal.write_step-requires
+write_step-requires g c =
     let turn = turned c.args.net.now c.args.p.now c.args.trace.now c.as_slice-fix-items.result.now c.loop-fix.fix-index _ c.in_ok-layer.layer c.loop-fix.session c.feed.new.self c.loop-fix.pieces c.in_ok-items.items
     c.known.ensures c.requires.ground.options c.requires.trace c.as_slice-fix-items.ensures c.loop-fix-test.true c.in_ok-layer.ensures c.loop-fix.invariant.followed c.in_ok-items.ensures.fed in
     subst (AreItemsOf c.args.net.now) (sym c.as_slice.ensures) turn.lies
 
-pub returns-in_err-write_items-clause-asks : goal.returns-in_err-write_items-clause-asks
-returns-in_err-write_items-clause-asks g c = keeps_err (keeps_then c.loop-fix.invariant.asked.only.keeps c.feed.ensures.asks.keeps) c.from_residual-in_err-write_items.ensures.0
+pub returns-in_err-write_step-clause-asks : goal.returns-in_err-write_step-clause-asks
+returns-in_err-write_step-clause-asks g c = keeps_err (keeps_then c.loop-fix.invariant.asked.only.keeps c.feed.ensures.asks.keeps) c.from_residual-in_err-write_step.ensures.0
 
 pub overflow_add-pieces : goal.overflow_add-pieces
 overflow_add-pieces g c =
@@ -65,14 +100,13 @@ loop-fix-preserved g c =
     let now = g.R.Rows.state c.feed.new.rows in
     record {
       followed = turn.followed c.count_pieces-pieces.result (c.count_pieces-pieces.ensures ∙ ap pieces_among c.as_slice-in-loop-fix.ensures);
-      text = text_next n p trace i c.count-point.result c.as_slice.result.now c.args.into.now c.loop-fix.into c.write_fix.new.into c.write_items.new.into inv.text point (c.as_slice.ensures ∙ turn.next.are)
-          c.in_ok-write_fix.ensures c.in_ok-write_items.ensures.ok;
+      text = text_next n p trace i c.count-point.result c.as_slice.result.now c.args.into.now c.loop-fix.into c.write_step.new.into inv.text point (c.as_slice.ensures ∙ turn.next.are) c.in_ok-write_step.ensures.ok;
       asked = subst (λ ls. AsksAll first now (AsksPoints n p ls)) (sym turn.layers)
           (next_asked n p c.loop-fix.session (first_layers n p trace i) layer inv.followed.network inv.followed.params inv.followed.stands inv.asked c.feed.ensures.asks c.in_ok-items.was);
     }
 
-pub write_items-requires-2 : goal.write_items-requires-2
-write_items-requires-2 g c =
+pub write_rest-requires : goal.write_rest-requires
+write_rest-requires g c =
     let n = c.args.net.now in
     let p = c.args.p.now in
     let trace = c.args.trace.now in
@@ -103,8 +137,8 @@ returns-clause-text g c =
     let size = ap length c.as_slice-fix-items.ensures in
     let count = length-map trace.fixes (layer_of n p) in
     let within = c.loop-fix.auto.fix-index-end in
-    text_ends n p trace i c.as_slice-2.result.now c.args.into.now c.loop-fix.into c.write_finish.new.into c.write_items-2.new.into c.write_end.new.into c.loop-fix.invariant.text
-    (omega (arith, over, size, count, within)) (c.as_slice-2.ensures ∙ left.are) c.in_ok-write_finish.ensures c.in_ok-write_items-2.ensures.ok c.in_ok-write_end.ensures.ok
+    text_ends n p trace i c.as_slice-2.result.now c.args.into.now c.loop-fix.into c.write_rest.new.into c.loop-fix.invariant.text
+    (omega (arith, over, size, count, within)) (c.as_slice-2.ensures ∙ left.are) c.in_ok-write_rest.ensures.ok
 
 pub returns-clause-pieces : goal.returns-clause-pieces
 returns-clause-pieces g c =
