@@ -32,7 +32,6 @@ fn gap(a: i32, b: i32) -> u64
 }
 
 /// The squared distance of two points, in cm².
-#[tactic(auto, using(crate::proofs::Distances::squares_small))]
 pub fn distance2(a: Point, b: Point) -> u64
     requires a_in { InRange a }
     requires b_in { InRange b }
