@@ -1,6 +1,6 @@
 // What traces are followed on: a network with the grid of its edges, and the options. Serves the job;
 // decided by `follow_text`.
-ghost use Rattle.std.specs.Prelude.{◌≡◌, ◌++◌, true, IfOk, OnOk};
+ghost use Rattle.std.specs.Prelude.{◌≡◌, ◌++◌, true, IfOk, OnOk, OnErr};
 ghost use Rattle.bounded_search.specs.Rows.{AreRowsOf, AsksAs, no_rows};
 ghost use Rattle.cost_model.specs.Options.{IsAccepted};
 ghost use Rattle.trace_match.specs.Match.{asks};
@@ -68,7 +68,8 @@ impl<'n> Follower<'n> {
         OwnRows::open(alloc, self.network, self.params.bound)
     }
 
-    /// Appends the follow text of a trace, and says how many pieces its match has.
+    /// Appends the follow text of a trace, and says how many pieces its match has. After Err `into` is
+    /// as before.
     pub fn follow_trace(
         &self,
         alloc: Global,
@@ -80,6 +81,7 @@ impl<'n> Follower<'n> {
         requires trace { IsLawfulTrace trace.now }
         ensures text { OnOk result
             (into.new ≡ into.old ++ follow_text self.now.network self.now.params trace.now) }
+        ensures err { OnErr result (into.new ≡ into.old) }
         ensures pieces { IfOk result
             (IsPieceCount self.now.network self.now.params trace.now) }
         ensures asks { AsksAs rows.old

@@ -1,13 +1,13 @@
 use Rattle.std.proofs.Common.{◌≤◌, ◌+◌, ◌∙◌, sym, ap, subst, arith, length}
 use Rattle.std.proofs.lemmas.List.{length-map}
 use Rattle.bounded_search.specs.Rows.{AsksAll}
-use Rattle.bounded_search.proofs.Asking.{keeps_err, keeps_then}
+use Rattle.bounded_search.proofs.Asking.{keeps_err, keeps_itself, keeps_then}
 use Rattle.trace_match.specs.Match.{layer_of}
 use Rattle.online_commit.specs.Session.{AsksPoints}
 use Rattle.trace_sessions.specs.Following.{pieces_among}
 use Rattle.trace_sessions.specs.ItemText.{AreItemsOf}
 use Rattle.trace_sessions.proofs.FollowedPoints.{all_counted, all_fed, all_layers, can_feed, fed_count, few_followed, first_layers, last_left, left_lies, none_followed, turned}
-use Rattle.trace_sessions.proofs.FollowedRows.{all_asked, next_asked, none_asked}
+use Rattle.trace_sessions.proofs.FollowedRows.{all_asked, next_asked, none_asked, session_rows}
 use Rattle.trace_sessions.proofs.FollowedText.{text_begins, text_ends, text_next}
 use Rattle.trace_sessions.proofs.SessionFixes.{on-err}
 use Rattle.trace_sessions.proofs.Written.{stays-behind, stays-itself}
@@ -39,6 +39,27 @@ returns-in_err-items-2-clause-err g c = on-err c.from_residual-in_err-items-2.re
 
 pub returns-in_err-write_rest-clause-err : goal.returns-in_err-write_rest-clause-err
 returns-in_err-write_rest-clause-err g c = on-err c.from_residual-in_err-write_rest.result (stays-behind c.args.into.now _ c.loop-fix.into c.write_rest.new.into c.loop-fix.invariant.text c.in_err-write_rest.ensures.err)
+
+pub returns-in_err-write_trace-clause-asks : goal.returns-in_err-write_trace-clause-asks
+returns-in_err-write_trace-clause-asks g c = keeps_err (keeps_itself (g.R.Rows.state c.args.rows.now)) c.from_residual.ensures.0
+
+pub returns-in_err-layer-clause-asks : goal.returns-in_err-layer-clause-asks
+returns-in_err-layer-clause-asks g c = keeps_err c.loop-fix.invariant.asked.only.keeps c.from_residual-in_err-layer.ensures.0
+
+pub feed-requires-clause-rows : goal.feed-requires-clause-rows
+feed-requires-clause-rows g c =
+    session_rows c.args.net.now c.args.p.now c.loop-fix.session (g.R.Rows.state c.args.rows.now) (g.R.Rows.state c.loop-fix.rows) _ c.loop-fix.invariant.followed.network c.loop-fix.invariant.followed.params c.requires.rows c.loop-fix.invariant.asked
+
+pub finish-requires : goal.finish-requires
+finish-requires g c = record {
+  rows = session_rows c.args.net.now c.args.p.now c.loop-fix.session (g.R.Rows.state c.args.rows.now) (g.R.Rows.state c.loop-fix.rows) _ c.loop-fix.invariant.followed.network c.loop-fix.invariant.followed.params c.requires.rows c.loop-fix.invariant.asked;
+}
+
+pub returns-in_err-items-2-clause-asks : goal.returns-in_err-items-2-clause-asks
+returns-in_err-items-2-clause-asks g c = keeps_err (keeps_then c.loop-fix.invariant.asked.only.keeps c.finish.ensures.asks.keeps) c.from_residual-in_err-items-2.ensures.0
+
+pub returns-in_err-write_rest-clause-asks : goal.returns-in_err-write_rest-clause-asks
+returns-in_err-write_rest-clause-asks g c = keeps_err (keeps_then c.loop-fix.invariant.asked.only.keeps c.finish.ensures.asks.keeps) c.from_residual-in_err-write_rest.ensures.0
 
 pub returns-in_err-items-clause-asks : goal.returns-in_err-items-clause-asks
 returns-in_err-items-clause-asks g c = keeps_err (keeps_then c.loop-fix.invariant.asked.only.keeps c.feed.ensures.asks.keeps) c.from_residual-in_err-items.ensures.0
