@@ -115,3 +115,21 @@ returns-clause-some g c = λ some.
     let items-are : c.push.new.self ≡ labels ++ Closed (piece_from first (length layers) c.unwrap_or.result) route ∷ [] =
     c.in_ok-push.ensures.ok ∙ ap (λ k. labels ++ Closed (piece_from first k c.unwrap_or.result) route ∷ []) len in
     closing-made s last c.unwrap_or.result ranks labels c.push.new.self route c.deref-2.result.now c.deref-3.result.now read c.deref-2.ensures.value all labels-are route-is items-are
+
+pub labelled-requires-clause-few : goal.labelled-requires-clause-few
+labelled-requires-clause-few g c = let few = c.requires.session.few in let all = ap length c.deref.ensures.value in omega (arith, few, all)
+
+pub overflow_cast-own : goal.overflow_cast-own
+overflow_cast-own g c = let few = c.requires.session.few in let all = c.len-end.ensures ∙ c.args.piece.now.layers.ok.0 in omega (arith, few, all)
+
+pub route_over-requires-clause-rows : goal.route_over-requires-clause-rows
+route_over-requires-clause-rows g c = c.requires.rows
+
+pub overflow_cast-end : goal.overflow_cast-end
+overflow_cast-end g c = let few = c.requires.session.few in let all = c.len-end.ensures ∙ c.args.piece.now.layers.ok.0 in omega (arith, few, all)
+
+pub overflow_add-piece : goal.overflow_add-piece
+overflow_add-piece g c = let few = c.requires.session.few in let all = c.len-end.ensures ∙ c.args.piece.now.layers.ok.0 in omega (arith, few, all)
+
+pub returns-clause-none : goal.returns-clause-none
+returns-clause-none g c = λ none. let no = c.if-len-eq0.false in let all = c.len.ensures ∙ c.args.piece.now.layers.ok.0 in absurd (omega (arith, no, all, none))
