@@ -1,8 +1,11 @@
 -- Masks while they are written, from the last one back.
-use Rattle.std.proofs.Common.{◌≡◌, ◌≢◌, ℕ, zero, suc, ◌+◌, ◌-◌, ◌<◌, ◌≤◌, true, false, ltb, List, [], ◌∷◌, ◌++◌, refl, sym, ap, ◌∙◌, arith, length, get_or, set, ⊎_elim, get_or-set_same, get_or-set_other, if◌then◌else◌}
+use Rattle.std.proofs.Common.{◌≡◌, ◌≢◌, ℕ, zero, suc, ◌+◌, ◌-◌, ◌<◌, ◌≤◌, true, false, ltb, List, [], ◌∷◌, ◌++◌, refl, sym, ap, ◌∙◌, subst, arith, length, get_or, set, ⊎_elim, get_or-set_same, get_or-set_other, if◌then◌else◌}
 use Rattle.std.proofs.lemmas.Bool.Decides.{nat_tests}
 use Rattle.std.proofs.lemmas.List.{length_push}
 use Rattle.online_commit.specs.Masks.{mask_after, mask_at, mask_written}
+use Rattle.matching.specs.declared.parts.Cell.{Cell}
+use Rattle.matching.specs.declared.parts.Layer.{Layer}
+use Rattle.online_commit.specs.Pieces.{IsAppended, Piece}
 use Rattle.online_commit.proofs.Bits.{same-or-not}
 
 -- the first k were written
@@ -55,3 +58,17 @@ written-after old changed i le =
     let len : length (old ++ 0 ∷ []) - 1 - i ≡ length old - i = omega (arith, length_push old 0) in
     ap (λ k. if ltb k (length changed) then get_or changed k 0 else get_or (old ++ 0 ∷ []) i 0) len
     ∙ ap (λ x. if ltb (length old - i) (length changed) then get_or changed (length old - i) 0 else x) (read-padded old i)
+
+-- the point was appended to the piece
+pub appended-made : (old : Piece) (l : Layer) (cells : List Cell) (changed lent new : List ℕ) (layers : List Layer) (tables : List (List Cell)) → layers ≡ old.layers ++ l ∷ [] → tables ≡ old.tables ++ cells ∷ []
+    → lent ≡ old.masks ++ 0 ∷ [] → length new ≡ length lent → ((i : ℕ) → i < length lent → mask_at new i ≡ mask_written lent changed i)
+    → IsAppended old l cells changed (record { first = old.first; told = old.told; layers = layers; tables = tables; masks = new })
+appended-made old l cells changed lent new layers tables layers-are tables-are lent-is same written =
+    let len : length lent ≡ length old.masks + 1 = ap length lent-is ∙ length_push old.masks 0 in
+    record {
+      first = refl;
+      layers = layers-are;
+      tables = tables-are;
+      count = same ∙ len;
+      masks = λ i le. subst (λ ms. mask_at new i ≡ mask_written ms changed i) lent-is (written i (omega (arith, le, len))) ∙ written-after old.masks changed i le;
+    }

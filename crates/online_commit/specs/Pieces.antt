@@ -61,6 +61,13 @@ pub record MayGrow (a : Piece) (cells : List Cell) : Type 0 where
   pub cells-few : HasFewRanks cells
   pub told : a.told ≤ length a.layers
 
+-- these masks change where the point comes, and these are the items of the points that are committed by it
+pub record Settles (old : Piece) (l : Layer) (cells : List Cell) (changed : List ℕ) (items : List Item)
+    : Type 0 where
+  pub few : length changed ≤ length old.masks + 1
+  pub masks : AreMasks (old.tables ++ cells ∷ []) (mask_after old.masks changed) (length old.tables + 1)
+  pub settled : AreSettled old.first (old.layers ++ l ∷ []) (mask_after old.masks changed) old.told items
+
 -- the point was appended, and the masks that changed were written
 pub record IsAppended (old : Piece) (l : Layer) (cells : List Cell) (changed : List ℕ) (new : Piece) : Type 0 where
   pub first : new.first ≡ old.first

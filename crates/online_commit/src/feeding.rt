@@ -8,7 +8,7 @@ ghost use Rattle.road_network.specs.Net.{Net};
 ghost use Rattle.online_commit.specs.Masks.{AreMasks, HasFewRanks, mask_at, mask_written};
 ghost use Rattle.online_commit.specs.Session.{IsFedLayer};
 ghost use Rattle.online_commit.specs.Steps.{AsksStep, IsSession, TellsCells};
-ghost use Rattle.online_commit.specs.Pieces.{HasRoom, IsAppended, IsBegun, IsExtended, MayGrow, session_of, piece_of};
+ghost use Rattle.online_commit.specs.Pieces.{HasRoom, IsAppended, IsBegun, IsExtended, MayGrow, Settles, session_of, piece_of};
 
 use crate::items::Item;
 use crate::masks::changed_masks;
@@ -18,7 +18,7 @@ use cost_model::Params;
 use polyline_geometry::List;
 use road_network::Network;
 use std::alloc::{AllocError, Global};
-use trellis::{Layer, Potentials, first_layer, is_near, least_cell, next_layer};
+use trellis::{Cell, Layer, Potentials, first_layer, is_near, least_cell, next_layer};
 
 /// The open piece, or where the next one may begin: its first point, how many of its points were handed
 /// out, and of each point the layer, the cells and the ranks that are still possible.
@@ -121,6 +121,29 @@ fn make_room(piece: &mut OpenPiece) -> Result<(), AllocError>
     Ok(())
 }
 
+/// The masks that change where a point with these cells comes behind the piece, and the items of the
+/// points that are committed by it.
+fn settle(
+    alloc: Global,
+    piece: &OpenPiece,
+    layer: &Layer,
+    cells: &[Cell],
+) -> Result<(Vec<u32>, List<Item>), AllocError>
+    requires { MayGrow (piece_of piece.now) cells.now }
+    ensures { IfOk result (λ made. Settles (piece_of piece.now) layer.now cells.now made.0.items made.1) }
+{
+    let changed = changed_masks(alloc, &piece.tables, &piece.masks, cells)?;
+    let growing = Growing {
+        first: piece.first,
+        layers: &piece.layers,
+        layer,
+        masks: &piece.masks,
+        changed: &changed,
+    };
+    let items = settled_items(alloc, &growing, piece.told as usize)?;
+    Ok((changed, items))
+}
+
 /// Appends a point with its cells to the open piece, and gives the items of the points that are
 /// committed by it.
 pub fn extend(
@@ -133,15 +156,7 @@ pub fn extend(
     ensures ok { IfOk result (IsExtended (piece_of piece.old) layer cells (piece_of piece.new)) }
     ensures err { OnErr result (piece_of piece.new ≡ piece_of piece.old) }
 {
-    let changed = changed_masks(alloc, &piece.tables, &piece.masks, cells.as_slice())?;
-    let growing = Growing {
-        first: piece.first,
-        layers: &piece.layers,
-        layer: &layer,
-        masks: &piece.masks,
-        changed: &changed,
-    };
-    let items = settled_items(alloc, &growing, piece.told as usize)?;
+    let (changed, items) = settle(alloc, piece, &layer, cells.as_slice())?;
     make_room(piece)?;
     append_point(piece, layer, cells, &changed)?;
     piece.told += items.len() as u32;

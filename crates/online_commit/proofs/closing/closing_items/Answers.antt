@@ -1,4 +1,5 @@
-use Rattle.std.proofs.Common.{◌≡◌, ◌-◌, ◌<◌, ◌++◌, ◌∷◌, [], get_or, length, refl, ap, sym, ◌∙◌, subst, rules, unwrap_or}
+use Rattle.std.proofs.Common.{◌≡◌, ◌-◌, ◌<◌, ◌++◌, ◌∷◌, [], get_or, length, refl, ap, sym, ◌∙◌, subst, arith, unwrap_or}
+use Rattle.bounded_search.proofs.Asking.{asks_nothing}
 use Rattle.bounded_search.specs.Rows.{AsksOnly}
 use Rattle.route_rebuild.specs.Chosen.{IsChosenRun}
 use Rattle.route_rebuild.specs.Numbers.{numbers}
@@ -10,13 +11,22 @@ use Rattle.online_commit.proofs.ClosedRun.{closing-made, end-asks, end-read, run
 use Rattle.online_commit.proofs.OwnRun.{own-count}
 use Rattle.online_commit.proofs.closing.closing_items.Goals as goal
 
+pub returns-in_err-ranks-clause-asks : goal.returns-in_err-ranks-clause-asks
+returns-in_err-ranks-clause-asks g c = asks_nothing (g.R.Rows.state c.args.rows.now) _
+
+pub returns-in_err-some-clause-asks : goal.returns-in_err-some-clause-asks
+returns-in_err-some-clause-asks g c = asks_nothing (g.R.Rows.state c.args.rows.now) _
+
+pub returns-in_err-items-clause-asks : goal.returns-in_err-items-clause-asks
+returns-in_err-items-clause-asks g c = asks_nothing (g.R.Rows.state c.args.rows.now) _
+
 pub labelled-requires-clause-ranks : goal.labelled-requires-clause-ranks
 labelled-requires-clause-ranks g c =
     let s = session_of c.args.net.now c.args.p.now c.args.piece.now in
     let last = c.least_cell-last.result in
     let ranks = c.in_ok-ranks.ranks in
-    let some : 0 < length c.args.piece.now.layers.items = search rules in
-    let len : c.len-end.result ≡ length c.args.piece.now.layers.items = search rules in
+    let some : 0 < length c.args.piece.now.layers.items = let no = c.if-len-eq0.false in let all = c.len.ensures ∙ c.args.piece.now.layers.ok.0 in omega (arith, no, all) in
+    let len : c.len-end.result ≡ length c.args.piece.now.layers.items = c.len-end.ensures ∙ c.args.piece.now.layers.ok.0 in
     let lent : c.as_slice-3.result.now ≡ ranks = c.as_slice-3.ensures in
     let read = end-read s c.as_slice-tables.result.now c.index-tables-end.result c.as_slice.result.now last (unwrap_or (last.cost) 0) ranks c.known.ensures c.requires.session some c.as_slice-tables.ensures.value
     (c.index-tables-end.is ∙ ap (λ k. get_or c.as_slice-tables.result.now (k - 1) c.index-tables-end.result) len) c.as_slice.ensures c.least_cell-last.ensures refl c.in_ok-ranks.ensures in
@@ -27,8 +37,8 @@ route_over-requires-clause-run g c =
     let s = session_of c.args.net.now c.args.p.now c.args.piece.now in
     let last = c.least_cell-last.result in
     let ranks = c.in_ok-ranks.ranks in
-    let some : 0 < length c.args.piece.now.layers.items = search rules in
-    let len : c.len-end.result ≡ length c.args.piece.now.layers.items = search rules in
+    let some : 0 < length c.args.piece.now.layers.items = let no = c.if-len-eq0.false in let all = c.len.ensures ∙ c.args.piece.now.layers.ok.0 in omega (arith, no, all) in
+    let len : c.len-end.result ≡ length c.args.piece.now.layers.items = c.len-end.ensures ∙ c.args.piece.now.layers.ok.0 in
     let taken : c.as_slice-2.result.now ≡ ranks = c.as_slice-2.ensures in
     let all : c.deref-3.result.now ≡ as_ranks ranks = c.deref-3.ensures.value ∙ c.in_ok-some.ensures ∙ ap (λ rs. as_ranks rs) taken in
     let read = end-read s c.as_slice-tables.result.now c.index-tables-end.result c.as_slice.result.now last c.unwrap_or.result ranks c.known.ensures c.requires.session some c.as_slice-tables.ensures.value
@@ -41,8 +51,8 @@ returns-in_err-route-clause-asks g c =
     let s = session_of c.args.net.now c.args.p.now c.args.piece.now in
     let last = c.least_cell-last.result in
     let ranks = c.in_ok-ranks.ranks in
-    let some : 0 < length c.args.piece.now.layers.items = search rules in
-    let len : c.len-end.result ≡ length c.args.piece.now.layers.items = search rules in
+    let some : 0 < length c.args.piece.now.layers.items = let no = c.if-len-eq0.false in let all = c.len.ensures ∙ c.args.piece.now.layers.ok.0 in omega (arith, no, all) in
+    let len : c.len-end.result ≡ length c.args.piece.now.layers.items = c.len-end.ensures ∙ c.args.piece.now.layers.ok.0 in
     let taken : c.as_slice-2.result.now ≡ ranks = c.as_slice-2.ensures in
     let all : c.deref-3.result.now ≡ as_ranks ranks = c.deref-3.ensures.value ∙ c.in_ok-some.ensures ∙ ap (λ rs. as_ranks rs) taken in
     let read = end-read s c.as_slice-tables.result.now c.index-tables-end.result c.as_slice.result.now last c.unwrap_or.result ranks c.known.ensures c.requires.session some c.as_slice-tables.ensures.value
@@ -56,8 +66,8 @@ returns-in_err-push-clause-asks g c =
     let s = session_of c.args.net.now c.args.p.now c.args.piece.now in
     let last = c.least_cell-last.result in
     let ranks = c.in_ok-ranks.ranks in
-    let some : 0 < length c.args.piece.now.layers.items = search rules in
-    let len : c.len-end.result ≡ length c.args.piece.now.layers.items = search rules in
+    let some : 0 < length c.args.piece.now.layers.items = let no = c.if-len-eq0.false in let all = c.len.ensures ∙ c.args.piece.now.layers.ok.0 in omega (arith, no, all) in
+    let len : c.len-end.result ≡ length c.args.piece.now.layers.items = c.len-end.ensures ∙ c.args.piece.now.layers.ok.0 in
     let taken : c.as_slice-2.result.now ≡ ranks = c.as_slice-2.ensures in
     let all : c.deref-3.result.now ≡ as_ranks ranks = c.deref-3.ensures.value ∙ c.in_ok-some.ensures ∙ ap (λ rs. as_ranks rs) taken in
     let read = end-read s c.as_slice-tables.result.now c.index-tables-end.result c.as_slice.result.now last c.unwrap_or.result ranks c.known.ensures c.requires.session some c.as_slice-tables.ensures.value
@@ -71,8 +81,8 @@ returns-clause-asks g c =
     let s = session_of c.args.net.now c.args.p.now c.args.piece.now in
     let last = c.least_cell-last.result in
     let ranks = c.in_ok-ranks.ranks in
-    let some : 0 < length c.args.piece.now.layers.items = search rules in
-    let len : c.len-end.result ≡ length c.args.piece.now.layers.items = search rules in
+    let some : 0 < length c.args.piece.now.layers.items = let no = c.if-len-eq0.false in let all = c.len.ensures ∙ c.args.piece.now.layers.ok.0 in omega (arith, no, all) in
+    let len : c.len-end.result ≡ length c.args.piece.now.layers.items = c.len-end.ensures ∙ c.args.piece.now.layers.ok.0 in
     let taken : c.as_slice-2.result.now ≡ ranks = c.as_slice-2.ensures in
     let all : c.deref-3.result.now ≡ as_ranks ranks = c.deref-3.ensures.value ∙ c.in_ok-some.ensures ∙ ap (λ rs. as_ranks rs) taken in
     let read = end-read s c.as_slice-tables.result.now c.index-tables-end.result c.as_slice.result.now last c.unwrap_or.result ranks c.known.ensures c.requires.session some c.as_slice-tables.ensures.value
@@ -86,7 +96,7 @@ returns-clause-some g c = λ some.
     let s = session_of c.args.net.now c.args.p.now c.args.piece.now in
     let last = c.least_cell-last.result in
     let ranks = c.in_ok-ranks.ranks in
-    let len : c.len-end.result ≡ length c.args.piece.now.layers.items = search rules in
+    let len : c.len-end.result ≡ length c.args.piece.now.layers.items = c.len-end.ensures ∙ c.args.piece.now.layers.ok.0 in
     let taken : c.as_slice-2.result.now ≡ ranks = c.as_slice-2.ensures in
     let all : c.deref-3.result.now ≡ as_ranks ranks = c.deref-3.ensures.value ∙ c.in_ok-some.ensures ∙ ap (λ rs. as_ranks rs) taken in
     let lent : c.as_slice-3.result.now ≡ ranks = c.as_slice-3.ensures in
@@ -105,3 +115,21 @@ returns-clause-some g c = λ some.
     let items-are : c.push.new.self ≡ labels ++ Closed (piece_from first (length layers) c.unwrap_or.result) route ∷ [] =
     c.in_ok-push.ensures.ok ∙ ap (λ k. labels ++ Closed (piece_from first k c.unwrap_or.result) route ∷ []) len in
     closing-made s last c.unwrap_or.result ranks labels c.push.new.self route c.deref-2.result.now c.deref-3.result.now read c.deref-2.ensures.value all labels-are route-is items-are
+
+pub labelled-requires-clause-few : goal.labelled-requires-clause-few
+labelled-requires-clause-few g c = let few = c.requires.session.few in let all = ap length c.deref.ensures.value in omega (arith, few, all)
+
+pub overflow_cast-own : goal.overflow_cast-own
+overflow_cast-own g c = let few = c.requires.session.few in let all = c.len-end.ensures ∙ c.args.piece.now.layers.ok.0 in omega (arith, few, all)
+
+pub route_over-requires-clause-rows : goal.route_over-requires-clause-rows
+route_over-requires-clause-rows g c = c.requires.rows
+
+pub overflow_cast-end : goal.overflow_cast-end
+overflow_cast-end g c = let few = c.requires.session.few in let all = c.len-end.ensures ∙ c.args.piece.now.layers.ok.0 in omega (arith, few, all)
+
+pub overflow_add-piece : goal.overflow_add-piece
+overflow_add-piece g c = let few = c.requires.session.few in let all = c.len-end.ensures ∙ c.args.piece.now.layers.ok.0 in omega (arith, few, all)
+
+pub returns-clause-none : goal.returns-clause-none
+returns-clause-none g c = λ none. let no = c.if-len-eq0.false in let all = c.len.ensures ∙ c.args.piece.now.layers.ok.0 in absurd (omega (arith, no, all, none))
