@@ -64,7 +64,7 @@ fn verdict_on_batch(alloc: Global, ground: &Ground, batch: &Batch) -> Result<Ver
     Ok(Verdict::Proved)
 }
 
-/// The verdicts on batches, by as many threads as there are processors.
+/// The verdicts on batches, side by side.
 pub fn verdicts<R: Threads + Sync>(
     rt: &R,
     alloc: Global,

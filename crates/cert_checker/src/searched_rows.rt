@@ -59,7 +59,7 @@ fn bad_in_part(
     Ok(first_bad(net, &mut searcher, part))
 }
 
-/// The numbers of the first bad rows of parts, by as many threads as there are processors.
+/// The numbers of the first bad rows of parts, side by side.
 fn bad_in_parts<R: Threads + Sync>(
     rt: &R,
     alloc: Global,
@@ -96,8 +96,8 @@ fn first_place(numbers: &[Option<u64>]) -> Option<u64>
 }
 
 /// The number of the first row that is not the row of its origin, or whose origin is not above that of the
-/// row before it, as `check_rows` finds it, by as many threads as there are processors. Each takes memory for
-/// each node, and so less time: one look for each edge out of a listed node.
+/// row before it, as `check_rows` finds it. The rows are tried in parts, side by side. Each part takes memory
+/// for each node, and so less time: one look for each edge out of a listed node.
 pub fn bad_row<R: Threads + Sync>(
     rt: &R,
     alloc: Global,

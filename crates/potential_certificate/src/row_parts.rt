@@ -69,7 +69,7 @@ fn read_part(alloc: Global, part: &[u8]) -> Result<PartRead, AllocError>
     })
 }
 
-// What is read of each part, by as many threads as there are processors.
+// What is read of each part, side by side.
 fn read_parts<R: Threads + Sync>(
     rt: &R,
     alloc: Global,
@@ -133,7 +133,7 @@ fn join(alloc: Global, text: &[u8], reads: Vec<PartRead>) -> Result<(List<Row>, 
 }
 
 /// The rows at the front by rising origin, and what stands behind them, as `read_rows` gives them. Its
-/// parts are read by as many threads as there are processors.
+/// parts are read side by side.
 pub fn read_rows_by_threads<'a, R: Threads + Sync>(
     rt: &R,
     alloc: Global,
