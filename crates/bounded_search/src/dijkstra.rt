@@ -18,13 +18,24 @@ use std::alloc::{AllocError, Global};
 ///
 /// Each labelled node is marked by one bit. So the entries come out by rising node number, and what has to
 /// be cleared is found, in a look at every 64 nodes.
-#[derive(Drop)]
 pub struct Workspace {
     pub(crate) words: Vec<u64>,
     marks: Vec<u64>,
     /// How many nodes are labelled: so much memory their entries take.
     labelled: usize,
     queue: Queue,
+}
+
+// By hand, so that the functions that drop one call this.
+impl Drop for Workspace {
+    fn drop(self) {
+        let Workspace {
+            words: _,
+            marks: _,
+            labelled: _,
+            queue: _,
+        } = self;
+    }
 }
 
 /// How wide the buckets of the queue are, as a power of two: up to half of the mean length of an edge. So few

@@ -15,12 +15,23 @@ use std::marker::Model;
 ///
 /// It keeps its arrays over many rows, and leaves them empty: a row costs what it reaches, and a look at
 /// every 64 nodes of the network.
-#[derive(Drop)]
 pub struct Searcher<'n> {
     alloc: Global,
     network: &'n Network,
     bound: u32,
     workspace: Workspace,
+}
+
+// By hand, so that the functions that drop one call this.
+impl<'n> Drop for Searcher<'n> {
+    fn drop(self) {
+        let Searcher {
+            alloc: _,
+            network: _,
+            bound: _,
+            workspace: _,
+        } = self;
+    }
 }
 
 impl<'n> Model for Searcher<'n> {

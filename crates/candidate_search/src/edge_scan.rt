@@ -14,10 +14,19 @@ use std::alloc::{AllocError, Global};
 use std::marker::Model;
 
 /// The boxes of all edges of a network, to be asked for the candidates of many points.
-#[derive(Drop)]
 pub struct EdgeScan<'n> {
     net: &'n Network,
     boxes: Vec<EdgeBox>,
+}
+
+// By hand, so that the functions that drop one call this.
+impl<'n> Drop for EdgeScan<'n> {
+    fn drop(self) {
+        let EdgeScan {
+            net: _,
+            boxes: _,
+        } = self;
+    }
 }
 
 impl<'n> Model for EdgeScan<'n> {

@@ -25,10 +25,19 @@ use std::marker::Model;
 
 /// A grid of a network. Contracts see the network, the side of a cell in cm, the runs at each cell,
 /// and the wide runs.
-#[derive(Drop)]
 pub struct Grid<'n> {
     net: &'n Network,
     table: Table,
+}
+
+// By hand, so that the functions that drop one call this.
+impl<'n> Drop for Grid<'n> {
+    fn drop(self) {
+        let Grid {
+            net: _,
+            table: _,
+        } = self;
+    }
 }
 
 impl<'n> Model for Grid<'n> {

@@ -16,7 +16,6 @@ use road_network::Network;
 use std::alloc::{AllocError, Global};
 
 /// The runs of a network by slot.
-#[derive(Drop)]
 pub(crate) struct Table {
     pub(crate) layout: Layout,
     /// Where the runs of each slot begin in `members`, and the end of the last.
@@ -24,6 +23,18 @@ pub(crate) struct Table {
     members: Vec<Run>,
     /// The runs whose box meets too many cells.
     pub(crate) wide: Vec<Run>,
+}
+
+// By hand, so that the functions that drop one call this.
+impl Drop for Table {
+    fn drop(self) {
+        let Table {
+            layout: _,
+            starts: _,
+            members: _,
+            wide: _,
+        } = self;
+    }
 }
 
 /// The runs of entries.

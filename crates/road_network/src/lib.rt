@@ -75,13 +75,25 @@ struct StoredEdge {
 
 /// A network: nodes and directed edges with lines. All points lie in one list, the offsets of all
 /// points lie in the order of the points, and `adjacency` has the leaving edges of each node.
-#[derive(Drop)]
 pub struct Network {
     nodes: Vec<u64>,
     edges: Vec<StoredEdge>,
     points: Vec<Point>,
     offsets: Vec<u32>,
     adjacency: Adjacency,
+}
+
+// By hand, so that the functions that drop one call this.
+impl Drop for Network {
+    fn drop(self) {
+        let Network {
+            nodes: _,
+            edges: _,
+            points: _,
+            offsets: _,
+            adjacency: _,
+        } = self;
+    }
 }
 
 impl Model for Network {

@@ -14,11 +14,21 @@ use std::alloc::AllocError;
 use std::marker::Model;
 
 /// What one thread has seen of a store, and found out about it.
-#[derive(Drop)]
 pub struct Reader<'s> {
     store: &'s RowStore<'s>,
     searcher: Searcher<'s>,
     places: Vec<Place<'s>>,
+}
+
+// By hand, so that the functions that drop one call this.
+impl<'s> Drop for Reader<'s> {
+    fn drop(self) {
+        let Reader {
+            store: _,
+            searcher: _,
+            places: _,
+        } = self;
+    }
 }
 
 impl<'s> Model for Reader<'s> {

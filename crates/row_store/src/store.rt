@@ -8,12 +8,23 @@ use std::alloc::{AllocError, Global};
 use std::marker::Model;
 
 /// A cell for the row of each node of a network within a bound.
-#[derive(Drop)]
 pub struct RowStore<'n> {
     pub(crate) alloc: Global,
     pub(crate) network: &'n Network,
     pub(crate) bound: u32,
     pub(crate) cells: Vec<OnceBox<Row>>,
+}
+
+// By hand, so that the functions that drop one call this.
+impl<'n> Drop for RowStore<'n> {
+    fn drop(self) {
+        let RowStore {
+            alloc: _,
+            network: _,
+            bound: _,
+            cells: _,
+        } = self;
+    }
 }
 
 impl<'n> Model for RowStore<'n> {

@@ -12,11 +12,21 @@ use polyline_geometry::List;
 use std::alloc::Global;
 
 /// What the lines so far leave open.
-#[derive(Drop)]
 pub struct ContentReader {
     pub header: Option<Header>,
     pub open: Option<Trace>,
     alloc: Global,
+}
+
+// By hand, so that the functions that drop one call this.
+impl Drop for ContentReader {
+    fn drop(self) {
+        let ContentReader {
+            header: _,
+            open: _,
+            alloc: _,
+        } = self;
+    }
 }
 
 const POINT_LIMIT: usize = 100_000;

@@ -17,7 +17,6 @@ const LINE_LIMIT: usize = 4_096;
 /// of at most 4,096 bytes.
 ///
 /// After a fault every later call answers the same fault and appends nothing.
-#[derive(Drop)]
 pub struct TraceReader {
     content: ContentReader,
     line: List<u8>,
@@ -27,6 +26,19 @@ pub struct TraceReader {
     ghost counted: { lines ≤ bytes },
     ghost limited: { bytes ≤ 2 ^ 40 },
     ghost short: { length line ≤ 4096 },
+}
+
+// By hand, so that the functions that drop one call this.
+impl Drop for TraceReader {
+    fn drop(self) {
+        let TraceReader {
+            content: _,
+            line: _,
+            lines: _,
+            bytes: _,
+            fault: _,
+        } = self;
+    }
 }
 
 impl TraceReader {

@@ -21,11 +21,21 @@ struct Told {
 }
 
 /// Pairs of nodes of a network, as its rows within a bound list them.
-#[derive(Drop)]
 pub struct PairMemory<'n> {
     network: &'n Network,
     bound: u32,
     places: Vec<Option<Told>>,
+}
+
+// By hand, so that the functions that drop one call this.
+impl<'n> Drop for PairMemory<'n> {
+    fn drop(self) {
+        let PairMemory {
+            network: _,
+            bound: _,
+            places: _,
+        } = self;
+    }
 }
 
 impl<'n> Model for PairMemory<'n> {
