@@ -22,11 +22,21 @@ use trace_sessions::follow_trace;
 const LEAST_SIDE: u32 = 10_000;
 
 /// A network with the grid of its edges, and the options that traces are followed by.
-#[derive(Drop)]
 pub struct Follower<'n> {
     network: &'n Network,
     grid: Grid<'n>,
     params: Params,
+}
+
+// By hand, so that the functions that drop one call this.
+impl<'n> Drop for Follower<'n> {
+    fn drop(self) {
+        let Follower {
+            network: _,
+            grid: _,
+            params: _,
+        } = self;
+    }
 }
 
 impl<'n> Model for Follower<'n> {

@@ -17,11 +17,21 @@ use std::alloc::{AllocError, Global};
 use trace_reader::Trace;
 
 /// Follows traces with own rows, one after the other, and counts them.
-#[derive(Drop)]
 pub struct FollowJob<'n> {
     follower: Follower<'n>,
     rows: OwnRows<'n>,
     tally: Tally,
+}
+
+// By hand, so that the functions that drop one call this.
+impl<'n> Drop for FollowJob<'n> {
+    fn drop(self) {
+        let FollowJob {
+            follower: _,
+            rows: _,
+            tally: _,
+        } = self;
+    }
 }
 
 // Follows traces, appends their texts, and says how many pieces their matches have.

@@ -30,11 +30,21 @@ use trace_sessions::Sessions;
 const LEAST_SIDE: u32 = 10_000;
 
 /// A network with the grid of its edges, and the options that traces are matched by.
-#[derive(Drop)]
 pub struct Matcher<'n> {
     network: &'n Network,
     grid: Grid<'n>,
     params: Params,
+}
+
+// By hand, so that the functions that drop one call this.
+impl<'n> Drop for Matcher<'n> {
+    fn drop(self) {
+        let Matcher {
+            network: _,
+            grid: _,
+            params: _,
+        } = self;
+    }
 }
 
 impl<'n> Model for Matcher<'n> {

@@ -22,13 +22,25 @@ use trellis::{Cell, Layer, Potentials, first_layer, is_near, least_cell, next_la
 
 /// The open piece, or where the next one may begin: its first point, how many of its points were handed
 /// out, and of each point the layer, the cells and the ranks that are still possible.
-#[derive(Drop)]
 pub struct OpenPiece {
     pub first: u32,
     pub told: u32,
     pub layers: Vec<Layer>,
     pub tables: Vec<Potentials>,
     pub masks: Vec<u32>,
+}
+
+// By hand, so that the functions that drop one call this.
+impl Drop for OpenPiece {
+    fn drop(self) {
+        let OpenPiece {
+            first: _,
+            told: _,
+            layers: _,
+            tables: _,
+            masks: _,
+        } = self;
+    }
 }
 
 /// A piece without points. Takes no memory.

@@ -22,12 +22,23 @@ mod tests;
 
 /// A session of one trace. A contract sees the network, the options and what is kept of the points,
 /// and `StandsFor` says for which points it stands.
-#[derive(Drop)]
 pub struct Online<'n> {
     alloc: Global,
     net: &'n Network,
     params: Params,
     piece: OpenPiece,
+}
+
+// By hand, so that the functions that drop one call this.
+impl<'n> Drop for Online<'n> {
+    fn drop(self) {
+        let Online {
+            alloc: _,
+            net: _,
+            params: _,
+            piece: _,
+        } = self;
+    }
 }
 
 impl<'n> Model for Online<'n> {

@@ -51,13 +51,25 @@ impl From<AllocError> for SessionFault {
 
 /// The sessions of traces whose points are interleaved, one for each id. A contract sees the sessions
 /// by id, and `Keeps` says for which ids and fixes they stand.
-#[derive(Drop)]
 pub struct Sessions<'n> {
     alloc: Global,
     net: &'n Network,
     grid: &'n Grid<'n>,
     params: Params,
     sessions: IndexMap<u32, Online<'n>>,
+}
+
+// By hand, so that the functions that drop one call this.
+impl<'n> Drop for Sessions<'n> {
+    fn drop(self) {
+        let Sessions {
+            alloc: _,
+            net: _,
+            grid: _,
+            params: _,
+            sessions: _,
+        } = self;
+    }
 }
 
 impl<'n> Model for Sessions<'n> {
