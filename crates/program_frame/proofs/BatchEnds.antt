@@ -6,7 +6,7 @@ use Rattle.edge_io.specs.State.{SinkState}
 use Rattle.edge_io.proofs.KnownBytes.{appends_more, prefix_whole, prefix_longer, prefix_after}
 use Rattle.trace_reader.specs.declared.trace.Trace.{Trace}
 use Rattle.trace_reader.specs.declared.fault.TraceFault.{TraceFault}
-use Rattle.program_frame.specs.Batches.{Holds, IsHeld, Later, PutsBefore, WritesBatch, WritesFull, with_later}
+use Rattle.program_frame.specs.Batches.{Holds, Later, PutsBefore, WritesBatch, WritesFull, with_later}
 use Rattle.program_frame.specs.Jobs.{CanTake, Grows, IsBounded, JobText, TakesTraces, given_by, refused_behind, traces_give}
 use Rattle.program_frame.specs.Outcome.{Outcome}
 use Rattle.program_frame.specs.Performs.{FailsToPut}
@@ -153,7 +153,7 @@ taken_ok : {job : JobText} {taken waiting : List Trace} {given : List ℕ} → G
 taken_ok {job} {taken} grows = record { is = grows.is ∙ ap (λ t. job.texts taken ++ t) (sym grows.grown) }
 
 -- the job can take all that waits
-pub can_take : {job : JobText} {has : Has} {out : SinkState} {waiting slice : List Trace} → IsHeld job has out waiting → slice ≡ waiting → CanTake has slice
+pub can_take : {job : JobText} {has : Has} {out : SinkState} {waiting slice : List Trace} → (base : SinkState) × (traces : List Trace) × Holds job has base out traces waiting → slice ≡ waiting → CanTake has slice
 can_take {has = has} held same =
     let holds = held.2 in
     subst (CanTake has) (sym same) (holds.taken, holds.had, subst IsBounded holds.are holds.bounded, holds.few)

@@ -12,7 +12,8 @@ use Rattle.trace_reader.specs.declared.fault.TraceFault.TheVariants.{Memory}
 use Rattle.program_frame.specs.Jobs.{IsBatch, IsBounded, JobText, bytes_give, traces_give}
 use Rattle.program_frame.specs.Outcome.{Outcome}
 use Rattle.program_frame.specs.Performs.{FailsToPut}
-use Rattle.program_frame.specs.Streams.{StopsAs, StopsAt}
+use Rattle.program_frame.specs.Streams.{EndsWith, StopsAs, StopsAt}
+use Rattle.program_frame.specs.declared.batches.Batches.{Batches}
 use Rattle.program_frame.specs.declared.stop.Stop.{Stop}
 use Rattle.program_frame.specs.declared.stop.Stop.TheVariants.{Refused, NoMemory, Unread, Unwritten}
 
@@ -35,14 +36,17 @@ pub record IsBetween (job : JobText) (has : List Trace → Type 0) (base out : S
   pub holds : Holds job has base out (closed fed) waiting
   pub room : length waiting < 256
 
--- some traces are held so, and the work stands between two chunks
-abbrev pub IsHeld : JobText → (List Trace → Type 0) → SinkState → List Trace → Type 0
-IsHeld job has out waiting =
-    (base : SinkState) × (traces : List Trace) × Holds job has base out traces waiting
+-- some traces are held so
+abbrev pub IsHeld : {J : Type 0} → (J → JobText) → (J → List Trace → Type 0) → Batches J → SinkState → Type 0
+IsHeld text has batches out =
+    (base : SinkState) × (traces : List Trace)
+    × Holds (text batches.job) (has batches.job) base out traces batches.waiting
 
-abbrev pub IsReady : JobText → (List Trace → Type 0) → SinkState → TraceReader → List Trace → Type 0
-IsReady job has out reader waiting =
-    (base : SinkState) × (fed : List ℕ) × IsBetween job has base out fed reader waiting
+-- the work stands between two chunks
+abbrev pub IsReady : {J : Type 0} → (J → JobText) → (J → List Trace → Type 0) → Batches J → SinkState → Type 0
+IsReady text has batches out =
+    (base : SinkState) × (fed : List ℕ)
+    × IsBetween (text batches.job) (has batches.job) base out fed batches.reader batches.waiting
 
 -- what may still come behind these traces
 pub record Later : Type 0 where
@@ -101,3 +105,53 @@ pub record RefusesAt (job : JobText) (base out out' : SinkState) (traces : List 
   pub memory : fault ≡ Memory → (stop ≡ NoMemory) × (out' ≡ out)
   pub known : fault ≢ Memory
       → StopsAs (Unit {0}) (λ _. traces_give job traces (Some fault)) base out' stop
+
+-- ---- whatever the sink had before the first trace, and whatever traces are held or bytes were fed
+
+-- all that waited is written
+abbrev pub Writes : {J : Type 0} → (J → JobText) → (J → List Trace → Type 0) → (old new : Batches J)
+    → (out out' : SinkState) → Result (Unit {0}) Stop → Type 0
+Writes text has old new out out' result =
+    (base : SinkState) (traces : List Trace)
+    → Holds (text old.job) (has old.job) base out traces old.waiting
+    → WritesBatch (text old.job) (has new.job) base out' traces new.waiting result
+
+-- a batch that is full is written
+abbrev pub WritesIfFull : {J : Type 0} → (J → JobText) → (J → List Trace → Type 0) → (old new : Batches J)
+    → (out out' : SinkState) → Result (Unit {0}) Stop → Type 0
+WritesIfFull text has old new out out' result =
+    (base : SinkState) (traces : List Trace)
+    → Holds (text old.job) (has old.job) base out traces old.waiting
+    → WritesFull (text old.job) (has new.job) base out' traces new.waiting result
+
+-- what waited is written, and the file is refused for this fault
+abbrev pub Refuses : {J : Type 0} → (J → JobText) → (J → List Trace → Type 0) → (old : Batches J)
+    → (out out' : SinkState) → TraceFault → Stop → Type 0
+Refuses text has old out out' fault stop =
+    (base : SinkState) (traces : List Trace)
+    → Holds (text old.job) (has old.job) base out traces old.waiting
+    → RefusesAt (text old.job) base out out' traces fault stop
+
+-- bytes at the front of a chunk are taken
+abbrev pub TakesFront : {J : Type 0} → (J → JobText) → (J → List Trace → Type 0) → (old new : Batches J)
+    → (out out' : SinkState) → List ℕ → Result ℕ Stop → Type 0
+TakesFront text has old new out out' chunk result =
+    (base : SinkState) (fed : List ℕ)
+    → IsBetween (text old.job) (has old.job) base out fed old.reader old.waiting
+    → TakesSome (text old.job) (has new.job) base out' fed chunk new.reader new.waiting result
+
+-- a chunk is taken
+abbrev pub Takes : {J : Type 0} → (J → JobText) → (J → List Trace → Type 0) → (old new : Batches J)
+    → (out out' : SinkState) → List ℕ → Result (Unit {0}) Stop → Type 0
+Takes text has old new out out' chunk result =
+    (base : SinkState) (fed : List ℕ)
+    → IsBetween (text old.job) (has old.job) base out fed old.reader old.waiting
+    → TakesChunk (text old.job) (has new.job) base out' (fed ++ chunk) new.reader new.waiting result
+
+-- the file is at its end, and all that stands behind the traces so far is written
+abbrev pub Finishes : {J : Type 0} → (J → JobText) → (J → List Trace → Type 0) → (old : Batches J)
+    → (out out' : SinkState) → Result (Unit {0}) Stop → Type 0
+Finishes text has old out out' result =
+    (base : SinkState) (fed : List ℕ)
+    → IsBetween (text old.job) (has old.job) base out fed old.reader old.waiting
+    → EndsWith (bytes_give (text old.job) fed) base out' result

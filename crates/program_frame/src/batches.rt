@@ -1,7 +1,6 @@
 // Traces that are read from chunks of a file, and are handed to a job batch by batch. Serves
 // `work_traces`; decided by `bytes_give`.
-ghost use Rattle.std.specs.Prelude.{◌≡◌, ◌≢◌, ◌≤◌, ◌<◌, ◌++◌, ◌^◌, [], ℕ, List as ListOf, IfOk, length, drop};
-ghost use Rattle.edge_io.specs.State.{SinkState};
+ghost use Rattle.std.specs.Prelude.{◌≡◌, ◌≤◌, ◌<◌, ◌++◌, ◌^◌, [], List as ListOf, IfOk, length, drop};
 ghost use Rattle.trace_reader.specs.Reader.{StandsFor};
 ghost use Rattle.trace_reader.specs.declared.trace.Trace.{Trace};
 ghost use Rattle.program_frame.specs.Batches.{PutsBefore};
@@ -22,11 +21,21 @@ const BATCH: usize = 256;
 
 /// The traces of a file that is read in chunks: those that are closed and wait, behind those that
 /// the job has taken.
-#[derive(Drop)]
-pub struct Batches<J> {
+pub struct Batches<J: Drop> {
     reader: TraceReader,
     waiting: List<Trace>,
     job: J,
+}
+
+// By hand, so that the functions that drop one call this.
+impl<J: Drop> Drop for Batches<J> {
+    fn drop(self) {
+        let Batches {
+            reader: _,
+            waiting: _,
+            job: _,
+        } = self;
+    }
 }
 
 // Puts the text before a refusal of the job.
@@ -50,9 +59,7 @@ fn behind(chunk: &[u8], taken: usize) -> &[u8]
 }
 
 impl<J: Job + Drop> Batches<J> {
-    ghost use Rattle.program_frame.specs.Batches.{Holds, IsBetween, IsHeld, IsReady, RefusesAt, TakesChunk, TakesSome, WritesBatch, WritesFull};
-    ghost use Rattle.program_frame.specs.Jobs.{bytes_give};
-    ghost use Rattle.program_frame.specs.Streams.{EndsWith};
+    ghost use Rattle.program_frame.specs.Batches.{Finishes, IsHeld, IsReady, Refuses, Takes, TakesFront, Writes, WritesIfFull};
 
     /// Nothing was read.
     pub fn open(alloc: Global, job: J) -> Batches<J>
@@ -69,15 +76,11 @@ impl<J: Job + Drop> Batches<J> {
 
     // Hands all traces that wait to the job, and writes their text.
     fn write<K: Sink>(&mut self, alloc: Global, out: &mut K) -> Result<(), Stop>
-        requires { IsHeld (J.text self.old.job) (J.has self.old.job) (K.state out.old)
-            self.old.waiting }
+        requires { IsHeld J.text J.has self.old (K.state out.old) }
         ensures text { J.text self.new.job ≡ J.text self.old.job }
         ensures reader { self.new.reader ≡ self.old.reader }
-        ensures writes { (base : SinkState) (traces : ListOf Trace)
-            → Holds (J.text self.old.job) (J.has self.old.job) base (K.state out.old)
-            traces self.old.waiting
-            → WritesBatch (J.text self.old.job) (J.has self.new.job) base (K.state out.new)
-            traces self.new.waiting result }
+        ensures writes { Writes J.text J.has self.old self.new
+            (K.state out.old) (K.state out.new) result }
     {
         if self.waiting.as_slice().is_empty() {
             return Ok(());
@@ -93,14 +96,10 @@ impl<J: Job + Drop> Batches<J> {
 
     // Writes the traces that wait, which were closed before a fault, and refuses the file for it.
     fn refuse<K: Sink>(&mut self, alloc: Global, fault: TraceFault, out: &mut K) -> Stop
-        requires { IsHeld (J.text self.old.job) (J.has self.old.job) (K.state out.old)
-            self.old.waiting }
+        requires { IsHeld J.text J.has self.old (K.state out.old) }
         ensures text { J.text self.new.job ≡ J.text self.old.job }
-        ensures refuses { (base : SinkState) (traces : ListOf Trace)
-            → Holds (J.text self.old.job) (J.has self.old.job) base (K.state out.old)
-            traces self.old.waiting
-            → RefusesAt (J.text self.old.job) base (K.state out.old) (K.state out.new)
-            traces fault result }
+        ensures refuses { Refuses J.text J.has self.old
+            (K.state out.old) (K.state out.new) fault result }
     {
         if let TraceFault::Memory = fault {
             return Stop::NoMemory;
@@ -113,15 +112,11 @@ impl<J: Job + Drop> Batches<J> {
 
     // Writes the traces that wait where they make a batch.
     fn write_full<K: Sink>(&mut self, alloc: Global, out: &mut K) -> Result<(), Stop>
-        requires { IsHeld (J.text self.old.job) (J.has self.old.job) (K.state out.old)
-            self.old.waiting }
+        requires { IsHeld J.text J.has self.old (K.state out.old) }
         ensures text { J.text self.new.job ≡ J.text self.old.job }
         ensures reader { self.new.reader ≡ self.old.reader }
-        ensures writes { (base : SinkState) (traces : ListOf Trace)
-            → Holds (J.text self.old.job) (J.has self.old.job) base (K.state out.old)
-            traces self.old.waiting
-            → WritesFull (J.text self.old.job) (J.has self.new.job) base (K.state out.new)
-            traces self.new.waiting result }
+        ensures writes { WritesIfFull J.text J.has self.old self.new
+            (K.state out.old) (K.state out.new) result }
     {
         if self.waiting.len() < BATCH {
             return Ok(());
@@ -137,16 +132,12 @@ impl<J: Job + Drop> Batches<J> {
         chunk: &[u8],
         out: &mut K,
     ) -> Result<usize, Stop>
-        requires ready { IsReady (J.text self.old.job) (J.has self.old.job) (K.state out.old)
-            self.old.reader self.old.waiting }
+        requires ready { IsReady J.text J.has self.old (K.state out.old) }
         requires sizes { (1 ≤ length chunk.now) × (length chunk.now < 2 ^ 32) }
         ensures text { J.text self.new.job ≡ J.text self.old.job }
         ensures some { IfOk result (λ taken. (1 ≤ taken) × (taken ≤ length chunk.now)) }
-        ensures takes { (base : SinkState) (fed : ListOf ℕ)
-            → IsBetween (J.text self.old.job) (J.has self.old.job) base (K.state out.old)
-            fed self.old.reader self.old.waiting
-            → TakesSome (J.text self.old.job) (J.has self.new.job) base (K.state out.new)
-            fed chunk.now self.new.reader self.new.waiting result }
+        ensures takes { TakesFront J.text J.has self.old self.new
+            (K.state out.old) (K.state out.new) chunk.now result }
     {
         let room = (BATCH - self.waiting.len()) as u32;
         match self.reader.feed_some(chunk, room, &mut self.waiting) {
@@ -165,15 +156,11 @@ impl<J: Job + Drop> Batches<J> {
         chunk: &[u8],
         out: &mut K,
     ) -> Result<(), Stop>
-        requires ready { IsReady (J.text self.old.job) (J.has self.old.job) (K.state out.old)
-            self.old.reader self.old.waiting }
+        requires ready { IsReady J.text J.has self.old (K.state out.old) }
         requires short { length chunk.now < 2 ^ 32 }
         ensures text { J.text self.new.job ≡ J.text self.old.job }
-        ensures takes { (base : SinkState) (fed : ListOf ℕ)
-            → IsBetween (J.text self.old.job) (J.has self.old.job) base (K.state out.old)
-            fed self.old.reader self.old.waiting
-            → TakesChunk (J.text self.old.job) (J.has self.new.job) base (K.state out.new)
-            (fed ++ chunk.now) self.new.reader self.new.waiting result }
+        ensures takes { Takes J.text J.has self.old self.new
+            (K.state out.old) (K.state out.new) chunk.now result }
     {
         let mut rest = chunk;
         while !rest.is_empty() {
@@ -199,12 +186,8 @@ impl<J: Job + Drop> Batches<J> {
 
     /// Takes the end of the file, and writes the traces that wait and what stands behind all.
     pub fn finish<K: Sink>(&mut self, alloc: Global, out: &mut K) -> Result<(), Stop>
-        requires { IsReady (J.text self.old.job) (J.has self.old.job) (K.state out.old)
-            self.old.reader self.old.waiting }
-        ensures { (base : SinkState) (fed : ListOf ℕ)
-            → IsBetween (J.text self.old.job) (J.has self.old.job) base (K.state out.old)
-            fed self.old.reader self.old.waiting
-            → EndsWith (bytes_give (J.text self.old.job) fed) base (K.state out.new) result }
+        requires { IsReady J.text J.has self.old (K.state out.old) }
+        ensures { Finishes J.text J.has self.old (K.state out.old) (K.state out.new) result }
     {
         if let Err(fault) = self.reader.finish(&mut self.waiting) {
             return Err(self.refuse(alloc, fault, out));

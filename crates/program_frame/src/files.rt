@@ -18,12 +18,9 @@ pub fn read_file<S: Shelf>(
 ) -> Result<Vec<u8>, Stop>
     requires { limit < 2 ^ 40 }
     ensures ok { IfOk result (λ bytes. ReadsWhole name.now limit
-        (S.state shelf.old)
-        (S.state shelf.new)
-        bytes.items) }
+        (S.state shelf.old) (S.state shelf.new) bytes.items) }
     ensures err { IfErr result (FailsToRead file name.now
-        (S.state shelf.old)
-        (S.state shelf.new)) }
+        (S.state shelf.old) (S.state shelf.new)) }
 {
     let mut bytes = Vec::new(alloc);
     while bytes.len() as u64 <= limit {

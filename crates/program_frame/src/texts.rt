@@ -7,10 +7,7 @@ use edge_io::{Put, Sink};
 
 /// Puts a text on out.
 pub fn put_text<K: Sink>(out: &mut K, text: &[u8]) -> Result<(), Stop>
-    ensures { PutsText
-        (K.state out.old)
-        (K.state out.new)
-        text.now result }
+    ensures { PutsText (K.state out.old) (K.state out.new) text.now result }
 {
     match out.put(text) {
         Put::All => Ok(()),
