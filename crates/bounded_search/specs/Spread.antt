@@ -1,5 +1,6 @@
 -- The words of a row's labels, spread over an array by node.
-use Rattle.std.specs.Prelude.{ℕ, ◌≡◌, ◌≤◌, List, Option, Some, None, length}
+use Rattle.std.specs.Prelude.{ℕ, ◌≡◌, ◌≤◌, ◌↔◌, Bool, IsTrue, List, Option, Some, None, length}
+use Rattle.std.specs.List.{All}
 use Rattle.road_network.specs.Net.{Net, HasEdge, HasNode}
 use Rattle.road_network.specs.declared.EdgeId.{EdgeId}
 use Rattle.bounded_search.specs.declared.dijkstra.Workspace.{Workspace}
@@ -28,3 +29,9 @@ pub record KeepsOthers (entries : List Entry) (old new : Workspace) : Type 0 whe
   pub count : length new.words.items ≡ length old.words.items
   pub marks : new.marks.items ≡ old.marks.items
   pub queue : new.queue ≡ old.queue
+
+-- the answer tells whether a row may have all entries, and then the words say what they say
+pub record Spreads (n : Net) (bound : ℕ) (entries : List Entry) (fits : Bool) (old new : Workspace) : Type 0 where
+  pub fits_all : IsTrue fits ↔ All (FitsIn n bound) entries
+  pub words : IsTrue fits → IsSpread entries new.words.items
+  pub others : KeepsOthers entries old new

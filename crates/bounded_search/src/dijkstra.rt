@@ -1,12 +1,12 @@
 //! The search for the row of an origin. Serves `Searcher::row`; decided by `IsRow`.
-ghost use Rattle.std.specs.Prelude.{◌≡◌, ◌<◌, ◌≤◌, ◌+◌, ◌*◌, ◌/◌, ◌^◌, ◌∷◌, ◌++◌, ℕ, [], nat_lt, length, List, IfOk, OnOk, slice_set};
+ghost use Rattle.std.specs.Prelude.{◌≡◌, ◌<◌, ◌≤◌, ◌/◌, ◌^◌, ◌++◌, ℕ, [], nat_lt, length, IfOk, OnOk, slice_set};
 ghost use Rattle.road_network.specs.Net.{HasNode};
-ghost use Rattle.bounded_search.specs.Closed.{IsClosed};
-ghost use Rattle.bounded_search.specs.Underway.{Gains, IsUnderway, NonePending, Tries, effort, state_of};
+ghost use Rattle.bounded_search.specs.Underway.{Gains, Tries, state_of};
+ghost use Rattle.bounded_search.specs.Searching.{EndsClean, IsLabelled, ListsLabels, TakesMarked, TriesLeaving};
 ghost use Rattle.bounded_search.specs.LabelWords.{distance_at, label_at, no_label};
 ghost use Rattle.bounded_search.specs.Labels.{entry_of};
-ghost use Rattle.bounded_search.specs.Marked.{AreMarked, IsClean, IsSized, IsTaken, MarksToo};
-ghost use Rattle.bounded_search.specs.Table.{label_in, RisesFrom, IsRow};
+ghost use Rattle.bounded_search.specs.Marked.{AreMarked, IsClean, IsSized, MarksToo};
+ghost use Rattle.bounded_search.specs.Table.{IsRow};
 
 use crate::label_words::{NO_LABEL, ORIGIN, distance_in, label_in, word_by};
 use crate::queue::{Queue, Waiting};
@@ -131,10 +131,7 @@ impl Workspace {
     fn relax_leaving(&mut self, net: &Network, bound: u32, next: Waiting) -> Result<(), AllocError>
         requires next { HasNode net.now next.node × (next.distance ≤ 10_000_000) }
         requires sized { IsSized (length net.now.nodes) self.old }
-        ensures underway { OnOk result ((s : ℕ)
-            → IsUnderway net.now bound s (record { words = self.old.words.items; queue = next ∷ self.old.queue }) NonePending
-            → IsUnderway net.now bound s (state_of self.new) NonePending) }
-        ensures less { OnOk result (effort (state_of self.new) ≤ effort (state_of self.old)) }
+        ensures tries { OnOk result (TriesLeaving net.now bound next (state_of self.old) (state_of self.new)) }
         ensures sized { IsSized (length net.now.nodes) self.new }
         ensures marked { (count : ℕ) → AreMarked count self.old → OnOk result (AreMarked count self.new) }
     {
@@ -156,9 +153,7 @@ impl Workspace {
         requires origin { HasNode net.now origin.0 }
         requires bound { bound ≤ 10_000_000 }
         requires clean { IsClean (length net.now.nodes) self.old }
-        ensures closed { OnOk result (IsClosed net.now bound origin.0 (label_at self.new.words.items)) }
-        ensures marked { OnOk result (AreMarked (length net.now.nodes) self.new) }
-        ensures none_waiting { OnOk result (self.new.queue ≡ []) }
+        ensures labelled { OnOk result (IsLabelled net.now bound origin.0 self.new) }
         ensures sized { IsSized (length net.now.nodes) self.new }
     {
         net.known();
@@ -193,10 +188,7 @@ impl Workspace {
     fn take_marked(&mut self, place: usize, entries: &mut Vec<Entry>) -> Result<(), AllocError>
         requires place { (place < length self.old.marks.items) × (length self.old.words.items ≤ 60_000) }
         requires marked { AreMarked (length self.old.words.items) self.old }
-        ensures taken { OnOk result ((before : List ℕ)
-            → IsTaken before (place * 64) self.old entries.old.items
-            → IsTaken before ((place + 1) * 64) self.new entries.new.items) }
-        ensures marked { OnOk result (AreMarked (length self.old.words.items) self.new) }
+        ensures takes { OnOk result (TakesMarked place self.old entries.old.items self.new entries.new.items) }
         ensures sized { IsSized (length self.old.words.items) self.new }
         ensures queue { self.new.queue ≡ self.old.queue }
     {
@@ -215,11 +207,8 @@ impl Workspace {
         requires few { length self.old.words.items ≤ 60_000 }
         requires marked { AreMarked (length self.old.words.items) self.old }
         requires none_waiting { self.old.queue ≡ [] }
-        ensures rising { IfOk result (λ entries. RisesFrom 0 entries.items) }
-        ensures labels { IfOk result (λ entries. (v : ℕ)
-            → label_in entries.items v ≡ label_at self.old.words.items v) }
-        ensures clean { OnOk result (IsClean (length self.old.words.items) self.new) }
-        ensures sized { IsSized (length self.old.words.items) self.new }
+        ensures entries { IfOk result (λ entries. ListsLabels (label_at self.old.words.items) entries.items) }
+        ensures clean { EndsClean (length self.old.words.items) result self.new }
     {
         let mut entries = Vec::with_capacity(alloc, self.labelled)?;
         for place in 0..self.marks.len() {
@@ -242,8 +231,7 @@ impl Workspace {
         requires clean { IsClean (length net.now.nodes) self.old }
         ensures row { IfOk result (λ entries.
             IsRow net.now bound origin.0 (record { origin = origin.0; entries = entries.items })) }
-        ensures clean { OnOk result (IsClean (length net.now.nodes) self.new) }
-        ensures sized { IsSized (length net.now.nodes) self.new }
+        ensures clean { EndsClean (length net.now.nodes) result self.new }
     {
         net.known();
         self.label_all(net, bound, origin)?;

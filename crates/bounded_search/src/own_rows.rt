@@ -1,9 +1,9 @@
 //! Rows that one owner finds and keeps. Serves all who ask for rows; decided by `Rows`.
 ghost use Rattle.std.specs.Prelude.{◌≡◌, ◌≤◌, ◌↔◌, length, map, Contains, IfOk, OnErr, IsTrue, IsOk};
-ghost use Rattle.road_network.specs.Net.{HasNode, IsLawful};
-ghost use Rattle.bounded_search.specs.Table.{BoundedTable, IsRow};
-ghost use Rattle.bounded_search.specs.Known.{IsKnownList, known_nodes};
-ghost use Rattle.bounded_search.specs.OwnInside.{HoldsRows};
+ghost use Rattle.road_network.specs.Net.{HasNode};
+ghost use Rattle.bounded_search.specs.Table.{IsRow};
+ghost use Rattle.bounded_search.specs.Known.{IsKnownList};
+ghost use Rattle.bounded_search.specs.OwnInside.{AreHeldRows};
 ghost use Rattle.bounded_search.specs.RowValue.{row_of};
 ghost use Rattle.bounded_search.specs.Rows.{AsksFor, no_rows};
 
@@ -114,9 +114,7 @@ impl<'n> OwnRows<'n> {
 // The rows that stand in places, of which `count` have one, in their order. They are moved out, and
 // none is copied.
 fn rows_in(alloc: Global, places: Vec<Option<Row>>, count: u32) -> Result<List<Row>, AllocError>
-    ensures { (table : BoundedTable) → IsLawful table.network → HoldsRows table places.items
-        → IfOk result (λ found. found
-        ≡ map (row_of table.network table.bound) (known_nodes places.items)) }
+    ensures { IfOk result (AreHeldRows places.items) }
 {
     let mut found = List::from_vec(Vec::with_capacity(alloc, count as usize)?);
     for place in places {

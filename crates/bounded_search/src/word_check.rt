@@ -6,7 +6,7 @@ ghost use Rattle.road_network.specs.Net.{HasNode, leaving};
 ghost use Rattle.bounded_search.specs.Given.{IsGiven, IsRelaxedOrBack, LeavesRelaxedOrBack, arc_gives, gives, none_skipped};
 ghost use Rattle.bounded_search.specs.LabelWords.{label_at, no_label, word_at};
 ghost use Rattle.bounded_search.specs.Marked.{IsClean};
-ghost use Rattle.bounded_search.specs.Spread.{FitsIn, IsSpread, KeepsOthers};
+ghost use Rattle.bounded_search.specs.Spread.{FitsIn, IsSpread, KeepsOthers, Spreads};
 ghost use Rattle.bounded_search.specs.Table.{RisesFrom, entry_in};
 
 use crate::dijkstra::Workspace;
@@ -58,9 +58,7 @@ impl Workspace {
         requires bound { bound ≤ 10_000_000 }
         requires rising { RisesFrom 0 entries.now }
         requires clean { IsClean (length net.now.nodes) self.old }
-        ensures fits { IsTrue result ↔ All (FitsIn net.now bound) entries.now }
-        ensures spread { IsTrue result → IsSpread entries.now self.new.words.items }
-        ensures others { KeepsOthers entries.now self.old self.new }
+        ensures { Spreads net.now bound entries.now result self.old self.new }
     {
         net.known();
         for x in entries {

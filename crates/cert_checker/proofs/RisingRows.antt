@@ -10,14 +10,15 @@ use Rattle.std.proofs.lemmas.List.{length-map}
 use Rattle.std.proofs.lemmas.List.Elements.{All-filter, All-head, All-map, All-tail}
 use Rattle.std.proofs.lemmas.List.FromFn.{get_or-range_with_len, length-range_with_len}
 use Rattle.std.proofs.lemmas.List.Kept.{IsStrictlyIncreasing-filter}
+use Rattle.bounded_search.proofs.RightRows.{has_right_entries, right_is}
+use Rattle.bounded_search.specs.RightRow.{is_right_row}
 use Rattle.bounded_search.specs.RowValue.{row_of, rows_where}
 use Rattle.bounded_search.specs.Table.{TableRow}
 use Rattle.matching.proofs.Lists.{all-cons}
 use Rattle.road_network.specs.Net.{HasNode, Net}
 use Rattle.cert_checker.specs.Case.{has_row}
 use Rattle.cert_checker.specs.Laws.{AreRightRows}
-use Rattle.cert_checker.specs.Rows.{bad_row_from, first_bad_row, is_next_row, is_right_row}
-use Rattle.cert_checker.proofs.RightRows.{has_right_entries, right_is}
+use Rattle.cert_checker.specs.Rows.{bad_row_from, first_bad_row, is_next_row}
 use Rattle.cert_checker.proofs.ListTests.{at_most}
 
 abbrev IsRight : Net → ℕ → TableRow → Type 0

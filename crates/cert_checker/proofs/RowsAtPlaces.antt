@@ -2,12 +2,13 @@
 use Rattle.std.proofs.Common.{◌≡◌, ◌<◌, ◌≤◌, ℕ, zero, suc, ◌+◌, Bool, true, false, cond, List, [], ◌∷◌, length, get_or, Option, Some, None, refl, subst, arith}
 use Rattle.std.specs.Prelude.{nat_lt}
 use Rattle.std.proofs.lemmas.Bool.{ltb-true}
-use Rattle.bounded_search.proofs.RowValues.{row_values}
+use Rattle.bounded_search.proofs.RightRows.{right_rows}
+use Rattle.bounded_search.specs.RightRow.{is_right_row}
 use Rattle.bounded_search.specs.Table.{IsRow, TableRow}
 use Rattle.road_network.specs.Net.{HasNode, IsLawful, Net}
 use Rattle.cert_checker.specs.RowPlaces.{AreRightRows, IsRowPlace}
-use Rattle.cert_checker.specs.Rows.{bad_row_from, first_bad_row, is_next_row, is_right_row}
-use Rattle.cert_checker.proofs.RightRows.{both_true, has_right_entries, next_within, right_is}
+use Rattle.cert_checker.specs.Rows.{bad_row_from, first_bad_row, is_next_row}
+use Rattle.cert_checker.proofs.RightRows.{both_true, next_within}
 
 good_first : (t : Bool) (rest : Option ℕ) (k : ℕ) → cond t rest (Some k) ≡ None → (t ≡ true) × (rest ≡ None)
 good_first true rest k h = (refl, h)
@@ -38,12 +39,6 @@ right_from net bound least k (row ∷ rows) zero d h lt = (both_true _ (is_right
 right_from net bound least k (row ∷ rows) (suc i) d h lt =
     right_from net bound (row.origin + 1) (k + 1) rows i d (parts net bound least k row rows h).1 (omega (arith, lt))
 
-right_is_row : (net : Net) (bound : ℕ) (row : TableRow) → IsLawful net → is_right_row net bound row ≡ true → IsRow net bound row.origin row
-right_is_row net bound row lawful h =
-    let both = both_true (nat_lt row.origin (length net.nodes)) (has_right_entries net bound row) h in
-    let has : HasNode net row.origin = ltb-true row.origin (length net.nodes) both.0 in
-    (row_values net bound row.origin row lawful has).1 ((right_is net bound row).0 both.1)
-
 pub right_node : (net : Net) (rows : List TableRow) (i : ℕ) (d : TableRow) → AreRightRows net rows → i < length rows → HasNode net (get_or rows i d).origin
 right_node net rows i d right lt =
     let origin = (get_or rows i d).origin in
@@ -54,4 +49,4 @@ pub row_at_place : (net : Net) (bound : ℕ) (rows : List TableRow) (v place : �
     → IsRow net bound v (get_or rows place d)
 row_at_place net bound rows v place d lawful right at =
     subst (λ (s : ℕ). IsRow net bound s (get_or rows place d)) (at.origin d)
-    (right_is_row net bound (get_or rows place d) lawful (right_from net bound 0 0 rows place d right at.below))
+    ((right_rows net bound (get_or rows place d) lawful).0 (right_from net bound 0 0 rows place d right at.below)).own

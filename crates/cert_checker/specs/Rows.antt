@@ -1,25 +1,10 @@
 -- Which rows of a certificate are right, and the first that is not.
-use Rattle.std.specs.Prelude.{ℕ, ◌+◌, ◌==◌, ◌&&◌, Bool, nat_le, nat_lt, if◌then◌else◌, List, [], ◌∷◌, length, Option, Some, None}
-use Rattle.std.specs.Option.{option_eq}
-use Rattle.std.specs.Cmp.Lexicographic.{pointwise}
+use Rattle.std.specs.Prelude.{ℕ, ◌+◌, ◌&&◌, Bool, nat_le, if◌then◌else◌, List, [], ◌∷◌, Option, Some, None}
 use Rattle.road_network.specs.Net.{Net}
-use Rattle.bounded_search.specs.declared.table_row.Entry.{Entry}
-use Rattle.bounded_search.specs.RowValue.{row_of}
+use Rattle.bounded_search.specs.RightRow.{is_right_row}
 use Rattle.bounded_search.specs.Table.{TableRow}
 
-abbrev pub is_same_entry : Entry → Entry → Bool
-is_same_entry x y =
-    (x.node.0 == y.node.0)
-    && ((x.distance == y.distance)
-    && option_eq (λ e f. e.0 == f.0) x.last y.last)
-
--- whether a row is that of its origin, which is a node of the network
-abbrev pub is_right_row : Net → ℕ → TableRow → Bool
-is_right_row n bound row =
-    nat_lt row.origin (length n.nodes)
-    && pointwise is_same_entry row.entries (row_of n bound row.origin).entries
-
--- and whose origin is not below `least`
+-- whether a row is right, and its origin not below `least`
 abbrev pub is_next_row : Net → ℕ → ℕ → TableRow → Bool
 is_next_row n bound least row = nat_le least row.origin && is_right_row n bound row
 

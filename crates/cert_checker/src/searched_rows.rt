@@ -1,7 +1,8 @@
 //! The rows of a certificate, tried by searchers, side by side. Serves `check_all`; decided by `first_bad_row`.
 ghost use Rattle.std.specs.Prelude.{◌≡◌, ◌≤◌, IfOk, map};
 ghost use Rattle.cert_checker.specs.RowParts.{bad_in_part, first_place};
-ghost use Rattle.cert_checker.specs.Rows.{first_bad_row, is_next_row, is_right_row};
+ghost use Rattle.bounded_search.specs.RightRow.{is_right_row};
+ghost use Rattle.cert_checker.specs.Rows.{first_bad_row, is_next_row};
 
 use crate::row_part::RowPart;
 use crate::row_parts::row_parts;

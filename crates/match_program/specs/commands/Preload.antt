@@ -1,11 +1,8 @@
 -- `--table FILE` of `match`: a table that was computed beforehand, read and tried row by row.
-use Rattle.std.specs.Prelude.{ℕ, ◌==◌, ◌&&◌, Bool, List, [], ◌∷◌, ◌++◌, Option, Some, None, Result, Ok, Err, codes, if◌then◌else◌, length}
-use Rattle.std.specs.Cmp.Lexicographic.{pointwise}
-use Rattle.std.specs.Option.{option_eq}
+use Rattle.std.specs.Prelude.{ℕ, List, [], ◌∷◌, ◌++◌, Option, Some, None, Result, Ok, Err, codes, if◌then◌else◌, length}
 use Rattle.std.specs.Result.{result_map_both}
-use Rattle.bounded_search.specs.RowValue.{row_of}
+use Rattle.bounded_search.specs.RightRow.{is_right_row}
 use Rattle.bounded_search.specs.Table.{TableRow}
-use Rattle.bounded_search.specs.declared.table_row.Entry.{Entry}
 use Rattle.command_line.specs.Options.{and_then}
 use Rattle.decimal_text.specs.Number.{decimal}
 use Rattle.program_frame.specs.Plan.{Plan, loads}
@@ -15,18 +12,6 @@ use Rattle.table_file.specs.Reading.{table_of}
 use Rattle.table_file.specs.TableText.{text_limit}
 use Rattle.table_file.specs.declared.fault.TableFault.{TableFault}
 use Rattle.table_file.specs.declared.fault.TableFault.TheVariants.{BadLine, Cut, TooLong, Memory}
-
--- ---- which row is right
-
-abbrev pub is_same_entry : Entry → Entry → Bool
-is_same_entry x y =
-    (x.node.0 == y.node.0)
-    && ((x.distance == y.distance)
-    && option_eq (λ e f. e.0 == f.0) x.last y.last)
-
--- whether a row is that of its origin
-abbrev pub is_right : Net → ℕ → TableRow → Bool
-is_right net bound row = pointwise is_same_entry row.entries (row_of net bound row.origin).entries
 
 -- ---- what is said of the bytes of a file
 
@@ -50,7 +35,7 @@ rows_in net bound bytes =
 
 abbrev pub row_said : Net → ℕ → TableRow → Result (Unit {0}) (List ℕ)
 row_said net bound row =
-    if is_right net bound row then Ok tt else Err (wrong_row_line (node_name net row.origin))
+    if is_right_row net bound row then Ok tt else Err (wrong_row_line (node_name net row.origin))
 
 -- all rows are right, or the line of the first that is not
 abbrev pub rows_said : Net → ℕ → List TableRow → Result (Unit {0}) (List ℕ)

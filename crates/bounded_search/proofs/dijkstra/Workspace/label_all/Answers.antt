@@ -43,7 +43,7 @@ relax_leaving-requires-clause-next c =
 pub loop-next-smaller : goal.loop-next-smaller
 loop-next-smaller c =
     let w = c.loop-next.self in
-    omega (arith, c.in_ok-relax_leaving.ensures.less, length_permutation w.queue (c.in-Some.next ∷ c.pop.new.self) c.in-Some.ensures.taken)
+    omega (arith, c.in_ok-relax_leaving.ensures.tries.less, length_permutation w.queue (c.in-Some.next ∷ c.pop.new.self) c.in-Some.ensures.taken)
 
 pub loop-next-preserved : goal.loop-next-preserved
 loop-next-preserved c =
@@ -52,19 +52,20 @@ loop-next-preserved c =
     let s : ℕ = c.args.origin.0 in
     record {
       marked = r.marked (length c.args.net.now.nodes) c.loop-next.invariant.marked;
-      underway = r.underway s (reordered c.args.net.now c.args.bound s w.words.items w.queue (c.in-Some.next ∷ c.pop.new.self) c.in-Some.ensures.taken c.loop-next.invariant.underway);
+      underway = r.tries.underway s (reordered c.args.net.now c.args.bound s w.words.items w.queue (c.in-Some.next ∷ c.pop.new.self) c.in-Some.ensures.taken c.loop-next.invariant.underway);
     }
 
-pub returns-clause-closed : goal.returns-clause-closed
-returns-clause-closed c =
+pub returns-clause-labelled : goal.returns-clause-labelled
+returns-clause-labelled c =
     let w = c.loop-next.self in
-    closed_at_end c.args.net.now c.args.bound c.args.origin.0 w.words.items w.queue c.known.ensures c.requires.bound c.in_default.ensures.none.0 c.loop-next.invariant.underway
+    record {
+      closed = closed_at_end c.args.net.now c.args.bound c.args.origin.0 w.words.items w.queue c.known.ensures c.requires.bound c.in_default.ensures.none.0 c.loop-next.invariant.underway;
+      marked = c.loop-next.invariant.marked;
+      none_waiting = c.in_default.ensures.none.1;
+    }
 
 pub relax_leaving-requires-clause-sized : goal.relax_leaving-requires-clause-sized
 relax_leaving-requires-clause-sized c = c.loop-next.invariant.marked.sized
 
 pub returns-clause-sized : goal.returns-clause-sized
 returns-clause-sized c = c.loop-next.invariant.marked.sized
-
-pub returns-clause-marked : goal.returns-clause-marked
-returns-clause-marked c = c.loop-next.invariant.marked

@@ -10,15 +10,18 @@ use Rattle.bounded_search.proofs.MarkedNodes.{word_inside}
 use Rattle.bounded_search.proofs.Underway.{IsPending, all_tried, no_more_effort, not_taken, starts_still, step_keeps, taken}
 use Rattle.bounded_search.proofs.dijkstra.Workspace.relax_leaving.Goals as goal
 
-pub returns-then-distance_in-next-clause-underway : goal.returns-then-distance_in-next-clause-underway
-returns-then-distance_in-next-clause-underway c s under =
+pub returns-then-distance_in-next-clause-tries : goal.returns-then-distance_in-next-clause-tries
+returns-then-distance_in-next-clause-tries c =
     let w = c.args.self.now in
     let words : List ℕ = w.words.items in
     let u : ℕ = c.args.next.node in
     let at : c.index.result.now ≡ word_at words u = get_or_read words u c.index.result.now (omega (arith, c.requires.sized.words_count, c.requires.next)) c.index.ensures no_label in
     let far : distance_at words u ≡ c.distance_in.result = ap (λ (word : ℕ). word / 2 ^ 32) (sym at) ∙ sym c.distance_in.ensures in
     let stale : distance_at words u ≢ c.args.next.distance = grind (arith, nat_tests) in
-    not_taken c.args.net.now c.args.bound s c.args.next words w.queue stale under
+    record {
+      underway = λ s under. not_taken c.args.net.now c.args.bound s c.args.next words w.queue stale under;
+      less = omega arith;
+    }
 
 pub loop-arc-init : goal.loop-arc-init
 loop-arc-init c =
@@ -75,11 +78,14 @@ loop-arc-preserved c =
       marked = λ count t. c.in_ok-relax.ensures.marked count (inv.marked count t);
     }
 
-pub returns-clause-underway : goal.returns-clause-underway
-returns-clause-underway c s under =
+pub returns-clause-tries : goal.returns-clause-tries
+returns-clause-tries c =
     let n = c.args.net.now in
     let arcs : List Arc = c.arcs-arc-items.result.now in
     let i : ℕ = c.loop-arc.arc-index in
     let state : SearchState = state_of c.loop-arc.self in
     let none : drop i arcs ≡ [] = grind (arith, common_steps) in
-    all_tried n c.args.bound s state (subst (λ (k : List Arc). IsUnderway n c.args.bound s state (IsPending n k)) none (c.loop-arc.invariant.underway s under))
+    record {
+      underway = λ s under. all_tried n c.args.bound s state (subst (λ (k : List Arc). IsUnderway n c.args.bound s state (IsPending n k)) none (c.loop-arc.invariant.underway s under));
+      less = c.loop-arc.invariant.less;
+    }

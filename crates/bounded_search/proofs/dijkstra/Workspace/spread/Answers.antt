@@ -1,7 +1,8 @@
-use Rattle.std.proofs.Common.{◌≡◌, ◌<◌, ℕ, List, Some, None, ap, length, length-set, get_or, refl, subst, ◌∙◌, rules, arith}
+use Rattle.std.proofs.Common.{◌≡◌, ◌<◌, Bool, ℕ, List, Some, None, true, false, true≢false, ap, sym, length, length-set, get_or, refl, subst, ◌∙◌, rules, arith}
 use Rattle.std.proofs.lemmas.List.{take_all}
 use Rattle.std.proofs.lemmas.List.Elements.{All-more, All-nil}
 use Rattle.std.specs.List.{All}
+use Rattle.std.specs.Prelude.{IsTrue}
 use Rattle.bounded_search.specs.declared.table_row.Entry.{Entry}
 use Rattle.bounded_search.specs.LabelWords.{label_in_word}
 use Rattle.bounded_search.specs.Spread.{FitsIn, IsSpread}
@@ -21,14 +22,22 @@ loop-x-init c = record {
   queue = refl;
 }
 
-pub returns-then-not-fits-clause-others : goal.returns-then-not-fits-clause-others
-returns-then-not-fits-clause-others c =
+pub returns-then-not-fits : goal.returns-then-not-fits
+returns-then-not-fits c =
     let inv = c.loop-x.invariant in
+    let entries : List Entry = c.args.entries.now in
+    let i : ℕ = c.loop-x.x-index in
+    let lt : i < length entries = omega arith in
+    let unfit : All (FitsIn c.args.net.now c.args.bound) entries → false ≡ true = λ all. subst (λ (k : Bool). IsTrue k) c.if-not-fits.true (c.fits.ensures.1 (all i nothing lt)) in
     record {
-      none = none_else c.args.entries.now c.loop-x.x-index c.loop-x.self.words.items inv.spread;
-      count = inv.count;
-      marks = inv.marks;
-      queue = inv.queue;
+      fits_all = (λ t. absurd (true≢false (sym t)), unfit);
+      words = λ t. absurd (true≢false (sym t));
+      others = record {
+        none = none_else entries i c.loop-x.self.words.items inv.spread;
+        count = inv.count;
+        marks = inv.marks;
+        queue = inv.queue;
+      };
     }
 
 pub loop-x-preserved : goal.loop-x-preserved
@@ -49,20 +58,19 @@ loop-x-preserved c =
       queue = inv.queue;
     }
 
-pub returns-clause-fits : goal.returns-clause-fits
-returns-clause-fits c =
-    let all : All (FitsIn c.args.net.now c.args.bound) c.args.entries.now = rw (take_all c.loop-x.x-index c.args.entries.now (omega arith)) at c.loop-x.invariant.fits in
-    (λ t. all, λ t. refl)
-
-pub returns-clause-spread : goal.returns-clause-spread
-returns-clause-spread c t = subst (λ (k : List Entry). IsSpread k c.loop-x.self.words.items) (take_all c.loop-x.x-index c.args.entries.now (omega arith)) c.loop-x.invariant.spread
-
-pub returns-clause-others : goal.returns-clause-others
-returns-clause-others c =
+pub returns : goal.returns
+returns c =
     let inv = c.loop-x.invariant in
+    let entries : List Entry = c.args.entries.now in
+    let whole = take_all c.loop-x.x-index entries (omega arith) in
+    let fits : All (FitsIn c.args.net.now c.args.bound) entries = rw whole at inv.fits in
     record {
-      none = none_else c.args.entries.now c.loop-x.x-index c.loop-x.self.words.items inv.spread;
-      count = inv.count;
-      marks = inv.marks;
-      queue = inv.queue;
+      fits_all = (λ t. fits, λ all. refl);
+      words = λ t. subst (λ (k : List Entry). IsSpread k c.loop-x.self.words.items) whole inv.spread;
+      others = record {
+        none = none_else entries c.loop-x.x-index c.loop-x.self.words.items inv.spread;
+        count = inv.count;
+        marks = inv.marks;
+        queue = inv.queue;
+      };
     }

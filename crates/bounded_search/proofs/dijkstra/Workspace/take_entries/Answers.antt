@@ -1,4 +1,4 @@
-use Rattle.std.proofs.Common.{◌*◌, ℕ, length, sym, subst, arith}
+use Rattle.std.proofs.Common.{◌*◌, ℕ, length, sym, subst, rules, arith}
 use Rattle.std.proofs.Math.Nat.{lt-div-mul-add}
 use Rattle.bounded_search.specs.Marked.{AreMarked, IsSized}
 use Rattle.bounded_search.proofs.MarkedNodes.{all_taken, none_taken}
@@ -19,28 +19,32 @@ take_marked-requires-clause-place c =
 pub take_marked-requires-clause-marked : goal.take_marked-requires-clause-marked
 take_marked-requires-clause-marked c = subst (λ (k : ℕ). AreMarked k c.loop-place.self) (sym c.loop-place.invariant.marked.sized.words_count) c.loop-place.invariant.marked
 
-pub returns-in_err-take_marked-clause-sized : goal.returns-in_err-take_marked-clause-sized
-returns-in_err-take_marked-clause-sized c = subst (λ (k : ℕ). IsSized k c.take_marked.new.self) c.loop-place.invariant.marked.sized.words_count c.in_err-take_marked.ensures.sized
+pub returns-in_err-entries-clause-clean : goal.returns-in_err-entries-clause-clean
+returns-in_err-entries-clause-clean c = record { sized = c.requires.marked.sized; clean = search rules }
+
+pub returns-in_err-take_marked-clause-clean : goal.returns-in_err-take_marked-clause-clean
+returns-in_err-take_marked-clause-clean c = record {
+  sized = subst (λ (k : ℕ). IsSized k c.take_marked.new.self) c.loop-place.invariant.marked.sized.words_count c.in_err-take_marked.ensures.sized;
+  clean = search rules;
+}
 
 pub loop-place-preserved : goal.loop-place-preserved
 loop-place-preserved c =
     let inv = c.loop-place.invariant in
     let e = c.in_ok-take_marked.ensures in
     record {
-      marked = subst (λ (k : ℕ). AreMarked k c.take_marked.new.self) inv.marked.sized.words_count e.marked;
-      taken = e.taken c.args.self.now.words.items inv.taken;
+      marked = subst (λ (k : ℕ). AreMarked k c.take_marked.new.self) inv.marked.sized.words_count e.takes.marked;
+      taken = e.takes.taken c.args.self.now.words.items inv.taken;
       queue = rw e.queue inv.queue;
     }
 
-pub returns-clause-rising : goal.returns-clause-rising
-returns-clause-rising c = c.loop-place.invariant.taken.rising
-
-pub returns-clause-labels : goal.returns-clause-labels
-returns-clause-labels c v =
+pub returns-clause-entries : goal.returns-clause-entries
+returns-clause-entries c =
     let inv = c.loop-place.invariant in
     let w = c.loop-place.self in
     let count : ℕ = length c.args.self.now.words.items in
-    (all_taken c.args.self.now.words.items count (c.loop-place.place * 64) w.words.items w.marks.items c.loop-place.entries.items inv.marked (omega (arith, inv.marked.sized.marks_count, c.requires.marked.sized.marks_count, lt-div-mul-add {a = count} {b = 64} (omega arith))) inv.taken v).2
+    let all = all_taken c.args.self.now.words.items count (c.loop-place.place * 64) w.words.items w.marks.items c.loop-place.entries.items inv.marked (omega (arith, inv.marked.sized.marks_count, c.requires.marked.sized.marks_count, lt-div-mul-add {a = count} {b = 64} (omega arith))) inv.taken in
+    record { rising = inv.taken.rising; same = λ v. (all v).2 }
 
 pub returns-clause-clean : goal.returns-clause-clean
 returns-clause-clean c =
@@ -50,10 +54,10 @@ returns-clause-clean c =
     let all = all_taken c.args.self.now.words.items count (c.loop-place.place * 64) w.words.items w.marks.items c.loop-place.entries.items inv.marked (omega (arith, inv.marked.sized.marks_count, c.requires.marked.sized.marks_count, lt-div-mul-add {a = count} {b = 64} (omega arith))) inv.taken in
     record {
       sized = inv.marked.sized;
-      none_labelled = λ v. (all v).1;
-      none_marked = λ v. (all v).0;
-      none_waiting = inv.queue;
+      clean = record {
+        sized = inv.marked.sized;
+        none_labelled = λ v. (all v).1;
+        none_marked = λ v. (all v).0;
+        none_waiting = inv.queue;
+      };
     }
-
-pub returns-clause-sized : goal.returns-clause-sized
-returns-clause-sized c = c.loop-place.invariant.marked.sized

@@ -57,8 +57,12 @@ loop-rest-preserved c =
       queue = e.others.1 ∙ inv.queue;
     }
 
-pub returns-clause-taken : goal.returns-clause-taken
-returns-clause-taken c before t =
+pub returns-clause-takes : goal.returns-clause-takes
+returns-clause-takes c =
     let inv = c.loop-rest.invariant in
-    let old = inv.taken before t in
-    word_taken before old.0 c.args.place c.loop-rest.self.words.items c.loop-rest.self.marks.items c.loop-rest.entries.items old.3 old.1 old.2 (omega (arith, inv.here, c.loop-rest-test.false))
+    record {
+      taken = λ before t.
+          let old = inv.taken before t in
+          word_taken before old.0 c.args.place c.loop-rest.self.words.items c.loop-rest.self.marks.items c.loop-rest.entries.items old.3 old.1 old.2 (omega (arith, inv.here, c.loop-rest-test.false));
+      marked = inv.marked;
+    }
