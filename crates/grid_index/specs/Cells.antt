@@ -18,6 +18,11 @@ pub record HasCell (cells : Cells) (c r : ℕ) : Type 0 where
   pub bottom : cells.bottom ≤ r
   pub top : r < cells.top
 
+-- the first column is not past the last, nor is the first row
+pub record AreOrdered (cells : Cells) : Type 0 where
+  pub columns : cells.left ≤ cells.right
+  pub rows : cells.bottom ≤ cells.top
+
 -- the slot of a cell
 abbrev pub slot : ℕ → ℕ → ℕ → ℕ
 slot width column row = row % width * width + column % width

@@ -2,8 +2,9 @@
 use Rattle.std.specs.Prelude.{ℕ, ◌+◌, ◌<◌, ◌≤◌, ◌⊎◌, List, length, slice_index, slice_range}
 use Rattle.std.specs.List.{All, Contains}
 use Rattle.polyline_geometry.specs.declared.plane.Point.{Point}
-use Rattle.polyline_geometry.specs.Boxes.{InBox, InSquare}
+use Rattle.polyline_geometry.specs.Boxes.{InBox, InSquare, LineMeetsSquare}
 use Rattle.polyline_geometry.specs.Plane.{distance2, point_at}
+use Rattle.road_network.specs.declared.EdgeId.{EdgeId}
 use Rattle.road_network.specs.Net.{Net, HasEdge, edge_line}
 use Rattle.grid_index.specs.declared.runs.Run.{Run}
 use Rattle.grid_index.specs.Cells.{cell, slot}
@@ -55,3 +56,9 @@ pub record AreHits (g : GridOf) (p : Point) (reach far2 : ℕ) (runs : List Run)
   pub complete : (e i : ℕ) → HasEdge g.net e → i + 1 < length (edge_line g.net e) → (q : Point)
       → InBox (point_at (edge_line g.net e) i) (point_at (edge_line g.net e) (i + 1)) q
       → InSquare p reach q → distance2 p q ≤ far2 → HasRunFor runs e i
+
+-- the list has each edge with a segment whose box meets the square of half side `reach` round p
+abbrev pub ContainsNear : Net → Point → ℕ → List EdgeId → Type 0
+ContainsNear net p reach edges =
+    (e : ℕ) → HasEdge net e → LineMeetsSquare (edge_line net e) p reach
+    → Contains edges (record { 0 = e })

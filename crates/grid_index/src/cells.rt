@@ -5,7 +5,7 @@ ghost use Rattle.std.specs.Int.RustNames.{unsigned_abs};
 ghost use Rattle.polyline_geometry.specs.declared.plane.Point.{Point as Place};
 ghost use Rattle.polyline_geometry.specs.Plane.{InRange};
 ghost use Rattle.polyline_geometry.specs.Boxes.{InBox, InSquare};
-ghost use Rattle.grid_index.specs.Cells.{HasCell, cell, shifted, slot};
+ghost use Rattle.grid_index.specs.Cells.{AreOrdered, HasCell, cell, shifted, slot};
 
 use polyline_geometry::Point;
 
@@ -34,8 +34,7 @@ impl Cells {
         requires a_in { InRange a }
         requires b_in { InRange b }
         requires side { 1 ≤ side }
-        ensures columns { result.left ≤ result.right }
-        ensures rows { result.bottom ≤ result.top }
+        ensures ordered { AreOrdered result }
         ensures covers { (q : Place) → InBox a b q
             → HasCell result (cell side q.x) (cell side q.y) }
     {
@@ -68,8 +67,7 @@ impl Cells {
 
     /// How many cells these are.
     pub(crate) fn count(self) -> u64
-        requires columns { self.left ≤ self.right }
-        requires rows { self.bottom ≤ self.top }
+        requires { AreOrdered self }
         ensures { result ≡ (self.right - self.left) * (self.top - self.bottom) }
     {
         u64::from(self.right - self.left) * u64::from(self.top - self.bottom)

@@ -2,15 +2,14 @@
 ghost use Rattle.std.specs.Prelude.{◌≡◌, ℕ, ◌*◌, ◌≤◌, ◌↔◌, IfOk, IsTrue, map};
 ghost use Rattle.std.specs.List.{All, Contains};
 ghost use Rattle.polyline_geometry.specs.declared.plane.Point.{Point as Place};
-ghost use Rattle.polyline_geometry.specs.Plane.{InRange, distance2};
-ghost use Rattle.polyline_geometry.specs.Boxes.{InBox, InSquare, LineMeetsSquare};
+ghost use Rattle.polyline_geometry.specs.Plane.{InRange};
+ghost use Rattle.polyline_geometry.specs.Boxes.{InSquare};
 ghost use Rattle.road_network.specs.declared.EdgeId.{EdgeId as EdgeOf};
-ghost use Rattle.road_network.specs.Net.{HasEdge, edge_line};
-ghost use Rattle.grid_index.specs.declared.runs.Run.{Run as RunOf};
+ghost use Rattle.road_network.specs.Net.{HasEdge};
 ghost use Rattle.grid_index.specs.Cells.{HasCell, cell};
-ghost use Rattle.grid_index.specs.GridOf.{AreHits, IsGrid, runs_at};
-ghost use Rattle.grid_index.specs.NearestCell.{IsNearestCell};
-ghost use Rattle.grid_index.specs.Runs.{HasCorners, IsRun};
+ghost use Rattle.grid_index.specs.GridOf.{AreHits, ContainsNear, IsGrid, runs_at};
+ghost use Rattle.grid_index.specs.NearestCell.{HasNoneNearer, IsNearestCell};
+ghost use Rattle.grid_index.specs.Runs.{HasCorners};
 ghost use Rattle.grid_index.specs.Rising.{AreRising};
 
 use crate::cells::{Cells, shifted};
@@ -33,10 +32,7 @@ pub struct Grid<'n> {
 // By hand, so that the functions that drop one call this.
 impl<'n> Drop for Grid<'n> {
     fn drop(self) {
-        let Grid {
-            net: _,
-            table: _,
-        } = self;
+        let Grid { net: _, table: _ } = self;
     }
 }
 
@@ -193,9 +189,7 @@ impl<'n> Grid<'n> {
     /// the cell of a column and a row, in cm².
     pub fn cell_distance2(&self, p: Point, column: u32, row: u32) -> u64
         requires p_in { InRange p }
-        ensures { (r : RunOf) (q : Place) → IsRun self.now.net r
-            → IsNearestCell self.now.side p r column row → InBox r.low r.high q
-            → result ≤ distance2 p q }
+        ensures { HasNoneNearer self.now.net self.now.side p column row result }
     {
         cell_distance2(p, column, row, self.table.layout.side)
     }
@@ -207,9 +201,7 @@ impl<'n> Grid<'n> {
         requires reach { reach ≤ self.now.side }
         ensures edges { IfOk result (All (λ e. HasEdge self.now.net e.0)) }
         ensures rising { IfOk result AreRising }
-        ensures complete { IfOk result (λ edges. (e : ℕ) → HasEdge self.now.net e
-            → LineMeetsSquare (edge_line self.now.net e) p reach
-            → Contains edges (record { 0 = e })) }
+        ensures complete { IfOk result (ContainsNear self.now.net p reach) }
     {
         let far2 = self.corner_distance2(reach);
         let runs = self.hits(alloc, p, reach, far2)?;

@@ -2,13 +2,10 @@
 //! point. Serves `Grid`; decided by `IsNearestCell`.
 ghost use Rattle.std.specs.Prelude.{◌≡◌, ℕ, ◌+◌, ◌-◌, ◌*◌, ◌/◌, ◌≤◌, ◌↔◌, IsTrue, max, min};
 ghost use Rattle.std.specs.Int.RustNames.{unsigned_abs};
-ghost use Rattle.polyline_geometry.specs.declared.plane.Point.{Point as Place};
-ghost use Rattle.polyline_geometry.specs.Boxes.{InBox};
-ghost use Rattle.polyline_geometry.specs.Plane.{InRange, distance2};
+ghost use Rattle.polyline_geometry.specs.Plane.{InRange};
 ghost use Rattle.road_network.specs.Net.{Net};
-ghost use Rattle.grid_index.specs.declared.runs.Run.{Run as RunOf};
-ghost use Rattle.grid_index.specs.NearestCell.{IsNearestCell, nearest_between};
-ghost use Rattle.grid_index.specs.Runs.{HasCorners, IsRun};
+ghost use Rattle.grid_index.specs.NearestCell.{HasNoneNearer, IsNearestCell, nearest_between};
+ghost use Rattle.grid_index.specs.Runs.{HasCorners};
 
 use crate::cells::shifted;
 use crate::runs::Run;
@@ -74,8 +71,7 @@ pub(crate) fn cell_distance2(p: Point, column: u32, row: u32, side: u32) -> u64
     requires some { 1 ≤ side }
     requires few { side ≤ 1_000_000 }
     requires p_in { InRange p }
-    ensures { (net : Net) (r : RunOf) (q : Place) → IsRun net r → IsNearestCell side p r column row
-        → InBox r.low r.high q → result ≤ distance2 p q }
+    ensures { (net : Net) → HasNoneNearer net side p column row result }
 {
     let (x, y) = (
         gap(shifted(p.x), column, side),

@@ -1,10 +1,9 @@
 //! A network as its edges are read, one after the other.
-ghost use Rattle.std.specs.Prelude.{◌≡◌, ◌≢◌, ◌++◌, ◌+◌, ◌<◌, ◌≤◌, None, Some, IfOk, IfErr, OnOk, length};
+ghost use Rattle.std.specs.Prelude.{◌≡◌, ◌≢◌, ◌+◌, ◌≤◌, None, Some, IfOk, IfErr, OnOk, length};
 ghost use Rattle.std.specs.List.{All};
-ghost use Rattle.polyline_geometry.specs.Offsets.{line_offsets};
-ghost use Rattle.polyline_geometry.specs.Plane.{InRange, line_length};
+ghost use Rattle.polyline_geometry.specs.Plane.{InRange};
 ghost use Rattle.road_network.specs.NetworkFile.{add_row, first_fault, limit_faults, line_faults, no_net, place_of, repeated_point, with_node};
-ghost use Rattle.road_network.specs.Drafted.{drafted, IsDraft};
+ghost use Rattle.road_network.specs.Drafted.{drafted, AddsRow, IsDraft, IsLineTaken};
 ghost use Rattle.road_network.specs.Rows.{row_with};
 
 use crate::counting::adjacency_of;
@@ -65,9 +64,8 @@ fn repeated_point(line: &[Point]) -> Option<u32>
 fn check_line(rec: u32, line: &[Point], offsets: &mut List<u32>) -> Result<u32, NetworkFault>
     requires few { length line.now ≤ 200_000_000 }
     requires within { All InRange line.now }
-    ensures ok { OnOk result (first_fault (line_faults rec line.now) ≡ None) }
-    ensures length { IfOk result (λ length. length ≡ line_length line.now) }
-    ensures offsets { OnOk result (offsets.new ≡ offsets.old ++ line_offsets line.now) }
+    ensures ok { IfOk result (λ length.
+        IsLineTaken rec line.now length offsets.old offsets.new) }
     ensures fault { IfErr result
         (λ e. e ≢ NetworkFault.Memory → first_fault (line_faults rec line.now) ≡ Some e) }
 {
@@ -140,9 +138,7 @@ impl Draft {
         requires draft { IsDraft self.old }
         requires few { length line.now ≤ 200_000_000 }
         requires within { All InRange line.now }
-        ensures draft { OnOk result (IsDraft self.new) }
-        ensures network { OnOk result
-            (add_row (drafted self.old) (row_with head.now line.now) ≡ Ok (drafted self.new)) }
+        ensures ok { OnOk result (AddsRow self.old (row_with head.now line.now) self.new) }
         ensures fault { IfErr result (λ e. e ≢ NetworkFault.Memory
             → add_row (drafted self.old) (row_with head.now line.now) ≡ Err e) }
     {

@@ -6,51 +6,46 @@ ghost use Rattle.road_network.specs.FaultLine.{fault_line, fault_text, record_li
 use decimal_text::write_unsigned;
 use polyline_geometry::List;
 use std::alloc::{AllocError, AllocFailed, Global};
+use std::fmt::{self, Debug, Display, Formatter, Write};
 use thiserror::Error;
 
 /// The first fault of a network file. A record, a field and a place are numbered from 1, and the
-/// header is no record. `write_line` has the texts; the error trait's are one word each.
+/// header is no record.
 #[derive(Clone, Copy, Debug, PartialEq, Eq, Error)]
 pub enum NetworkFault {
     /// The first record is missing or is not the four names.
-    #[error("header")]
     BadHeader,
     /// The record has not four fields.
-    #[error("fields")]
     FieldCount(u32),
     /// A field of the record is misspelt.
-    #[error("number")]
     BadNumber(u32, u32),
     /// A value of the record is out of range.
-    #[error("range")]
     OutOfRange(u32, u32),
     /// An earlier record has this edge id.
-    #[error("edge")]
     DuplicateEdge(u32),
     /// The line has one point.
-    #[error("line")]
     ShortLine(u32),
     /// The point at this place of the line equals the one before it.
-    #[error("point")]
     RepeatedPoint(u32, u32),
     /// The edge is longer than 100,000,000 cm.
-    #[error("length")]
     EdgeTooLong(u32),
     /// The file has more than 150,000 edges.
-    #[error("edges")]
     TooManyEdges(u32),
     /// The file has more than 60,000 nodes.
-    #[error("nodes")]
     TooManyNodes(u32),
     /// The lines have more than 1,000,000 points together.
-    #[error("points")]
     TooManyPoints(u32),
     /// The file has more than 134,217,728 bytes.
-    #[error("bytes")]
     FileTooLong,
     /// Out of memory.
-    #[error("memory")]
     Memory,
+}
+
+// The program prints the line of `write_line`; the error trait's text is that of `Debug`.
+impl Display for NetworkFault {
+    fn fmt<W: Write>(&self, f: &mut Formatter<W>) -> fmt::Result {
+        Debug::fmt(self, f)
+    }
 }
 
 impl From<AllocError> for NetworkFault {

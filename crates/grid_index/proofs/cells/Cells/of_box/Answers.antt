@@ -31,12 +31,9 @@ overflow_add-result-2 c =
     let less = div-le_self c.max-2.result c.args.side in
     omega (arith, less, c.max-2.ensures, c.shifted-ay.ensures.high, c.shifted-by.ensures.high)
 
-pub returns-clause-columns : goal.returns-clause-columns
-returns-clause-columns c =
-    let up = div_rises c.min.result c.max.result c.args.side c.requires.side (omega (arith, c.min.ensures, c.max.ensures)) in
-    omega (arith, up)
-
-pub returns-clause-rows : goal.returns-clause-rows
-returns-clause-rows c =
-    let up = div_rises c.min-2.result c.max-2.result c.args.side c.requires.side (omega (arith, c.min-2.ensures, c.max-2.ensures)) in
-    omega (arith, up)
+pub returns-clause-ordered : goal.returns-clause-ordered
+returns-clause-ordered c =
+    let side = c.args.side in
+    let x = div_rises c.min.result c.max.result side c.requires.side (omega (arith, c.min.ensures, c.max.ensures)) in
+    let y = div_rises c.min-2.result c.max-2.result side c.requires.side (omega (arith, c.min-2.ensures, c.max-2.ensures)) in
+    record { columns = omega (arith, x); rows = omega (arith, y) }

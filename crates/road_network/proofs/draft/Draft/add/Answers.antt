@@ -42,11 +42,11 @@ returns-in_err-check_limits-clause-fault c =
     let points : c.len-first.result + length c.args.line.now ≡ point_count (with_row n r).edges = omega (arith, c.len-first.ensures, points-more n r, c.requires.draft.parts.count) in
     let limits = limits-are n r c.next_record-rec.result (c.len.result + 1) c.len-2.result (c.len-first.result + length c.args.line.now) rec edges (c.len-2.ensures.len ∙ ap (λ k. length k) nodes) points in
     let p = err_from_is_err_and c.from_residual-in_err-check_limits.result c.from_residual-in_err-check_limits.ensures.1 in
-    let line : first_fault (line_faults (length n.edges + 1) r.line) ≡ None = rw rec at c.in_ok-length.ensures.ok in
+    let line : first_fault (line_faults (length n.edges + 1) r.line) ≡ None = rw rec at c.in_ok-length.ensures.ok.faultless in
     rw (p.1, p.2) (λ _. refused-limit n r _ new line (ap (λ k. first_fault k) (sym limits) ∙ c.in_err-check_limits.ensures.fault))
 
-pub returns-clause-draft : goal.returns-clause-draft
-returns-clause-draft c =
+pub returns-clause-ok : goal.returns-clause-ok
+returns-clause-ok c =
     let d = c.args.self.now in
     let n = drafted d in
     let r = row_with c.args.head.now c.args.line.now in
@@ -57,7 +57,7 @@ returns-clause-draft c =
     let edges : c.len.result + 1 ≡ length (with_row n r).edges = omega (arith, c.len.ensures, edges-more n r, length-map d.edges (edge_of d.points)) in
     let points : c.len-first.result + length c.args.line.now ≡ point_count (with_row n r).edges = omega (arith, c.len-first.ensures, points-more n r, c.requires.draft.parts.count) in
     let limits = limits-are n r c.next_record-rec.result (c.len.result + 1) c.len-2.result (c.len-first.result + length c.args.line.now) rec edges (c.len-2.ensures.len ∙ ap (λ k. length k) nodes) points in
-    let line : first_fault (line_faults (length n.edges + 1) r.line) ≡ None = rw rec at c.in_ok-length.ensures.ok in
+    let line : first_fault (line_faults (length n.edges + 1) r.line) ≡ None = rw rec at c.in_ok-length.ensures.ok.faultless in
     let fits : first_fault (limits_with n r) ≡ None = ap (λ k. first_fault k) (sym limits) ∙ c.in_ok-check_limits.ensures.ok in
     let faultless : IsFaultless n r = record { named = new; line = line; limits = fits; within = c.requires.within } in
     let start : c.in_ok-from.from.0 ≡ place_of (nodes_with d.nodes.keys r) r.«from» =
@@ -66,40 +66,19 @@ returns-clause-draft c =
     let stop : c.in_ok-to.to.0 ≡ place_of (nodes_with d.nodes.keys r) r.to = c.in_ok-to.ensures.place ∙ ap (λ k. place_of k r.to) nodes in
     let e : StoredEdge = record { name = c.args.head.now.name; from = c.in_ok-from.from; to = c.in_ok-to.to; length = c.in_ok-length.length; first = c.len-first.result; end = c.len-first.result + length c.args.line.now } in
     let stored : IsStoredRow (nodes_with d.nodes.keys r) d.points r e =
-    record { name = refl; start = start; stop = stop; measured = c.in_ok-length.ensures.length; first = c.len-first.ensures; end = omega (arith, c.len-first.ensures) } in
+    record { name = refl; start = start; stop = stop; measured = c.in_ok-length.ensures.ok.measured; first = c.len-first.ensures; end = omega (arith, c.len-first.ensures) } in
     let all = grown d.nodes.keys d.edges d.points r e c.requires.draft.parts faultless stored in
-    record {
-      parts = rw (nodes, c.in_ok-push.ensures.ok, c.in_ok-extend_from_slice.ensures.ok) all;
-      names = rw (c.in_ok-push.ensures.ok, names-more d.edges e c.args.head.now.name refl) (rw c.as_slice.ensures at c.in_ok-is_new.ensures.names);
-      offsets = rw (c.in_ok-push.ensures.ok, c.in_ok-extend_from_slice.ensures.ok, c.in_ok-length.ensures.offsets)
-          (offsets-grown d.nodes.keys d.points d.edges d.offsets r e c.requires.draft.parts.stored c.requires.draft.offsets stored);
-    }
-
-pub returns-clause-network : goal.returns-clause-network
-returns-clause-network c =
-    let d = c.args.self.now in
-    let n = drafted d in
-    let r = row_with c.args.head.now c.args.line.now in
-    let names-known = name-known d.nodes.keys d.edges d.points c.args.head.now.name in
-    let new : has_name n c.args.head.now.name ≡ false = new-name c.in_ok-is_new.is_new _ ((rw c.as_slice.ensures at c.in_ok-is_new.ensures.new) ∙ ap not names-known) (search rules) in
-    let rec = c.next_record-rec.ensures in
-    let nodes : c.number_of-2.new.nodes.keys ≡ nodes_with d.nodes.keys r = c.in_ok-to.ensures.nodes ∙ ap (λ k. with_node k r.to) c.in_ok-from.ensures.nodes in
-    let edges : c.len.result + 1 ≡ length (with_row n r).edges = omega (arith, c.len.ensures, edges-more n r, length-map d.edges (edge_of d.points)) in
-    let points : c.len-first.result + length c.args.line.now ≡ point_count (with_row n r).edges = omega (arith, c.len-first.ensures, points-more n r, c.requires.draft.parts.count) in
-    let limits = limits-are n r c.next_record-rec.result (c.len.result + 1) c.len-2.result (c.len-first.result + length c.args.line.now) rec edges (c.len-2.ensures.len ∙ ap (λ k. length k) nodes) points in
-    let line : first_fault (line_faults (length n.edges + 1) r.line) ≡ None = rw rec at c.in_ok-length.ensures.ok in
-    let fits : first_fault (limits_with n r) ≡ None = ap (λ k. first_fault k) (sym limits) ∙ c.in_ok-check_limits.ensures.ok in
-    let faultless : IsFaultless n r = record { named = new; line = line; limits = fits; within = c.requires.within } in
-    let start : c.in_ok-from.from.0 ≡ place_of (nodes_with d.nodes.keys r) r.«from» =
-    c.in_ok-from.ensures.place ∙ ap (λ k. place_of k r.«from») c.in_ok-from.ensures.nodes
-    ∙ sym (stays-at (with_node d.nodes.keys r.«from») r.«from» r.to (mentioned d.nodes.keys r.«from»)) in
-    let stop : c.in_ok-to.to.0 ≡ place_of (nodes_with d.nodes.keys r) r.to = c.in_ok-to.ensures.place ∙ ap (λ k. place_of k r.to) nodes in
-    let e : StoredEdge = record { name = c.args.head.now.name; from = c.in_ok-from.from; to = c.in_ok-to.to; length = c.in_ok-length.length; first = c.len-first.result; end = c.len-first.result + length c.args.line.now } in
-    let stored : IsStoredRow (nodes_with d.nodes.keys r) d.points r e =
-    record { name = refl; start = start; stop = stop; measured = c.in_ok-length.ensures.length; first = c.len-first.ensures; end = omega (arith, c.len-first.ensures) } in
     let net = net-grown d.nodes.keys d.edges d.points r e c.requires.draft.parts.stored stored in
-    accepted n r new line fits
-    ∙ ap (λ k. Ok k) (sym (ap (λ k. net_of k c.push.new.self c.extend_from_slice.new.self) nodes
-    ∙ ap (λ k. net_of (nodes_with d.nodes.keys r) k c.extend_from_slice.new.self) c.in_ok-push.ensures.ok
-    ∙ ap (λ k. net_of (nodes_with d.nodes.keys r) (d.edges ++ e ∷ []) k) c.in_ok-extend_from_slice.ensures.ok
-    ∙ net))
+    record {
+      network = accepted n r new line fits
+          ∙ ap (λ k. Ok k) (sym (ap (λ k. net_of k c.push.new.self c.extend_from_slice.new.self) nodes
+          ∙ ap (λ k. net_of (nodes_with d.nodes.keys r) k c.extend_from_slice.new.self) c.in_ok-push.ensures.ok
+          ∙ ap (λ k. net_of (nodes_with d.nodes.keys r) (d.edges ++ e ∷ []) k) c.in_ok-extend_from_slice.ensures.ok
+          ∙ net));
+      draft = record {
+        parts = rw (nodes, c.in_ok-push.ensures.ok, c.in_ok-extend_from_slice.ensures.ok) all;
+        names = rw (c.in_ok-push.ensures.ok, names-more d.edges e c.args.head.now.name refl) (rw c.as_slice.ensures at c.in_ok-is_new.ensures.names);
+        offsets = rw (c.in_ok-push.ensures.ok, c.in_ok-extend_from_slice.ensures.ok, c.in_ok-length.ensures.ok.offsets)
+            (offsets-grown d.nodes.keys d.points d.edges d.offsets r e c.requires.draft.parts.stored c.requires.draft.offsets stored);
+      };
+    }

@@ -21,6 +21,6 @@ invariant_of-result c =
       stored = rw (edges, points) c.requires.parts.stored;
       offsets = rw (edges, points, offsets) c.requires.offsets;
       starts = rw nodes a.starts.count;
-      lists = rw (nodes, edges, points) (finished d.nodes.keys d.edges d.points kept.starts.items kept.leaving.items a.starts a.count a.placed);
+      lists = rw (nodes, edges, points) (finished d.nodes.keys d.edges d.points kept.starts.items kept.leaving.items a.starts a.placed);
       arcs = rw (nodes, edges, points) (a.arcs d.points c.requires.parts.stored);
     }
