@@ -42,3 +42,9 @@ asked_by j v = list_any (λ (t : Trace). asks j.network j.params t v) j.traces
 -- what the reader knows it knew before, or a trace of the job asks for it
 abbrev pub LearnsOnly : Job → Reading → Reading → Type 0
 LearnsOnly j before after = (v : ℕ) → knows after v ≡ true → (knows before v ≡ true) ⊎ (asked_by j v ≡ true)
+
+-- the turn is over, and its reader has learned what the traces ask for that were matched in it, and nothing else
+pub record IsTaken (j : Job) (strip : Strip) (turn : Turn) (before after : Reading) : Type 0 where
+  pub over : IsOver j strip turn
+  pub learns : Learns j strip turn after
+  pub only : LearnsOnly j before after

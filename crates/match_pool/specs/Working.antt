@@ -3,10 +3,12 @@ use Rattle.std.specs.Prelude.{◌≡◌, ◌+◌, ◌<◌, ◌≤◌, ◌^◌, �
 use Rattle.std.specs.List.{list_any}
 use Rattle.bounded_search.specs.Known.{Extends}
 use Rattle.cost_model.specs.declared.params.Params.{Params}
+use Rattle.grid_index.specs.GridOf.{GridOf}
 use Rattle.match_text.specs.declared.matched.MatchedTrace.{MatchedTrace}
 use Rattle.road_network.specs.Net.{Net}
 use Rattle.row_store.specs.Store.{Reading, knows}
 use Rattle.tickets.specs.Tickets.{Drawn, Opened, IsOpenTicket}
+use Rattle.trace_match.specs.Ground.{IsGridFor}
 use Rattle.trace_match.specs.Match.{asks, match_of}
 use Rattle.trace_reader.specs.declared.trace.Trace.{Trace}
 use Rattle.trace_reader.specs.Trace.{IsLawfulTrace}
@@ -43,6 +45,16 @@ pub record IsReaderFor (n : Net) (p : Params) (reader : Reading) : Type 0 where
 pub record StaysReader (before after : Reading) : Type 0 where
   pub store : after.store ≡ before.store
   pub held : Extends before.places after.places
+
+-- the reader is as `StaysReader` says, and the ticket is of the same claims
+pub record Stays (before : Reading) (ticket : Drawn) (after : Reading) (ticket' : Drawn) : Type 0 where
+  pub reader : StaysReader before after
+  pub claims : ticket'.claims ≡ ticket.claims
+
+-- these traces can be matched on this network with this grid
+pub record CanMatch (n : Net) (p : Params) (grid : GridOf) (first : ℕ) (batch : List Trace) : Type 0 where
+  pub ground : IsGridFor n p grid
+  pub traces : AreJobTraces first batch
 
 -- what stands for a trace past the end
 abbrev pub no_trace : Trace

@@ -1,10 +1,9 @@
 //! Many traces, matched by several workers. Serves programs; decided by `match_of` and `LearnAsked`.
 ghost use Rattle.std.specs.Prelude.{◌≡◌, ◌≤◌, IfOk, OnOk, length, map};
 ghost use Rattle.std.specs.List.{AllZip};
-ghost use Rattle.trace_match.specs.Ground.{IsGridFor};
 ghost use Rattle.trace_match.specs.Match.{match_of};
 ghost use Rattle.match_pool.specs.Learning.{AreReadersFor, LearnAsked};
-ghost use Rattle.match_pool.specs.Working.{AreJobTraces, StaysReader};
+ghost use Rattle.match_pool.specs.Working.{CanMatch, StaysReader};
 
 use crate::batch::Batch;
 use crate::crew::Crew;
@@ -41,8 +40,7 @@ pub fn match_all<'s, R: Threads + Sync, G: Gate>(
     readers: &mut List<Reader<'s>>,
     gate: &G,
 ) -> Result<List<MatchedTrace>, AllocError>
-    requires ground { IsGridFor net.now p.now grid.now }
-    requires traces { AreJobTraces first traces.now }
+    requires can { CanMatch net.now p.now grid.now first traces.now }
     requires readers { AreReadersFor net.now p.now readers.old }
     ensures matched { IfOk result (λ all. all ≡ map (match_of net.now p.now) traces.now) }
     ensures readers { AllZip StaysReader readers.old readers.new }

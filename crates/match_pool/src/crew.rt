@@ -15,14 +15,36 @@ use std::thread::Threads;
 use std::{mem, thread};
 
 /// A reader, its turn at each strip, and whether memory was refused in one of them.
-#[derive(Drop)]
 pub struct Worker<'s> {
     pub reader: Reader<'s>,
     pub turns: Vec<Turn>,
     pub outcome: Result<(), AllocError>,
 }
 
+// By hand, so that the functions that drop one call this.
+impl<'s> Drop for Worker<'s> {
+    fn drop(self) {
+        let Worker {
+            reader: _,
+            turns: _,
+            outcome: _,
+        } = self;
+    }
+}
+
 impl<'s> Worker<'s> {
+    /// The reader, and its turns.
+    fn into_parts(self) -> (Reader<'s>, Vec<Turn>)
+        ensures { (result.0 ≡ self.entry.reader) × (result.1 ≡ self.entry.turns) }
+    {
+        let Worker {
+            reader,
+            turns,
+            outcome: _,
+        } = self;
+        (reader, turns)
+    }
+
     /// Takes its turns from one strip on and before another.
     fn take_turns<G: Gate>(
         &mut self,
@@ -183,10 +205,11 @@ impl<'s> Crew<'s> {
             mut turns,
         } = self;
         for worker in workers {
-            let Ok(()) = home.push(worker.reader) else {
+            let (reader, own) = worker.into_parts();
+            let Ok(()) = home.push(reader) else {
                 unreachable!()
             };
-            let Ok(()) = turns.push(List::from_vec(worker.turns)) else {
+            let Ok(()) = turns.push(List::from_vec(own)) else {
                 unreachable!()
             };
         }

@@ -1,7 +1,7 @@
 //! What one worker does at one strip. Serves `work` and `match_all`; decided by `WorksAt`.
 ghost use Rattle.std.specs.Prelude.{◌≡◌, ◌<◌, ◌≤◌, All, IfOk, length};
 ghost use Rattle.match_pool.specs.Drawing.{WorksAt, job_of};
-ghost use Rattle.match_pool.specs.Working.{CanDraw, IsReaderFor, StaysReader};
+ghost use Rattle.match_pool.specs.Working.{CanDraw, IsReaderFor, Stays};
 
 use crate::answer::match_one;
 use crate::batch::Batch;
@@ -25,8 +25,7 @@ pub fn draw_from<'s, G: Gate>(
     requires numbers { All (λ k. k < length batch.now.traces.now) numbers.now }
     requires ticket { CanDraw (length numbers.now) claims.now ticket.old }
     requires reader { IsReaderFor batch.now.net.now batch.now.params.now reader.old }
-    ensures reader { StaysReader reader.old reader.new }
-    ensures claims { ticket.new.claims ≡ ticket.old.claims }
+    ensures stays { Stays reader.old ticket.old reader.new ticket.new }
     ensures works { IfOk result (λ done. WorksAt (job_of batch.now) numbers.now
         reader.old ticket.old done reader.new ticket.new) }
 {

@@ -1,8 +1,8 @@
-//! One worker's turn at one strip. Serves `match_all`; decided by `IsOver`.
+//! One worker's turn at one strip. Serves `match_all`; decided by `IsTaken`.
 ghost use Rattle.std.specs.Prelude.{◌≡◌, OnOk};
 ghost use Rattle.tickets.specs.Tickets.{fresh_ticket};
 ghost use Rattle.match_pool.specs.Drawing.{job_of};
-ghost use Rattle.match_pool.specs.Turns.{IsOver, IsStripOf, Learns, LearnsOnly};
+ghost use Rattle.match_pool.specs.Turns.{IsStripOf, IsTaken};
 ghost use Rattle.match_pool.specs.Working.{IsReaderFor, StaysReader};
 
 use crate::batch::Batch;
@@ -41,9 +41,8 @@ impl Turn {
         requires fresh { self.old.ticket ≡ fresh_ticket strip.now.claims.name }
         requires reader { IsReaderFor batch.now.net.now batch.now.params.now reader.old }
         ensures reader { StaysReader reader.old reader.new }
-        ensures over { OnOk result (IsOver (job_of batch.now) strip.now self.new) }
-        ensures learns { OnOk result (Learns (job_of batch.now) strip.now self.new reader.new) }
-        ensures only { OnOk result (LearnsOnly (job_of batch.now) reader.old reader.new) }
+        ensures taken { OnOk result
+            (IsTaken (job_of batch.now) strip.now self.new reader.old reader.new) }
     {
         self.done = draw_from(
             batch,

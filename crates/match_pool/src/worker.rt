@@ -1,7 +1,6 @@
 //! What one worker does. Serves `match_all`; decided by `Works`.
 ghost use Rattle.std.specs.Prelude.{◌≡◌, ◌≤◌, IfOk, length};
-ghost use Rattle.trace_match.specs.Ground.{IsGridFor};
-ghost use Rattle.match_pool.specs.Working.{AreJobTraces, CanDraw, IsReaderFor, StaysReader, Works, job};
+ghost use Rattle.match_pool.specs.Working.{CanDraw, CanMatch, IsReaderFor, Stays, Works, job};
 
 use crate::batch::Batch;
 use crate::drawing::draw_from;
@@ -41,12 +40,10 @@ pub fn work<'s, G: Gate>(
     reader: &mut Reader<'s>,
     gate: &G,
 ) -> Result<List<Done>, AllocError>
-    requires ground { IsGridFor net.now p.now grid.now }
-    requires traces { AreJobTraces first traces.now }
+    requires can { CanMatch net.now p.now grid.now first traces.now }
     requires ticket { CanDraw (length traces.now) claims.now ticket.old }
     requires reader { IsReaderFor net.now p.now reader.old }
-    ensures reader { StaysReader reader.old reader.new }
-    ensures claims { ticket.new.claims ≡ ticket.old.claims }
+    ensures stays { Stays reader.old ticket.old reader.new ticket.new }
     ensures works { IfOk result (λ done. Works (job net.now p.now first traces.now)
         reader.old ticket.old done reader.new ticket.new) }
 {

@@ -26,7 +26,7 @@ on_ok (Err e) h f = tt
 
 pub deal-requires-clause-cuts : goal.deal-requires-clause-cuts
 deal-requires-clause-cuts g c =
-    let few = c.requires.traces.few in
+    let few = c.requires.can.traces.few in
     All-weaker (λ (l : List ℕ). length l ≤ length c.args.traces.now) (λ (l : List ℕ). length l ≤ 2 ^ 32) (λ l short. omega (arith, few)) c.in_ok-cuts.cuts.items c.in_ok-cuts.ensures.strips.short
 
 pub hire-requires : goal.hire-requires

@@ -9,8 +9,7 @@ use Rattle.match_pool.proofs.drawing.draw_from.Goals as goal
 
 pub loop-rank-init : goal.loop-rank-init
 loop-rank-init g c = record {
-  reader = record { store = refl; held = λ k r x. x };
-  claims = refl;
+  stays = record { reader = record { store = refl; held = λ k r x. x }; claims = refl };
   opened = c.requires.ticket.opened;
   working = rw c.new-done.ensures (starts (job_of c.args.batch.now) c.args.numbers.now c.args.reader.now c.args.ticket.now.numbers);
 }
@@ -31,11 +30,13 @@ loop-rank-preserved g c =
     let inside : number < length traces = c.requires.numbers k 0 below in
     let item = sym (get_or_default traces number no_trace c.index-batch-number.result inside) in
     record {
-      reader = record {
-        store = (λ j. record { network = keeps.network j; bound = keeps.bound j; cells = keeps.source j }) ∙ i.reader.store;
-        held = λ j r e. keeps.held j r (i.reader.held j r e);
+      stays = record {
+        reader = record {
+          store = (λ j. record { network = keeps.network j; bound = keeps.bound j; cells = keeps.source j }) ∙ i.stays.reader.store;
+          held = λ j r e. keeps.held j r (i.stays.reader.held j r e);
+        };
+        claims = d.claims ∙ i.stays.claims;
       };
-      claims = d.claims ∙ i.claims;
       opened = d.then;
       working = goes_on _ _ _ _ _ _ _ k _ _ _ _ i.working below drew (rw item at c.in_ok-answer.ensures.answer.matched-is) c.in_ok-push.ensures.ok (rw item at asked);
     }

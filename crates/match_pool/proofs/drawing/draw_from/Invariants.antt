@@ -1,14 +1,13 @@
-use Rattle.std.proofs.Common.{◌≡◌, ◌+◌, ◌-◌}
+use Rattle.std.proofs.Common.{◌+◌, ◌-◌}
 use Rattle.tickets.specs.Tickets.{IsOpenTicket}
 use Rattle.match_pool.specs.Drawing.{job_of}
-use Rattle.match_pool.specs.Working.{StaysReader}
+use Rattle.match_pool.specs.Working.{Stays}
 use Rattle.match_pool.proofs.Turns.{Working}
 use Rattle.match_pool.proofs.drawing.draw_from.Given as goal
 
 abbrev pub invariant-loop-rank : goal.invariant-loop-rank
 invariant-loop-rank g l = record {
-  reader : StaysReader l.initial.reader l.reader;
-  claims : l.ticket.claims ≡ l.initial.ticket.claims;
+  stays : Stays l.initial.reader l.initial.ticket l.reader l.ticket;
   opened : IsOpenTicket l.claims.count l.ticket;
   working : Working (job_of l.batch) l.numbers l.initial.reader l.initial.ticket.numbers l.done l.reader l.ticket.numbers;
 }

@@ -24,7 +24,7 @@ loop-place-preserved g c =
     record {
       reader = stays_then before.reader at.self.reader c.take.new.reader i.reader done.reader;
       tours = tours_more j strips c.args.from at.place before at.self _ strip c.take.new.self at.auto.place low (i.tours.count ∙ c.requires.can.count)
-          (λ d. default_same strips at.place d strip low ∙ sym c.index-strips-place.is) refl done.reader done.over done.learns done.only i.tours;
+          (λ d. default_same strips at.place d strip low ∙ sym c.index-strips-place.is) refl done.reader done.taken.over done.taken.learns done.taken.only i.tours;
     }
 
 pub returns-clause-toured : goal.returns-clause-toured

@@ -15,20 +15,15 @@ draw_from-requires-clause-ticket g c κs within = record {
   opened = subst (λ (l : List ℕ). All (λ x. x < c.args.strip.now.claims.count) l) (sym (ap (λ (t : Drawn). t.numbers) c.requires.fresh)) (All-nil (λ x. x < c.args.strip.now.claims.count));
 }
 
-pub returns-clause-over : goal.returns-clause-over
-returns-clause-over g c =
+pub returns-clause-taken : goal.returns-clause-taken
+returns-clause-taken g c =
     let j = job_of c.args.batch.now in
     let works = rw c.as_slice.ensures at c.in_ok-self.ensures.works in
-    turn_over j c.args.strip.now c.args.reader.now c.args.self.now.ticket _ c.draw_from.new.reader c.requires.strip c.requires.fresh c.draw_from.ensures.claims works
+    record {
+      over = turn_over j c.args.strip.now c.args.reader.now c.args.self.now.ticket _ c.draw_from.new.reader c.requires.strip c.requires.fresh c.draw_from.ensures.stays.claims works;
+      learns = turn_learns j c.args.strip.now c.args.reader.now c.args.self.now.ticket _ c.draw_from.new.reader c.requires.fresh works;
+      only = turn_only j c.args.strip.now c.args.reader.now c.args.self.now.ticket _ c.draw_from.new.reader c.requires.strip works;
+    }
 
-pub returns-clause-learns : goal.returns-clause-learns
-returns-clause-learns g c =
-    let j = job_of c.args.batch.now in
-    let works = rw c.as_slice.ensures at c.in_ok-self.ensures.works in
-    turn_learns j c.args.strip.now c.args.reader.now c.args.self.now.ticket _ c.draw_from.new.reader c.requires.fresh works
-
-pub returns-clause-only : goal.returns-clause-only
-returns-clause-only g c =
-    let j = job_of c.args.batch.now in
-    let works = rw c.as_slice.ensures at c.in_ok-self.ensures.works in
-    turn_only j c.args.strip.now c.args.reader.now c.args.self.now.ticket _ c.draw_from.new.reader c.requires.strip works
+pub returns-clause-reader : goal.returns-clause-reader
+returns-clause-reader g c = c.draw_from.ensures.stays.reader
