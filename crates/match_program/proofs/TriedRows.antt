@@ -1,5 +1,5 @@
 -- Rows of a table file, tried one by one.
-use Rattle.std.proofs.Common.{◌≡◌, ◌↔◌, ◌<◌, ℕ, ◌+◌, ◌==◌, Bool, true, false, cond, List, [], ◌∷◌, length, Option, Some, None, Result, Ok, Err, All, refl, sym, ◌∙◌, ap, subst}
+use Rattle.std.proofs.Common.{◌≡◌, ◌↔◌, ◌<◌, ℕ, ◌+◌, ◌==◌, Bool, true, false, cond, List, [], ◌∷◌, length, Option, Some, Result, Ok, Err, All, refl, sym, ◌∙◌, ap, subst}
 use Rattle.std.specs.Prelude.{IsTrue, option_map}
 use Rattle.std.specs.List.{AllByRecursion}
 use Rattle.std.proofs.lemmas.Bool.Decides.{Decides-eqb}
@@ -21,7 +21,7 @@ use Rattle.program_frame.specs.declared.stop.Stop.{Stop}
 use Rattle.program_frame.specs.declared.stop.Stop.TheVariants.{Refused, NoMemory, Unread, Unwritten}
 use Rattle.match_program.specs.commands.Preload.{row_said, wrong_row_line}
 
--- ---- the test of a row decides
+-- ---- what is said of a row
 
 -- a row was tried with this answer
 pub record IsTried (net : Net) (table : BoundedTable) (row : TableRow) (origin : ℕ) (t : Bool) : Type 0 where
