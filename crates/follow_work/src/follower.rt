@@ -1,12 +1,11 @@
 // What traces are followed on: a network with the grid of its edges, and the options. Serves the job;
 // decided by `follow_text`.
-ghost use Rattle.std.specs.Prelude.{◌≡◌, ◌++◌, true, IfOk, OnOk, OnErr};
+ghost use Rattle.std.specs.Prelude.{◌≡◌, true, IfOk, OnErr};
 ghost use Rattle.bounded_search.specs.Rows.{AreRowsOf, AsksAs, no_rows};
 ghost use Rattle.cost_model.specs.Options.{IsAccepted};
 ghost use Rattle.trace_match.specs.Match.{asks};
 ghost use Rattle.trace_reader.specs.Trace.{IsLawfulTrace};
-ghost use Rattle.trace_sessions.specs.FollowText.{follow_text};
-ghost use Rattle.trace_sessions.specs.Following.{IsPieceCount};
+ghost use Rattle.trace_sessions.specs.Following.{IsFollowed};
 
 use bounded_search::OwnRows;
 use cost_model::Params;
@@ -16,7 +15,7 @@ use road_network::Network;
 use std::alloc::{AllocError, Global};
 use std::marker::Model;
 use trace_reader::Trace;
-use trace_sessions::follow_trace;
+use trace_sessions::{Basis, follow_trace};
 
 // The least side of a cell of the grid, in cm.
 const LEAST_SIDE: u32 = 10_000;
@@ -89,22 +88,17 @@ impl<'n> Follower<'n> {
     ) -> Result<u64, AllocError>
         requires rows { AreRowsOf rows.old self.now.network self.now.params.bound }
         requires trace { IsLawfulTrace trace.now }
-        ensures text { OnOk result
-            (into.new ≡ into.old ++ follow_text self.now.network self.now.params trace.now) }
+        ensures followed { IfOk result
+            (IsFollowed self.now.network self.now.params trace.now into.old into.new) }
         ensures err { OnErr result (into.new ≡ into.old) }
-        ensures pieces { IfOk result
-            (IsPieceCount self.now.network self.now.params trace.now) }
         ensures asks { AsksAs rows.old
             (λ _ v. asks self.now.network self.now.params trace.now v ≡ true) result rows.new }
     {
-        follow_trace(
-            alloc,
-            self.network,
-            &self.grid,
-            &self.params,
-            rows,
-            trace,
-            into,
-        )
+        let on = Basis {
+            net: self.network,
+            grid: &self.grid,
+            params: &self.params,
+        };
+        follow_trace(alloc, &on, rows, trace, into)
     }
 }

@@ -9,7 +9,7 @@ use road_network::{Network, read_network};
 use std::alloc::{AllocError, Global};
 use std::test::Fail;
 use trace_reader::Trace;
-use trace_sessions::follow_trace;
+use trace_sessions::{Basis, follow_trace};
 
 /// What is written of two places on the first edge, the second one behind.
 const FOLLOWED: &[u8] =
@@ -30,7 +30,12 @@ fn is_followed<R: Rows>(
     }
     let grid = Grid::build(alloc, net, DEFAULTS.radius)?;
     let mut text = List::new(alloc);
-    let pieces = follow_trace(alloc, net, &grid, &DEFAULTS, rows, trace, &mut text)?;
+    let on = Basis {
+        net,
+        grid: &grid,
+        params: &DEFAULTS,
+    };
+    let pieces = follow_trace(alloc, &on, rows, trace, &mut text)?;
     Ok(pieces == 1 && text.as_slice() == FOLLOWED)
 }
 

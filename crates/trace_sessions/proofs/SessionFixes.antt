@@ -108,13 +108,14 @@ are-taken n p id es new d l items are is fed =
 
 -- the session of the id took the layer
 pub feeds-at : {E : Type 0} (id : ℕ) (es new : List (ℕ × Session)) (d was now : Session) (l : Layer) (result : Result (List Item) E) → lookup (nat_eq id) es ≡ Some was → IfOk result (IsFed was l now)
-    → new ≡ set_value (nat_eq id) es now → IfOk result (FeedsAt es id d l new)
-feeds-at id es new d was now l (Ok items) found fed written = record {
+    → new ≡ set_value (nat_eq id) es now → IsDistinct nat_eq (keys_of new) → IfOk result (FeedsAt es id d l new)
+feeds-at id es new d was now l (Ok items) found fed written different = record {
   session = now;
   fed = subst (λ (o : Option Session). IsFed (unwrap_or o d) l now items) (sym found) fed;
   entries = written ∙ set-inserts id es now was found;
+  different = different;
 }
-feeds-at id es new d was now l (Err e) found fed written = tt
+feeds-at id es new d was now l (Err e) found fed written different = tt
 
 -- or stayed as it was
 pub stays-at : {A E : Type 0} (id : ℕ) (es new : List (ℕ × Session)) (was now : Session) (result : Result A E) → lookup (nat_eq id) es ≡ Some was → OnErr result (now ≡ was)
@@ -124,8 +125,8 @@ stays-at id es new was now (Err e) found same written =
     written ∙ ap (set_value (nat_eq id) es) same ∙ set_value_same (nat_eq id) es was found
 
 pub takes : (n : Net) (p : Params) (id : ℕ) (fix : Fix) (es new : List (ℕ × Session)) (d : Session) (l : Layer) (items : List Item) → IsSessionOf n p d [] → l ≡ layer_of n p fix
-    → points_of (session_at es id d) < 100_000 → FeedsAt es id d l new items → IsDistinct nat_eq (keys_of new) → TakesFix (state n p es) id fix (state n p new) items
-takes n p id fix es new d l items own same few at unique =
+    → points_of (session_at es id d) < 100_000 → FeedsAt es id d l new items → TakesFix (state n p es) id fix (state n p new) items
+takes n p id fix es new d l items own same few at =
     let s = session_at es id d in
     record {
       network = refl;
@@ -138,7 +139,7 @@ takes n p id fix es new d l items own same few at unique =
           let some : 0 < length (fixes_and pairs id fix) = omega (arith, length-append (fixes_of pairs id) (fix ∷ [])) in
           let each = subst (λ (xs : List (ℕ × Session)). KeepsEach n p xs (with_fix pairs id fix)) (sym at.entries)
           (kept-insert n p id es pairs at.session (fixes_and pairs id fix) h.each now some) in
-          record { each = each; different = subst (IsDistinct nat_eq) (kept-keys n p new (with_fix pairs id fix) each) unique };
+          record { each = each; different = subst (IsDistinct nat_eq) (kept-keys n p new (with_fix pairs id fix) each) at.different };
       handed-on = λ pairs h. handed_to n p s at.session (fixes_of pairs id) fix l items (stands-in n p id es pairs d own h) same at.fed;
     }
 
@@ -199,8 +200,8 @@ of_case n p s (Some t) (Some f) h e =
     (refl, subst (λ (x : Session). IsSessionOf n p x f) same h.0)
 
 pub closes : {E : Type 0} (n : Net) (p : Params) (id : ℕ) (es new : List (ℕ × Session)) (result : Result (List Item) E) → IfOk result (FinishesAt es id new)
-    → IsDistinct nat_eq (keys_of new) → IfOk result (Closes (state n p es) id (state n p new))
-closes n p id es new (Ok items) at unique =
+    → IfOk result (Closes (state n p es) id (state n p new))
+closes n p id es new (Ok items) at =
     let found : (pairs : List Pair) → Keeps (state n p es) pairs → HasPair pairs id × IsSessionOf n p at.session (fixes_of pairs id) = λ pairs h. of_case n p at.session (lookup (nat_eq id) es) (lookup (nat_eq id) pairs) (kept-lookup n p id es pairs h.each) at.was in
     record {
       network = refl;
@@ -208,13 +209,13 @@ closes n p id es new (Ok items) at unique =
       was-open = λ pairs h. (found pairs h).0;
       stands = λ pairs h.
           let each = subst (λ (xs : List (ℕ × Session)). KeepsEach n p xs (without pairs id)) (sym at.entries) (kept-remove n p id es pairs h.each) in
-          record { each = each; different = subst (IsDistinct nat_eq) (kept-keys n p new (without pairs id) each) unique };
+          record { each = each; different = subst (IsDistinct nat_eq) (kept-keys n p new (without pairs id) each) at.different };
       rest = λ pairs h.
           let is = (found pairs h).1 in
           carry (λ (m : Net) (q : Params). items_of m q (layers n p (fixes_of pairs id)) ≡ handed m q (layers n p (fixes_of pairs id)) ++ items) is.network is.params
           (at.finished.rest (layers n p (fixes_of pairs id)) is.stands);
     }
-closes n p id es new (Err e) at unique = tt
+closes n p id es new (Err e) at = tt
 
 none_case : (n : Net) (p : Params) (a : Option Session) (b : Option (List Fix)) → Both n p a b → a ≡ None → b ≡ None
 none_case n p None None h e = refl

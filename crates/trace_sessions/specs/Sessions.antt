@@ -121,6 +121,11 @@ abbrev pub IsCloseFault : SessionsState → ℕ → SessionFault → Type 0
 IsCloseFault s id fault =
     (fault ≡ Memory) ⊎ ((fault ≡ NotOpen id) × ((pairs : List Pair) → Keeps s pairs → HasNoPair pairs id))
 
+-- it was not taken for this reason, and the sessions are as before
+pub record RefusesFix (old : SessionsState) (id : ℕ) (new : SessionsState) (fault : SessionFault) : Type 0 where
+  pub why : IsFeedFault old id fault
+  pub unchanged : new ≡ old
+
 -- what feeding a fix leaves of the rows: nothing became known but what the id's fixes with the new one ask
 -- for, and after Ok all that they ask for is known and the fixes before did not
 pub record AsksFedTo {A E : Type 0} (old : SessionsState) (id : ℕ) (fix : Fix) (rows : RowsState) (result : Result A E)

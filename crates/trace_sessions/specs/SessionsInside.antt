@@ -1,6 +1,7 @@
 -- What many sessions are made of, and what is done to the session of one id.
 use Rattle.std.specs.Prelude.{◌≡◌, ℕ, List, [], ◌∷◌, Some, nat_eq, unwrap_or}
-use Rattle.std.specs.Map.{lookup, remove_entry}
+use Rattle.std.specs.List.{IsDistinct}
+use Rattle.std.specs.Map.{keys_of, lookup, remove_entry}
 use Rattle.indexmap.specs.IndexMap.{insert_entry}
 use Rattle.cost_model.specs.declared.params.Params.{Params}
 use Rattle.road_network.specs.Net.{Net}
@@ -31,17 +32,19 @@ session_at entries id opened = unwrap_or (lookup (nat_eq id) entries) opened
 abbrev pub session_in : SessionsState → ℕ → Session
 session_in s id = session_at s.sessions id (no_points_of s.network s.params)
 
--- it took the layer and handed out these items
+-- it took the layer and handed out these items; the ids differ
 pub record FeedsAt (old : List (ℕ × Session)) (id : ℕ) (opened : Session) (l : Layer) (new : List (ℕ × Session))
     (items : List Item) : Type 0 where
   pub session : Session
   pub fed : IsFed (session_at old id opened) l session items
   pub entries : new ≡ insert_entry nat_eq old id session
+  pub different : IsDistinct nat_eq (keys_of new)
 
--- it was finished and taken out
+-- it was finished and taken out; the ids differ
 pub record FinishesAt (old : List (ℕ × Session)) (id : ℕ) (new : List (ℕ × Session)) (items : List Item) : Type 0 where
   pub session : Session
   pub opened : Session
   pub was : lookup (nat_eq id) old ≡ Some session
   pub finished : IsFinished session opened items
   pub entries : new ≡ remove_entry (nat_eq id) old
+  pub different : IsDistinct nat_eq (keys_of new)

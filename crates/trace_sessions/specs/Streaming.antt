@@ -91,6 +91,11 @@ pub record EndsPairs (old : SessionsState) (pairs : List Pair) (text text' : Lis
   pub counted : pieces_of_all old.network old.params pairs
       ≡ pieces_told old.network old.params pairs + pieces
 
+-- all were ended, or memory ran out and what stood in the text still stands
+abbrev pub Ends : {E : Type 0} → SessionsState → List Pair → List ℕ → List ℕ → Result ℕ E → Type 0
+Ends old pairs text text' (Ok pieces) = EndsPairs old pairs text text' pieces
+Ends old pairs text text' (Err refused) = Stays text text'
+
 -- ---- one id at its end
 
 -- a session of this network that stands for the fixes of a lawful trace

@@ -2,19 +2,17 @@
 ghost use Rattle.std.specs.Prelude.{◌≡◌, ◌++◌, true, IfOk, OnOk, OnErr};
 ghost use Rattle.std.specs.List.{concat};
 ghost use Rattle.bounded_search.specs.Rows.{AreRowsOf, AsksAs};
-ghost use Rattle.trace_match.specs.Ground.{IsGridFor};
 ghost use Rattle.trace_match.specs.Match.{asks};
 ghost use Rattle.trace_reader.specs.Trace.{IsLawfulTrace};
-ghost use Rattle.trace_sessions.specs.FollowText.{fix_line, follow_text};
-ghost use Rattle.trace_sessions.specs.Following.{IsPieceCount, pieces_among};
+ghost use Rattle.trace_sessions.specs.FollowText.{fix_line};
+ghost use Rattle.trace_sessions.specs.Following.{IsFollowed, pieces_among};
 ghost use Rattle.trace_sessions.specs.ItemText.{AreItemsOf, Stays};
 ghost use Rattle.trace_sessions.specs.StreamingInside.{rest_lines, step_lines};
 
 use crate::items::{write_items, write_lead};
+use crate::matched_on::Basis;
 use bounded_search::Rows;
-use cost_model::Params;
 use decimal_text::write_unsigned;
-use grid_index::Grid;
 use match_text::{write_end, write_trace};
 use online_commit::{Item, Online};
 use polyline_geometry::List;
@@ -26,30 +24,26 @@ use trace_reader::Trace;
 /// Appends the follow text of a trace, and answers how many pieces its match has. Exactly the rows
 /// that the trace asks for become known.
 ///
-/// `grid` is of this network, with cells of at least the radius, and `rows` are of this network and
-/// the bound of these options. Each point is matched as it comes: the candidates of one point at a
-/// time are found, and those of the points of the open piece are kept. Err says that memory was
-/// refused; `into` is as before then, and what was known is still known.
+/// `rows` are of this network and the bound of these options. Each point is matched as it comes: the
+/// candidates of one point at a time are found, and those of the points of the open piece are kept.
+/// Err says that memory was refused; `into` is as before then, and what was known is still known.
 pub fn follow_trace<R: Rows>(
     alloc: Global,
-    net: &Network,
-    grid: &Grid,
-    p: &Params,
+    on: &Basis,
     rows: &mut R,
     trace: &Trace,
     into: &mut List<u8>,
 ) -> Result<u64, AllocError>
-    requires ground { IsGridFor net.now p.now grid.now }
-    requires rows { AreRowsOf (R.state rows.old) net.now p.now.bound }
+    requires rows { AreRowsOf (R.state rows.old) on.now.net.now on.now.params.now.bound }
     requires trace { IsLawfulTrace trace.now }
-    ensures text { OnOk result (into.new ≡ into.old ++ follow_text net.now p.now trace.now) }
+    ensures followed { IfOk result
+        (IsFollowed on.now.net.now on.now.params.now trace.now into.old into.new) }
     ensures err { OnErr result (into.new ≡ into.old) }
-    ensures pieces { IfOk result (IsPieceCount net.now p.now trace.now) }
-    ensures asks { AsksAs (R.state rows.old) (λ _ v. asks net.now p.now trace.now v ≡ true)
-        result (R.state rows.new) }
+    ensures asks { AsksAs (R.state rows.old)
+        (λ _ v. asks on.now.net.now on.now.params.now trace.now v ≡ true) result (R.state rows.new) }
 {
     let len = into.len();
-    let followed = append_followed(alloc, net, grid, p, rows, trace, into);
+    let followed = append_followed(alloc, on, rows, trace, into);
     if followed.is_err() {
         into.truncate(len);
     }
@@ -59,35 +53,32 @@ pub fn follow_trace<R: Rows>(
 // Appends the follow text of a trace. After Err a part of it may stand at the end.
 fn append_followed<R: Rows>(
     alloc: Global,
-    net: &Network,
-    grid: &Grid,
-    p: &Params,
+    on: &Basis,
     rows: &mut R,
     trace: &Trace,
     into: &mut List<u8>,
 ) -> Result<u64, AllocError>
-    requires ground { IsGridFor net.now p.now grid.now }
-    requires rows { AreRowsOf (R.state rows.old) net.now p.now.bound }
+    requires rows { AreRowsOf (R.state rows.old) on.now.net.now on.now.params.now.bound }
     requires trace { IsLawfulTrace trace.now }
-    ensures text { OnOk result (into.new ≡ into.old ++ follow_text net.now p.now trace.now) }
+    ensures followed { IfOk result
+        (IsFollowed on.now.net.now on.now.params.now trace.now into.old into.new) }
     ensures err { OnErr result (Stays into.old into.new) }
-    ensures pieces { IfOk result (IsPieceCount net.now p.now trace.now) }
-    ensures asks { AsksAs (R.state rows.old) (λ _ v. asks net.now p.now trace.now v ≡ true)
-        result (R.state rows.new) }
+    ensures asks { AsksAs (R.state rows.old)
+        (λ _ v. asks on.now.net.now on.now.params.now trace.now v ≡ true) result (R.state rows.new) }
 {
-    net.known();
+    on.net.known();
     write_trace(trace.id, into)?;
-    let mut session = Online::open(alloc, net, p);
+    let mut session = Online::open(alloc, on.net, on.params);
     let mut pieces = 0;
     for fix in trace.fixes.as_slice() {
         let point = session.count();
-        let layer = layer(alloc, net, grid, p, fix)?;
+        let layer = layer(alloc, on.net, on.grid, on.params, fix)?;
         let items = session.feed(layer, rows)?;
-        write_step(alloc, net, None, point, items.as_slice(), into)?;
+        write_step(alloc, on.net, None, point, items.as_slice(), into)?;
         pieces += count_pieces(items.as_slice());
     }
     let items = session.finish(rows)?;
-    write_rest(alloc, net, None, trace.id, items.as_slice(), into)?;
+    write_rest(alloc, on.net, None, trace.id, items.as_slice(), into)?;
     Ok(pieces + count_pieces(items.as_slice()))
 }
 

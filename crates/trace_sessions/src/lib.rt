@@ -8,8 +8,8 @@
 //! lines of what is left. [`follow_is_match`] says that without these lines it is the match text, and
 //! [`written_lines_stay`] that a line once written stays, whatever points follow.
 //!
-//! [`follow_trace`] appends the follow text of a trace: it feeds one point after the other to a session,
-//! and writes what the session hands out.
+//! [`follow_trace`] appends the follow text of a trace on a [`Basis`]: it feeds one point after the other
+//! to a session, and writes what the session hands out.
 //!
 //! [`Sessions`] keeps the sessions of many traces at once, one for each id. `Keeps` in
 //! `specs/Sessions.antt` says for which ids and fixes they stand. What [`Sessions::feed`] and
@@ -26,6 +26,7 @@
 mod following;
 mod items;
 mod laws;
+mod matched_on;
 mod sessions;
 
 pub use following::follow_trace;
@@ -33,4 +34,5 @@ pub use items::write_items;
 pub use laws::{
     follow_is_match, ids_are_answered_alone, ids_are_followed_alone, written_lines_stay,
 };
+pub use matched_on::Basis;
 pub use sessions::{SessionFault, Sessions};

@@ -1,6 +1,5 @@
 //! Many sessions at once. Serves those who follow interleaved traces; decided by `TakesFix` and `Closes`.
 ghost use Rattle.std.specs.Prelude.{◌≡◌, ◌<◌, ◌⊎◌, List, [], None, nat_eq, length, slice_get, IfOk, IfErr, IfSome, OnErr};
-ghost use Rattle.std.specs.List.{IsDistinct};
 ghost use Rattle.std.specs.Map.{keys_of, lookup};
 ghost use Rattle.polyline_geometry.specs.Plane.{InRange};
 ghost use Rattle.bounded_search.specs.Rows.{AreRowsOf};
@@ -10,7 +9,7 @@ ghost use Rattle.trace_match.specs.Ground.{IsGridFor};
 ghost use Rattle.trace_match.specs.Match.{place_of};
 ghost use Rattle.online_commit.specs.Session.{AsksFed, AsksFinished, IsFedLayer, Session, points_of};
 ghost use Rattle.trace_sessions.specs.declared.sessions.SessionFault.TheVariants.{Memory, NotOpen};
-ghost use Rattle.trace_sessions.specs.Sessions.{AsksClosed, AsksFedTo, Closes, IsCloseFault, IsFeedFault, Keeps, Pair, TakesFix, length_of};
+ghost use Rattle.trace_sessions.specs.Sessions.{AsksClosed, AsksFedTo, Closes, IsCloseFault, Keeps, Pair, RefusesFix, TakesFix, length_of};
 ghost use Rattle.trace_sessions.specs.SessionsInside.{FeedsAt, FinishesAt, session_at, session_in};
 
 use bounded_search::Rows;
@@ -96,7 +95,6 @@ fn feed_session<'n, R: Rows>(
     requires layer { let s = session_at sessions.old.entries id opened in
         IsFedLayer s.network s.params layer × (points_of s < 100_000) }
     ensures fed { IfOk result (FeedsAt sessions.old.entries id opened.entry layer sessions.new.entries) }
-    ensures unique { IsDistinct nat_eq (keys_of sessions.new.entries) }
     ensures err { OnErr result (sessions.new.entries ≡ sessions.old.entries) }
     ensures asks { AsksFed (session_at sessions.old.entries id opened.entry) layer
         (R.state rows.old) result (R.state rows.new) }
@@ -121,7 +119,6 @@ fn finish_session<'n, R: Rows>(
     requires rows { IfSome (lookup (nat_eq id) sessions.old.entries)
         (λ s. AreRowsOf (R.state rows.old) s.network s.params.bound) }
     ensures finished { IfOk result (FinishesAt sessions.old.entries id sessions.new.entries) }
-    ensures unique { IsDistinct nat_eq (keys_of sessions.new.entries) }
     ensures fault { IfErr result (λ fault. (fault ≡ Memory)
         ⊎ ((fault ≡ NotOpen id) × (lookup (nat_eq id) sessions.old.entries ≡ None))) }
     ensures err { OnErr result (sessions.new.entries ≡ sessions.old.entries) }
@@ -213,8 +210,7 @@ impl<'n> Sessions<'n> {
         requires rows { AreRowsOf (R.state rows.old) self.old.network self.old.params.bound }
         requires place { InRange (place_of fix) }
         ensures fed { IfOk result (TakesFix self.old id fix self.new) }
-        ensures fault { IfErr result (IsFeedFault self.old id) }
-        ensures err { OnErr result (self.new ≡ self.old) }
+        ensures refused { IfErr result (RefusesFix self.old id self.new) }
         ensures asks { AsksFedTo self.old id fix (R.state rows.old) result (R.state rows.new) }
     {
         if self.points(id) >= 100_000 {

@@ -10,7 +10,7 @@ ghost use Rattle.trace_reader.specs.Trace.{IsLawfulTrace};
 ghost use Rattle.trace_sessions.specs.ItemText.{AreItemsOf, Stays};
 ghost use Rattle.trace_sessions.specs.Sessions.{IsSessionOf, Keeps, Pair};
 ghost use Rattle.trace_sessions.specs.StreamText.{fragment_points, led_by};
-ghost use Rattle.trace_sessions.specs.Streaming.{AsksSome, AsksStream, CanEnd, CanStream, EndsPair, EndsPairs, Streams};
+ghost use Rattle.trace_sessions.specs.Streaming.{AsksSome, AsksStream, CanEnd, CanStream, Ends, EndsPair, Streams};
 ghost use Rattle.trace_sessions.specs.StreamingInside.{heading, lines_of_items};
 
 use super::{SessionFault, Sessions};
@@ -104,8 +104,7 @@ impl<'n> Sessions<'n> {
         requires rows { AreRowsOf (R.state rows.old) self.old.network self.old.params.bound }
         requires can { CanStream self.old 0 }
         ensures ends { (pairs : ListOf Pair) → Keeps self.old pairs
-            → IfOk result (EndsPairs self.old pairs into.old into.new) }
-        ensures err { OnErr result (Stays into.old into.new) }
+            → Ends self.old pairs into.old into.new result }
         ensures none { Keeps self.new [] }
         ensures asks { (pairs : ListOf Pair) → Keeps self.old pairs
             → AsksOnly (R.state rows.old) (R.state rows.new) (AsksSome self.old pairs) }

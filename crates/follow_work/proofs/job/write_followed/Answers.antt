@@ -18,8 +18,8 @@ pub loop-trace-preserved : goal.loop-trace-preserved
 loop-trace-preserved c =
     let inv = c.loop-trace.invariant in
     record {
-      text = followed_next c.args.follower.now c.args.traces.now c.loop-trace.trace-index c.trace-item.result c.args.into.now c.loop-trace.into c.follow_trace.new.into c.loop-trace-test.true c.trace-item.is inv.text c.in_ok-count.ensures.text;
-      pieces = pieces_followed c.args.follower.now c.args.traces.now c.loop-trace.trace-index c.trace-item.result c.loop-trace.pieces c.in_ok-count.count c.loop-trace-test.true c.trace-item.is c.in_ok-count.ensures.pieces inv.pieces;
+      text = followed_next c.args.follower.now c.args.traces.now c.loop-trace.trace-index c.trace-item.result c.args.into.now c.loop-trace.into c.follow_trace.new.into c.loop-trace-test.true c.trace-item.is inv.text c.in_ok-count.ensures.followed.written;
+      pieces = pieces_followed c.args.follower.now c.args.traces.now c.loop-trace.trace-index c.trace-item.result c.loop-trace.pieces c.in_ok-count.count c.loop-trace-test.true c.trace-item.is c.in_ok-count.ensures.followed.pieces inv.pieces;
       asks = asks_next c.args.follower.now c.args.traces.now c.loop-trace.trace-index c.trace-item.result c.args.rows.now c.loop-trace.rows c.follow_trace.new.rows c.loop-trace-test.true c.trace-item.is inv.asks c.in_ok-count.ensures.asks.asks;
     }
 

@@ -15,15 +15,15 @@ use Rattle.trace_sessions.proofs.following.append_followed.Goals as goal
 
 pub loop-fix-init : goal.loop-fix-init
 loop-fix-init g c = record {
-  followed = none_followed c.args.net.now c.args.p.now c.args.trace.now c.open-session.result c.open-session.ensures.opened c.open-session.ensures.stands;
-  text = text_begins c.args.net.now c.args.p.now c.args.trace.now c.args.into.now c.write_trace.new.into c.in_ok-write_trace.ensures.ok;
-  asked = none_asked c.args.net.now c.args.p.now (g.R.Rows.state c.args.rows.now);
+  followed = none_followed c.args.on.now.net.now c.args.on.now.params.now c.args.trace.now c.open-session.result c.open-session.ensures.opened c.open-session.ensures.stands;
+  text = text_begins c.args.on.now.net.now c.args.on.now.params.now c.args.trace.now c.args.into.now c.write_trace.new.into c.in_ok-write_trace.ensures.ok;
+  asked = none_asked c.args.on.now.net.now c.args.on.now.params.now (g.R.Rows.state c.args.rows.now);
 }
 
 pub feed-requires-clause-layer : goal.feed-requires-clause-layer
 feed-requires-clause-layer g c =
-    can_feed c.args.net.now c.args.p.now c.args.trace.now c.as_slice-fix-items.result.now c.loop-fix.fix-index _ c.in_ok-layer.layer c.loop-fix.session c.loop-fix.pieces
-    c.requires.ground.options c.requires.trace c.as_slice-fix-items.ensures c.loop-fix-test.true c.in_ok-layer.ensures c.loop-fix.invariant.followed
+    can_feed c.args.on.now.net.now c.args.on.now.params.now c.args.trace.now c.as_slice-fix-items.result.now c.loop-fix.fix-index _ c.in_ok-layer.layer c.loop-fix.session c.loop-fix.pieces
+    c.args.on.now.is.options c.requires.trace c.as_slice-fix-items.ensures c.loop-fix-test.true c.in_ok-layer.ensures c.loop-fix.invariant.followed
 
 pub returns-in_err-layer-clause-err : goal.returns-in_err-layer-clause-err
 returns-in_err-layer-clause-err g c = on-err c.from_residual-in_err-layer.result (stays-behind c.args.into.now _ c.loop-fix.into c.loop-fix.into c.loop-fix.invariant.text (stays-itself c.loop-fix.into))
@@ -48,11 +48,11 @@ returns-in_err-layer-clause-asks g c = keeps_err c.loop-fix.invariant.asked.only
 
 pub feed-requires-clause-rows : goal.feed-requires-clause-rows
 feed-requires-clause-rows g c =
-    session_rows c.args.net.now c.args.p.now c.loop-fix.session (g.R.Rows.state c.args.rows.now) (g.R.Rows.state c.loop-fix.rows) _ c.loop-fix.invariant.followed.network c.loop-fix.invariant.followed.params c.requires.rows c.loop-fix.invariant.asked
+    session_rows c.args.on.now.net.now c.args.on.now.params.now c.loop-fix.session (g.R.Rows.state c.args.rows.now) (g.R.Rows.state c.loop-fix.rows) _ c.loop-fix.invariant.followed.network c.loop-fix.invariant.followed.params c.requires.rows c.loop-fix.invariant.asked
 
 pub finish-requires : goal.finish-requires
 finish-requires g c = record {
-  rows = session_rows c.args.net.now c.args.p.now c.loop-fix.session (g.R.Rows.state c.args.rows.now) (g.R.Rows.state c.loop-fix.rows) _ c.loop-fix.invariant.followed.network c.loop-fix.invariant.followed.params c.requires.rows c.loop-fix.invariant.asked;
+  rows = session_rows c.args.on.now.net.now c.args.on.now.params.now c.loop-fix.session (g.R.Rows.state c.args.rows.now) (g.R.Rows.state c.loop-fix.rows) _ c.loop-fix.invariant.followed.network c.loop-fix.invariant.followed.params c.requires.rows c.loop-fix.invariant.asked;
 }
 
 pub returns-in_err-items-2-clause-asks : goal.returns-in_err-items-2-clause-asks
@@ -66,33 +66,33 @@ returns-in_err-items-clause-asks g c = keeps_err (keeps_then c.loop-fix.invarian
 
 pub write_step-requires : goal.write_step-requires
 write_step-requires g c =
-    let turn = turned c.args.net.now c.args.p.now c.args.trace.now c.as_slice-fix-items.result.now c.loop-fix.fix-index _ c.in_ok-layer.layer c.loop-fix.session c.feed.new.self c.loop-fix.pieces c.in_ok-items.items
-    c.known.ensures c.requires.ground.options c.requires.trace c.as_slice-fix-items.ensures c.loop-fix-test.true c.in_ok-layer.ensures c.loop-fix.invariant.followed c.in_ok-items.ensures.fed in
-    subst (AreItemsOf c.args.net.now) (sym c.as_slice.ensures) turn.lies
+    let turn = turned c.args.on.now.net.now c.args.on.now.params.now c.args.trace.now c.as_slice-fix-items.result.now c.loop-fix.fix-index _ c.in_ok-layer.layer c.loop-fix.session c.feed.new.self c.loop-fix.pieces c.in_ok-items.items
+    c.known.ensures c.args.on.now.is.options c.requires.trace c.as_slice-fix-items.ensures c.loop-fix-test.true c.in_ok-layer.ensures c.loop-fix.invariant.followed c.in_ok-items.ensures.fed in
+    subst (AreItemsOf c.args.on.now.net.now) (sym c.as_slice.ensures) turn.lies
 
 pub returns-in_err-write_step-clause-asks : goal.returns-in_err-write_step-clause-asks
 returns-in_err-write_step-clause-asks g c = keeps_err (keeps_then c.loop-fix.invariant.asked.only.keeps c.feed.ensures.asks.keeps) c.from_residual-in_err-write_step.ensures.0
 
 pub overflow_add-pieces : goal.overflow_add-pieces
 overflow_add-pieces g c =
-    let turn = turned c.args.net.now c.args.p.now c.args.trace.now c.as_slice-fix-items.result.now c.loop-fix.fix-index _ c.in_ok-layer.layer c.loop-fix.session c.feed.new.self c.loop-fix.pieces c.in_ok-items.items
-    c.known.ensures c.requires.ground.options c.requires.trace c.as_slice-fix-items.ensures c.loop-fix-test.true c.in_ok-layer.ensures c.loop-fix.invariant.followed c.in_ok-items.ensures.fed in
+    let turn = turned c.args.on.now.net.now c.args.on.now.params.now c.args.trace.now c.as_slice-fix-items.result.now c.loop-fix.fix-index _ c.in_ok-layer.layer c.loop-fix.session c.feed.new.self c.loop-fix.pieces c.in_ok-items.items
+    c.known.ensures c.args.on.now.is.options c.requires.trace c.as_slice-fix-items.ensures c.loop-fix-test.true c.in_ok-layer.ensures c.loop-fix.invariant.followed c.in_ok-items.ensures.fed in
     let counted = c.count_pieces-pieces.ensures ∙ ap pieces_among c.as_slice-in-loop-fix.ensures in
-    let few = few_followed c.args.net.now c.args.p.now c.args.trace.now (c.loop-fix.fix-index + 1) c.feed.new.self (c.loop-fix.pieces + c.count_pieces-pieces.result) c.requires.ground.options c.requires.trace
+    let few = few_followed c.args.on.now.net.now c.args.on.now.params.now c.args.trace.now (c.loop-fix.fix-index + 1) c.feed.new.self (c.loop-fix.pieces + c.count_pieces-pieces.result) c.args.on.now.is.options c.requires.trace
     (turn.followed c.count_pieces-pieces.result counted) in
     let most = c.requires.trace.few in
     omega (arith, few, most)
 
 pub loop-fix-preserved : goal.loop-fix-preserved
 loop-fix-preserved g c =
-    let n = c.args.net.now in
-    let p = c.args.p.now in
+    let n = c.args.on.now.net.now in
+    let p = c.args.on.now.params.now in
     let trace = c.args.trace.now in
     let i = c.loop-fix.fix-index in
     let inv = c.loop-fix.invariant in
     let layer = c.in_ok-layer.layer in
     let turn = turned n p trace c.as_slice-fix-items.result.now i _ layer c.loop-fix.session c.feed.new.self c.loop-fix.pieces c.in_ok-items.items
-    c.known.ensures c.requires.ground.options c.requires.trace c.as_slice-fix-items.ensures c.loop-fix-test.true c.in_ok-layer.ensures inv.followed c.in_ok-items.ensures.fed in
+    c.known.ensures c.args.on.now.is.options c.requires.trace c.as_slice-fix-items.ensures c.loop-fix-test.true c.in_ok-layer.ensures inv.followed c.in_ok-items.ensures.fed in
     let low = c.loop-fix-test.true in
     let size = ap length c.as_slice-fix-items.ensures in
     let point = c.count-point.ensures ∙ fed_count n p trace i c.loop-fix.session c.loop-fix.pieces inv.followed (omega (arith, low, size)) in
@@ -107,29 +107,29 @@ loop-fix-preserved g c =
 
 pub write_rest-requires : goal.write_rest-requires
 write_rest-requires g c =
-    let n = c.args.net.now in
-    let p = c.args.p.now in
+    let n = c.args.on.now.net.now in
+    let p = c.args.on.now.params.now in
     let trace = c.args.trace.now in
     let over = subst (λ fs. length fs ≤ c.loop-fix.fix-index) c.as_slice-fix-items.ensures c.loop-fix-test.false in
     let left = last_left n p trace c.loop-fix.fix-index c.loop-fix.session c.finish.new.self c.loop-fix.pieces c.in_ok-items-2.items c.loop-fix.invariant.followed over c.in_ok-items-2.ensures.finished in
-    subst (AreItemsOf n) (sym c.as_slice-2.ensures) (left_lies n p trace c.in_ok-items-2.items c.known.ensures c.requires.ground.options c.requires.trace left)
+    subst (AreItemsOf n) (sym c.as_slice-2.ensures) (left_lies n p trace c.in_ok-items-2.items c.known.ensures c.args.on.now.is.options c.requires.trace left)
 
 pub overflow_add-result : goal.overflow_add-result
 overflow_add-result g c =
-    let n = c.args.net.now in
-    let p = c.args.p.now in
+    let n = c.args.on.now.net.now in
+    let p = c.args.on.now.params.now in
     let trace = c.args.trace.now in
     let over = subst (λ fs. length fs ≤ c.loop-fix.fix-index) c.as_slice-fix-items.ensures c.loop-fix-test.false in
     let left = last_left n p trace c.loop-fix.fix-index c.loop-fix.session c.finish.new.self c.loop-fix.pieces c.in_ok-items-2.items c.loop-fix.invariant.followed over c.in_ok-items-2.ensures.finished in
     let counted = c.count_pieces.ensures ∙ ap pieces_among c.as_slice-3.ensures in
-    let few = (all_counted n p trace c.loop-fix.fix-index c.loop-fix.session c.loop-fix.pieces c.count_pieces.result c.in_ok-items-2.items c.requires.ground.options c.requires.trace c.loop-fix.invariant.followed over left counted).few in
+    let few = (all_counted n p trace c.loop-fix.fix-index c.loop-fix.session c.loop-fix.pieces c.count_pieces.result c.in_ok-items-2.items c.args.on.now.is.options c.requires.trace c.loop-fix.invariant.followed over left counted).few in
     let most = c.requires.trace.few in
     omega (arith, few, most)
 
-pub returns-clause-text : goal.returns-clause-text
-returns-clause-text g c =
-    let n = c.args.net.now in
-    let p = c.args.p.now in
+pub returns-clause-followed : goal.returns-clause-followed
+returns-clause-followed g c =
+    let n = c.args.on.now.net.now in
+    let p = c.args.on.now.params.now in
     let trace = c.args.trace.now in
     let i = c.loop-fix.fix-index in
     let over = subst (λ fs. length fs ≤ i) c.as_slice-fix-items.ensures c.loop-fix-test.false in
@@ -137,23 +137,17 @@ returns-clause-text g c =
     let size = ap length c.as_slice-fix-items.ensures in
     let count = length-map trace.fixes (layer_of n p) in
     let within = c.loop-fix.auto.fix-index-end in
-    text_ends n p trace i c.as_slice-2.result.now c.args.into.now c.loop-fix.into c.write_rest.new.into c.loop-fix.invariant.text
-    (omega (arith, over, size, count, within)) (c.as_slice-2.ensures ∙ left.are) c.in_ok-write_rest.ensures.ok
-
-pub returns-clause-pieces : goal.returns-clause-pieces
-returns-clause-pieces g c =
-    let n = c.args.net.now in
-    let p = c.args.p.now in
-    let trace = c.args.trace.now in
-    let over = subst (λ fs. length fs ≤ c.loop-fix.fix-index) c.as_slice-fix-items.ensures c.loop-fix-test.false in
-    let left = last_left n p trace c.loop-fix.fix-index c.loop-fix.session c.finish.new.self c.loop-fix.pieces c.in_ok-items-2.items c.loop-fix.invariant.followed over c.in_ok-items-2.ensures.finished in
     let counted = c.count_pieces.ensures ∙ ap pieces_among c.as_slice-3.ensures in
-    all_counted n p trace c.loop-fix.fix-index c.loop-fix.session c.loop-fix.pieces c.count_pieces.result c.in_ok-items-2.items c.requires.ground.options c.requires.trace c.loop-fix.invariant.followed over left counted
+    record {
+      written = text_ends n p trace i c.as_slice-2.result.now c.args.into.now c.loop-fix.into c.write_rest.new.into c.loop-fix.invariant.text
+          (omega (arith, over, size, count, within)) (c.as_slice-2.ensures ∙ left.are) c.in_ok-write_rest.ensures.ok;
+      pieces = all_counted n p trace i c.loop-fix.session c.loop-fix.pieces c.count_pieces.result c.in_ok-items-2.items c.args.on.now.is.options c.requires.trace c.loop-fix.invariant.followed over left counted;
+    }
 
 pub returns-clause-asks : goal.returns-clause-asks
 returns-clause-asks g c =
-    let n = c.args.net.now in
-    let p = c.args.p.now in
+    let n = c.args.on.now.net.now in
+    let p = c.args.on.now.params.now in
     let trace = c.args.trace.now in
     let i = c.loop-fix.fix-index in
     let inv = c.loop-fix.invariant in

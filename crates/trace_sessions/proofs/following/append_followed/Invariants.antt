@@ -7,7 +7,7 @@ use Rattle.trace_sessions.proofs.following.append_followed.Given as goal
 
 abbrev pub invariant-loop-fix : goal.invariant-loop-fix
 invariant-loop-fix g l = record {
-  followed : HasFollowed l.net l.p l.trace l.fix-index l.session l.pieces;
-  text : l.into ≡ l.fn.into ++ text_so_far l.net l.p l.trace l.fix-index;
-  asked : AsksAll (g.R.Rows.state l.fn.rows) (g.R.Rows.state l.rows) (AsksPoints l.net l.p (first_layers l.net l.p l.trace l.fix-index));
+  followed : HasFollowed l.on.net.now l.on.params.now l.trace l.fix-index l.session l.pieces;
+  text : l.into ≡ l.fn.into ++ text_so_far l.on.net.now l.on.params.now l.trace l.fix-index;
+  asked : AsksAll (g.R.Rows.state l.fn.rows) (g.R.Rows.state l.rows) (AsksPoints l.on.net.now l.on.params.now (first_layers l.on.net.now l.on.params.now l.trace l.fix-index));
 }

@@ -1,4 +1,4 @@
-use Rattle.std.proofs.Common.{nat_eq, sym, ap, ◌∙◌}
+use Rattle.std.proofs.Common.{nat_eq, sym, ap, ◌∙◌, rules}
 use Rattle.std.specs.Map.{remove_entry, set_value}
 use Rattle.std.proofs.lemmas.Map.Steps.{set_value_same}
 use Rattle.trace_sessions.proofs.SessionPairs.{remove-set}
@@ -23,4 +23,5 @@ returns-clause-finished g c =
       was = sym c.in-Some.ensures.value;
       finished = c.in_ok-items.ensures.finished;
       entries = c.shift_remove.ensures.entries ∙ ap (remove_entry t) (c.get_mut.follows.holds c.finish.new.self).0 ∙ remove-set t es c.finish.new.self;
+      different = search rules;
     }

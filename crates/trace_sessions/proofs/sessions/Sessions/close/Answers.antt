@@ -29,7 +29,7 @@ returns-clause-closed g c =
     let e = c.finish_session.ensures in
     let new = c.finish_session.new.sessions.entries in
     subst (λ x. IfOk c.finish_session.result (Closes x c.args.id (state a.net.now a.params new))) c.self.view_is
-    (closes a.net.now a.params c.args.id a.sessions.entries new c.finish_session.result e.finished e.unique)
+    (closes a.net.now a.params c.args.id a.sessions.entries new c.finish_session.result e.finished)
 
 pub returns-clause-fault : goal.returns-clause-fault
 returns-clause-fault g c =

@@ -1,6 +1,6 @@
 use Rattle.std.proofs.Common.{◌∙◌, ap, arith}
+use Rattle.std.proofs.lemmas.Result.{err_from_is_err_and}
 use Rattle.trace_sessions.proofs.StreamEnds.{all-ended, ended-can, ended-err, ended-few, ended-next, ended-rows, ended-stays, none-ended}
-use Rattle.trace_sessions.proofs.SessionFixes.{on-err}
 use Rattle.trace_sessions.proofs.sessions.Sessions.close_all.Goals as goal
 
 pub loop-id-init : goal.loop-id-init
@@ -19,8 +19,10 @@ end_session-requires-clause-can g c =
 pub returns-in_err-count-clause-asks : goal.returns-in_err-count-clause-asks
 returns-in_err-count-clause-asks g c = ended-err _ _ _ _ _ _ _ _ _ _ _ c.in-Some.ensures.steps c.loop-id.invariant c.end_session.ensures.asks
 
-pub returns-in_err-count-clause-err : goal.returns-in_err-count-clause-err
-returns-in_err-count-clause-err g c = on-err c.from_residual.result (ended-stays _ _ _ _ _ _ _ _ _ c.requires.can c.loop-id.invariant c.in_err-count.ensures.err)
+pub returns-in_err-count-clause-ends : goal.returns-in_err-count-clause-ends
+returns-in_err-count-clause-ends g c pairs keeps =
+    let p = err_from_is_err_and c.from_residual.result c.from_residual.ensures.1 in
+    rw p.1 (ended-stays _ _ _ _ _ _ _ _ _ c.requires.can c.loop-id.invariant c.in_err-count.ensures.err)
 
 pub overflow_add-pieces : goal.overflow_add-pieces
 overflow_add-pieces g c =

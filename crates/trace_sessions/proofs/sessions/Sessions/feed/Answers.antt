@@ -1,4 +1,4 @@
-use Rattle.std.proofs.Common.{◌≡◌, ◌<◌, ◌≤◌, Ok, OnOk, sym, subst, arith}
+use Rattle.std.proofs.Common.{◌≡◌, ◌<◌, ◌≤◌, Ok, OnOk, refl, sym, subst, arith}
 use Rattle.bounded_search.specs.Rows.{AreRowsOf}
 use Rattle.online_commit.specs.Session.{points_of}
 use Rattle.trace_sessions.specs.declared.sessions.SessionFault.{SessionFault}
@@ -8,14 +8,17 @@ use Rattle.trace_sessions.specs.SessionsInside.{session_in}
 use Rattle.trace_sessions.proofs.SessionFixes.{are-taken, feed-asks, few-fed, layer-fed, no-ok, opened-is, rows-fed, state, takes, too-long}
 use Rattle.trace_sessions.proofs.sessions.Sessions.feed.Goals as goal
 
-pub returns-then-points-ge100000-clause-fault : goal.returns-then-points-ge100000-clause-fault
-returns-then-points-ge100000-clause-fault g c =
+pub returns-then-points-ge100000-clause-refused : goal.returns-then-points-ge100000-clause-refused
+returns-then-points-ge100000-clause-refused g c =
     let a = c.self.inside in
     let now = state a.net.now a.params a.sessions.entries in
     let count : c.points.result ≡ points_of (session_in now c.args.id) =
     subst (λ x. c.points.result ≡ points_of (session_in x c.args.id)) (sym c.self.view_is) c.points.ensures in
     let many : 100_000 ≤ points_of (session_in now c.args.id) = omega (arith, count, c.if-points-ge100000.true) in
-    subst (λ x. IsFeedFault x c.args.id (TooLong c.args.id)) c.self.view_is (too-long a.net.now a.params c.args.id a.sessions.entries many)
+    record {
+      why = subst (λ x. IsFeedFault x c.args.id (TooLong c.args.id)) c.self.view_is (too-long a.net.now a.params c.args.id a.sessions.entries many);
+      unchanged = refl;
+    }
 
 pub feed_session-requires-clause-rows : goal.feed_session-requires-clause-rows
 feed_session-requires-clause-rows g c =
@@ -68,7 +71,7 @@ returns-clause-fed g c =
     (takes a.net.now a.params c.args.id c.args.fix a.sessions.entries new c.open-opened.result c.in_ok-layer.layer c.in_ok-items.items
     (opened-is a.net.now a.params c.open-opened.result c.open-opened.ensures.opened) c.in_ok-layer.ensures
     (few-fed a.net.now a.params c.args.id a.sessions.entries c.open-opened.result c.open-opened.ensures.opened few)
-    c.in_ok-items.ensures.fed c.feed_session.ensures.unique)
+    c.in_ok-items.ensures.fed)
 
 pub returns-clause-asks : goal.returns-clause-asks
 returns-clause-asks g c =
