@@ -10,7 +10,7 @@ ghost use Rattle.trace_sessions.specs.ItemText.{AreItemsOf, Stays};
 ghost use Rattle.trace_sessions.specs.StreamingInside.{rest_lines, step_lines};
 
 use crate::items::{write_items, write_lead};
-use crate::matched_on::Basis;
+use crate::basis::Basis;
 use bounded_search::Rows;
 use decimal_text::write_unsigned;
 use match_text::{write_end, write_trace};

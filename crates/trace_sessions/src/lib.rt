@@ -23,16 +23,16 @@
 //! `Keeps`, `TakesFix` and `Closes`; `stream_lines` and `closing_lines` in `specs/StreamText.antt`.
 #![tactic(auto)]
 
+mod basis;
 mod following;
 mod items;
 mod laws;
-mod matched_on;
 mod sessions;
 
+pub use basis::Basis;
 pub use following::follow_trace;
 pub use items::write_items;
 pub use laws::{
     follow_is_match, ids_are_answered_alone, ids_are_followed_alone, written_lines_stay,
 };
-pub use matched_on::Basis;
 pub use sessions::{SessionFault, Sessions};
