@@ -70,11 +70,11 @@ proofs_again whole (proof ∷ proofs) rest (suc fuel) are none enough =
     ∙ ap (proof_and_more (proofs_at whole fuel)) first.3
     ∙ ap (with_proof proof) (proofs_again whole proofs rest fuel are.1 none shorter)
 
-record ProofsTaken (text : List ℕ) (proofs : List TraceProof) (rest : List ℕ) : Type 0 where
-  are : AllByRecursion IsProof proofs
-  text_is : text ≡ flat_map proof_text proofs ++ rest
+pub record ProofsTaken (text : List ℕ) (proofs : List TraceProof) (rest : List ℕ) : Type 0 where
+  pub are : AllByRecursion IsProof proofs
+  pub text_is : text ≡ flat_map proof_text proofs ++ rest
 
-abbrev Takes : List ℕ → ℕ → Type 0
+abbrev pub Takes : List ℕ → ℕ → Type 0
 Takes whole fuel = (text : List ℕ) (proofs : List TraceProof) (rest : List ℕ) → proofs_at whole fuel text ≡ Ok (proofs, rest) → ProofsTaken text proofs rest
 
 ok_parts : (p q : List TraceProof) (a b : List ℕ) → ◌≡◌ {A = ProofsRead} (Ok (p, a)) (Ok (q, b)) → (p ≡ q) × (a ≡ b)
@@ -94,7 +94,7 @@ proof_takes whole text id lines proof rest trace e =
     ∙ sym (text_of_lines id taken.lines rest taken.continues) in
     subst (λ (x : TraceProof). IsProof x × (text ≡ proof_text x ++ rest)) (sym taken.proof_is) (is, text_is)
 
-proofs_take : (whole : List ℕ) (fuel : ℕ) → Takes whole fuel
+pub proofs_take : (whole : List ℕ) (fuel : ℕ) → Takes whole fuel
 proofs_take whole zero text proofs rest e = absurd cc
 proofs_take whole (suc fuel) text proofs rest e = by_trace (λ t ps r h. proofs_take whole fuel t ps r h) (trace_at text) refl e
   where
@@ -145,7 +145,7 @@ certificates_read_back p c has short =
     let end : after_bytes last last ≡ Some [] = ap (after_bytes last) (sym (append-nil last)) ∙ after_again last [] in
     read_so_far p text rest c.proofs behind short first proofs_are ∙ ap (rows_and_end text c.proofs) rows_are ∙ ap (ended text c last) end
 
-rows_few : (rows : List TableRow) → length rows ≤ length (flat_map row_line rows)
+pub rows_few : (rows : List TableRow) → length rows ≤ length (flat_map row_line rows)
 rows_few [] = omega arith
 rows_few (row ∷ rows) = omega (arith, rows_few rows, length-append (row_line row) (flat_map row_line rows))
 

@@ -3,7 +3,7 @@ pub mod WordsOfLine
 pub mod CellWords
 pub mod ProofLines
 pub mod RowsRead
-pub mod PartsRead
 pub mod ProofsRead
 pub mod ProofTexts
 pub mod Certificates
+pub mod Gatherings

@@ -2,5 +2,6 @@ pub mod CertificateText
 pub mod Words
 pub mod HasText
 pub mod Reading
-pub mod RowParts
+pub mod Gathering
+pub mod ReaderInside
 pub mod Laws

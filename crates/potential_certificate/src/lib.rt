@@ -9,8 +9,8 @@
 //! (`none I` or `layer I rank R cells X0 X1 ..`), directly after that of a piece's last point the line
 //! of the piece, and `end ID`, then a line for each row (`row_text`) by rising origin, and the line
 //! `certified traces T rows R`. It has at most [`TEXT_LIMIT`] bytes. [`write_certificate`] appends it,
-//! and [`read_certificate`] takes exactly the texts of certificates for one set of options; so does
-//! [`read_certificate_by_threads`], in less time where there are several processors.
+//! and [`read_certificate`] takes exactly the texts of certificates for one set of options. A
+//! [`CertificateReader`] takes them in blocks, and reads each by as many threads as there are processors.
 //!
 //! The text is defined by `certificate_text` in `specs/CertificateText.antt`, which certificates have
 //! one by `HasText`, and what is read by `certificate_of` in `specs/Reading.antt`. Read these and the
@@ -19,14 +19,16 @@
 
 mod copying;
 mod fault;
+mod gathered;
 pub mod laws;
 mod layers;
 mod lines;
+mod parts;
 mod proof;
 mod proof_line;
 mod proof_writing;
+mod reader;
 mod reading;
-mod row_parts;
 mod rows;
 #[cfg(test)]
 mod tests;
@@ -35,7 +37,8 @@ mod writing;
 pub use copying::certify;
 pub use fault::{CertFault, WriteFault};
 pub use proof::{Certificate, TraceProof};
-pub use reading::{read_certificate, read_certificate_by_threads};
+pub use reader::CertificateReader;
+pub use reading::read_certificate;
 pub use writing::write_certificate;
 
 /// The most bytes of the text of a certificate.

@@ -10,14 +10,12 @@ use crate::fault::CertFault;
 use crate::lines::{append_first, append_last};
 use crate::proof::{Certificate, TraceProof};
 use crate::proof_line::{ProofLine, next_line, place_after};
-use crate::row_parts::read_rows_by_threads;
 use crate::rows::read_rows;
 use cost_model::Params;
 use match_text::front::after;
 use match_text::{Place, read_trace};
 use polyline_geometry::List;
 use std::alloc::Global;
-use std::thread::Threads;
 use trellis::Potentials;
 
 /// The certificate whose text for these options this is.
@@ -31,23 +29,6 @@ pub fn read_certificate(alloc: Global, p: &Params, text: &[u8]) -> Result<Certif
 {
     let (proofs, rest) = read_front(alloc, p, text)?;
     let (rows, rest) = read_rows(alloc, rest)?;
-    end_certificate(alloc, text, Certificate { proofs, rows }, rest)
-}
-
-/// The same as [`read_certificate`] gives. The rows, nearly all of most texts, are read by as many
-/// threads as there are processors.
-pub fn read_certificate_by_threads<R: Threads + Sync>(
-    rt: &R,
-    alloc: Global,
-    p: &Params,
-    text: &[u8],
-) -> Result<Certificate, CertFault>
-    ensures ok { IfOk result (λ c. certificate_of p.now text.now ≡ Ok c) }
-    ensures err { IfErr result (λ fault. (fault ≡ Memory)
-        ⊎ (certificate_of p.now text.now ≡ Err fault)) }
-{
-    let (proofs, rest) = read_front(alloc, p, text)?;
-    let (rows, rest) = read_rows_by_threads(rt, alloc, rest)?;
     end_certificate(alloc, text, Certificate { proofs, rows }, rest)
 }
 
@@ -128,8 +109,8 @@ fn line_count(text: &[u8]) -> usize
     text.iter().filter(|byte| **byte == b'\n').count()
 }
 
-// The proofs at the front, and what stands behind them.
-fn read_proofs<'a>(
+/// The proofs at the front, and what stands behind them.
+pub fn read_proofs<'a>(
     alloc: Global,
     whole: &[u8],
     text: &'a [u8],

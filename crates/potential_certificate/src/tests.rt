@@ -1,4 +1,6 @@
-use crate::{CertFault, certify, read_certificate, write_certificate};
+use crate::{
+    CertFault, Certificate, CertificateReader, certify, read_certificate, write_certificate,
+};
 use cost_model::Params;
 use match_text::Routed;
 use polyline_geometry::List;
@@ -19,21 +21,18 @@ const GAP: Params = Params {
     ..Params::DEFAULT
 };
 
-// The text of what is read, or the fault.
-fn again(
+// The text of what was read, or the fault.
+fn written(
     alloc: Global,
     p: &Params,
-    text: &[u8],
-) -> Result<Result<List<u8>, CertFault>, AllocError> {
-    let certificate = match read_certificate(alloc, p, text) {
-        Ok(certificate) => certificate,
-        Err(fault) => return Ok(Err(fault)),
-    };
-    let mut written = List::new(alloc);
-    if write_certificate(alloc, p, &certificate, &mut written).is_err() {
-        return Ok(Err(CertFault::Memory));
+    read: Result<Certificate, CertFault>,
+) -> Result<List<u8>, CertFault> {
+    let certificate = read?;
+    let mut text = List::new(alloc);
+    if write_certificate(alloc, p, &certificate, &mut text).is_err() {
+        return Err(CertFault::Memory);
     }
-    Ok(Ok(written))
+    Ok(text)
 }
 
 #[test]
@@ -61,7 +60,7 @@ fn writes_what_it_reads(rt: HostRuntime) -> Result<(), Fail> {
         ),
     ];
     for (p, text) in texts {
-        match again(rt.alloc(), &p, text)? {
+        match written(rt.alloc(), &p, read_certificate(rt.alloc(), &p, text)) {
             Ok(written) => assert_eq!(rt; written.as_slice(), text),
             Err(fault) => assert_eq!(rt; Some(fault), None),
         }
@@ -120,6 +119,52 @@ fn refuses(rt: HostRuntime) -> Result<(), Fail> {
             read_certificate(rt.alloc(), &p, WHOLE).err(),
             Some(CertFault::BadLine(1))
         );
+    }
+    Ok(())
+}
+
+// The certificate of a text that comes in blocks of so many bytes.
+fn read_blocks(
+    rt: &HostRuntime,
+    text: &[u8],
+    size: usize,
+) -> Result<Result<Certificate, CertFault>, AllocError>
+    requires { 0 < size }
+{
+    let mut reader = CertificateReader::new(rt.alloc());
+    for block in text.chunks(size) {
+        reader = reader.push(rt, block)?;
+    }
+    Ok(reader.finish(&Params::DEFAULT))
+}
+
+// Each text, cut at each of its places, gives what the whole gives.
+#[test]
+fn reads_blocks(rt: HostRuntime) -> Result<(), Fail> {
+    let texts: [&[u8]; 7] = [
+        WHOLE,
+        b"fmm-certificate 1 k 8 radius 10000 sigma 1000 beta 1000 bound 300000\ntrace 1\nend 1\ntrace 1\nnone 0\nend 1\ncertified traces 2 rows 0\n",
+        b"fmm-certificate 1 k 8 radius 10000 sigma 1000 beta 1000 bound 300000\nrow 2 2:0:-\nrow 1 1:0:-\ncertified traces 0 rows 2\n",
+        b"fmm-certificate 1 k 8 radius 10000 sigma 1000 beta 1000 bound 300000\nrow 2 2:0:-\ntrace 1\nend 1\ncertified traces 1 rows 1\n",
+        b"fmm-certificate 1 k 8 radius 10000 sigma 1000 beta 1000 bound 300000\ntrace 1\nnone 1\nend 1\nrow 2 2:0:-\ncertified traces 1 rows 1\n",
+        b"fmm-certificate 1 k 8 radius 10000 sigma 1000 beta 1000 bound 300000\nrow 2 2:0:-\ncertified traces 0 rows 1\nrow 3",
+        b"trace 1\nend 1\n",
+    ];
+    for text in texts {
+        let whole = written(
+            rt.alloc(),
+            &Params::DEFAULT,
+            read_certificate(rt.alloc(), &Params::DEFAULT, text),
+        );
+        for size in 1..text.len() + 1 {
+            let read = read_blocks(&rt, text, size)?;
+            let again = written(rt.alloc(), &Params::DEFAULT, read);
+            match (&whole, again) {
+                (Ok(text), Ok(same)) => assert_eq!(rt; same.as_slice(), text.as_slice()),
+                (Err(fault), Err(same)) => assert_eq!(rt; same, *fault),
+                (_, _) => assert_eq!(rt; size, 0),
+            }
+        }
     }
     Ok(())
 }

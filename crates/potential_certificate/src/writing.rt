@@ -93,9 +93,13 @@ fn is_long(start: usize, into: &List<u8>) -> bool
     (into.len() - start) as u64 > TEXT_LIMIT
 }
 
-// Appends the lines of each proof to the text that begins at `start`. After Err a part of them may
+/// Appends the lines of each proof to the text that begins at `start`. After Err a part of them may
 // stand at the end.
-fn append_proofs(proofs: &[TraceProof], start: usize, into: &mut List<u8>) -> Result<(), WriteFault>
+pub fn append_proofs(
+    proofs: &[TraceProof],
+    start: usize,
+    into: &mut List<u8>,
+) -> Result<(), WriteFault>
     requires { start ≤ length into.old }
     ensures ok { OnOk result (into.new ≡ into.old ++ flat_map proof_text proofs.now) }
     ensures too_long { IsErrOf result WriteFault.TooLong
@@ -111,9 +115,9 @@ fn append_proofs(proofs: &[TraceProof], start: usize, into: &mut List<u8>) -> Re
     Ok(())
 }
 
-// Appends the line of each row to the text that begins at `start`. After Err some of them may stand
+/// Appends the line of each row to the text that begins at `start`. After Err some of them may stand
 // at the end.
-fn append_rows(rows: &[Row], start: usize, into: &mut List<u8>) -> Result<(), WriteFault>
+pub fn append_rows(rows: &[Row], start: usize, into: &mut List<u8>) -> Result<(), WriteFault>
     requires { start ≤ length into.old }
     ensures ok { OnOk result (into.new ≡ into.old ++ flat_map row_line rows.now) }
     ensures too_long { IsErrOf result WriteFault.TooLong

@@ -1,9 +1,9 @@
 use Rattle.std.proofs.Common.{◌≡◌, IfOk, ap, ◌∙◌}
 use Rattle.rayon.specs.Lists.{min_len_base}
 use Rattle.rayon.proofs.ToStd.{slice-AllZip}
-use Rattle.potential_certificate.specs.RowParts.{IsPartRead}
-use Rattle.potential_certificate.proofs.PartsRead.{gathered}
-use Rattle.potential_certificate.proofs.row_parts.read_parts.Goals as goal
+use Rattle.potential_certificate.specs.Gathering.{IsReadOf}
+use Rattle.potential_certificate.proofs.Gatherings.{gathered}
+use Rattle.potential_certificate.proofs.parts.read_each.Goals as goal
 
 pub returns : goal.returns
 returns g c =
@@ -12,4 +12,4 @@ returns g c =
     let given = c.in_ok-collect.ensures in
     let chain = rw c.map.ensures.f at given.1 in
     gathered (λ part. part.now) _ _ (λ v. v.items) c.args.parts.now given.0 c.in_ok-collect.field-0 _
-    (slice-AllZip chain.0 c.args.parts.now (chain.1 ∙ slice) (λ part r. IfOk r (IsPartRead part.now)) given.0 chain.2) given.2
+    (slice-AllZip chain.0 c.args.parts.now (chain.1 ∙ slice) (λ part r. IfOk r (IsReadOf part.now)) given.0 chain.2) given.2

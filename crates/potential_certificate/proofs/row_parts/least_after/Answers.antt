@@ -1,6 +1,0 @@
-use Rattle.std.proofs.Common.{◌+◌, ap, ◌∙◌}
-use Rattle.potential_certificate.proofs.PartsRead.{behind_last}
-use Rattle.potential_certificate.proofs.row_parts.least_after.Goals as goal
-
-pub returns-in-Some : goal.returns-in-Some
-returns-in-Some c = ap (λ n. n + 1) (c.from.ensures ∙ c.origin.ensures) ∙ behind_last c.args.least c.args.rows.now c.in-Some.row.now c.in-Some.ensures.value

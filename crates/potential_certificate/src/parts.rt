@@ -1,0 +1,135 @@
+// Parts of a certificate's text, read side by side. Serves the reader of blocks; decided by `IsPartRead`.
+ghost use Rattle.std.specs.Prelude.{◌≡◌, ◌<◌, ◌≤◌, IfOk, length};
+ghost use Rattle.std.specs.List.{AllZip, flat_map};
+ghost use Rattle.potential_certificate.specs.Gathering.{AreReadsOf, IsReadOf};
+
+use crate::fault::CertFault;
+use crate::proof::TraceProof;
+use crate::reading::read_proofs;
+use crate::rows::read_rows;
+use bounded_search::Row;
+use polyline_geometry::List;
+use rayon::prelude::*;
+use std::alloc::{AllocError, Global};
+use std::thread::Threads;
+
+/// Into about so many parts a block is cut.
+const PARTS: usize = 32;
+
+/// Each part but the last has at least so many bytes.
+const PART_BYTES: usize = 65_536;
+
+/// A part of a text: proofs and then rows at its front, and what stands behind them.
+#[derive(Drop)]
+pub struct PartRead<'a> {
+    pub part: &'a [u8],
+    pub proofs: List<TraceProof>,
+    pub rows: List<Row>,
+    pub left: &'a [u8],
+}
+
+// Whether a proof or a row may begin with this byte.
+fn begins_item(byte: u8) -> bool {
+    byte == b't' || byte == b'r'
+}
+
+/// Where the first line behind the place `from` begins that may begin a proof or a row. It is the end where none does.
+pub fn next_item(text: &[u8], from: usize) -> usize
+    requires { from ≤ length text.now }
+    ensures behind { 0 < length text.now → 0 < result }
+    ensures within { result ≤ length text.now }
+{
+    let mut at = from;
+    while at + 1 < text.len() {
+        at += 1;
+        if text[at - 1] == b'\n' && begins_item(text[at]) {
+            return at;
+        }
+    }
+    text.len()
+}
+
+/// Where the last line begins that may begin a proof or a row. It is the start where none does behind it.
+pub fn last_item(text: &[u8]) -> usize
+    ensures { result ≤ length text.now }
+{
+    let mut at = text.len();
+    while at > 1 {
+        at -= 1;
+        if text[at - 1] == b'\n' && begins_item(text[at]) {
+            return at;
+        }
+    }
+    0
+}
+
+// The text cut into parts before lines that may begin a proof or a row.
+fn cut(alloc: Global, text: &[u8]) -> Result<List<&[u8]>, AllocError>
+    ensures { IfOk result (λ parts. flat_map (λ part. part.now) parts ≡ text.now) }
+{
+    let least = (text.len() / PARTS).max(PART_BYTES);
+    let mut parts = List::new(alloc);
+    let mut rest = text;
+    while !rest.is_empty() {
+        let (part, next) = rest.split_at(next_item(rest, least.min(rest.len())));
+        parts.push(part)?;
+        rest = next;
+    }
+    Ok(parts)
+}
+
+/// What is read of a part. Where a proof has a bad line, nothing is read.
+pub fn read_part(alloc: Global, part: &[u8]) -> Result<PartRead<'_>, AllocError>
+    ensures { IfOk result (IsReadOf part.now) }
+{
+    match read_proofs(alloc, part, part) {
+        Ok((proofs, rest)) => {
+            let (rows, left) = read_rows(alloc, rest)?;
+            Ok(PartRead {
+                part,
+                proofs,
+                rows,
+                left,
+            })
+        }
+        Err(CertFault::Memory) => Err(AllocError),
+        Err(_) => Ok(PartRead {
+            part,
+            proofs: List::new(alloc),
+            rows: List::new(alloc),
+            left: part,
+        }),
+    }
+}
+
+// What is read of each part, side by side.
+fn read_each<'a, R: Threads + Sync>(
+    rt: &R,
+    alloc: Global,
+    parts: &[&'a [u8]],
+) -> Result<Vec<PartRead<'a>>, AllocError>
+    ensures { IfOk result
+        (λ reads. AllZip (λ part read. IsReadOf part.now read) parts.now reads.items) }
+{
+    parts
+        .par_iter()
+        .with_min_len(1)
+        .map(
+            |part: &&[u8]| -> Result<PartRead<'_>, AllocError>
+                ensures { IfOk result (IsReadOf part.now.now) }
+            { read_part(alloc, part) },
+        )
+        .collect::<Result<Vec<PartRead<'_>>, AllocError>>(rt, alloc)?
+}
+
+/// What is read of the parts of a text, side by side.
+pub fn read_parts<'a, R: Threads + Sync>(
+    rt: &R,
+    alloc: Global,
+    text: &'a [u8],
+) -> Result<Vec<PartRead<'a>>, AllocError>
+    ensures { IfOk result (λ reads. AreReadsOf text.now reads.items) }
+{
+    let parts = cut(alloc, text)?;
+    read_each(rt, alloc, parts.as_slice())
+}

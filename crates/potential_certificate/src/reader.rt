@@ -1,0 +1,93 @@
+// A certificate whose text comes in blocks. Serves who reads a file; decided by `certificate_of`.
+ghost use Rattle.std.specs.Prelude.{◌≡◌, ◌⊎◌, ◌++◌, [], IfErr, IfOk, Ok, Err};
+ghost use Rattle.potential_certificate.specs.Reading.{certificate_of};
+ghost use Rattle.potential_certificate.specs.declared.fault.CertFault.TheVariants.{Memory};
+
+use crate::TEXT_LIMIT;
+use crate::fault::{CertFault, WriteFault};
+use crate::gathered::Gathered;
+use crate::proof::Certificate;
+use crate::reading::read_certificate;
+use cost_model::Params;
+use polyline_geometry::List;
+use std::alloc::{AllocError, Global};
+use std::marker::Model;
+use std::thread::Threads;
+
+/// The text of a certificate that comes in blocks, cut anywhere.
+///
+/// Proofs and rows are kept as they were read, and their text is dropped, since each has one text. Where the text is
+/// not that of a certificate, it is written out again and read from its start.
+#[derive(Drop)]
+pub struct CertificateReader {
+    gathered: Gathered,
+    count: u64,
+}
+
+impl Model for CertificateReader {
+    ghost use Rattle.std.specs.Prelude.{ℕ, List};
+
+    ghost Value = { List ℕ };
+
+    ghost use Rattle.potential_certificate.specs.ReaderInside.{CountsBytes, text_so_far};
+
+    ghost view = { text_so_far };
+
+    ghost invariant = { CountsBytes };
+}
+
+impl CertificateReader {
+    /// Nothing of a text.
+    pub fn new(alloc: Global) -> CertificateReader
+        ensures { result ≡ [] }
+    {
+        CertificateReader {
+            gathered: Gathered::new(alloc),
+            count: 0,
+        }
+    }
+
+    /// Takes more of the text. The proofs and rows in it are read by as many threads as there are processors.
+    pub fn push<R: Threads + Sync>(
+        self,
+        rt: &R,
+        block: &[u8],
+    ) -> Result<CertificateReader, AllocError>
+        ensures { IfOk result (λ reader. reader ≡ self ++ block.now) }
+    {
+        let CertificateReader {
+            mut gathered,
+            count,
+        } = self;
+        gathered.push(rt, block)?;
+        Ok(CertificateReader {
+            gathered,
+            count: count.saturating_add(block.len() as u64),
+        })
+    }
+
+    /// The certificate whose text for these options was taken, as [`read_certificate`] gives it.
+    pub fn finish(self, p: &Params) -> Result<Certificate, CertFault>
+        ensures ok { IfOk result (λ c. certificate_of p.now self ≡ Ok c) }
+        ensures err { IfErr result (λ fault. (fault ≡ Memory)
+            ⊎ (certificate_of p.now self ≡ Err fault)) }
+    {
+        let CertificateReader {
+            mut gathered,
+            count,
+        } = self;
+        let alloc = gathered.alloc;
+        gathered.settle()?;
+        if count <= TEXT_LIMIT && gathered.is_closed(p)? {
+            return Ok(Certificate {
+                proofs: List::from_vec(gathered.proofs),
+                rows: List::from_vec(gathered.rows),
+            });
+        }
+        match gathered.into_text() {
+            Ok(text) => read_certificate(alloc, p, text.as_slice()),
+            Err(WriteFault::TooLong) => Err(CertFault::TooLong),
+            Err(WriteFault::Memory) => Err(CertFault::Memory),
+        }
+    }
+}
