@@ -4,6 +4,9 @@ use Rattle.match_program.specs.Sharing.{MatchesBatch}
 use Rattle.match_program.proofs.Sharing.{batch_matched}
 use Rattle.match_program.proofs.matcher.Matcher.match_batch.Goals as goal
 
+pub match_all-requires-clause-can : goal.match_all-requires-clause-can
+match_all-requires-clause-can g c κs within = record { ground = c.self.invariant; traces = c.requires.traces }
+
 pub returns : goal.returns
 returns g c =
     let on : Setting = record { network = c.self.inside.network.now; params = c.self.inside.params } in
