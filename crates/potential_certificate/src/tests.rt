@@ -6,6 +6,7 @@ use match_text::Routed;
 use polyline_geometry::List;
 use std::alloc::{AllocError, Global};
 use std::test::Fail;
+use std::thread::Threads;
 use trellis::{Cell, Potentials, Solved};
 
 const WHOLE: &[u8] =
@@ -125,13 +126,14 @@ fn refuses(rt: HostRuntime) -> Result<(), Fail> {
 
 // The certificate of a text that comes in blocks of so many bytes.
 fn read_blocks(
-    rt: &HostRuntime,
+    rt: &(impl Threads + Sync),
+    alloc: Global,
     text: &[u8],
     size: usize,
 ) -> Result<Result<Certificate, CertFault>, AllocError>
     requires { 0 < size }
 {
-    let mut reader = CertificateReader::new(rt.alloc());
+    let mut reader = CertificateReader::new(alloc);
     for block in text.chunks(size) {
         reader = reader.push(rt, block)?;
     }
@@ -157,7 +159,7 @@ fn reads_blocks(rt: HostRuntime) -> Result<(), Fail> {
             read_certificate(rt.alloc(), &Params::DEFAULT, text),
         );
         for size in 1..text.len() + 1 {
-            let read = read_blocks(&rt, text, size)?;
+            let read = read_blocks(&rt, rt.alloc(), text, size)?;
             let again = written(rt.alloc(), &Params::DEFAULT, read);
             match (&whole, again) {
                 (Ok(text), Ok(same)) => assert_eq!(rt; same.as_slice(), text.as_slice()),
