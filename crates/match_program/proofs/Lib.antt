@@ -21,3 +21,4 @@ pub mod ReadIds
 pub mod ReadNetworks
 pub mod ProvedFiles
 pub mod ProvedRuns
+mod CertificateFiles

@@ -10,3 +10,4 @@ pub mod TableFiles
 pub mod Workers
 pub mod Words
 pub mod commands
+pub mod CertificateFiles

@@ -10,20 +10,23 @@ ghost use Rattle.trace_reader.specs.Trace.{IsLawfulTrace};
 ghost use Rattle.match_program.specs.commands.Check.{certificate_fault_line, certificate_in, check_plan, check_said, pieces_in, pieces_proved, proved_line, verdict_said};
 ghost use Rattle.match_program.specs.commands.CheckDone.{RefusesCertificate};
 
+use crate::certificate_file::read_certificate_file;
 use crate::commands::verdicts::{accept_verdict, row_refused};
 use cert_checker::check_all;
 use cost_model::Params;
 use decimal_text::write_unsigned;
 use edge_io::{Shelf, Sink};
 use polyline_geometry::List;
-use potential_certificate::{
-    CertFault, Certificate, TEXT_LIMIT, TraceProof, read_certificate_by_threads,
-};
-use program_frame::{File, Refusal, Stop, load_network, load_traces, put_text, read_file};
+use potential_certificate::{CertFault, Certificate, CertificateReader, TraceProof};
+use program_frame::{File, Refusal, Stop, load_network, load_traces, put_text};
 use road_network::Network;
 use std::alloc::{AllocError, Global};
 use std::thread::Threads;
 use trace_reader::Trace;
+
+// So many bytes of a certificate are read at once: enough for all processors to read their rows, and no more than are
+// soon read.
+const BLOCK: u64 = 4_194_304;
 
 // Appends the line of a fault of the text.
 fn append_fault(fault: CertFault, line: &mut List<u8>) -> Result<(), AllocError>
@@ -54,17 +57,16 @@ fn refuse_text(alloc: Global, fault: CertFault) -> Stop
     }
 }
 
-// The certificate of a text, which is dropped.
-fn read_proofs<R: Threads + Sync>(
-    rt: &R,
+// The certificate of a text.
+fn read_proofs(
     alloc: Global,
     options: &Params,
-    text: Vec<u8>,
+    text: CertificateReader,
 ) -> Result<Certificate, Stop>
-    ensures said { Accepts Refusal.Certificate (certificate_in options.now text.items) result }
+    ensures said { Accepts Refusal.Certificate (certificate_in options.now text) result }
     ensures few { IfOk result (λ certificate. pieces_proved certificate < 2 ^ 63) }
 {
-    match read_certificate_by_threads(rt, alloc, options, &text) {
+    match text.finish(options) {
         Ok(certificate) => Ok(certificate),
         Err(fault) => Err(refuse_text(alloc, fault)),
     }
@@ -121,15 +123,15 @@ fn accept_certificate<R: Threads + Sync>(
     roads: &Network,
     options: &Params,
     traces: &[Trace],
-    text: Vec<u8>,
+    text: CertificateReader,
 ) -> Result<List<u8>, Stop>
     requires options { IsAccepted options.now }
     requires traces { All IsLawfulTrace traces.now }
     ensures { Accepts Refusal.Certificate
-        (check_said (record { network = roads.now; params = options.now }) traces.now text.items)
+        (check_said (record { network = roads.now; params = options.now }) traces.now text)
         result }
 {
-    let certificate = read_proofs(rt, alloc, options, text)?;
+    let certificate = read_proofs(alloc, options, text)?;
     check_proofs(rt, alloc, roads, options, traces, &certificate)?;
     let mut line = List::new(alloc);
     match append_proved(&certificate, &mut line) {
@@ -153,12 +155,12 @@ fn load_certificate<R: Threads + Sync, S: Shelf>(
         (check_said (record { network = roads.now; params = options.now }) traces.now)
         (S.state shelf.old) (S.state shelf.new) result }
 {
-    let text = read_file(alloc, shelf, File::Certificate, name, TEXT_LIMIT)?;
+    let text = read_certificate_file(rt, alloc, shelf, name, BLOCK)?;
     accept_certificate(rt, alloc, roads, options, traces, text)
 }
 
-/// Reads the network, then all traces and then the certificate, and says that it is proved. The text
-/// of the certificate is held whole, and dropped once it is read.
+/// Reads the network, then all traces and then the certificate, and says that it is proved. The certificate is taken
+/// in block by block, by all processors, while its next block is read.
 pub fn check_traces<R: Threads + Sync, S: Shelf, K: Sink>(
     rt: &R,
     alloc: Global,

@@ -12,4 +12,4 @@ returns-in_err-text g c =
 
 pub returns : goal.returns
 returns g c =
-    load_taken refusals.Certificate Certificate c.args.name.now _ _ _ _ c.in_ok-text.text.items c.in_ok-text.text.items c.accept_certificate.result c.in_ok-text.ensures.ok refl c.accept_certificate.ensures
+    load_taken refusals.Certificate Certificate c.args.name.now _ _ _ _ c.in_ok-text.text c.in_ok-text.text c.accept_certificate.result c.in_ok-text.ensures.ok refl c.accept_certificate.ensures
