@@ -22,10 +22,7 @@ pub struct EdgeScan<'n> {
 // By hand, so that the functions that drop one call this.
 impl<'n> Drop for EdgeScan<'n> {
     fn drop(self) {
-        let EdgeScan {
-            net: _,
-            boxes: _,
-        } = self;
+        let EdgeScan { net: _, boxes: _ } = self;
     }
 }
 

@@ -9,8 +9,8 @@ ghost use Rattle.trace_sessions.specs.Following.{IsFollowed, pieces_among};
 ghost use Rattle.trace_sessions.specs.ItemText.{AreItemsOf, Stays};
 ghost use Rattle.trace_sessions.specs.StreamingInside.{rest_lines, step_lines};
 
-use crate::items::{write_items, write_lead};
 use crate::basis::Basis;
+use crate::items::{write_items, write_lead};
 use bounded_search::Rows;
 use decimal_text::write_unsigned;
 use match_text::{write_end, write_trace};
