@@ -1,3 +1,5 @@
+ghost use Rattle.std.specs.Prelude.{◌<◌};
+
 use crate::{
     CertFault, Certificate, CertificateReader, certify, read_certificate, write_certificate,
 };

@@ -21,6 +21,7 @@ use potential_certificate::{CertFault, Certificate, CertificateReader, TraceProo
 use program_frame::{File, Refusal, Stop, load_network, load_traces, put_text};
 use road_network::Network;
 use std::alloc::{AllocError, Global};
+use std::thread;
 use std::thread::Threads;
 use trace_reader::Trace;
 
@@ -116,6 +117,20 @@ fn check_proofs<R: Threads + Sync>(
     accept_verdict(alloc, bad_row, verdict)
 }
 
+// Gives back the memory of a certificate, that of its rows beside that of its proofs.
+fn let_go<R: Threads>(rt: &R, certificate: Certificate) {
+    let Certificate { proofs, rows } = certificate;
+    thread::join(
+        rt,
+        move || {
+            let _rows = rows;
+        },
+        move || {
+            let _proofs = proofs;
+        },
+    );
+}
+
 // The line of a text whose certificate is proved, or the refusal of the text or of the certificate.
 fn accept_certificate<R: Threads + Sync>(
     rt: &R,
@@ -134,7 +149,9 @@ fn accept_certificate<R: Threads + Sync>(
     let certificate = read_proofs(alloc, options, text)?;
     check_proofs(rt, alloc, roads, options, traces, &certificate)?;
     let mut line = List::new(alloc);
-    match append_proved(&certificate, &mut line) {
+    let written = append_proved(&certificate, &mut line);
+    let_go(rt, certificate);
+    match written {
         Ok(()) => Ok(line),
         Err(_) => Err(Stop::NoMemory),
     }
