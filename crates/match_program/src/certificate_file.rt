@@ -89,8 +89,8 @@ fn take_and_fill<R: Threads + Sync, S: Shelf>(
     (taken, block, filled)
 }
 
-/// Reads a certificate's file from its start to its end or to the first byte above the limit, in blocks of so many
-/// bytes. Of the text only the parts that are no proof or row are kept, and two blocks.
+/// Reads a certificate's file from its start to its end or to the first byte above the limit, in blocks of at most so
+/// many bytes. Of the text only the parts that are no proof or row are kept, and two blocks.
 pub fn read_certificate_file<R: Threads + Sync, S: Shelf>(
     rt: &R,
     alloc: Global,
@@ -108,10 +108,13 @@ pub fn read_certificate_file<R: Threads + Sync, S: Shelf>(
     let mut spare = Vec::new(alloc);
     let mut block = Vec::new(alloc);
     let mut at = 0;
-    fill(shelf, name, at, &mut block, size)?;
+    // The first block is read alone, so it is a small one, and no block is read for much longer than the one before is taken in.
+    let mut part = size.div_ceil(4);
+    fill(shelf, name, at, &mut block, part)?;
     while !block.is_empty() {
         at += block.len() as u64;
         spare.truncate(0);
+        part = (part * 2).min(size);
         let (taken, next, filled) = take_and_fill(
             rt,
             &mut *shelf,

@@ -12,6 +12,7 @@ ghost use Rattle.match_program.specs.commands.CheckDone.{RefusesCertificate};
 
 use crate::certificate_file::read_certificate_file;
 use crate::commands::verdicts::{accept_verdict, row_refused};
+use bounded_search::Row;
 use cert_checker::check_all;
 use cost_model::Params;
 use decimal_text::write_unsigned;
@@ -19,6 +20,7 @@ use edge_io::{Shelf, Sink};
 use polyline_geometry::List;
 use potential_certificate::{CertFault, Certificate, CertificateReader, TraceProof};
 use program_frame::{File, Refusal, Stop, load_network, load_traces, put_text};
+use rayon::prelude::*;
 use road_network::Network;
 use std::alloc::{AllocError, Global};
 use std::thread;
@@ -27,7 +29,7 @@ use trace_reader::Trace;
 
 // So many bytes of a certificate are read at once: enough for all processors to read their rows, and no more than are
 // soon read.
-const BLOCK: u64 = 4_194_304;
+const BLOCK: u64 = 8_388_608;
 
 // Appends the line of a fault of the text.
 fn append_fault(fault: CertFault, line: &mut List<u8>) -> Result<(), AllocError>
@@ -117,16 +119,18 @@ fn check_proofs<R: Threads + Sync>(
     accept_verdict(alloc, bad_row, verdict)
 }
 
-// Gives back the memory of a certificate, that of its rows beside that of its proofs.
-fn let_go<R: Threads>(rt: &R, certificate: Certificate) {
+// Gives back the memory of a certificate: that of its proofs, and beside it that of its rows, side by side.
+fn let_go<R: Threads + Sync>(rt: &R, certificate: Certificate) {
     let Certificate { proofs, rows } = certificate;
     thread::join(
         rt,
         move || {
-            let _rows = rows;
+            let _proofs = proofs;
         },
         move || {
-            let _proofs = proofs;
+            rows.into_vec().into_par_iter().for_each(rt, |row: Row| {
+                let _row = row;
+            });
         },
     );
 }

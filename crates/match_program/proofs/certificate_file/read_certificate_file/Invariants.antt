@@ -9,6 +9,7 @@ invariant-loop-block g l = record {
   same : g.S.Shelf.state l.shelf ≡ g.S.Shelf.state l.initial.shelf;
   place : length l.reader ≡ l.at;
   front : IsReadSoFar (g.S.Shelf.state l.initial.shelf).holds l.name l.reader;
+  part : (1 ≤ l.part) × (l.part ≤ l.size);
   next : ReadsBlock l.name l.at (g.S.Shelf.state l.initial.shelf) (g.S.Shelf.state l.initial.shelf) l.block.items;
 }
 
