@@ -102,6 +102,7 @@ const RUNS: [Run; 8] = [
             "traces",
             "certificate",
             "certificate",
+            "certificate",
         ],
         puts: 1,
         status: 0,
