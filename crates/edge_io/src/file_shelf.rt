@@ -6,7 +6,7 @@ ghost use Rattle.edge_io.specs.State.{new_shelf};
 use crate::noting::fail_read;
 use crate::{Shelf, Taken};
 use polyline_geometry::List;
-use std::alloc::Global;
+use std::alloc::{AllocError, Global};
 use std::io::{ErrorKind, Read, Seek, SeekFrom};
 use std::rt::Files;
 use std::{fs, io};
@@ -22,7 +22,12 @@ pub struct FileShelf<R: Files + Drop> {
     rt: R,
     current: Option<OpenFile<R::File>>,
     failed: List<List<u8>>,
+    // Where a read puts its bytes before they are appended: empty before the first one.
+    piece: Vec<u8>,
 }
+
+// The most bytes of one read.
+const PIECE: usize = 65_536;
 
 // A file that is open, and where it stands.
 #[derive(Drop)]
@@ -42,11 +47,12 @@ impl<R: Files + Drop> FileShelf<R> {
             rt,
             current: None,
             failed: List::new(alloc),
+            piece: Vec::new(alloc),
         }
     }
 
-    // Appends what one read of a file brings, and says how many bytes that is. After an error
-    // nothing is appended.
+    // Appends what one read of a file brings, and says how many bytes that is. The file that is
+    // left open stands behind them. After an error nothing is appended.
     fn append(&mut self, name: &str, at: u64, into: &mut Vec<u8>, most: u32) -> io::Result<usize>
         requires { at ≤ 2 ^ 40 }
         ensures ok { IfOk result (λ n. (n ≤ most) × (length into.new.items ≡ length into.old.items + n)
@@ -54,19 +60,15 @@ impl<R: Files + Drop> FileShelf<R> {
         ensures err { IfErr result (λ _. into.new.items ≡ into.old.items) }
         ensures failed { self.new.failed ≡ self.old.failed }
     {
-        let before = into.len();
-        into.resize(before + most as usize, 0)?;
-        let buffer = &mut into[before..];
-        match read_at(self.alloc, &self.rt, &mut self.current, name, at, buffer) {
-            Ok(count) => {
-                into.truncate(before + count);
-                Ok(count)
-            }
-            Err(error) => {
-                into.truncate(before);
-                Err(error)
-            }
-        }
+        let mut found = match self.current.take() {
+            Some(left) if left.at == at && left.name.as_slice() == name.as_bytes() => left,
+            _ => open_at(self.alloc, &self.rt, name, at)?,
+        };
+        let count = read_front(&mut found.file, &mut self.piece, most)?;
+        found.at = at + count as u64;
+        self.current = Some(found);
+        into.extend_from_slice(&self.piece[..count])?;
+        Ok(count)
     }
 }
 
@@ -100,26 +102,16 @@ pub(crate) fn read_again<F: Read>(file: &mut F, buffer: &mut [u8]) -> io::Result
     Err(io::Error::from(ErrorKind::Interrupted))
 }
 
-// Reads a file from a place on into a buffer, and says how many bytes came. The file that is left
-// open stands behind them; after an error none is open.
-fn read_at<R: Files>(
-    alloc: Global,
-    rt: &R,
-    current: &mut Option<OpenFile<R::File>>,
-    name: &str,
-    at: u64,
-    buffer: &mut [u8],
-) -> io::Result<usize>
-    requires { at ≤ 2 ^ 40 }
-    ensures { IfOk result (λ count. count ≤ length buffer.old) }
+// Reads once into the front of a piece, and says how many bytes came.
+fn read_front<F: Read>(file: &mut F, piece: &mut Vec<u8>, most: u32) -> io::Result<usize>
+    ensures within { IfOk result (λ count. count ≤ most) }
+    ensures front { IfOk result (λ count. count ≤ length piece.new.items) }
 {
-    let mut found = match current.take() {
-        Some(left) if left.at == at && left.name.as_slice() == name.as_bytes() => left,
-        _ => open_at(alloc, rt, name, at)?,
-    };
-    let count = read_again(&mut found.file, buffer)?;
-    found.at = at + count as u64;
-    *current = Some(found);
+    if piece.is_empty() {
+        piece.resize(PIECE, 0)?;
+    }
+    let wanted = piece.len().min(most as usize);
+    let count = read_again(file, &mut piece[..wanted])?;
     Ok(count)
 }
 
