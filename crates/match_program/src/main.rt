@@ -13,7 +13,6 @@
 //! Read the clause of `run` first, and then `specs/Words.antt` and `specs/commands/Matches.antt`.
 #![tactic(auto)]
 
-mod certificate_file;
 mod commands;
 pub mod laws;
 mod matcher;
