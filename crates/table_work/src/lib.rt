@@ -6,8 +6,8 @@
 //! `specs/Preload.antt`, which is to be read first.
 #![tactic(auto)]
 
-mod preload;
+mod preloading;
 mod table;
 
-pub use preload::preload;
+pub use preloading::preload;
 pub use table::write_table;

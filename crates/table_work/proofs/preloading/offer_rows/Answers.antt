@@ -8,7 +8,7 @@ use Rattle.program_frame.specs.declared.stop.Refusal.TheVariants.{Table}
 use Rattle.road_network.specs.Net.{HasNode}
 use Rattle.table_work.specs.Preload.{row_said, rows_said}
 use Rattle.table_work.proofs.Preloads.{rows_left, rows_refused}
-use Rattle.table_work.proofs.preload.offer_rows.Goals as goal
+use Rattle.table_work.proofs.preloading.offer_rows.Goals as goal
 
 pub loop-row-preserved : goal.loop-row-preserved
 loop-row-preserved c =

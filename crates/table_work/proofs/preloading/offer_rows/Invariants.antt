@@ -3,7 +3,7 @@ use Rattle.std.specs.Vec.Iter.{into_iter_items, into_iter_len}
 use Rattle.bounded_search.specs.Table.{TableRow}
 use Rattle.road_network.specs.Net.{HasNode}
 use Rattle.table_work.specs.Preload.{rows_said}
-use Rattle.table_work.proofs.preload.offer_rows.Given as goal
+use Rattle.table_work.proofs.preloading.offer_rows.Given as goal
 
 -- what is said of the rows that are left is said of all
 abbrev pub invariant-loop-row : goal.invariant-loop-row

@@ -1,6 +1,6 @@
 use Rattle.std.proofs.Common.{◌≡◌, true, false, rules}
 use Rattle.table_work.proofs.TriedRows.{IsTried, right_said, wrong_said}
-use Rattle.table_work.proofs.preload.offer_row.Goals as goal
+use Rattle.table_work.proofs.preloading.offer_row.Goals as goal
 
 pub returns-then-not-check-clause-said : goal.returns-then-not-check-clause-said
 returns-then-not-check-clause-said c =

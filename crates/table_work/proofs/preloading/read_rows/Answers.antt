@@ -1,7 +1,7 @@
 use Rattle.std.proofs.Common.{sym, ◌∙◌}
 use Rattle.table_work.proofs.Preloads.{IsCallFor, called}
 use Rattle.table_work.proofs.TriedRows.{have_nodes}
-use Rattle.table_work.proofs.preload.read_rows.Goals as goal
+use Rattle.table_work.proofs.preloading.read_rows.Goals as goal
 
 pub returns-in-Ok-clause-nodes : goal.returns-in-Ok-clause-nodes
 returns-in-Ok-clause-nodes c =

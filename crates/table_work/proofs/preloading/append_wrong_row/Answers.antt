@@ -2,7 +2,7 @@ use Rattle.std.proofs.Common.{◌≡◌, ℕ, List, [], ◌∷◌, ◌++◌, app
 use Rattle.std.specs.Prelude.{codes}
 use Rattle.std.proofs.lemmas.Result.{on_ok_weaker}
 use Rattle.decimal_text.specs.Number.{decimal}
-use Rattle.table_work.proofs.preload.append_wrong_row.Goals as goal
+use Rattle.table_work.proofs.preloading.append_wrong_row.Goals as goal
 
 written : (base one two new a b c d : List ℕ) → one ≡ base ++ a → two ≡ one ++ b → new ≡ two ++ (c ++ d) → new ≡ base ++ (a ++ b ++ c ++ d)
 written base one two new a b c d h1 h2 h3 = rw (h3, h2, h1) (simp append_assoc)
