@@ -1,5 +1,5 @@
 -- A certificate's file, read block by block.
-use Rattle.std.proofs.Common.{◌≡◌, ℕ, ◌+◌, ◌≤◌, Bool, true, false, nat_le, List, [], ◌∷◌, ◌++◌, length, take, drop, Option, Some, None, Result, Ok, Err, refl, sym, ap, subst, ◌∙◌, append_assoc, arith, length-append}
+use Rattle.std.proofs.Common.{◌≡◌, ℕ, ◌+◌, ◌≤◌, Bool, true, false, nat_le, List, [], ◌++◌, length, take, drop, Option, Some, None, refl, sym, ap, subst, ◌∙◌, append_assoc, arith, length-append}
 use Rattle.std.specs.Prelude.{MatchOption}
 use Rattle.std.proofs.lemmas.Bool.Decides.{nat_tests}
 use Rattle.std.proofs.lemmas.List.{append-nil}
@@ -9,7 +9,8 @@ use Rattle.edge_io.specs.declared.shelf.Taken.TheVariants.{End, Got}
 use Rattle.potential_certificate.specs.CertificateText.{text_limit}
 use Rattle.program_frame.specs.Read.{IsReadSoFar, IsReadWhole}
 use Rattle.program_frame.proofs.Streaming.{read_end, read_full, read_more}
-use Rattle.check_work.specs.CertificateFiles.{IsRead}
+use Rattle.check_work.specs.CertificateFiles.{IsRead, ReadsBlock}
+use Rattle.check_work.specs.declared.certificate_file.Block.{Block}
 
 abbrev Told : Type 0
 Told = Option (List ℕ → Option (List ℕ))
@@ -60,6 +61,15 @@ block_ends shelf shelf' name from old new same within so_far is reads fed long f
     let whole = read_end text_limit shelf.holds name (fed ++ old) new (so_far fed long front) (omega (arith, within, at)) into in
     subst (λ (t : List ℕ). IsReadWhole shelf.holds name text_limit (fed ++ t)) (sym is) whole
 
+-- a block behind which the file does not go on
+pub last_block : (name : List ℕ) (shelf shelf' : ShelfState) (block : Block) → shelf' ≡ shelf → ((fed : List ℕ) → length fed ≡ block.from → IsReadSoFar shelf.holds name fed → IsReadWhole shelf.holds name text_limit (fed ++ block.bytes.items)) → ReadsBlock name shelf shelf' block false
+last_block name shelf shelf' block same whole = record {
+  same = same;
+  some = λ (on : false ≡ true). absurd (cc on);
+  within = λ (on : false ≡ true). absurd (cc on);
+  read = whole;
+}
+
 -- a block that was read to its own end, which is behind the limit or is not
 pub block_full : (shelf : ShelfState) (name : List ℕ) (from end : ℕ) (block : List ℕ) (goes_on : Bool) → nat_le end text_limit ≡ goes_on → end ≤ text_limit + 1 → from + length block ≡ end → Front shelf name from block
     → (fed : List ℕ) → length fed ≡ from → IsReadSoFar shelf.holds name fed → IsRead shelf.holds name (fed ++ block) goes_on
@@ -67,3 +77,20 @@ block_full shelf name from end block true test low full so_far fed long front = 
 block_full shelf name from end block false test low full so_far fed long front =
     let above : text_limit + 1 ≤ end = grind (arith, nat_tests, test) in
     read_full text_limit shelf.holds name (fed ++ block) (so_far fed long front) (omega (arith, long, full, low, above, length-append fed block))
+
+-- ---- block by block
+
+-- the file goes on behind a block
+pub read_on : (name : List ℕ) (shelf shelf' : ShelfState) (block : Block) (goes_on : Bool) (fed more : List ℕ) → ReadsBlock name shelf shelf' block goes_on → goes_on ≡ true → length fed ≡ block.from → IsReadSoFar shelf.holds name fed → more ≡ fed ++ block.bytes.items
+    → IsReadSoFar shelf.holds name more
+read_on name shelf shelf' block goes_on fed more reads on long front is =
+    subst (λ (t : List ℕ). IsReadSoFar shelf.holds name t) (sym is) (subst (λ (b : Bool). IsRead shelf.holds name (fed ++ block.bytes.items) b) on (reads.read fed long front))
+
+-- a block of the same shelf
+pub same_block : (name : List ℕ) (first shelf shelf' : ShelfState) (block : Block) (goes_on : Bool) → shelf ≡ first → ReadsBlock name shelf shelf' block goes_on → ReadsBlock name first first block goes_on
+same_block name first shelf shelf' block goes_on same reads = record {
+  same = refl;
+  some = reads.some;
+  within = reads.within;
+  read = subst (λ (s : ShelfState). (fed : List ℕ) → length fed ≡ block.from → IsReadSoFar s.holds name fed → IsRead s.holds name (fed ++ block.bytes.items) goes_on) same reads.read;
+}

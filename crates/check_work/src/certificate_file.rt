@@ -146,8 +146,7 @@ pub fn read_certificate_file<R: Threads + Sync, S: Shelf>(
     let mut goes_on = fill(shelf, name, &mut block)?;
     while goes_on {
         let next = next_block(&block, spare, size);
-        let (more, filled, on) =
-            take_and_fill(rt, &mut *shelf, name, reader, &block.bytes, next)?;
+        let (more, filled, on) = take_and_fill(rt, &mut *shelf, name, reader, &block.bytes, next)?;
         reader = more;
         spare = block.bytes;
         block = filled;
