@@ -80,6 +80,10 @@ block_full shelf name from end block false test low full so_far fed long front =
 
 -- ---- block by block
 
+-- a block was taken in
+pub taken_in : (reader full bytes more : List ℕ) → more ≡ reader ++ full → full ≡ bytes → more ≡ reader ++ bytes
+taken_in reader full bytes more is same = is ∙ ap (λ (t : List ℕ). reader ++ t) same
+
 -- the file goes on behind a block
 pub read_on : (name : List ℕ) (shelf shelf' : ShelfState) (block : Block) (goes_on : Bool) (fed more : List ℕ) → ReadsBlock name shelf shelf' block goes_on → goes_on ≡ true → length fed ≡ block.from → IsReadSoFar shelf.holds name fed → more ≡ fed ++ block.bytes.items
     → IsReadSoFar shelf.holds name more

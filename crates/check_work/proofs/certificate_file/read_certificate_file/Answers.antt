@@ -1,5 +1,5 @@
 use Rattle.std.proofs.Common.{◌≡◌, List, ℕ, ◌++◌, true, length, ap, arith, rules, ◌∙◌, length-append}
-use Rattle.check_work.proofs.CertificateFiles.{read_on, same_block}
+use Rattle.check_work.proofs.CertificateFiles.{read_on, same_block, taken_in}
 use Rattle.check_work.proofs.certificate_file.read_certificate_file.Goals as goal
 
 pub loop-goes_on-preserved : goal.loop-goes_on-preserved
@@ -9,7 +9,7 @@ loop-goes_on-preserved g c =
     let left = c.in_ok-more in
     let first = g.S.Shelf.state c.fill.new.shelf in
     let on : at.goes_on ≡ true = search (rules, c.loop-goes_on-test.true) in
-    let taken : left.more ≡ at.reader ++ at.block.bytes.items = left.ensures.taken ∙ ap (λ (t : List ℕ). at.reader ++ t) c.deref.ensures.value in
+    let taken : left.more ≡ at.reader ++ at.block.bytes.items = taken_in at.reader c.deref.result.now at.block.bytes.items left.more left.ensures.taken c.deref.ensures.value in
     record {
       same = left.ensures.ok.same ∙ i.same;
       place = omega (arith, ap (λ (t : List ℕ). length t) taken, length-append at.reader at.block.bytes.items, i.place, c.next_block-next.ensures.place, left.ensures.place);
