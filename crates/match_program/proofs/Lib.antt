@@ -1,17 +1,13 @@
 pub mod AcceptedOptions
 pub mod Asked
 pub mod Asking
-pub mod CheckedProofs
 pub mod Jobs
 pub mod Lines
 pub mod Matches
-pub mod Preloads
 pub mod ProvedTexts
 pub mod Sharing
 pub mod TableFiles
-pub mod TableRows
 pub mod Towns
-pub mod TriedRows
 pub mod WholeTraces
 pub mod Workers
 pub mod StreamJobs
@@ -21,4 +17,3 @@ pub mod ReadIds
 pub mod ReadNetworks
 pub mod ProvedFiles
 pub mod ProvedRuns
-mod CertificateFiles

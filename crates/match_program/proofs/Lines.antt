@@ -30,12 +30,12 @@ use Rattle.match_program.specs.RunLines.{run_lines}
 use Rattle.match_program.specs.Setting.{Setting}
 use Rattle.match_program.specs.Words.{asked_by, command_plan, work_plan}
 use Rattle.follow_work.specs.Follow.{follow_job}
-use Rattle.match_program.specs.commands.Check.{check_said}
+use Rattle.check_work.specs.Check.{check_said}
 use Rattle.match_program.specs.commands.Matches.{match_text}
-use Rattle.match_program.specs.commands.Preload.{preloads, table_file_said}
+use Rattle.table_work.specs.Preload.{preloads, table_file_said}
 use Rattle.match_program.specs.commands.Prove.{certificate_too_long, prove_said, text_of_proofs}
 use Rattle.match_program.specs.commands.Streams.{streams_job, too_long_line}
-use Rattle.match_program.specs.commands.Table.{table_said, table_too_long, text_of_network}
+use Rattle.table_work.specs.Table.{table_said, table_too_long, text_of_network}
 
 traces_end : (texts ending bytes : List ℕ) (fault : Option TraceFault) (status : ℕ) (line : List ℕ) → file_fault bytes ≡ fault → status ≢ 0 → IsLineOf (ends (given_by None fault texts ending)) status line → run_lines status line
 traces_end texts ending bytes (Some fault) status line known refused is = inl (inr (inr (sym is.0, (bytes, ap (λ f. line_in f) known ∙ ap (λ l. Some l) is.1))))

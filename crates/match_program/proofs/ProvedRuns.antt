@@ -23,7 +23,7 @@ use Rattle.trace_reader.specs.declared.trace.Trace.{Trace}
 use Rattle.match_program.specs.ProvedRuns.{ProvedRunsAreAccepted}
 use Rattle.match_program.specs.Setting.{Setting}
 use Rattle.match_program.specs.Words.{asked_by, command_plan}
-use Rattle.match_program.specs.commands.Check.{certificate_in, check_said, proved_line, proved_or_refused, verdict_said}
+use Rattle.check_work.specs.Check.{certificate_in, check_said, proved_line, proved_or_refused, verdict_said}
 use Rattle.match_program.specs.commands.Prove.{prove_plan, prove_said, text_of_proofs}
 use Rattle.match_program.proofs.AcceptedOptions.{accepted_words}
 use Rattle.match_program.proofs.ProvedFiles.{proved_files_are_accepted}

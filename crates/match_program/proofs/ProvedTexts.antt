@@ -25,7 +25,7 @@ use Rattle.trace_match.specs.Match.{asks}
 use Rattle.trace_reader.specs.declared.trace.Trace.{Trace}
 use Rattle.match_program.specs.ProvedTexts.{ProvedTextsAreAccepted}
 use Rattle.match_program.specs.Setting.{Setting}
-use Rattle.match_program.specs.commands.Check.{certificate_fault_line, check_said, proved_line, proved_or_refused, verdict_said}
+use Rattle.check_work.specs.Check.{certificate_fault_line, check_said, proved_line, proved_or_refused, verdict_said}
 use Rattle.match_program.specs.commands.Prove.{certificate_too_long, text_of_proofs}
 
 -- ---- the text

@@ -8,7 +8,7 @@ use Rattle.road_network.specs.Net.{Net}
 use Rattle.table_file.specs.TableText.{text_limit}
 use Rattle.match_program.specs.TableFiles.{TableFilesChangeNothing}
 use Rattle.match_program.specs.commands.Matches.{match_text}
-use Rattle.match_program.specs.commands.Preload.{preloads, table_file_said}
+use Rattle.table_work.specs.Preload.{preloads, table_file_said}
 
 module _ (files : List ℕ → Option (List ℕ)) (o : Outcome) (other : o.status ≢ 9) where
   by_said : (next : Plan) (said : Result (Unit {0}) (List ℕ)) → outcome_of (accepts 9 said (λ _. next)) files ≡ Some o → outcome_of next files ≡ Some o

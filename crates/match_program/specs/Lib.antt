@@ -10,4 +10,3 @@ pub mod TableFiles
 pub mod Workers
 pub mod Words
 pub mod commands
-pub mod CertificateFiles

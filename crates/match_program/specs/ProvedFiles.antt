@@ -7,7 +7,7 @@ use Rattle.program_frame.specs.WholeTraces.{traces_said}
 use Rattle.prove_work.specs.Certificates.{certificate_of}
 use Rattle.road_network.specs.Net.{Net}
 use Rattle.trace_reader.specs.declared.trace.Trace.{Trace}
-use Rattle.match_program.specs.commands.Check.{check_said, proved_line}
+use Rattle.check_work.specs.Check.{check_said, proved_line}
 use Rattle.match_program.specs.commands.Prove.{prove_said}
 
 -- where the files are accepted, a text that `prove` writes of them is accepted by `check`, with the

@@ -7,7 +7,7 @@ use Rattle.potential_certificate.specs.declared.proof.Certificate.{Certificate}
 use Rattle.program_frame.specs.Outcome.{Outcome, done_with}
 use Rattle.program_frame.specs.Plan.{outcome_of, plan_of}
 use Rattle.match_program.specs.Words.{asked_by}
-use Rattle.match_program.specs.commands.Check.{certificate_in, proved_line}
+use Rattle.check_work.specs.Check.{certificate_in, proved_line}
 
 -- the words of `prove` and of `check`, with the same files and options, where the certificate file
 -- has this text

@@ -4,11 +4,11 @@ use Rattle.program_frame.specs.Refusals.{refusal_lines}
 use Rattle.road_network.specs.Net.{Net}
 use Rattle.trace_reader.specs.declared.trace.Trace.{Trace}
 use Rattle.match_program.specs.Setting.{Setting}
-use Rattle.match_program.specs.commands.Check.{check_said}
-use Rattle.match_program.specs.commands.Preload.{table_file_said}
+use Rattle.check_work.specs.Check.{check_said}
+use Rattle.table_work.specs.Preload.{table_file_said}
 use Rattle.match_program.specs.commands.Prove.{certificate_too_long}
 use Rattle.match_program.specs.commands.Streams.{too_long_line}
-use Rattle.match_program.specs.commands.Table.{table_too_long}
+use Rattle.table_work.specs.Table.{table_too_long}
 
 -- those of words, networks and traces, that of an id that is too long, those of a table and a certificate
 -- that are too long, those of a table file, and those of a certificate that is refused

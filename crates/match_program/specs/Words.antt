@@ -8,11 +8,11 @@ use Rattle.command_line.specs.Words.{command_of}
 use Rattle.cost_model.specs.declared.params.Params.{Params}
 use Rattle.program_frame.specs.Plan.{Plan}
 use Rattle.follow_work.specs.Follow.{follow_plan}
-use Rattle.match_program.specs.commands.Check.{check_plan}
+use Rattle.check_work.specs.Check.{check_plan}
 use Rattle.match_program.specs.commands.Matches.{match_plan}
 use Rattle.match_program.specs.commands.Prove.{prove_plan}
 use Rattle.match_program.specs.commands.Streams.{streams_plan}
-use Rattle.match_program.specs.commands.Table.{table_plan}
+use Rattle.table_work.specs.Table.{table_plan}
 use Rattle.match_program.specs.commands.Towns.{town_plan}
 
 -- the plan of a work with these options: a row for each command

@@ -1,15 +1,9 @@
-pub mod Check
-pub mod CheckDone
 pub mod Matches
 pub mod MatchesDone
-pub mod Preload
-pub mod PreloadDone
 pub mod Prove
 pub mod ProveDone
 pub mod Streams
 pub mod StreamTexts
 pub mod StreamsDone
-pub mod Table
-pub mod TableDone
 pub mod Towns
 pub mod TownsDone

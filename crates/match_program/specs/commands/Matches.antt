@@ -15,7 +15,7 @@ use Rattle.program_frame.specs.declared.stop.File.TheVariants.{Network}
 use Rattle.trace_match.specs.Match.{match_of}
 use Rattle.trace_reader.specs.declared.trace.Trace.{Trace}
 use Rattle.match_program.specs.Setting.{Setting}
-use Rattle.match_program.specs.commands.Preload.{preloads}
+use Rattle.table_work.specs.Preload.{preloads}
 
 -- the texts of traces, in their order
 abbrev pub texts_of : Setting → List Trace → List ℕ

@@ -11,7 +11,6 @@ ghost use Rattle.match_program.specs.Sharing.{IsStoreFor, MatchesBatch, MatchesB
 ghost use Rattle.match_program.specs.commands.Matches.{match_plan, match_text};
 ghost use Rattle.match_program.specs.commands.MatchesDone.{HasMatched};
 
-use crate::commands::preload::preload;
 use crate::matcher::Matcher;
 use cost_model::Params;
 use edge_io::{Shelf, Sink};
@@ -22,6 +21,7 @@ use program_frame::{Job, Stop, Tally, load_network, work_traces};
 use row_store::{Reader, RowStore, known_count};
 use std::alloc::{AllocError, Global};
 use std::thread::Threads;
+use table_work::preload;
 use trace_reader::Trace;
 
 // Matches traces batch by batch, and counts them. The readers are those of the workers, over all

@@ -102,7 +102,6 @@ const RUNS: [Run; 8] = [
             "traces",
             "certificate",
             "certificate",
-            "certificate",
         ],
         puts: 1,
         status: 0,

@@ -4,7 +4,7 @@ use Rattle.program_frame.specs.Performs.{Performs}
 use Rattle.program_frame.specs.Stream.{works_traces}
 use Rattle.program_frame.proofs.Stages.{loads_fails, loads_performs, memory_performs}
 use Rattle.match_program.specs.commands.Matches.{match_text}
-use Rattle.match_program.proofs.Preloads.{preloads_fails, preloads_performs}
+use Rattle.table_work.proofs.Preloads.{preloads_fails, preloads_performs}
 use Rattle.match_program.proofs.commands.matches.match_traces.Goals as goal
 
 pub returns-in_err-roads : goal.returns-in_err-roads

@@ -3,9 +3,10 @@ use Rattle.std.proofs.lemmas.Result.{err_from_is_err_and}
 use Rattle.program_frame.specs.declared.stop.Refusal.TheVariants.{TooLong}
 use Rattle.program_frame.proofs.Stages.{accepts_performs, accepts_refuses, ends_performs, loads_fails, loads_performs, memory_performs}
 use Rattle.trace_reader.specs.Trace.{IsLawfulTrace}
+use Rattle.check_work.proofs.WholeTraces.{taken_lawful}
 use Rattle.match_program.specs.Setting.{Setting}
 use Rattle.match_program.specs.commands.Prove.{prove_said}
-use Rattle.match_program.proofs.WholeTraces.{said_of_taken, taken_lawful, taken_refused}
+use Rattle.match_program.proofs.WholeTraces.{said_of_taken, taken_refused}
 use Rattle.match_program.proofs.commands.prove.prove_traces.Goals as goal
 
 pub text_of_proofs-requires : goal.text_of_proofs-requires

@@ -1,0 +1,3 @@
+pub mod CertificateFiles
+pub mod CheckedProofs
+pub mod WholeTraces

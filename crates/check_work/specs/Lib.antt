@@ -1,0 +1,3 @@
+pub mod CertificateFiles
+pub mod Check
+pub mod CheckDone

@@ -1,0 +1,156 @@
+// A certificate's file, read block by block while the block before is taken in. Serves `check`; decided by `ReadsWhole`.
+ghost use Rattle.std.specs.Prelude.{◌≡◌, ◌+◌, ◌≤◌, ◌<◌, ◌^◌, ◌++◌, IfErr, IfOk, length};
+ghost use Rattle.potential_certificate.specs.CertificateText.{text_limit};
+ghost use Rattle.program_frame.specs.Read.{FailsToRead, ReadsWhole};
+ghost use Rattle.check_work.specs.CertificateFiles.{IsToBeRead, ReadsBlock};
+
+use edge_io::{Shelf, Taken};
+use potential_certificate::{CertificateReader, TEXT_LIMIT};
+use program_frame::{File, Stop};
+use std::alloc::{AllocError, Global};
+use std::thread;
+use std::thread::Threads;
+
+// The most bytes of one read.
+const PIECE: u64 = 65_536;
+
+// The bytes of a file behind a place, at most so many.
+#[derive(Drop)]
+struct Block {
+    from: u64,
+    most: u64,
+    bytes: Vec<u8>,
+}
+
+// An empty block behind this one, in memory of its own.
+fn next_block(block: &Block, memory: Vec<u8>, most: u64) -> Block
+    requires within { block.now.from + length block.now.bytes.items ≤ text_limit }
+    requires most { (1 ≤ most) × (most < 2 ^ 40) }
+    ensures place { result.from ≡ block.now.from + length block.now.bytes.items }
+    ensures empty { IsToBeRead result }
+{
+    let mut bytes = memory;
+    bytes.truncate(0);
+    Block {
+        from: block.from + block.bytes.len() as u64,
+        most,
+        bytes,
+    }
+}
+
+// Reads a block, and says whether the file may go on behind it: it does not where its end was told, or the first byte
+// above the limit was read.
+fn fill<S: Shelf>(shelf: &mut S, name: &str, block: &mut Block) -> Result<bool, Stop>
+    requires { IsToBeRead block.old }
+    ensures place { block.new.from ≡ block.old.from }
+    ensures ok { IfOk result (ReadsBlock name.now
+        (S.state shelf.old) (S.state shelf.new) block.new) }
+    ensures err { IfErr result (FailsToRead File.Certificate name.now
+        (S.state shelf.old) (S.state shelf.new)) }
+{
+    let end = (block.from + block.most).min(TEXT_LIMIT + 1);
+    while block.from + (block.bytes.len() as u64) < end {
+        let at = block.from + block.bytes.len() as u64;
+        let most = (end - at).min(PIECE) as u32;
+        match shelf.read(name, at, &mut block.bytes, most) {
+            Taken::Got(_) => {}
+            Taken::End => return Ok(false),
+            Taken::Failed => return Err(Stop::Unread(File::Certificate)),
+            Taken::NoMemory => return Err(Stop::NoMemory),
+        }
+    }
+    Ok(end <= TEXT_LIMIT)
+}
+
+// Takes a block in.
+fn take<R: Threads + Sync>(
+    rt: &R,
+    reader: CertificateReader,
+    full: &[u8],
+) -> Result<CertificateReader, Stop>
+    ensures ok { IfOk result (λ more. more ≡ reader ++ full.now) }
+    ensures err { IfErr result (λ stop. stop ≡ Stop.NoMemory) }
+{
+    match reader.push(rt, full) {
+        Ok(more) => Ok(more),
+        Err(_) => Err(Stop::NoMemory),
+    }
+}
+
+// Takes a block in, and reads the next one meanwhile.
+fn take_and_fill<R: Threads + Sync, S: Shelf>(
+    rt: &R,
+    shelf: &mut S,
+    name: &str,
+    reader: CertificateReader,
+    full: &[u8],
+    next: Block,
+) -> Result<(CertificateReader, Block, bool), Stop>
+    requires { IsToBeRead next }
+    ensures taken { IfOk result (λ left. left.0 ≡ reader ++ full.now) }
+    ensures place { IfOk result (λ left. left.1.from ≡ next.from) }
+    ensures ok { IfOk result (λ left. ReadsBlock name.now
+        (S.state shelf.old) (S.state shelf.new) left.1 left.2) }
+    ensures err { IfErr result (FailsToRead File.Certificate name.now
+        (S.state shelf.old) (S.state shelf.new)) }
+{
+    let (taken, (block, filled, _shelf)) = thread::join(
+        rt,
+        move || -> Result<CertificateReader, AllocError>
+            ensures { IfOk result (λ more. more ≡ reader ++ full.entry.now) }
+        { reader.push(rt, full) },
+        move || -> (Block, Result<bool, Stop>, &mut S)
+            requires { IsToBeRead next }
+            ensures place { result.0.from ≡ next.from }
+            ensures ok { IfOk result.1 (ReadsBlock name.entry.now
+                (S.state shelf.entry.now) (S.state result.2.now) result.0) }
+            ensures err { IfErr result.1 (FailsToRead File.Certificate name.entry.now
+                (S.state shelf.entry.now) (S.state result.2.now)) }
+            ensures lent { result.2.ghost_name ≡ shelf.entry.ghost_name }
+        {
+            let mut block = next;
+            let filled = fill(&mut *shelf, name, &mut block);
+            (block, filled, shelf)
+        },
+    );
+    let goes_on = filled?;
+    match taken {
+        Ok(more) => Ok((more, block, goes_on)),
+        Err(_) => Err(Stop::NoMemory),
+    }
+}
+
+/// Reads a certificate's file from its start to its end or to the first byte above the limit, in blocks of at most so
+/// many bytes. Of the text only the parts that are no proof or row are kept, and two blocks.
+pub fn read_certificate_file<R: Threads + Sync, S: Shelf>(
+    rt: &R,
+    alloc: Global,
+    shelf: &mut S,
+    name: &str,
+    size: u64,
+) -> Result<CertificateReader, Stop>
+    requires { (1 ≤ size) × (size < 2 ^ 40) }
+    ensures ok { IfOk result (λ reader. ReadsWhole name.now text_limit
+        (S.state shelf.old) (S.state shelf.new) reader) }
+    ensures err { IfErr result (FailsToRead File.Certificate name.now
+        (S.state shelf.old) (S.state shelf.new)) }
+{
+    let mut reader = CertificateReader::new(alloc);
+    let mut spare = Vec::new(alloc);
+    // The first block is read alone, so it is a small one.
+    let mut block = Block {
+        from: 0,
+        most: size.div_ceil(4),
+        bytes: Vec::new(alloc),
+    };
+    let mut goes_on = fill(shelf, name, &mut block)?;
+    while goes_on {
+        let next = next_block(&block, spare, size);
+        let (more, filled, on) = take_and_fill(rt, &mut *shelf, name, reader, &block.bytes, next)?;
+        reader = more;
+        spare = block.bytes;
+        block = filled;
+        goes_on = on;
+    }
+    take(rt, reader, &block.bytes)
+}

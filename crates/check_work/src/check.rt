@@ -1,0 +1,211 @@
+// `check NET TRACES CERT`. Serves the program; decided by `check_plan`.
+ghost use Rattle.std.specs.Prelude.{◌≡◌, ◌++◌, ◌<◌, ◌^◌, All, Ok, IfOk, OnOk};
+ghost use Rattle.cert_checker.specs.Rows.{first_bad_row};
+ghost use Rattle.cert_checker.specs.Whole.{verdict};
+ghost use Rattle.cost_model.specs.Options.{IsAccepted};
+ghost use Rattle.potential_certificate.specs.CertificateText.{text_limit};
+ghost use Rattle.program_frame.specs.Loads.{Accepts, Loads};
+ghost use Rattle.program_frame.specs.Performs.{Performs};
+ghost use Rattle.trace_reader.specs.Trace.{IsLawfulTrace};
+ghost use Rattle.check_work.specs.Check.{certificate_fault_line, certificate_in, check_plan, check_said, pieces_in, pieces_proved, proved_line, verdict_said};
+ghost use Rattle.check_work.specs.CheckDone.{RefusesCertificate};
+
+use crate::certificate_file::read_certificate_file;
+use crate::verdicts::{accept_verdict, row_refused};
+use bounded_search::Row;
+use cert_checker::check_all;
+use cost_model::Params;
+use decimal_text::write_unsigned;
+use edge_io::{Shelf, Sink};
+use polyline_geometry::List;
+use potential_certificate::{CertFault, Certificate, CertificateReader, TraceProof};
+use program_frame::{File, Refusal, Stop, load_network, load_traces, put_text};
+use rayon::prelude::*;
+use road_network::Network;
+use std::alloc::{AllocError, Global};
+use std::thread;
+use std::thread::Threads;
+use trace_reader::Trace;
+
+// So many bytes of a certificate are read at once: enough for all processors to read their rows, and no more than are
+// soon read.
+const BLOCK: u64 = 8_388_608;
+
+// Appends the line of a fault of the text.
+fn append_fault(fault: CertFault, line: &mut List<u8>) -> Result<(), AllocError>
+    ensures { OnOk result (line.new ≡ line.old ++ certificate_fault_line fault) }
+{
+    match fault {
+        CertFault::BadLine(number) => {
+            line.extend_from_slice(b"certificate line ")?;
+            write_unsigned(number, line)?;
+            line.extend_from_slice(b": bad line\n")
+        }
+        CertFault::Cut => line.extend_from_slice(b"certificate: cut\n"),
+        CertFault::TooLong => line.extend_from_slice(b"certificate: too long\n"),
+        CertFault::Memory => Ok(()),
+    }
+}
+
+fn refuse_text(alloc: Global, fault: CertFault) -> Stop
+    ensures { RefusesCertificate fault result }
+{
+    if let CertFault::Memory = fault {
+        return Stop::NoMemory;
+    }
+    let mut line = List::new(alloc);
+    match append_fault(fault, &mut line) {
+        Ok(()) => Stop::Refused(Refusal::Certificate, line),
+        Err(_) => Stop::NoMemory,
+    }
+}
+
+// The certificate of a text.
+fn read_proofs(
+    alloc: Global,
+    options: &Params,
+    text: CertificateReader,
+) -> Result<Certificate, Stop>
+    ensures said { Accepts Refusal.Certificate (certificate_in options.now text) result }
+    ensures few { IfOk result (λ certificate. pieces_proved certificate < 2 ^ 63) }
+{
+    match text.finish(options) {
+        Ok(certificate) => Ok(certificate),
+        Err(fault) => Err(refuse_text(alloc, fault)),
+    }
+}
+
+// How many pieces proofs have.
+fn count_pieces(proofs: &[TraceProof]) -> u64
+    requires { pieces_in proofs.now < 2 ^ 63 }
+    ensures { result ≡ pieces_in proofs.now }
+{
+    proofs.iter().map(|proof| proof.pieces.len() as u64).sum()
+}
+
+// Appends the line of a certificate that is proved.
+fn append_proved(certificate: &Certificate, line: &mut List<u8>) -> Result<(), AllocError>
+    requires { pieces_proved certificate.now < 2 ^ 63 }
+    ensures { OnOk result (line.new ≡ line.old ++ proved_line certificate.now) }
+{
+    line.extend_from_slice(b"proved traces ")?;
+    write_unsigned(certificate.proofs.len() as u64, line)?;
+    line.extend_from_slice(b" pieces ")?;
+    write_unsigned(count_pieces(certificate.proofs.as_slice()), line)?;
+    line.extend_from_slice(b" rows ")?;
+    write_unsigned(certificate.rows.len() as u64, line)?;
+    line.extend_from_slice(b"\n")
+}
+
+// Accepts a certificate that is proved, and refuses another.
+fn check_proofs<R: Threads + Sync>(
+    rt: &R,
+    alloc: Global,
+    roads: &Network,
+    options: &Params,
+    traces: &[Trace],
+    certificate: &Certificate,
+) -> Result<(), Stop>
+    requires options { IsAccepted options.now }
+    requires traces { All IsLawfulTrace traces.now }
+    ensures { Accepts Refusal.Certificate
+        (verdict_said (first_bad_row roads.now options.now.bound certificate.now.rows)
+        (verdict roads.now options.now traces.now certificate.now)) result }
+{
+    let Ok(verdict) = check_all(rt, alloc, roads, options, traces, certificate) else {
+        return Err(Stop::NoMemory);
+    };
+    let bad_row = row_refused(roads, options.bound, certificate.rows.as_slice(), verdict);
+    accept_verdict(alloc, bad_row, verdict)
+}
+
+// Gives back the memory of a certificate: that of its proofs, and beside it that of its rows, side by side.
+fn let_go<R: Threads + Sync>(rt: &R, certificate: Certificate) {
+    let Certificate { proofs, rows } = certificate;
+    thread::join(
+        rt,
+        move || {
+            let _proofs = proofs;
+        },
+        move || {
+            rows.into_vec().into_par_iter().for_each(rt, |row: Row| {
+                let _row = row;
+            });
+        },
+    );
+}
+
+// The line of a text whose certificate is proved, or the refusal of the text or of the certificate.
+fn accept_certificate<R: Threads + Sync>(
+    rt: &R,
+    alloc: Global,
+    roads: &Network,
+    options: &Params,
+    traces: &[Trace],
+    text: CertificateReader,
+) -> Result<List<u8>, Stop>
+    requires options { IsAccepted options.now }
+    requires traces { All IsLawfulTrace traces.now }
+    ensures { Accepts Refusal.Certificate
+        (check_said (record { network = roads.now; params = options.now }) traces.now text)
+        result }
+{
+    let certificate = read_proofs(alloc, options, text)?;
+    check_proofs(rt, alloc, roads, options, traces, &certificate)?;
+    let mut line = List::new(alloc);
+    let written = append_proved(&certificate, &mut line);
+    let_go(rt, certificate);
+    match written {
+        Ok(()) => Ok(line),
+        Err(_) => Err(Stop::NoMemory),
+    }
+}
+
+fn load_certificate<R: Threads + Sync, S: Shelf>(
+    rt: &R,
+    alloc: Global,
+    shelf: &mut S,
+    name: &str,
+    roads: &Network,
+    options: &Params,
+    traces: &[Trace],
+) -> Result<List<u8>, Stop>
+    requires options { IsAccepted options.now }
+    requires traces { All IsLawfulTrace traces.now }
+    ensures { Loads Refusal.Certificate File.Certificate name.now text_limit
+        (check_said (record { network = roads.now; params = options.now }) traces.now)
+        (S.state shelf.old) (S.state shelf.new) result }
+{
+    let text = read_certificate_file(rt, alloc, shelf, name, BLOCK)?;
+    accept_certificate(rt, alloc, roads, options, traces, text)
+}
+
+/// Reads the network, then all traces and then the certificate, and says that it is proved. The certificate is taken
+/// in block by block, by all processors, while its next block is read.
+pub fn check_traces<R: Threads + Sync, S: Shelf, K: Sink>(
+    rt: &R,
+    alloc: Global,
+    network: &str,
+    traces: &str,
+    certificate: &str,
+    options: Params,
+    shelf: &mut S,
+    out: &mut K,
+) -> Result<(), Stop>
+    requires { IsAccepted options }
+    ensures { Performs (Ok (check_plan network.now traces.now certificate.now options))
+        (S.state shelf.old) (S.state shelf.new) (K.state out.old) (K.state out.new) result }
+{
+    let roads = load_network(alloc, shelf, network)?;
+    let taken = load_traces(alloc, shelf, traces)?;
+    let line = load_certificate(
+        rt,
+        alloc,
+        shelf,
+        certificate,
+        &roads,
+        &options,
+        taken.as_slice(),
+    )?;
+    put_text(out, line.as_slice())
+}

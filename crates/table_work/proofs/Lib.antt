@@ -1,0 +1,3 @@
+pub mod Preloads
+pub mod TableRows
+pub mod TriedRows

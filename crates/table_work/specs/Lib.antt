@@ -1,0 +1,4 @@
+pub mod Preload
+pub mod PreloadDone
+pub mod Table
+pub mod TableDone

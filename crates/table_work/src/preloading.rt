@@ -1,0 +1,186 @@
+// `--table FILE` of `match`: a table that was computed beforehand, whose rows are tried one by one
+// and offered to a store. Serves the program; decided by `table_file_said`.
+ghost use Rattle.std.specs.Prelude.{◌≡◌, ◌≤◌, ◌++◌, All, IfOk, OnOk, option_map};
+ghost use Rattle.program_frame.specs.Loads.{Accepts, Loads};
+ghost use Rattle.program_frame.specs.Stops.{IsRefusalOr};
+ghost use Rattle.road_network.specs.Net.{HasNode};
+ghost use Rattle.table_file.specs.TableText.{text_limit};
+ghost use Rattle.table_work.specs.Preload.{row_said, rows_in, rows_said, table_fault_line, table_file_said, wrong_row_line};
+ghost use Rattle.table_work.specs.PreloadDone.{Preloads, RefusesText};
+
+use bounded_search::{Row, Searcher};
+use decimal_text::write_unsigned;
+use edge_io::Shelf;
+use polyline_geometry::List;
+use program_frame::{File, Refusal, Stop, read_file};
+use road_network::Network;
+use row_store::{Reader, RowStore};
+use std::alloc::{AllocError, Global};
+use table_file::{TEXT_LIMIT, TableFault, read_table};
+
+// Appends the line of a fault of the text.
+fn append_fault(fault: TableFault, line: &mut List<u8>) -> Result<(), AllocError>
+    ensures { OnOk result (line.new ≡ line.old ++ table_fault_line fault) }
+{
+    match fault {
+        TableFault::BadLine(number) => {
+            line.extend_from_slice(b"table line ")?;
+            write_unsigned(number, line)?;
+            line.extend_from_slice(b": bad line\n")
+        }
+        TableFault::Cut => line.extend_from_slice(b"table: cut\n"),
+        TableFault::TooLong => line.extend_from_slice(b"table: too long\n"),
+        TableFault::Memory => Ok(()),
+    }
+}
+
+// Appends the line of a row that is not right, with the id of its origin.
+fn append_wrong_row(id: u64, line: &mut List<u8>) -> Result<(), AllocError>
+    ensures { OnOk result (line.new ≡ line.old ++ wrong_row_line id) }
+{
+    line.extend_from_slice(b"refused table origin ")?;
+    write_unsigned(id, line)?;
+    line.extend_from_slice(b": Row\n")
+}
+
+fn refuse_text(alloc: Global, fault: TableFault) -> Stop
+    ensures { RefusesText fault result }
+{
+    if let TableFault::Memory = fault {
+        return Stop::NoMemory;
+    }
+    let mut line = List::new(alloc);
+    match append_fault(fault, &mut line) {
+        Ok(()) => Stop::Refused(Refusal::Table, line),
+        Err(_) => Stop::NoMemory,
+    }
+}
+
+fn refuse_row(alloc: Global, id: u64) -> Stop
+    ensures { IsRefusalOr Refusal.Table (wrong_row_line id) result }
+{
+    let mut line = List::new(alloc);
+    match append_wrong_row(id, &mut line) {
+        Ok(()) => Stop::Refused(Refusal::Table, line),
+        Err(_) => Stop::NoMemory,
+    }
+}
+
+// The rows of a text, which is dropped.
+fn read_rows(alloc: Global, roads: &Network, bound: u32, text: Vec<u8>) -> Result<List<Row>, Stop>
+    ensures said { Accepts Refusal.Table (rows_in roads.now bound text.items) result }
+    ensures nodes { IfOk result (All (λ row. HasNode roads.now row.origin)) }
+{
+    match read_table(alloc, bound, roads.node_count(), roads.edge_count(), &text) {
+        Ok(rows) => Ok(rows),
+        Err(fault) => Err(refuse_text(alloc, fault)),
+    }
+}
+
+// Tries a row, and offers it where it is right.
+fn offer_row(
+    alloc: Global,
+    roads: &Network,
+    searcher: &mut Searcher<'_>,
+    reader: &mut Reader<'_>,
+    row: Row,
+) -> Result<(), Stop>
+    requires networks { (searcher.old.network ≡ roads.now)
+        × (reader.old.store.network ≡ roads.now) }
+    requires bounds { reader.old.store.bound ≡ searcher.old.bound }
+    requires node { HasNode roads.now row.origin }
+    ensures same { (searcher.new ≡ searcher.old) × (reader.new.store ≡ reader.old.store) }
+    ensures said { Accepts Refusal.Table (row_said roads.now searcher.old.bound row) result }
+{
+    roads.known();
+    let origin = row.origin();
+    if !searcher.check(origin, &row) {
+        return Err(refuse_row(alloc, roads.node_name(origin)));
+    }
+    match reader.offer_right(origin, row) {
+        Ok(_) => Ok(()),
+        Err(_) => Err(Stop::NoMemory),
+    }
+}
+
+// Tries all rows in their order, and offers each that is right.
+fn offer_rows(
+    alloc: Global,
+    roads: &Network,
+    searcher: &mut Searcher<'_>,
+    reader: &mut Reader<'_>,
+    rows: List<Row>,
+) -> Result<(), Stop>
+    requires networks { (searcher.old.network ≡ roads.now)
+        × (reader.old.store.network ≡ roads.now) }
+    requires bounds { reader.old.store.bound ≡ searcher.old.bound }
+    requires nodes { All (λ row. HasNode roads.now row.origin) rows }
+    ensures { Accepts Refusal.Table (rows_said roads.now searcher.old.bound rows) result }
+{
+    for row in rows.into_vec() {
+        offer_row(alloc, roads, searcher, reader, row)?;
+    }
+    Ok(())
+}
+
+// Tries the rows of a text, and offers them by a reader of their own.
+fn accept_table(
+    alloc: Global,
+    roads: &Network,
+    bound: u32,
+    text: Vec<u8>,
+    store: &RowStore<'_>,
+) -> Result<(), Stop>
+    requires bound { bound ≤ 10_000_000 }
+    requires store { (store.now.network ≡ roads.now) × (store.now.bound ≡ bound) }
+    ensures { Accepts Refusal.Table (table_file_said roads.now bound text.items) result }
+{
+    let rows = read_rows(alloc, roads, bound, text)?;
+    let Ok(mut searcher) = Searcher::open(alloc, roads, bound) else {
+        return Err(Stop::NoMemory);
+    };
+    let Ok(mut reader) = store.reader() else {
+        return Err(Stop::NoMemory);
+    };
+    offer_rows(alloc, roads, &mut searcher, &mut reader, rows)
+}
+
+fn load_table<S: Shelf>(
+    alloc: Global,
+    shelf: &mut S,
+    name: &str,
+    roads: &Network,
+    bound: u32,
+    store: &RowStore<'_>,
+) -> Result<(), Stop>
+    requires bound { bound ≤ 10_000_000 }
+    requires store { (store.now.network ≡ roads.now) × (store.now.bound ≡ bound) }
+    ensures { Loads Refusal.Table File.Table name.now text_limit (table_file_said roads.now bound)
+        (S.state shelf.old) (S.state shelf.new) result }
+{
+    let text = read_file(alloc, shelf, File::Table, name, TEXT_LIMIT)?;
+    accept_table(alloc, roads, bound, text, store)
+}
+
+/// Reads the table file, where there is one, and accepts or refuses it. Of an accepted file all rows
+/// are offered to the store.
+///
+/// The text is held whole, and dropped once its rows are read. A row is moved into the store.
+pub fn preload<S: Shelf>(
+    alloc: Global,
+    shelf: &mut S,
+    table: Option<&str>,
+    roads: &Network,
+    bound: u32,
+    store: &RowStore<'_>,
+) -> Result<(), Stop>
+    requires bound { bound ≤ 10_000_000 }
+    requires store { (store.now.network ≡ roads.now) × (store.now.bound ≡ bound) }
+    ensures { Preloads (option_map (λ name. name.now) table.entry) roads.now bound
+        (S.state shelf.old) (S.state shelf.new) result }
+{
+    match table {
+        Some(name) => load_table(alloc, shelf, name, roads, bound, store),
+        None => Ok(()),
+    }
+}

@@ -1,0 +1,79 @@
+// `table NET`. Serves the program; decided by `table_plan`.
+ghost use Rattle.std.specs.Prelude.{◌≡◌, ◌≤◌, Ok, length};
+ghost use Rattle.cost_model.specs.Options.{IsAccepted};
+ghost use Rattle.program_frame.specs.Loads.{Accepts};
+ghost use Rattle.program_frame.specs.Performs.{Performs};
+ghost use Rattle.road_network.specs.Net.{IsLawful};
+ghost use Rattle.table_work.specs.Table.{table_plan, table_said};
+ghost use Rattle.table_work.specs.TableDone.{AddsRows, WritesTable};
+
+use bounded_search::Searcher;
+use cost_model::Params;
+use edge_io::{Shelf, Sink};
+use polyline_geometry::List;
+use program_frame::{Refusal, Stop, load_network, put_text, refuse};
+use road_network::{Network, NodeId};
+use std::alloc::Global;
+use table_file::{TableWriteFault, TableWriter};
+
+// Finds the row of each node, and adds it. No row is kept.
+fn add_rows(
+    searcher: &mut Searcher,
+    nodes: u32,
+    writer: &mut TableWriter,
+) -> Result<(), TableWriteFault>
+    requires nodes { nodes ≡ length searcher.old.network.nodes }
+    requires lawful { IsLawful searcher.old.network }
+    ensures { AddsRows searcher.old nodes writer.old writer.new result }
+{
+    for node in 0..nodes {
+        let row = searcher.row(NodeId(node))?;
+        writer.add(&row)?;
+    }
+    Ok(())
+}
+
+// The table text of a network.
+fn write_rows(alloc: Global, network: &Network, bound: u32) -> Result<List<u8>, TableWriteFault>
+    requires { bound ≤ 10_000_000 }
+    ensures { WritesTable network.now bound result }
+{
+    network.known();
+    let nodes = network.node_count();
+    let mut searcher = Searcher::open(alloc, network, bound)?;
+    let mut writer = TableWriter::open(alloc, bound, nodes, network.edge_count())?;
+    add_rows(&mut searcher, nodes, &mut writer)?;
+    writer.finish()
+}
+
+// The table text of a network, or its refusal as too long.
+fn text_of_table(alloc: Global, network: &Network, bound: u32) -> Result<List<u8>, Stop>
+    requires { bound ≤ 10_000_000 }
+    ensures { Accepts Refusal.TooLong (table_said network.now bound) result }
+{
+    match write_rows(alloc, network, bound) {
+        Ok(text) => Ok(text),
+        Err(TableWriteFault::TooLong) => {
+            Err(refuse(alloc, Refusal::TooLong, b"fmm: table too long\n"))
+        }
+        Err(TableWriteFault::Memory) => Err(Stop::NoMemory),
+    }
+}
+
+/// Reads the network, and writes the table text with the row of every node. The text is held whole,
+/// so that out stays empty where it is too long.
+pub fn write_table<S: Shelf, K: Sink>(
+    alloc: Global,
+    network: &str,
+    options: Params,
+    shelf: &mut S,
+    out: &mut K,
+) -> Result<(), Stop>
+    requires { IsAccepted options }
+    ensures { Performs (Ok (table_plan network.now options))
+        (S.state shelf.old) (S.state shelf.new) (K.state out.old) (K.state out.new) result }
+{
+    let roads = load_network(alloc, shelf, network)?;
+    let text = text_of_table(alloc, &roads, options.bound)?;
+    put_text(out, text.as_slice())
+}
