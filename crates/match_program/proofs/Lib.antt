@@ -14,9 +14,6 @@ pub mod Towns
 pub mod TriedRows
 pub mod WholeTraces
 pub mod Workers
-pub mod StreamJobs
-pub mod StreamTakes
-pub mod StreamTotals
 pub mod ReadIds
 pub mod ReadNetworks
 pub mod ProvedFiles

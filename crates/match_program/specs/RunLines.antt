@@ -7,7 +7,7 @@ use Rattle.match_program.specs.Setting.{Setting}
 use Rattle.match_program.specs.commands.Check.{check_said}
 use Rattle.match_program.specs.commands.Preload.{table_file_said}
 use Rattle.match_program.specs.commands.Prove.{certificate_too_long}
-use Rattle.match_program.specs.commands.Streams.{too_long_line}
+use Rattle.stream_work.specs.Streams.{too_long_line}
 use Rattle.match_program.specs.commands.Table.{table_too_long}
 
 -- those of words, networks and traces, that of an id that is too long, those of a table and a certificate

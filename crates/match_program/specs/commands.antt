@@ -6,9 +6,6 @@ pub mod Preload
 pub mod PreloadDone
 pub mod Prove
 pub mod ProveDone
-pub mod Streams
-pub mod StreamTexts
-pub mod StreamsDone
 pub mod Table
 pub mod TableDone
 pub mod Towns
