@@ -11,8 +11,8 @@ ghost use Rattle.match_program.specs.Sharing.{IsStoreFor, MatchesBatch, MatchesB
 ghost use Rattle.match_program.specs.commands.Matches.{match_plan, match_text};
 ghost use Rattle.match_program.specs.commands.MatchesDone.{HasMatched};
 
-use crate::commands::preload::preload;
 use crate::batches::{match_batch, open_readers, open_store};
+use crate::commands::preload::preload;
 use cost_model::Params;
 use edge_io::{Shelf, Sink};
 use follow_work::Matcher;
