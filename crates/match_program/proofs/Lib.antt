@@ -13,6 +13,7 @@ pub mod TableRows
 pub mod Towns
 pub mod TriedRows
 pub mod WholeTraces
+pub mod WrittenProofs
 pub mod Workers
 pub mod ReadIds
 pub mod ReadNetworks
