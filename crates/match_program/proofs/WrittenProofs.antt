@@ -1,5 +1,5 @@
 -- The text of a certificate that is written.
-use Rattle.std.proofs.Common.{◌≡◌, ◌<◌, ℕ, List, Result, Ok, Err, length, refl, ◌∙◌, ap, subst}
+use Rattle.std.proofs.Common.{◌≡◌, ◌<◌, ℕ, List, Result, Err, length, refl, ◌∙◌, ap, subst}
 use Rattle.std.specs.Prelude.{IsErrOf}
 use Rattle.cost_model.specs.declared.params.Params.{Params}
 use Rattle.potential_certificate.specs.CertificateText.{certificate_text, text_limit}
