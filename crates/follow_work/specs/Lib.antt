@@ -1,6 +1,6 @@
 pub mod Counts
 pub mod Follow
 pub mod FollowDone
-pub mod FollowerInside
+pub mod MatcherInside
 pub mod Setting
 pub mod Totals

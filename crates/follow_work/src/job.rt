@@ -7,7 +7,7 @@ ghost use Rattle.follow_work.specs.Counts.{ArePieces};
 ghost use Rattle.follow_work.specs.Follow.{follow_job, followed_of};
 ghost use Rattle.follow_work.specs.FollowDone.{AsksTraces, HasFollowed};
 
-use crate::follower::Follower;
+use crate::matcher::Matcher;
 use bounded_search::OwnRows;
 use cost_model::Params;
 use polyline_geometry::List;
@@ -18,7 +18,7 @@ use trace_reader::Trace;
 
 /// Follows traces with own rows, one after the other, and counts them.
 pub struct FollowJob<'n> {
-    follower: Follower<'n>,
+    follower: Matcher<'n>,
     rows: OwnRows<'n>,
     tally: Tally,
 }
@@ -37,7 +37,7 @@ impl<'n> Drop for FollowJob<'n> {
 // Follows traces, appends their texts, and says how many pieces their matches have.
 fn write_followed<'n>(
     alloc: Global,
-    follower: &Follower<'n>,
+    follower: &Matcher<'n>,
     rows: &mut OwnRows<'n>,
     traces: &[Trace],
     into: &mut List<u8>,
@@ -64,7 +64,7 @@ impl<'n> FollowJob<'n> {
             (λ job. job.follower ≡ record { network = roads.now; params = options }) }
         ensures begun { IfOk result (λ job. HasFollowed job.follower job.rows job.tally []) }
     {
-        let follower = Follower::open(alloc, roads, options)?;
+        let follower = Matcher::open(alloc, roads, options)?;
         let rows = follower.rows(alloc)?;
         Ok(FollowJob {
             follower,

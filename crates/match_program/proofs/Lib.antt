@@ -9,10 +9,8 @@ pub mod Sharing
 pub mod TableFiles
 pub mod Towns
 pub mod WholeTraces
+pub mod WrittenProofs
 pub mod Workers
-pub mod StreamJobs
-pub mod StreamTakes
-pub mod StreamTotals
 pub mod ReadIds
 pub mod ReadNetworks
 pub mod ProvedFiles

@@ -34,7 +34,7 @@ use Rattle.check_work.specs.Check.{check_said}
 use Rattle.match_program.specs.commands.Matches.{match_text}
 use Rattle.table_work.specs.Preload.{preloads, table_file_said}
 use Rattle.match_program.specs.commands.Prove.{certificate_too_long, prove_said, text_of_proofs}
-use Rattle.match_program.specs.commands.Streams.{streams_job, too_long_line}
+use Rattle.stream_work.specs.Streams.{streams_job, too_long_line}
 use Rattle.table_work.specs.Table.{table_said, table_too_long, text_of_network}
 
 traces_end : (texts ending bytes : List ℕ) (fault : Option TraceFault) (status : ℕ) (line : List ℕ) → file_fault bytes ≡ fault → status ≢ 0 → IsLineOf (ends (given_by None fault texts ending)) status line → run_lines status line

@@ -1,5 +1,5 @@
 -- Readers of one store, before and after traces are matched.
-use Rattle.std.proofs.Common.{◌≡◌, ◌↔◌, ℕ, zero, suc, Bool, true, false, ◌||◌, List, [], ◌∷◌, All, Option, None, is_some, IfOk, OnOk, Result, Ok, Err, length, replicate, true≢false, refl, sym, ◌∙◌, ap, arith}
+use Rattle.std.proofs.Common.{◌≡◌, ◌↔◌, ℕ, zero, suc, Bool, true, false, ◌||◌, List, [], ◌∷◌, All, Option, None, is_some, IfOk, OnOk, Result, Ok, Err, length, map, replicate, true≢false, refl, sym, ◌∙◌, ap, subst, arith}
 use Rattle.std.specs.List.{AllZip, count_by, range_with_len}
 use Rattle.std.specs.Prelude.{slice_index_or}
 use Rattle.std.specs.declared.alloc.AllocError.{AllocError}
@@ -7,10 +7,13 @@ use Rattle.std.proofs.lemmas.List.Elements.{All-cons, All-head, All-replicate, A
 use Rattle.std.proofs.lemmas.Slice.Zip.{AllZip-long}
 use Rattle.bounded_search.specs.Table.{TableRow}
 use Rattle.cost_model.specs.Options.{IsAccepted}
+use Rattle.cost_model.specs.declared.params.Params.{Params}
 use Rattle.match_pool.specs.Learning.{LearnAsked}
 use Rattle.match_pool.specs.Working.{IsReaderFor, StaysReader}
 use Rattle.match_text.specs.declared.matched.MatchedTrace.{MatchedTrace}
+use Rattle.road_network.specs.Net.{Net}
 use Rattle.row_store.specs.Store.{Reading, Stored, count_known, is_known_to_any}
+use Rattle.trace_match.specs.Match.{match_of}
 use Rattle.trace_reader.specs.Trace.{IsLawfulTrace}
 use Rattle.trace_reader.specs.declared.trace.Trace.{Trace}
 use Rattle.match_program.specs.Setting.{Setting}
@@ -101,3 +104,12 @@ pub batch_matched : (on : Setting) (traces : List Trace) (old new : List Reading
     → IfOk result (λ all. all ≡ matches_of on traces) → AllZip StaysReader old new → OnOk result (LearnAsked on.network on.params traces old new) → MatchesBatch on traces old result new
 batch_matched on traces old new (Ok all) accepted lawful are stay learn = record { matched = matches_found on traces all accepted lawful are; stay = stay; learn = learn }
 batch_matched on traces old new (Err fault) accepted lawful are stay learn = record { matched = tt; stay = stay; learn = tt }
+
+-- by the network and the options of the setting
+pub batch_at : (on : Setting) (n : Net) (p : Params) (traces : List Trace) (old new : List Reading) (result : Result (List MatchedTrace) AllocError) → n ≡ on.network → p ≡ on.params → IsAccepted p → All IsLawfulTrace traces
+    → IfOk result (λ all. all ≡ map (match_of n p) traces) → AllZip StaysReader old new → OnOk result (LearnAsked n p traces old new) → MatchesBatch on traces old result new
+batch_at on n p traces old new result network params accepted lawful are stay learn =
+    batch_matched on traces old new result (subst IsAccepted params accepted) lawful
+    (subst (λ m. IfOk result (λ all. all ≡ map (match_of m on.params) traces)) network (subst (λ q. IfOk result (λ all. all ≡ map (match_of n q) traces)) params are))
+    stay
+    (subst (λ m. OnOk result (LearnAsked m on.params traces old new)) network (subst (λ q. OnOk result (LearnAsked n q traces old new)) params learn))

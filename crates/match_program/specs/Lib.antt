@@ -1,5 +1,4 @@
 pub mod Matched
-pub mod MatcherInside
 pub mod ProvedTexts
 pub mod ProvedFiles
 pub mod ProvedRuns

@@ -7,7 +7,7 @@ use Rattle.match_program.specs.Setting.{Setting}
 use Rattle.check_work.specs.Check.{check_said}
 use Rattle.table_work.specs.Preload.{table_file_said}
 use Rattle.match_program.specs.commands.Prove.{certificate_too_long}
-use Rattle.match_program.specs.commands.Streams.{too_long_line}
+use Rattle.stream_work.specs.Streams.{too_long_line}
 use Rattle.table_work.specs.Table.{table_too_long}
 
 -- those of words, networks and traces, that of an id that is too long, those of a table and a certificate

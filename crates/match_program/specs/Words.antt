@@ -11,7 +11,7 @@ use Rattle.follow_work.specs.Follow.{follow_plan}
 use Rattle.check_work.specs.Check.{check_plan}
 use Rattle.match_program.specs.commands.Matches.{match_plan}
 use Rattle.match_program.specs.commands.Prove.{prove_plan}
-use Rattle.match_program.specs.commands.Streams.{streams_plan}
+use Rattle.stream_work.specs.Streams.{streams_plan}
 use Rattle.table_work.specs.Table.{table_plan}
 use Rattle.match_program.specs.commands.Towns.{town_plan}
 

@@ -2,8 +2,5 @@ pub mod Matches
 pub mod MatchesDone
 pub mod Prove
 pub mod ProveDone
-pub mod Streams
-pub mod StreamTexts
-pub mod StreamsDone
 pub mod Towns
 pub mod TownsDone

@@ -1,6 +1,4 @@
-// The commands, each in a file of its own.
-pub mod follow;
+// The commands, each in a file of its own, but for those that are crates.
 pub mod matches;
 pub mod prove;
-pub mod streams;
 pub mod towns;

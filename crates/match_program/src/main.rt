@@ -4,18 +4,19 @@
 //! writes is a function of the words and the files. `main` hands it the real files and streams.
 //!
 //! - The crate `command_line` reads the words, and `run` hands the work that they ask for to its
-//!   command, in a file of its own under `commands`, or in the crate `table_work` or `check_work`.
+//!   command: those of `follow`, `streams`, `table` and `check` are crates (`follow_work`, `stream_work`,
+//!   `table_work`, `check_work`), the others have a file each under `commands`.
 //! - The crate `program_frame` has what every command stands on: the files and their refusals, the
 //!   traces taken batch by batch, what is said on err, and the promises of a run.
-//! - `matcher` has the network, the grid of its edges and the options, opens the store of rows and
-//!   its readers, and matches traces by the workers of the crate `match_pool`.
+//! - `batches` opens the store of rows and its readers, and matches traces by the workers of the crate
+//!   `match_pool`.
 //!
 //! Read the clause of `run` first, and then `specs/Words.antt` and `specs/commands/Matches.antt`.
 #![tactic(auto)]
 
+mod batches;
 mod commands;
 pub mod laws;
-mod matcher;
 mod run;
 
 use edge_io::{FileShelf, StreamSink};

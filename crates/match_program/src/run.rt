@@ -6,18 +6,18 @@ ghost use Rattle.program_frame.specs.Promises.{Promises};
 ghost use Rattle.match_program.specs.RunLines.{run_lines};
 ghost use Rattle.match_program.specs.Words.{asked_by};
 
-use crate::commands::follow::follow_traces;
 use crate::commands::matches::match_traces;
 use crate::commands::prove::prove_traces;
-use crate::commands::streams::stream_traces;
 use crate::commands::towns::match_town;
 use check_work::check_traces;
 use command_line::{Work, read_command};
 use edge_io::{Shelf, Sink};
+use follow_work::follow_traces;
 use match_pool::Gate;
 use program_frame::{Stop, refuse_words, say, status_after};
 use std::alloc::Global;
 use std::thread::Threads;
+use stream_work::stream_traces;
 use table_work::write_table;
 
 // The work of the words, but for what is said on err.

@@ -11,9 +11,10 @@ ghost use Rattle.match_program.specs.Sharing.{IsStoreFor, MatchesBatch, MatchesB
 ghost use Rattle.match_program.specs.commands.Matches.{match_plan, match_text};
 ghost use Rattle.match_program.specs.commands.MatchesDone.{HasMatched};
 
-use crate::matcher::Matcher;
+use crate::batches::{match_batch, open_readers, open_store};
 use cost_model::Params;
 use edge_io::{Shelf, Sink};
+use follow_work::Matcher;
 use match_pool::Gate;
 use match_text::{MatchedTrace, write_match};
 use polyline_geometry::List;
@@ -53,7 +54,7 @@ fn write_matches(
     Ok(pieces)
 }
 
-// The matches of a batch by this call, which is one of `match_batch` of the matcher.
+// The matches of a batch by this call, which is one of `match_batch` with this matcher.
 fn match_by<'s, F>(
     call: &F,
     _matcher: &Matcher<'_>,
@@ -114,7 +115,7 @@ fn match_file<'s, R: Threads + Sync, G: Gate, S: Shelf, K: Sink>(
     ensures { Performs (Ok (works_traces traces.now (match_text matcher.now)))
         (S.state shelf.old) (S.state shelf.new) (K.state out.old) (K.state out.new) result }
 {
-    let Ok(readers) = matcher.readers(alloc, store) else {
+    let Ok(readers) = open_readers(alloc, matcher, store) else {
         return Err(Stop::NoMemory);
     };
     let match_batch = |first: u64, batch: &[Trace], readers: &mut List<Reader<'_>>|
@@ -122,7 +123,7 @@ fn match_file<'s, R: Threads + Sync, G: Gate, S: Shelf, K: Sink>(
             × AreReadersFor matcher.now.network matcher.now.params readers.now }
         ensures { MatchesBatch matcher.entry.now batch.now readers.entry.now result
             readers.exit.now }
-    { matcher.match_batch(rt, alloc, first, batch, readers, gate) };
+    { match_batch(rt, alloc, matcher, first, batch, readers, gate) };
     let job = MatchJob {
         matcher,
         readers,
@@ -154,7 +155,7 @@ pub fn match_traces<R: Threads + Sync, G: Gate, S: Shelf, K: Sink>(
     let Ok(matcher) = Matcher::open(alloc, &roads, options) else {
         return Err(Stop::NoMemory);
     };
-    let Ok(store) = matcher.store(alloc) else {
+    let Ok(store) = open_store(alloc, &matcher) else {
         return Err(Stop::NoMemory);
     };
     preload(alloc, shelf, table, &roads, options.bound, &store)?;

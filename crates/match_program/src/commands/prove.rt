@@ -5,22 +5,40 @@ ghost use Rattle.program_frame.specs.Loads.{Accepts};
 ghost use Rattle.program_frame.specs.Performs.{Performs};
 ghost use Rattle.trace_reader.specs.Trace.{IsLawfulTrace};
 ghost use Rattle.match_program.specs.commands.Prove.{prove_plan, prove_said};
+ghost use Rattle.match_program.specs.commands.ProveDone.{WritesProofs};
 
-use crate::matcher::Matcher;
 use cost_model::Params;
 use edge_io::{Shelf, Sink};
+use follow_work::Matcher;
 use polyline_geometry::List;
-use potential_certificate::WriteFault;
+use potential_certificate::{WriteFault, write_certificate};
 use program_frame::{Refusal, Stop, load_network, load_traces, put_text, refuse};
+use prove_work::certify_traces;
 use std::alloc::Global;
 use trace_reader::Trace;
+
+// The text of the certificate of traces, which are matched one after the other with own rows.
+fn write_proofs(
+    alloc: Global,
+    matcher: &Matcher<'_>,
+    traces: &[Trace],
+) -> Result<List<u8>, WriteFault>
+    requires { All IsLawfulTrace traces.now }
+    ensures { WritesProofs matcher.now traces.now result }
+{
+    let params = matcher.params();
+    let certificate = certify_traces(alloc, matcher.network(), matcher.grid(), params, traces)?;
+    let mut text = List::new(alloc);
+    write_certificate(alloc, params, &certificate, &mut text)?;
+    Ok(text)
+}
 
 // The text of the certificate of traces, or its refusal as too long.
 fn text_of_proofs(alloc: Global, matcher: &Matcher<'_>, traces: &[Trace]) -> Result<List<u8>, Stop>
     requires { All IsLawfulTrace traces.now }
     ensures { Accepts Refusal.TooLong (prove_said matcher.now traces.now) result }
 {
-    match matcher.write_proofs(alloc, traces) {
+    match write_proofs(alloc, matcher, traces) {
         Ok(text) => Ok(text),
         Err(WriteFault::TooLong) => Err(refuse(
             alloc,

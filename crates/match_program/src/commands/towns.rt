@@ -12,9 +12,10 @@ ghost use Rattle.match_program.specs.Sharing.{IsStoreFor};
 ghost use Rattle.match_program.specs.commands.Towns.{cost_line, network_in, town_plan, town_text};
 ghost use Rattle.match_program.specs.commands.TownsDone.{AreCosts, IsCost};
 
-use crate::matcher::Matcher;
+use crate::batches::{match_batch, open_readers, open_store};
 use cost_model::Params;
 use edge_io::Sink;
+use follow_work::Matcher;
 use itoa::Buffer;
 use match_pool::Gate;
 use match_text::MatchedTrace;
@@ -111,8 +112,8 @@ fn report<'s, R: Threads + Sync, G: Gate>(
     requires traces { IsBounded traces.now × (length traces.now ≤ 2_000) }
     ensures { IfOk result (λ text. text ≡ town_text matcher.now traces.now) }
 {
-    let mut readers = matcher.readers(alloc, store)?;
-    let matches = matcher.match_batch(rt, alloc, 0, traces, &mut readers, gate)?;
+    let mut readers = open_readers(alloc, matcher, store)?;
+    let matches = match_batch(rt, alloc, matcher, 0, traces, &mut readers, gate)?;
     let costs = add_up(matches.as_slice());
     let mut tally = Tally::NONE;
     tally.add(traces, costs.pieces);
@@ -141,7 +142,7 @@ fn town_report<R: Threads + Sync, G: Gate>(
     let network = open_network(alloc, side)?;
     let traces = read_traces(alloc, side, count, seed)?;
     let matcher = Matcher::open(alloc, &network, options)?;
-    let store = matcher.store(alloc)?;
+    let store = open_store(alloc, &matcher)?;
     report(rt, alloc, &matcher, &store, traces.as_slice(), gate)
 }
 

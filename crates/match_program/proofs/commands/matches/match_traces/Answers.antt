@@ -16,8 +16,8 @@ pub returns-in_default : goal.returns-in_default
 returns-in_default g c =
     loads_performs _ _ c.in_ok-roads.ensures (memory_performs _ (g.S.Shelf.state c.load_network.new.shelf) (g.K.Sink.state c.args.out.now))
 
-pub returns-in_default-store : goal.returns-in_default-store
-returns-in_default-store g c =
+pub returns-in_default-open_store : goal.returns-in_default-open_store
+returns-in_default-open_store g c =
     loads_performs _ _ c.in_ok-roads.ensures (memory_performs _ (g.S.Shelf.state c.load_network.new.shelf) (g.K.Sink.state c.args.out.now))
 
 pub returns-in_err-preload : goal.returns-in_err-preload

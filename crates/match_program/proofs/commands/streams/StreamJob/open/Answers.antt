@@ -1,7 +1,0 @@
-use Rattle.std.proofs.Common.{refl}
-use Rattle.match_program.proofs.StreamTakes.{begun}
-use Rattle.match_program.proofs.commands.streams.StreamJob.open.Goals as goal
-
-pub returns-clause-begun : goal.returns-clause-begun
-returns-clause-begun c =
-    begun c.args.matcher.now c.sessions.result c.in_ok-rows.rows _ c.requires c.sessions.ensures.network c.sessions.ensures.params c.sessions.ensures.none c.in_ok-rows.ensures refl refl refl

@@ -1,0 +1,3 @@
+pub mod StreamJobs
+pub mod StreamTakes
+pub mod StreamTotals

@@ -1,0 +1,7 @@
+use Rattle.std.proofs.Common.{refl}
+use Rattle.stream_work.proofs.StreamTakes.{begun}
+use Rattle.stream_work.proofs.streams.StreamJob.open.Goals as goal
+
+pub returns-clause-begun : goal.returns-clause-begun
+returns-clause-begun c =
+    begun c.args.matcher.now c.sessions.result c.in_ok-rows.rows _ c.requires c.sessions.ensures.network c.sessions.ensures.params c.sessions.ensures.none c.in_ok-rows.ensures refl refl refl

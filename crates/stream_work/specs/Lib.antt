@@ -1,0 +1,3 @@
+pub mod StreamTexts
+pub mod Streams
+pub mod StreamsDone

@@ -1,0 +1,46 @@
+-- What a job of `streams` has done.
+use Rattle.std.specs.Prelude.{◌≡◌, ◌↔◌, ℕ, ◌<◌, ◌^◌, List, [], None, Contains, length}
+use Rattle.bounded_search.specs.Rows.{AreRowsOf, RowsState}
+use Rattle.cost_model.specs.Options.{IsAccepted}
+use Rattle.program_frame.specs.Jobs.{points_of}
+use Rattle.program_frame.specs.declared.total.Tally.{Tally}
+use Rattle.program_frame.specs.declared.stop.Refusal.TheVariants.{Traces}
+use Rattle.program_frame.specs.declared.stop.Stop.{Stop}
+use Rattle.program_frame.specs.declared.stop.Stop.TheVariants.{Refused, NoMemory, Unread, Unwritten}
+use Rattle.trace_sessions.specs.declared.sessions.SessionFault.{SessionFault}
+use Rattle.trace_sessions.specs.declared.sessions.SessionFault.TheVariants.{Memory, NotOpen, TooLong}
+use Rattle.trace_reader.specs.declared.trace.Trace.{Trace}
+use Rattle.trace_sessions.specs.Sessions.{Keeps, Pair, SessionsState}
+use Rattle.trace_sessions.specs.StreamText.{full_id, points_in}
+use Rattle.trace_sessions.specs.Streaming.{AreLawful, AsksSome, pieces_told}
+use Rattle.follow_work.specs.Setting.{Setting}
+use Rattle.stream_work.specs.Streams.{pairs_of, too_long_line}
+
+-- known is what some id asks for
+abbrev pub KnowsSome : SessionsState → List Pair → List ℕ → Type 0
+KnowsSome s pairs known = (v : ℕ) → Contains known v ↔ AsksSome s pairs v
+
+-- the points of these fragments were taken and counted, and exactly what their ids ask for is known
+pub record HasStreamed (on : Setting) (s : SessionsState) (rows : RowsState) (tally : Tally)
+    (traces : List Trace) : Type 0 where
+  pub accepted : IsAccepted on.params
+  pub few : points_of traces < 2 ^ 62
+  pub network : s.network ≡ on.network
+  pub params : s.params ≡ on.params
+  pub stands : Keeps s (pairs_of traces)
+  pub lawful : AreLawful (pairs_of traces)
+  pub room : full_id [] (points_in traces) ≡ None
+  pub rows_are : AreRowsOf rows on.network on.params.bound
+  pub asked : KnowsSome s (pairs_of traces) rows.known
+  pub traces_are : tally.traces ≡ length traces
+  pub points_are : tally.points ≡ points_of traces
+  pub pieces_are : tally.pieces ≡ pieces_told on.network on.params (pairs_of traces)
+
+-- the work ends with the line of an id that is too long, or memory ran out
+abbrev pub StopsAtFault : SessionFault → Stop → Type 0
+StopsAtFault (TooLong id) (Refused refusal line) = (refusal ≡ Traces) × (line ≡ too_long_line id)
+StopsAtFault (NotOpen id) (Refused refusal line) = ⊥
+StopsAtFault Memory (Refused refusal line) = ⊥
+StopsAtFault fault NoMemory = Unit {0}
+StopsAtFault fault (Unread file) = ⊥
+StopsAtFault fault Unwritten = ⊥

@@ -1,0 +1,146 @@
+// `streams NET TRACES`. Serves the program; decided by `streams_plan`.
+ghost use Rattle.std.specs.Prelude.{◌≡◌, ◌++◌, [], List as ListOf, Ok, IfOk, OnOk};
+ghost use Rattle.bounded_search.specs.Rows.{AreRowsOf};
+ghost use Rattle.cost_model.specs.Options.{IsAccepted};
+ghost use Rattle.program_frame.specs.Jobs.{IsBounded, points_of};
+ghost use Rattle.program_frame.specs.Performs.{Performs};
+ghost use Rattle.trace_sessions.specs.Sessions.{Keeps, Pair};
+ghost use Rattle.trace_sessions.specs.StreamText.{points_in};
+ghost use Rattle.trace_sessions.specs.Streaming.{AsksStream, CanStream, Streams};
+ghost use Rattle.stream_work.specs.Streams.{streams_job, streams_plan, too_long_line};
+ghost use Rattle.stream_work.specs.StreamsDone.{HasStreamed, StopsAtFault};
+
+use bounded_search::OwnRows;
+use cost_model::Params;
+use decimal_text::write_unsigned;
+use edge_io::{Shelf, Sink};
+use follow_work::Matcher;
+use polyline_geometry::List;
+use program_frame::{Job, Refusal, Stop, Tally, load_network, work_traces};
+use std::alloc::{AllocError, Global};
+use trace_reader::Trace;
+use trace_sessions::{SessionFault, Sessions};
+
+// Takes the points of fragments by sessions with own rows, and counts them. The traces of the tally
+// are the fragments.
+#[derive(Drop)]
+struct StreamJob<'m> {
+    matcher: &'m Matcher<'m>,
+    sessions: Sessions<'m>,
+    rows: OwnRows<'m>,
+    tally: Tally,
+}
+
+// Takes the points of fragments, appends their lines, and says how many pieces they closed.
+fn stream_fragments(
+    sessions: &mut Sessions,
+    rows: &mut OwnRows,
+    traces: &[Trace],
+    into: &mut List<u8>,
+) -> Result<u64, SessionFault>
+    requires accepted { IsAccepted sessions.old.params }
+    requires rows { AreRowsOf rows.old sessions.old.network sessions.old.params.bound }
+    requires traces { IsBounded traces.now }
+    requires can { CanStream sessions.old (points_of traces.now) }
+    ensures streams { (pairs : ListOf Pair) → Keeps sessions.old pairs
+        → Streams sessions.old pairs (points_in traces.now) sessions.new into.old into.new result }
+    ensures asks { AsksStream sessions.old (points_in traces.now) rows.old result rows.new }
+{
+    let mut pieces = 0;
+    for trace in traces {
+        let count = sessions.stream(trace, rows, into)?;
+        pieces += count;
+    }
+    Ok(pieces)
+}
+
+// Appends the line of a refusal.
+fn append_too_long(id: u32, into: &mut List<u8>) -> Result<(), AllocError>
+    ensures { OnOk result (into.new ≡ into.old ++ too_long_line id) }
+{
+    into.extend_from_slice(b"traces id ")?;
+    write_unsigned(u64::from(id), into)?;
+    into.extend_from_slice(b": trace too long\n")
+}
+
+// The end of the work at a fault of the sessions.
+fn stop_at(alloc: Global, fault: SessionFault) -> Stop
+    ensures { StopsAtFault fault result }
+{
+    let SessionFault::TooLong(id) = fault else {
+        return Stop::NoMemory;
+    };
+    let mut line = List::new(alloc);
+    match append_too_long(id, &mut line) {
+        Ok(()) => Stop::Refused(Refusal::Traces, line),
+        Err(_) => Stop::NoMemory,
+    }
+}
+
+impl<'m> StreamJob<'m> {
+    fn open(alloc: Global, matcher: &'m Matcher<'m>) -> Result<Self, AllocError>
+        requires { IsAccepted matcher.now.params }
+        ensures matcher { IfOk result (λ job. job.matcher.now ≡ matcher.now) }
+        ensures begun { IfOk result
+            (λ job. HasStreamed job.matcher.now job.sessions job.rows job.tally []) }
+    {
+        let rows = matcher.rows(alloc)?;
+        Ok(StreamJob {
+            matcher,
+            sessions: matcher.sessions(alloc),
+            rows,
+            tally: Tally::NONE,
+        })
+    }
+}
+
+impl<'m> Job for StreamJob<'m> {
+    ghost text = { λ job. streams_job job.matcher.now };
+
+    ghost has = { λ job traces. HasStreamed job.matcher.now job.sessions job.rows job.tally traces };
+
+    fn take(&mut self, alloc: Global, traces: &[Trace], into: &mut List<u8>) -> Result<(), Stop> {
+        match stream_fragments(&mut self.sessions, &mut self.rows, traces, into) {
+            Ok(pieces) => {
+                self.tally.add(traces, pieces);
+                Ok(())
+            }
+            Err(fault) => Err(stop_at(alloc, fault)),
+        }
+    }
+
+    fn finish(&mut self, _alloc: Global, into: &mut List<u8>) -> Result<(), AllocError> {
+        let ids = self.sessions.count();
+        let pieces = self.sessions.close_all(&mut self.rows, into)?;
+        self.rows.known();
+        let tally = Tally {
+            traces: ids,
+            points: self.tally.points,
+            pieces: self.tally.pieces + pieces,
+        };
+        tally.append_line(u64::from(self.rows.count()), into)
+    }
+}
+
+/// Reads the network, and then the traces, whose points it takes in their order.
+pub fn stream_traces<S: Shelf, K: Sink>(
+    alloc: Global,
+    network: &str,
+    traces: &str,
+    options: Params,
+    shelf: &mut S,
+    out: &mut K,
+) -> Result<(), Stop>
+    requires { IsAccepted options }
+    ensures { Performs (Ok (streams_plan network.now traces.now options))
+        (S.state shelf.old) (S.state shelf.new) (K.state out.old) (K.state out.new) result }
+{
+    let roads = load_network(alloc, shelf, network)?;
+    let Ok(matcher) = Matcher::open(alloc, &roads, options) else {
+        return Err(Stop::NoMemory);
+    };
+    let Ok(job) = StreamJob::open(alloc, &matcher) else {
+        return Err(Stop::NoMemory);
+    };
+    work_traces(alloc, job, shelf, traces, out)
+}
