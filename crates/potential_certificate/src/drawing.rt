@@ -14,7 +14,7 @@ use tickets::{Claims, Ticket};
 /// The most workers, for each of which there is a ticket.
 const MOST_WORKERS: usize = 64;
 
-/// The most parts that are drawn.
+/// The most numbers that there are to draw. Parts from that place on stay unread.
 const MOST_DRAWN: u64 = 4_294_967_296;
 
 /// What was read of the part at a place.
@@ -54,7 +54,9 @@ fn draw_all<'a, R: Threads + Sync>(
     ensures { IfOk result (λ all. All (λ done. IfOk done (All (IsPlacedIn parts.now))) all.items) }
 {
     let count = (parts.len() as u64).min(MOST_DRAWN);
-    let workers = current_num_threads(rt).min(MOST_WORKERS);
+    let workers = current_num_threads(rt)
+        .min(parts.len())
+        .clamp(1, MOST_WORKERS);
     let (claims, tickets) = Claims::open(alloc, count, workers as u32)?;
     thread::map_vec(
         rt,
@@ -87,7 +89,7 @@ fn put_in<'a>(reads: &mut [PartRead<'a>], done: List<PlacedRead<'a>>)
     }
 }
 
-// What is read of each part, side by side.
+// What is read of each part, side by side. A part that no worker drew stays unread, which costs time alone.
 fn read_each<'a, R: Threads + Sync>(
     rt: &R,
     alloc: Global,
