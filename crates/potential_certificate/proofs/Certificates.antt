@@ -15,7 +15,7 @@ use Rattle.row_text.specs.RowLine.{row_line}
 use Rattle.potential_certificate.specs.CertificateText.{certificate_text, first_line, last_line, proof_text, text_limit}
 use Rattle.potential_certificate.specs.HasText.{IsProof}
 use Rattle.potential_certificate.specs.Laws.{CertificatesHaveOneText, CertificatesReadBack, IsTextOf}
-use Rattle.potential_certificate.specs.Reading.{ProofRead, ProofsRead, all_rows_at, behind_first, certificate_ended, certificate_of, ended, proof_and_more, proof_at, proofs_and_rows, proofs_at, proofs_behind, rows_and_end, with_proof}
+use Rattle.potential_certificate.specs.Reading.{ProofRead, ProofsRead, all_rows_at, behind_first, certificate_of, ended, proof_and_more, proof_at, proofs_and_rows, proofs_at, proofs_behind, rows_and_end, with_proof}
 use Rattle.potential_certificate.specs.declared.fault.CertFault.{CertFault}
 use Rattle.potential_certificate.specs.declared.fault.CertFault.TheVariants.{TooLong}
 use Rattle.potential_certificate.specs.declared.proof.Certificate.{Certificate}

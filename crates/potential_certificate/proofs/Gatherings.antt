@@ -1,6 +1,6 @@
 -- The text of a certificate that comes in blocks.
-use Rattle.std.proofs.Common.{◌≡◌, ℕ, suc, ◌+◌, ◌-◌, ◌^◌, ◌<◌, ◌≤◌, ◌⊎◌, inl, inr, true, List, [], ◌∷◌, ◌++◌, length, map, Some, Result, Ok, Err, refl, sym, ap, subst, ◌∙◌, append_assoc, arith, rules, length-append}
-use Rattle.std.specs.Prelude.{IfOk, MatchResult, OnOk, if◌then◌else◌, is_ok, min, slice_get}
+use Rattle.std.proofs.Common.{◌≡◌, ℕ, suc, ◌+◌, ◌-◌, ◌^◌, ◌<◌, ◌≤◌, ◌⊎◌, inl, inr, true, List, [], ◌∷◌, ◌++◌, length, Some, Result, Ok, Err, refl, sym, ap, subst, ◌∙◌, append_assoc, arith, rules, length-append}
+use Rattle.std.specs.Prelude.{IfOk, OnOk, if◌then◌else◌, is_ok, min, slice_get}
 use Rattle.std.specs.List.{AllByRecursion, AllZip, flat_map}
 use Rattle.std.proofs.lemmas.Grind.{flat_map-append}
 use Rattle.std.proofs.lemmas.List.{append-nil}
@@ -219,21 +219,6 @@ reads_of {X = X} text parts whole reads are each = record { text_is = texts part
 module _ {X : Type 0} (text : X → List ℕ) where
   abbrev pub AllRead : List X → List PartRead → Type 0
   AllRead parts reads = AllZip (λ part read. IsReadOf (text part) read) parts reads
-
-  abbrev pub AllAnswered : (E : Type 0) → List X → List (Result PartRead E) → Type 0
-  AllAnswered E parts answers = AllZip (λ part r. IfOk r (IsReadOf (text part))) parts answers
-
-  all_ok : (E : Type 0) (parts : List X) (reads : List PartRead) → AllAnswered E parts (map (λ read. Ok read) reads) → AllRead parts reads
-  all_ok E [] [] each = tt
-  all_ok E [] (read ∷ reads) each = each
-  all_ok E (part ∷ parts) [] each = each
-  all_ok E (part ∷ parts) (read ∷ reads) each = (each.0, all_ok E parts reads each.1)
-
-  -- where all answers are there
-  pub gathered : (V E : Type 0) (items : V → List PartRead) (parts : List X) (answers : List (Result PartRead E)) (found : Result V E) (Q : E → Type 0) → AllAnswered E parts answers
-      → MatchResult found (λ v. (reads : List PartRead) × (answers ≡ map (λ read. Ok read) reads) × (items v ≡ reads)) Q → IfOk found (λ v. AllRead parts (items v))
-  gathered V E items parts answers (Ok v) Q each is = subst (AllRead parts) (sym is.2) (all_ok E parts is.0 (subst (AllAnswered E parts) is.1 each))
-  gathered V E items parts answers (Err e) Q each is = tt
 
   -- the parts of a whole text
   pub reads_all : (V E : Type 0) (items : V → List PartRead) (parts same : List X) (whole : List ℕ) (found : Result V E) → same ≡ parts → flat_map text parts ≡ whole → IfOk found (λ v. AllRead same (items v)) → IfOk found (λ v. AreReadsOf whole (items v))

@@ -7,3 +7,4 @@ pub mod ProofsRead
 pub mod ProofTexts
 pub mod Certificates
 pub mod Gatherings
+pub mod Drawings

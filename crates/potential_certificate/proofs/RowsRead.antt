@@ -11,7 +11,7 @@ use Rattle.row_text.specs.Reading.{row_at}
 use Rattle.row_text.specs.RowLine.{row_line}
 use Rattle.row_text.proofs.RowLines.{rows_have_one_line, rows_read_back}
 use Rattle.potential_certificate.specs.HasText.{AreRowsFrom}
-use Rattle.potential_certificate.specs.Reading.{all_rows_at, if_rises, row_from, rows_at, rows_behind}
+use Rattle.potential_certificate.specs.Reading.{if_rises, row_from, rows_at, rows_behind}
 
 -- what a row at the front is
 pub record RowTaken (least : ℕ) (text : List ℕ) (row : TableRow) (rest : List ℕ) : Type 0 where

@@ -1,10 +1,12 @@
 -- The text of a certificate that comes in blocks.
-use Rattle.std.specs.Prelude.{ℕ, ◌≡◌, ◌+◌, ◌⊎◌, ◌++◌, true, nat_le, Bool, List, [], ◌∷◌}
-use Rattle.std.specs.List.{AllByRecursion, flat_map}
+use denote.Ref.{Bor}
+use Rattle.std.specs.Prelude.{ℕ, ◌≡◌, ◌+◌, ◌<◌, ◌⊎◌, ◌++◌, true, nat_le, Bool, List, [], ◌∷◌, length, slice_index_or}
+use Rattle.std.specs.List.{AllByRecursion, AllZip, flat_map}
 use Rattle.bounded_search.specs.Table.{TableRow}
 use Rattle.row_text.specs.RowLine.{row_line}
 use Rattle.potential_certificate.specs.CertificateText.{proof_text}
 use Rattle.potential_certificate.specs.HasText.{AreRowsFrom, IsProof}
+use Rattle.potential_certificate.specs.declared.drawing.PlacedRead.{PlacedRead}
 use Rattle.potential_certificate.specs.declared.gathered.Gathered.{Gathered}
 use Rattle.potential_certificate.specs.declared.parts.PartRead.{PartRead}
 use Rattle.potential_certificate.specs.declared.proof.TraceProof.{TraceProof}
@@ -27,6 +29,16 @@ pub record IsPartRead (read : PartRead) : Type 0 where
 
 abbrev pub IsReadOf : List ℕ → PartRead → Type 0
 IsReadOf part read = (read.part.now ≡ part) × IsPartRead read
+
+-- what was read of each of these parts
+abbrev pub AreEachReadOf : List (Bor (List ℕ)) → List PartRead → Type 0
+AreEachReadOf parts reads = AllZip (λ part read. IsReadOf part.now read) parts reads
+
+-- what was read of the part at this place
+abbrev pub IsPlacedIn : List (Bor (List ℕ)) → PlacedRead → Type 0
+IsPlacedIn parts placed =
+    (placed.place < length parts)
+    × ((d : Bor (List ℕ)) → IsReadOf (slice_index_or parts placed.place d).now placed.read)
 
 -- what was read of the parts of a text, one behind the other
 pub record AreReadsOf (text : List ℕ) (reads : List PartRead) : Type 0 where

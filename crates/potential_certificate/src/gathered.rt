@@ -3,9 +3,10 @@ ghost use Rattle.std.specs.Prelude.{◌≡◌, ◌<◌, ◌++◌, [], IfOk, IsEr
 ghost use Rattle.potential_certificate.specs.CertificateText.{certificate_text, text_limit};
 ghost use Rattle.potential_certificate.specs.Gathering.{GoesOn, Grows, IsGathered, IsPartRead, gathered_text, least_after, lines_text, rises_from};
 
+use crate::drawing::read_parts;
 use crate::fault::WriteFault;
 use crate::lines::{append_first, append_last};
-use crate::parts::{PartRead, last_item, next_item, read_part, read_parts};
+use crate::parts::{PartRead, last_item, next_item, read_part};
 use crate::proof::TraceProof;
 use crate::writing::{append_proofs, append_rows};
 use bounded_search::Row;

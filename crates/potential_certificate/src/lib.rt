@@ -18,6 +18,7 @@
 #![tactic(auto)]
 
 mod copying;
+mod drawing;
 mod fault;
 mod gathered;
 pub mod laws;

@@ -1,7 +1,7 @@
-// Parts of a certificate's text, read side by side. Serves the reader of blocks; decided by `IsPartRead`.
+// Parts of a certificate's text: where they begin, and one read. Serves the reader of blocks; decided by `IsPartRead`.
 ghost use Rattle.std.specs.Prelude.{◌≡◌, ◌<◌, ◌≤◌, IfOk, length};
-ghost use Rattle.std.specs.List.{AllZip, flat_map};
-ghost use Rattle.potential_certificate.specs.Gathering.{AreReadsOf, IsReadOf};
+ghost use Rattle.std.specs.List.{flat_map};
+ghost use Rattle.potential_certificate.specs.Gathering.{IsReadOf};
 
 use crate::fault::CertFault;
 use crate::proof::TraceProof;
@@ -9,9 +9,7 @@ use crate::reading::read_proofs;
 use crate::rows::read_rows;
 use bounded_search::Row;
 use polyline_geometry::List;
-use rayon::prelude::*;
 use std::alloc::{AllocError, Global};
-use std::thread::Threads;
 
 /// Into about so many parts a block is cut.
 const PARTS: usize = 32;
@@ -63,8 +61,8 @@ pub fn last_item(text: &[u8]) -> usize
     0
 }
 
-// The text cut into parts before lines that may begin a proof or a row.
-fn cut(alloc: Global, text: &[u8]) -> Result<List<&[u8]>, AllocError>
+/// The text cut into parts before lines that may begin a proof or a row.
+pub fn cut(alloc: Global, text: &[u8]) -> Result<List<&[u8]>, AllocError>
     ensures { IfOk result (λ parts. flat_map (λ part. part.now) parts ≡ text.now) }
 {
     let least = (text.len() / PARTS).max(PART_BYTES);
@@ -76,6 +74,18 @@ fn cut(alloc: Global, text: &[u8]) -> Result<List<&[u8]>, AllocError>
         rest = next;
     }
     Ok(parts)
+}
+
+/// A part of which nothing is read.
+pub fn unread(alloc: Global, part: &[u8]) -> PartRead<'_>
+    ensures { IsReadOf part.now result }
+{
+    PartRead {
+        part,
+        proofs: List::new(alloc),
+        rows: List::new(alloc),
+        left: part,
+    }
 }
 
 /// What is read of a part. Where a proof has a bad line, nothing is read.
@@ -93,43 +103,6 @@ pub fn read_part(alloc: Global, part: &[u8]) -> Result<PartRead<'_>, AllocError>
             })
         }
         Err(CertFault::Memory) => Err(AllocError),
-        Err(_) => Ok(PartRead {
-            part,
-            proofs: List::new(alloc),
-            rows: List::new(alloc),
-            left: part,
-        }),
+        Err(_) => Ok(unread(alloc, part)),
     }
-}
-
-// What is read of each part, side by side.
-fn read_each<'a, R: Threads + Sync>(
-    rt: &R,
-    alloc: Global,
-    parts: &[&'a [u8]],
-) -> Result<Vec<PartRead<'a>>, AllocError>
-    ensures { IfOk result
-        (λ reads. AllZip (λ part read. IsReadOf part.now read) parts.now reads.items) }
-{
-    parts
-        .par_iter()
-        .with_min_len(1)
-        .map(
-            |part: &&[u8]| -> Result<PartRead<'_>, AllocError>
-                ensures { IfOk result (IsReadOf part.now.now) }
-            { read_part(alloc, part) },
-        )
-        .collect::<Result<Vec<PartRead<'_>>, AllocError>>(rt, alloc)?
-}
-
-/// What is read of the parts of a text, side by side.
-pub fn read_parts<'a, R: Threads + Sync>(
-    rt: &R,
-    alloc: Global,
-    text: &'a [u8],
-) -> Result<Vec<PartRead<'a>>, AllocError>
-    ensures { IfOk result (λ reads. AreReadsOf text.now reads.items) }
-{
-    let parts = cut(alloc, text)?;
-    read_each(rt, alloc, parts.as_slice())
 }
