@@ -1,7 +1,9 @@
 pub mod DigitsPut
+pub mod EightDigits
 pub mod Entries
 pub mod Kept
 pub mod Rules
 pub mod RowLines
 pub mod ShortNumbers
+pub mod WordBytes
 pub mod Written

@@ -18,6 +18,7 @@ mod numbers;
 mod reading;
 #[cfg(test)]
 mod tests;
+mod words;
 mod writing;
 
 pub use reading::read_row;

@@ -1,38 +1,45 @@
-use Rattle.std.proofs.Common.{arith, sym, ◌∙◌}
-use Rattle.row_text.proofs.ShortNumbers.{digits_more, value_more, small_more, fewer_digits, all_digits}
+use Rattle.std.proofs.Common.{sym, ap, ◌∙◌, arith}
+use Rattle.std.specs.Str.Parse.{digits_value}
+use Rattle.row_text.proofs.ShortNumbers.{front_digits, digits_more, value_more, ninth_digit, all_digits}
+use Rattle.row_text.proofs.numbers.digits_at_front.Goals.{else-count-eq8-via-then-count-eq8+then-text-gt8+else-is_ascii_digit, else-count-eq8-via-then-count-eq8+else-text-gt8, else-count-eq8-via-else-count-eq8}
 use Rattle.row_text.proofs.numbers.digits_at_front.Goals as goal
 
-pub overflow_mul-number : goal.overflow_mul-number
-overflow_mul-number c =
-    let small = fewer_digits c.loop-count.count 8 c.loop-count.number (omega (arith, c.loop-count-test.true, c.loop-count.invariant.most)) c.loop-count.invariant.small in
-    omega (arith, small)
+pub returns-then-is_ascii_digit-clause-digits : goal.returns-then-is_ascii_digit-clause-digits
+returns-then-is_ascii_digit-clause-digits c =
+    let read = c.digits_of_eight-number in
+    let chunk = c.in-Some.ensures.cases in
+    let f = front_digits c.args.text.now _ read.result.1 chunk.same chunk.enough read.ensures.count in
+    digits_more c.args.text.now 8 c.if-text-gt8.true (rw c.if-count-eq8.true at f.0.digits) (sym c.is_ascii_digit.ensures.value ∙ c.if-is_ascii_digit.true)
 
-pub overflow_add-number : goal.overflow_add-number
-overflow_add-number c =
-    let small = fewer_digits c.loop-count.count 8 c.loop-count.number (omega (arith, c.loop-count-test.true, c.loop-count.invariant.most)) c.loop-count.invariant.small in
-    omega (arith, small, c.from.type_inv)
+pub returns-then-is_ascii_digit-clause-value : goal.returns-then-is_ascii_digit-clause-value
+returns-then-is_ascii_digit-clause-value c =
+    let read = c.digits_of_eight-number in
+    let chunk = c.in-Some.ensures.cases in
+    let f = front_digits c.args.text.now _ read.result.1 chunk.same chunk.enough read.ensures.count in
+    let value = read.ensures.value ∙ ap (digits_value 10) f.1 in
+    value_more c.args.text.now 8 read.result.0 c.from.result c.if-text-gt8.true (rw c.if-count-eq8.true at value) (ninth_digit _ _ (sym c.is_ascii_digit.ensures.value ∙ c.if-is_ascii_digit.true) c.from.ensures)
 
-pub loop-count-preserved : goal.loop-count-preserved
-loop-count-preserved c =
-    let inv = c.loop-count.invariant in
-    let below = c.loop-count-test.true in
-    record {
-      most = inv.most;
-      inside = inv.inside;
-      few = omega (arith, below);
-      digits = digits_more c.args.text.now c.loop-count.count (omega (arith, below, inv.inside)) inv.digits (sym c.is_ascii_digit.ensures.value ∙ c.if-is_ascii_digit.true);
-      value = value_more c.args.text.now c.loop-count.count c.loop-count.number c.from.result (omega (arith, below, inv.inside)) inv.value (grind arith);
-      small = small_more c.loop-count.count c.loop-count.number c.from.result inv.small (grind arith);
-    }
+pub returns-clause-digits : goal.returns-clause-digits
+returns-clause-digits c =
+    let read = c.digits_of_eight-number in
+    let chunk = c.in-Some.ensures.cases in
+    (front_digits c.args.text.now _ read.result.1 chunk.same chunk.enough read.ensures.count).0.digits
 
-pub returns-else-is_ascii_digit-clause-all : goal.returns-else-is_ascii_digit-clause-all
-returns-else-is_ascii_digit-clause-all c fewer =
-    let inv = c.loop-count.invariant in
-    all_digits c.args.text.now c.loop-count.count (omega (arith, inv.few, inv.inside)) inv.digits (λ _. sym c.is_ascii_digit.ensures.value ∙ c.if-is_ascii_digit.false)
+pub returns-clause-value : goal.returns-clause-value
+returns-clause-value c =
+    let read = c.digits_of_eight-number in
+    let chunk = c.in-Some.ensures.cases in
+    read.ensures.value ∙ ap (digits_value 10) (front_digits c.args.text.now _ read.result.1 chunk.same chunk.enough read.ensures.count).1
 
-pub returns-after-loop-count-clause-all : goal.returns-after-loop-count-clause-all
-returns-after-loop-count-clause-all c fewer =
-    let inv = c.loop-count.invariant in
-    let no_more = c.loop-count-test.false in
-    let most = c.min-most.ensures in
-    all_digits c.args.text.now c.loop-count.count (omega (arith, inv.few, inv.inside)) inv.digits (λ below. absurd (grind arith))
+pub returns-clause-all : goal.returns-clause-all
+returns-clause-all c fewer =
+    let read = c.digits_of_eight-number in
+    let chunk = c.in-Some.ensures.cases in
+    let text = c.args.text.now in
+    let f = (front_digits text _ read.result.1 chunk.same chunk.enough read.ensures.count).0 in
+    all_digits text read.result.1 (omega (arith, f.few, chunk.enough)) f.digits
+    (elim c.else-count-eq8.branch [
+      | else-count-eq8-via-then-count-eq8+then-text-gt8+else-is_ascii_digit w ↦ λ below. rw w.if-count-eq8.true (sym w.is_ascii_digit.ensures.value ∙ w.if-is_ascii_digit.false)
+      | else-count-eq8-via-then-count-eq8+else-text-gt8 w ↦ λ below. absurd (omega (arith, below, w.if-count-eq8.true, w.if-text-gt8.false))
+      | else-count-eq8-via-else-count-eq8 w ↦ λ below. f.other (omega (arith, f.few, w.if-count-eq8.false))
+    ])
