@@ -1,4 +1,4 @@
-// `match NET TRACES [--table FILE]`. Serves `perform`; decided by `match_plan`.
+// `match NET TRACES [--table FILE]`. Serves the program; decided by `match_plan`.
 ghost use Rattle.std.specs.Prelude.{◌≡◌, ◌≤◌, ◌^◌, ◌++◌, [], All, Ok, IfOk, OnOk, option_map};
 ghost use Rattle.cost_model.specs.Options.{IsAccepted};
 ghost use Rattle.match_pool.specs.Learning.{AreReadersFor};
