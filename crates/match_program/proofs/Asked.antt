@@ -17,7 +17,7 @@ use Rattle.program_frame.specs.declared.stop.Stop.{Stop}
 use Rattle.program_frame.specs.declared.stop.Stop.TheVariants.{Refused, NoMemory, Unread, Unwritten}
 use Rattle.program_frame.proofs.Stages.{memory_performs, words_stop}
 use Rattle.match_program.specs.Words.{asked_by, command_plan}
-use Rattle.match_program.specs.commands.Towns.{town_plan}
+use Rattle.town_work.specs.Towns.{town_plan}
 
 known_fault : (words : List (List ℕ)) (fault : WordsFault) → (fault ≡ Memory) ⊎ (command_of words ≡ Err fault) → fault ≢ Memory → command_of words ≡ Err fault
 known_fault words fault (inl memory) other = absurd (other memory)

@@ -1,15 +1,8 @@
 pub mod AcceptedOptions
 pub mod Asked
-pub mod Asking
-pub mod Jobs
 pub mod Lines
-pub mod Matches
 pub mod ProvedTexts
-pub mod Sharing
 pub mod TableFiles
-pub mod Towns
-pub mod WholeTraces
-pub mod WrittenProofs
 pub mod Workers
 pub mod ReadIds
 pub mod ReadNetworks

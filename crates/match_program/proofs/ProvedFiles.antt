@@ -1,17 +1,14 @@
 -- What `prove` writes of two files, `check` finds proved.
-use Rattle.std.proofs.Common.{◌≡◌, ◌<◌, ◌^◌, List, Option, Some, None, Result, Ok, Err, ap, subst}
+use Rattle.std.proofs.Common.{◌≡◌, ◌<◌, ◌^◌, List, Result, Ok, Err, ap, subst}
 use Rattle.std.specs.List.{All}
 use Rattle.cert_checker.specs.Laws.{HaveShortIds}
 use Rattle.program_frame.specs.Refusals.{said}
-use Rattle.program_frame.specs.WholeTraces.{traces_or_line}
 use Rattle.road_network.specs.Net.{Net}
 use Rattle.road_network.specs.NetworkFile.{network_of}
 use Rattle.road_network.specs.declared.fault.NetworkFault.{NetworkFault}
-use Rattle.trace_reader.specs.declared.fault.TraceFault.{TraceFault}
 use Rattle.trace_reader.specs.declared.trace.Trace.{Trace}
 use Rattle.trace_reader.specs.Reading.{file_fault, file_traces}
-use Rattle.trace_reader.specs.Trace.{IsLawfulTrace}
-use Rattle.trace_reader.proofs.Lawful.{IsLawfulTrace-file_traces}
+use Rattle.prove_work.proofs.WholeTraces.{taken_lawful, traces_taken}
 use Rattle.match_program.specs.ProvedFiles.{ProvedFilesAreAccepted}
 use Rattle.match_program.proofs.ProvedTexts.{proved_texts_are_accepted}
 use Rattle.match_program.proofs.ReadIds.{read_ids}
@@ -21,14 +18,10 @@ network_read : (read : Result Net NetworkFault) (n : Net) → said read ≡ Ok n
 network_read (Ok m) n e = ap (λ (k : Net). let r : Result Net NetworkFault = Ok k in r) (cc e)
 network_read (Err f) n e = absurd (cc e)
 
-traces_read : (traces : List Trace) (fault : Option TraceFault) (taken : List Trace) → traces_or_line traces fault ≡ Ok taken → traces ≡ taken
-traces_read traces None taken e = cc e
-traces_read traces (Some f) taken e = absurd (cc e)
-
 pub proved_files_are_accepted : ProvedFilesAreAccepted
 proved_files_are_accepted network traces p n taken text accepted net_is traces_are e =
     let read = network_read (network_of network) n net_is in
-    let same = traces_read (file_traces traces) (file_fault traces) taken traces_are in
+    let same = traces_taken (file_traces traces) (file_fault traces) taken traces_are in
     let short : HaveShortIds n taken = record { of_edges = read_names network n read; of_traces = subst (λ (ts : List Trace). All (λ (x : Trace). x.id < 2 ^ 32) ts) same (read_ids traces) } in
     proved_texts_are_accepted (record { network = n; params = p }) taken text (read_lawful network n read) accepted
-    (subst (λ (ts : List Trace). All IsLawfulTrace ts) same (IsLawfulTrace-file_traces traces)) short e
+    (taken_lawful traces taken traces_are) short e

@@ -21,10 +21,10 @@ use Rattle.program_frame.specs.declared.stop.File.{File}
 use Rattle.program_frame.specs.declared.stop.File.TheVariants.{Certificate as OfCertificate, Network, Traces}
 use Rattle.trace_reader.specs.declared.trace.Trace.{Trace}
 use Rattle.match_program.specs.ProvedRuns.{ProvedRunsAreAccepted}
-use Rattle.match_program.specs.Setting.{Setting}
+use Rattle.follow_work.specs.Setting.{Setting}
 use Rattle.match_program.specs.Words.{asked_by, command_plan}
 use Rattle.check_work.specs.Check.{certificate_in, check_said, proved_line, proved_or_refused, verdict_said}
-use Rattle.match_program.specs.commands.Prove.{prove_plan, prove_said, text_of_proofs}
+use Rattle.prove_work.specs.Prove.{prove_plan, prove_said, text_of_proofs}
 use Rattle.match_program.proofs.AcceptedOptions.{accepted_words}
 use Rattle.match_program.proofs.ProvedFiles.{proved_files_are_accepted}
 use Rattle.match_program.proofs.ProvedTexts.{written}

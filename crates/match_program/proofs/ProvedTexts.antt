@@ -24,9 +24,9 @@ use Rattle.road_network.specs.Net.{Net}
 use Rattle.trace_match.specs.Match.{asks}
 use Rattle.trace_reader.specs.declared.trace.Trace.{Trace}
 use Rattle.match_program.specs.ProvedTexts.{ProvedTextsAreAccepted}
-use Rattle.match_program.specs.Setting.{Setting}
+use Rattle.follow_work.specs.Setting.{Setting}
 use Rattle.check_work.specs.Check.{certificate_fault_line, check_said, proved_line, proved_or_refused, verdict_said}
-use Rattle.match_program.specs.commands.Prove.{certificate_too_long, text_of_proofs}
+use Rattle.prove_work.specs.Prove.{certificate_too_long, text_of_proofs}
 
 -- ---- the text
 

@@ -7,7 +7,7 @@ use Rattle.program_frame.specs.Stream.{works_traces}
 use Rattle.road_network.specs.Net.{Net}
 use Rattle.table_file.specs.TableText.{text_limit}
 use Rattle.match_program.specs.TableFiles.{TableFilesChangeNothing}
-use Rattle.match_program.specs.commands.Matches.{match_text}
+use Rattle.match_work.specs.Matches.{match_text}
 use Rattle.table_work.specs.Preload.{preloads, table_file_said}
 
 module _ (files : List ℕ → Option (List ℕ)) (o : Outcome) (other : o.status ≢ 9) where

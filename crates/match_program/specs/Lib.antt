@@ -1,11 +1,7 @@
-pub mod Matched
 pub mod ProvedTexts
 pub mod ProvedFiles
 pub mod ProvedRuns
 pub mod RunLines
-pub mod Setting
-pub mod Sharing
 pub mod TableFiles
 pub mod Workers
 pub mod Words
-pub mod commands

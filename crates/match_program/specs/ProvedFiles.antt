@@ -8,7 +8,7 @@ use Rattle.prove_work.specs.Certificates.{certificate_of}
 use Rattle.road_network.specs.Net.{Net}
 use Rattle.trace_reader.specs.declared.trace.Trace.{Trace}
 use Rattle.check_work.specs.Check.{check_said, proved_line}
-use Rattle.match_program.specs.commands.Prove.{prove_said}
+use Rattle.prove_work.specs.Prove.{prove_said}
 
 -- where the files are accepted, a text that `prove` writes of them is accepted by `check`, with the
 -- same files and options

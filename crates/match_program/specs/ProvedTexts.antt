@@ -6,9 +6,9 @@ use Rattle.prove_work.specs.Certificates.{certificate_of}
 use Rattle.road_network.specs.Net.{IsLawful}
 use Rattle.trace_reader.specs.Trace.{IsLawfulTrace}
 use Rattle.trace_reader.specs.declared.trace.Trace.{Trace}
-use Rattle.match_program.specs.Setting.{Setting}
+use Rattle.follow_work.specs.Setting.{Setting}
 use Rattle.check_work.specs.Check.{check_said, proved_line}
-use Rattle.match_program.specs.commands.Prove.{prove_said}
+use Rattle.prove_work.specs.Prove.{prove_said}
 
 -- a text that `prove` writes of these traces is accepted by `check`, with the same traces and options
 abbrev pub ProvedTextsAreAccepted : Type 0

@@ -3,10 +3,10 @@ use Rattle.std.specs.Prelude.{◌≡◌, ◌⊎◌, ℕ, List, Err}
 use Rattle.program_frame.specs.Refusals.{refusal_lines}
 use Rattle.road_network.specs.Net.{Net}
 use Rattle.trace_reader.specs.declared.trace.Trace.{Trace}
-use Rattle.match_program.specs.Setting.{Setting}
+use Rattle.follow_work.specs.Setting.{Setting}
 use Rattle.check_work.specs.Check.{check_said}
 use Rattle.table_work.specs.Preload.{table_file_said}
-use Rattle.match_program.specs.commands.Prove.{certificate_too_long}
+use Rattle.prove_work.specs.Prove.{certificate_too_long}
 use Rattle.stream_work.specs.Streams.{too_long_line}
 use Rattle.table_work.specs.Table.{table_too_long}
 

@@ -9,11 +9,11 @@ use Rattle.cost_model.specs.declared.params.Params.{Params}
 use Rattle.program_frame.specs.Plan.{Plan}
 use Rattle.follow_work.specs.Follow.{follow_plan}
 use Rattle.check_work.specs.Check.{check_plan}
-use Rattle.match_program.specs.commands.Matches.{match_plan}
-use Rattle.match_program.specs.commands.Prove.{prove_plan}
+use Rattle.match_work.specs.Matches.{match_plan}
+use Rattle.prove_work.specs.Prove.{prove_plan}
 use Rattle.stream_work.specs.Streams.{streams_plan}
 use Rattle.table_work.specs.Table.{table_plan}
-use Rattle.match_program.specs.commands.Towns.{town_plan}
+use Rattle.town_work.specs.Towns.{town_plan}
 
 -- the plan of a work with these options: a row for each command
 abbrev pub work_plan : PlainWork → Params → Plan

@@ -3,19 +3,15 @@
 //! `run` is the whole program over a shelf of files and two sinks, and carries the promise: what it
 //! writes is a function of the words and the files. `main` hands it the real files and streams.
 //!
-//! - The crate `command_line` reads the words, and `run` hands the work that they ask for to its
-//!   command: those of `follow`, `streams`, `table` and `check` are crates (`follow_work`, `stream_work`,
-//!   `table_work`, `check_work`), the others have a file each under `commands`.
+//! - The crate `command_line` reads the words, and `run` hands the work that they ask for to the crate of its
+//!   command: `match_work`, `follow_work`, `stream_work`, `table_work`, `prove_work`, `check_work`, `town_work`.
 //! - The crate `program_frame` has what every command stands on: the files and their refusals, the
 //!   traces taken batch by batch, what is said on err, and the promises of a run.
-//! - `batches` opens the store of rows and its readers, and matches traces by the workers of the crate
-//!   `match_pool`.
+//! - `laws` has what holds of the outcomes of several commands.
 //!
-//! Read the clause of `run` first, and then `specs/Words.antt` and `specs/commands/Matches.antt`.
+//! Read the clause of `run` first, then `specs/Words.antt`, and then `specs/Matches.antt` of `match_work`.
 #![tactic(auto)]
 
-mod batches;
-mod commands;
 pub mod laws;
 mod run;
 

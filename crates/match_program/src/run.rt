@@ -6,19 +6,19 @@ ghost use Rattle.program_frame.specs.Promises.{Promises};
 ghost use Rattle.match_program.specs.RunLines.{run_lines};
 ghost use Rattle.match_program.specs.Words.{asked_by};
 
-use crate::commands::matches::match_traces;
-use crate::commands::prove::prove_traces;
-use crate::commands::towns::match_town;
 use check_work::check_traces;
 use command_line::{Work, read_command};
 use edge_io::{Shelf, Sink};
 use follow_work::follow_traces;
 use match_pool::Gate;
+use match_work::match_traces;
 use program_frame::{Stop, refuse_words, say, status_after};
+use prove_work::prove_traces;
 use std::alloc::Global;
 use std::thread::Threads;
 use stream_work::stream_traces;
 use table_work::write_table;
+use town_work::match_town;
 
 // The work of the words, but for what is said on err.
 fn perform<R: Threads + Sync, G: Gate, S: Shelf, K: Sink>(

@@ -1,2 +1,4 @@
 pub mod KnownRows
 pub mod TraceProofs
+pub mod WholeTraces
+pub mod WrittenProofs

@@ -1,4 +1,4 @@
-// The proofs of traces. Serves `certify_traces`; decided by `certificate_of`.
+// The proofs of traces. Serves `prove`; decided by `certificate_of`.
 ghost use Rattle.std.specs.Prelude.{◌≡◌, All, IfOk, OnOk, map, true};
 ghost use Rattle.bounded_search.specs.Rows.{AreRowsOf, AsksAs};
 ghost use Rattle.follow_work.specs.FollowDone.{AsksTraces};
@@ -36,14 +36,14 @@ pub fn certify_traces(
 {
     net.known();
     let mut rows = OwnRows::open(alloc, net, p.bound)?;
-    let proofs = prove_traces(alloc, net, grid, p, &mut rows, traces)?;
+    let proofs = prove_all(alloc, net, grid, p, &mut rows, traces)?;
     rows.known();
     let rows = rows.into_rows(alloc)?;
     Ok(Certificate { proofs, rows })
 }
 
 // The proofs of traces in their order.
-fn prove_traces(
+fn prove_all(
     alloc: Global,
     net: &Network,
     grid: &Grid,

@@ -1,6 +1,0 @@
-use Rattle.std.proofs.Common.{◌≡◌, replicate}
-use Rattle.match_program.specs.Sharing.{fresh_reader}
-use Rattle.match_program.proofs.batches.open_readers.Given as goal
-
-abbrev pub invariant-loop : goal.invariant-loop
-invariant-loop l = l.readers ≡ replicate l.counter (fresh_reader l.store)

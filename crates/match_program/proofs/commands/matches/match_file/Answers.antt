@@ -1,7 +1,0 @@
-use Rattle.std.proofs.Common.{refl, rules}
-use Rattle.match_program.proofs.Jobs.{begun}
-use Rattle.match_program.proofs.commands.matches.match_file.Goals as goal
-
-pub work_traces-requires : goal.work_traces-requires
-work_traces-requires g c =
-    (begun c.args.matcher.now c.args.store.now c.in-Ok.readers _ c.in-Ok.ensures.fresh c.in-Ok.ensures.shared refl refl refl, search rules)

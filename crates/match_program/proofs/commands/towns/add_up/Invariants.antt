@@ -1,6 +1,0 @@
-use Rattle.std.proofs.Common.{take}
-use Rattle.match_program.specs.commands.TownsDone.{AreCosts}
-use Rattle.match_program.proofs.commands.towns.add_up.Given as goal
-
-abbrev pub invariant-loop-matched : goal.invariant-loop-matched
-invariant-loop-matched l = AreCosts (take l.matched-index l.matches) l.costs

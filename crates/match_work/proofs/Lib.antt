@@ -1,0 +1,4 @@
+pub mod Asking
+pub mod Jobs
+pub mod Sharing
+pub mod TraceMatches

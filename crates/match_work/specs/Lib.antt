@@ -1,0 +1,4 @@
+pub mod Matched
+pub mod Matches
+pub mod MatchesDone
+pub mod Sharing

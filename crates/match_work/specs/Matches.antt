@@ -1,0 +1,42 @@
+-- `match NET TRACES [--table FILE]`: what the bytes of a trace file give, matched on a network.
+use Rattle.std.specs.Prelude.{ℕ, List}
+use Rattle.std.specs.declared.option.Option.{Option}
+use Rattle.std.specs.List.{flat_map}
+use Rattle.std.proofs.Common.{refl}
+use Rattle.std.proofs.lemmas.List.Concat.{flat_map-append}
+use Rattle.cost_model.specs.declared.params.Params.{Params}
+use Rattle.match_text.specs.MatchText.{text_of}
+use Rattle.follow_work.specs.Totals.{no_line, no_refusal, total_of}
+use Rattle.program_frame.specs.Jobs.{JobText}
+use Rattle.program_frame.specs.Plan.{Plan, loads}
+use Rattle.program_frame.specs.Refusals.{network_limit, network_said}
+use Rattle.program_frame.specs.Stream.{works_traces}
+use Rattle.program_frame.specs.declared.stop.File.TheVariants.{Network}
+use Rattle.trace_match.specs.Match.{match_of}
+use Rattle.trace_reader.specs.declared.trace.Trace.{Trace}
+use Rattle.follow_work.specs.Setting.{Setting}
+use Rattle.table_work.specs.Preload.{preloads}
+
+-- the texts of traces, in their order
+abbrev pub texts_of : Setting → List Trace → List ℕ
+texts_of on traces = flat_map (λ trace. text_of (match_of on.network on.params trace)) traces
+
+-- the texts of the traces, and then the total line; nothing is refused but by the file
+abbrev pub match_text : Setting → JobText
+match_text on = record {
+  texts = texts_of on;
+  refusal = λ traces. no_refusal;
+  ending = total_of on;
+  nothing = refl;
+  allowed = refl;
+  begins = λ front back. (texts_of on back, flat_map-append (λ trace. text_of (match_of on.network on.params trace)) front back);
+  stays = λ front back line is. absurd (no_line line is);
+}
+
+-- the network is read and accepted, then the table file where there is one, and then the traces are
+-- read and matched
+abbrev pub match_plan : (network traces : List ℕ) (table : Option (List ℕ)) (options : Params) → Plan
+match_plan network traces table options =
+    loads Network network network_limit 5 network_said
+    (λ net. preloads table net options.bound
+    (works_traces traces (match_text (record { network = net; params = options }))))

@@ -1,0 +1,60 @@
+-- Readers of one store, and what matching by them leaves.
+use Rattle.std.specs.Prelude.{◌≡◌, ℕ, List, All, Result, IfOk, OnOk, None, length, replicate}
+use Rattle.std.specs.List.{AllZip}
+use Rattle.std.specs.declared.alloc.AllocError.{AllocError}
+use Rattle.match_pool.specs.Learning.{AreReadersFor, LearnAsked}
+use Rattle.match_pool.specs.Working.{AreJobTraces, StaysReader}
+use Rattle.match_text.specs.declared.matched.MatchedTrace.{MatchedTrace}
+use Rattle.row_store.specs.Store.{Reading, Stored}
+use Rattle.trace_reader.specs.declared.trace.Trace.{Trace}
+use Rattle.match_work.specs.Matched.{AreMatchesOf}
+use Rattle.follow_work.specs.Setting.{Setting}
+use denote.Ref.{Bor, MutBor}
+use denote.Param.Members.{Shared}
+
+-- the store is for the network of this setting and the bound of its options
+pub record IsStoreFor (on : Setting) (store : Stored) : Type 0 where
+  pub network : store.network ≡ on.network
+  pub bound : store.bound ≡ on.params.bound
+
+-- a reader that knows nothing
+abbrev pub fresh_reader : Stored → Reading
+fresh_reader store = record { store = store; places = replicate (length store.network.nodes) None }
+
+-- as many readers as the setting has workers, which know nothing
+abbrev pub fresh_readers : Setting → Stored → List Reading
+fresh_readers on store = replicate on.params.workers (fresh_reader store)
+
+-- readers for this setting, all of one store
+pub record ShareStore (on : Setting) (readers : List Reading) : Type 0 where
+  pub readers_are : AreReadersFor on.network on.params readers
+  pub store : Stored
+  pub each : All (λ r. r.store ≡ store) readers
+
+-- the matches of these traces; the readers stay readers of their stores, and what the traces ask for
+-- became known to some of them
+pub record MatchesBatch (on : Setting) (traces : List Trace) (old : List Reading)
+    (result : Result (List MatchedTrace) AllocError) (new : List Reading) : Type 0 where
+  pub matched : IfOk result (AreMatchesOf on traces)
+  pub stay : AllZip StaysReader old new
+  pub learn : OnOk result (LearnAsked on.network on.params traces old new)
+
+-- what a call on a batch is given, and what it leaves: the place of the first trace, the traces, and
+-- the readers
+abbrev pub BatchGiven : Type 0
+BatchGiven = ℕ × (Bor (List Trace) × (MutBor (List Reading) × Unit {0}))
+
+abbrev pub BatchLeft : Type 0
+BatchLeft = Result (List MatchedTrace) AllocError × (MutBor (List Reading) × Unit {0})
+
+-- each call matches the batch that it is given
+pub record MatchesBatches {F : Type 0} (g : Shared F BatchGiven BatchLeft) (on : Setting) (f : F)
+    : Type 0 where
+  pub may : (first : ℕ) (traces : Bor (List Trace)) (readers : MutBor (List Reading))
+      → AreJobTraces first traces.now → AreReadersFor on.network on.params readers.now
+      → g.pre f (first, (traces, (readers, tt)))
+  pub does : (first : ℕ) (traces : Bor (List Trace)) (readers left : MutBor (List Reading))
+      (result : Result (List MatchedTrace) AllocError)
+      → AreJobTraces first traces.now → AreReadersFor on.network on.params readers.now
+      → g.post f (first, (traces, (readers, tt))) (result, (left, tt))
+      → MatchesBatch on traces.now readers.now result left.now

@@ -1,0 +1,63 @@
+// Readers of one store, and batches of traces that are matched by them. Serves `match` and `town`; decided
+// by `MatchesBatch`.
+ghost use Rattle.std.specs.Prelude.{◌≡◌, IfOk};
+ghost use Rattle.match_pool.specs.Learning.{AreReadersFor};
+ghost use Rattle.match_pool.specs.Working.{AreJobTraces};
+ghost use Rattle.match_work.specs.Sharing.{IsStoreFor, MatchesBatch, ShareStore, fresh_readers};
+
+use follow_work::Matcher;
+use match_pool::{Gate, match_all};
+use match_text::MatchedTrace;
+use polyline_geometry::List;
+use row_store::{Reader, RowStore};
+use std::alloc::{AllocError, Global};
+use std::thread::Threads;
+use trace_reader::Trace;
+
+/// A store for the rows of the network within the bound of the options. No row is in it.
+pub fn open_store<'n>(alloc: Global, matcher: &Matcher<'n>) -> Result<RowStore<'n>, AllocError>
+    ensures { IfOk result (IsStoreFor matcher.now) }
+{
+    RowStore::open(alloc, matcher.network(), matcher.params().bound)
+}
+
+/// As many readers of a store as the options have workers, from 1 to 64. They know nothing.
+pub fn open_readers<'s>(
+    alloc: Global,
+    matcher: &Matcher<'_>,
+    store: &'s RowStore<'s>,
+) -> Result<List<Reader<'s>>, AllocError>
+    requires { IsStoreFor matcher.now store.now }
+    ensures fresh { IfOk result (λ readers. readers ≡ fresh_readers matcher.now store.now) }
+    ensures shared { IfOk result (ShareStore matcher.now) }
+{
+    let params = matcher.params();
+    let mut readers = List::new(alloc);
+    for _ in 0..params.workers {
+        readers.push(store.reader()?)?;
+    }
+    Ok(readers)
+}
+
+/// The matches of some traces, in their order, by one worker for each reader. The first of the
+/// traces stands at place `first` of the file, from 0.
+pub fn match_batch<'s, R: Threads + Sync, G: Gate>(
+    rt: &R,
+    alloc: Global,
+    matcher: &Matcher<'_>,
+    first: u64,
+    traces: &[Trace],
+    readers: &mut List<Reader<'s>>,
+    gate: &G,
+) -> Result<List<MatchedTrace>, AllocError>
+    requires traces { AreJobTraces first traces.now }
+    requires readers { AreReadersFor matcher.now.network matcher.now.params readers.old }
+    ensures { MatchesBatch matcher.now traces.now readers.old result readers.new }
+{
+    let network = matcher.network();
+    let grid = matcher.grid();
+    let params = matcher.params();
+    match_all(
+        rt, alloc, network, grid, params, first, traces, readers, gate,
+    )
+}

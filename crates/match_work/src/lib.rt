@@ -1,0 +1,14 @@
+//! The work of `match`: the traces of a file are matched batch by batch, by workers that share the rows of
+//! one store, and the total line is written.
+//!
+//! - [`match_traces`] does it. Its plan is `match_plan` in `specs/Matches.antt`, which is to be read first.
+//! - [`open_store`], [`open_readers`] and [`match_batch`] are for whoever matches traces by workers: the
+//!   store, a reader of it for each worker, and the matches of some traces. What these leave is
+//!   `MatchesBatch` in `specs/Sharing.antt`.
+#![tactic(auto)]
+
+mod batches;
+mod matches;
+
+pub use batches::{match_batch, open_readers, open_store};
+pub use matches::match_traces;

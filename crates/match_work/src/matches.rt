@@ -1,0 +1,163 @@
+// `match NET TRACES [--table FILE]`. Serves the program; decided by `match_plan`.
+ghost use Rattle.std.specs.Prelude.{◌≡◌, ◌≤◌, ◌^◌, ◌++◌, [], All, Ok, IfOk, OnOk, option_map};
+ghost use Rattle.cost_model.specs.Options.{IsAccepted};
+ghost use Rattle.match_pool.specs.Learning.{AreReadersFor};
+ghost use Rattle.match_pool.specs.Working.{AreJobTraces};
+ghost use Rattle.match_text.specs.MatchText.{IsLawful};
+ghost use Rattle.program_frame.specs.Performs.{Performs};
+ghost use Rattle.program_frame.specs.Stream.{works_traces};
+ghost use Rattle.match_work.specs.Matched.{pieces_in, text_of_matches};
+ghost use Rattle.match_work.specs.Sharing.{IsStoreFor, MatchesBatch, MatchesBatches};
+ghost use Rattle.match_work.specs.Matches.{match_plan, match_text};
+ghost use Rattle.match_work.specs.MatchesDone.{HasMatched};
+
+use crate::batches::{match_batch, open_readers, open_store};
+use cost_model::Params;
+use edge_io::{Shelf, Sink};
+use follow_work::Matcher;
+use match_pool::Gate;
+use match_text::{MatchedTrace, write_match};
+use polyline_geometry::List;
+use program_frame::{Job, Stop, Tally, load_network, work_traces};
+use row_store::{Reader, RowStore, known_count};
+use std::alloc::{AllocError, Global};
+use std::thread::Threads;
+use table_work::preload;
+use trace_reader::Trace;
+
+// Matches traces batch by batch, and counts them. The readers are those of the workers, over all
+// batches.
+#[derive(Drop)]
+struct MatchJob<'s, F> {
+    matcher: &'s Matcher<'s>,
+    readers: List<Reader<'s>>,
+    match_batch: F,
+    tally: Tally,
+}
+
+// Appends the texts of matches, and says how many pieces they have.
+fn write_matches(
+    alloc: Global,
+    matches: &[MatchedTrace],
+    into: &mut List<u8>,
+) -> Result<u64, AllocError>
+    requires lawful { All IsLawful matches.now }
+    requires few { pieces_in matches.now ≤ 2 ^ 62 }
+    ensures text { OnOk result (into.new ≡ into.old ++ text_of_matches matches.now) }
+    ensures pieces { IfOk result (λ pieces. pieces ≡ pieces_in matches.now) }
+{
+    let mut pieces = 0;
+    for matched in matches {
+        write_match(alloc, matched, into)?;
+        pieces += matched.pieces.len() as u64;
+    }
+    Ok(pieces)
+}
+
+// The matches of a batch by this call, which is one of `match_batch` with this matcher.
+fn match_by<'s, F>(
+    call: &F,
+    _matcher: &Matcher<'_>,
+    first: u64,
+    traces: &[Trace],
+    readers: &mut List<Reader<'s>>,
+) -> Result<List<MatchedTrace>, AllocError>
+where
+    F: Fn(u64, &[Trace], &mut List<Reader<'s>>) -> Result<List<MatchedTrace>, AllocError>,
+    requires call { MatchesBatches F.Fn _matcher.now call.now }
+    requires traces { AreJobTraces first traces.now }
+    requires readers { AreReadersFor _matcher.now.network _matcher.now.params readers.old }
+    ensures { MatchesBatch _matcher.now traces.now readers.old result readers.new }
+{
+    call(first, traces, readers)
+}
+
+impl<'s, F> Job for MatchJob<'s, F>
+where
+    F: Fn(u64, &[Trace], &mut List<Reader<'s>>) -> Result<List<MatchedTrace>, AllocError>,
+{
+    ghost text = { λ job. match_text job.matcher.now };
+
+    ghost has = { λ job traces. HasMatched job.matcher.now job.readers job.tally traces
+        × MatchesBatches F.Fn job.matcher.now job.match_batch };
+
+    fn take(&mut self, alloc: Global, traces: &[Trace], into: &mut List<u8>) -> Result<(), Stop> {
+        let first = self.tally.traces;
+        let call = &self.match_batch;
+        let Ok(matches) = match_by(call, self.matcher, first, traces, &mut self.readers) else {
+            return Err(Stop::NoMemory);
+        };
+        let Ok(pieces) = write_matches(alloc, matches.as_slice(), into) else {
+            return Err(Stop::NoMemory);
+        };
+        self.tally.add(traces, pieces);
+        Ok(())
+    }
+
+    fn finish(&mut self, alloc: Global, into: &mut List<u8>) -> Result<(), AllocError> {
+        let rows = known_count(alloc, self.readers.as_slice())?;
+        self.tally.append_line(u64::from(rows), into)
+    }
+}
+
+// Matches the traces of a file by workers over one store.
+fn match_file<'s, R: Threads + Sync, G: Gate, S: Shelf, K: Sink>(
+    rt: &R,
+    alloc: Global,
+    matcher: &'s Matcher<'s>,
+    store: &'s RowStore<'s>,
+    traces: &str,
+    shelf: &mut S,
+    out: &mut K,
+    gate: &G,
+) -> Result<(), Stop>
+    requires { IsStoreFor matcher.now store.now }
+    ensures { Performs (Ok (works_traces traces.now (match_text matcher.now)))
+        (S.state shelf.old) (S.state shelf.new) (K.state out.old) (K.state out.new) result }
+{
+    let Ok(readers) = open_readers(alloc, matcher, store) else {
+        return Err(Stop::NoMemory);
+    };
+    let match_batch = |first: u64, batch: &[Trace], readers: &mut List<Reader<'_>>|
+        requires { AreJobTraces first batch.now
+            × AreReadersFor matcher.now.network matcher.now.params readers.now }
+        ensures { MatchesBatch matcher.entry.now batch.now readers.entry.now result
+            readers.exit.now }
+    { match_batch(rt, alloc, matcher, first, batch, readers, gate) };
+    let job = MatchJob {
+        matcher,
+        readers,
+        match_batch,
+        tally: Tally::NONE,
+    };
+    work_traces(alloc, job, shelf, traces, out)
+}
+
+/// Reads the network, then the table file where there is one, and then the traces, which it matches
+/// batch by batch.
+pub fn match_traces<R: Threads + Sync, G: Gate, S: Shelf, K: Sink>(
+    rt: &R,
+    alloc: Global,
+    network: &str,
+    traces: &str,
+    table: Option<&str>,
+    options: Params,
+    shelf: &mut S,
+    out: &mut K,
+    gate: &G,
+) -> Result<(), Stop>
+    requires { IsAccepted options }
+    ensures { Performs
+        (Ok (match_plan network.now traces.now (option_map (λ name. name.now) table.entry) options))
+        (S.state shelf.old) (S.state shelf.new) (K.state out.old) (K.state out.new) result }
+{
+    let roads = load_network(alloc, shelf, network)?;
+    let Ok(matcher) = Matcher::open(alloc, &roads, options) else {
+        return Err(Stop::NoMemory);
+    };
+    let Ok(store) = open_store(alloc, &matcher) else {
+        return Err(Stop::NoMemory);
+    };
+    preload(alloc, shelf, table, &roads, options.bound, &store)?;
+    match_file(rt, alloc, &matcher, &store, traces, shelf, out, gate)
+}

@@ -1,0 +1,34 @@
+-- The text of a certificate that is written.
+use Rattle.std.proofs.Common.{◌≡◌, ◌<◌, ℕ, List, Result, Err, length, refl, ◌∙◌, ap, subst}
+use Rattle.std.specs.Prelude.{IsErrOf}
+use Rattle.cost_model.specs.declared.params.Params.{Params}
+use Rattle.potential_certificate.specs.CertificateText.{certificate_text, text_limit}
+use Rattle.potential_certificate.specs.declared.fault.WriteFault.{WriteFault}
+use Rattle.potential_certificate.specs.declared.fault.WriteFault.TheVariants.{TooLong, Memory}
+use Rattle.potential_certificate.specs.declared.proof.Certificate.{Certificate}
+use Rattle.prove_work.specs.Certificates.{certificate_of}
+use Rattle.road_network.specs.Net.{Net}
+use Rattle.trace_reader.specs.declared.trace.Trace.{Trace}
+use Rattle.follow_work.specs.Setting.{Setting}
+use Rattle.prove_work.specs.Prove.{text_of_proofs}
+use Rattle.prove_work.specs.ProveDone.{WritesProofs}
+
+-- the certificate was made by the network and the options of the setting
+pub record IsMadeBy (on : Setting) (n : Net) (p : Params) (traces : List Trace) (c : Certificate) : Type 0 where
+  pub network : n ≡ on.network
+  pub params : p ≡ on.params
+  pub certificate : c ≡ certificate_of (record { network = n; params = p }) traces
+
+pub text_is : (on : Setting) (n : Net) (p : Params) (traces : List Trace) (c : Certificate) → IsMadeBy on n p traces c → certificate_text p c ≡ text_of_proofs on traces
+text_is on n p traces c made =
+    ap (certificate_text p) made.certificate
+    ∙ ap (λ (q : Params). certificate_text q (certificate_of (record { network = n; params = q }) traces)) made.params
+    ∙ ap (λ (m : Net). certificate_text on.params (certificate_of (record { network = m; params = on.params }) traces)) made.network
+
+abbrev pub failed : WriteFault → Result (Unit {0}) WriteFault
+failed fault = Err fault
+
+pub writing_fails : (on : Setting) (n : Net) (p : Params) (traces : List Trace) (c : Certificate) (fault : WriteFault) → IsMadeBy on n p traces c
+    → (IsErrOf (failed fault) TooLong → text_limit < length (certificate_text p c)) → WritesProofs on traces (Err fault)
+writing_fails on n p traces c TooLong made long = subst (λ (t : List ℕ). text_limit < length t) (text_is on n p traces c made) (long refl)
+writing_fails on n p traces c Memory made long = tt

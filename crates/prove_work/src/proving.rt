@@ -1,0 +1,74 @@
+// `prove NET TRACES`. Serves the program; decided by `prove_plan`.
+ghost use Rattle.std.specs.Prelude.{All, Ok};
+ghost use Rattle.cost_model.specs.Options.{IsAccepted};
+ghost use Rattle.program_frame.specs.Loads.{Accepts};
+ghost use Rattle.program_frame.specs.Performs.{Performs};
+ghost use Rattle.trace_reader.specs.Trace.{IsLawfulTrace};
+ghost use Rattle.prove_work.specs.Prove.{prove_plan, prove_said};
+ghost use Rattle.prove_work.specs.ProveDone.{WritesProofs};
+
+use crate::certifying::certify_traces;
+use cost_model::Params;
+use edge_io::{Shelf, Sink};
+use follow_work::Matcher;
+use polyline_geometry::List;
+use potential_certificate::{WriteFault, write_certificate};
+use program_frame::{Refusal, Stop, load_network, load_traces, put_text, refuse};
+use std::alloc::Global;
+use trace_reader::Trace;
+
+// The text of the certificate of traces, which are matched one after the other with own rows.
+fn write_proofs(
+    alloc: Global,
+    matcher: &Matcher<'_>,
+    traces: &[Trace],
+) -> Result<List<u8>, WriteFault>
+    requires { All IsLawfulTrace traces.now }
+    ensures { WritesProofs matcher.now traces.now result }
+{
+    let params = matcher.params();
+    let certificate = certify_traces(alloc, matcher.network(), matcher.grid(), params, traces)?;
+    let mut text = List::new(alloc);
+    write_certificate(alloc, params, &certificate, &mut text)?;
+    Ok(text)
+}
+
+// The text of the certificate of traces, or its refusal as too long.
+fn text_of_proofs(alloc: Global, matcher: &Matcher<'_>, traces: &[Trace]) -> Result<List<u8>, Stop>
+    requires { All IsLawfulTrace traces.now }
+    ensures { Accepts Refusal.TooLong (prove_said matcher.now traces.now) result }
+{
+    match write_proofs(alloc, matcher, traces) {
+        Ok(text) => Ok(text),
+        Err(WriteFault::TooLong) => Err(refuse(
+            alloc,
+            Refusal::TooLong,
+            b"fmm: certificate too long\n",
+        )),
+        Err(WriteFault::Memory) => Err(Stop::NoMemory),
+    }
+}
+
+/// Reads the network and then all traces, and writes the certificate text of their matches. The
+/// traces, the certificate and its text are held whole, so that out stays empty where the text is
+/// too long.
+pub fn prove_traces<S: Shelf, K: Sink>(
+    alloc: Global,
+    network: &str,
+    traces: &str,
+    options: Params,
+    shelf: &mut S,
+    out: &mut K,
+) -> Result<(), Stop>
+    requires { IsAccepted options }
+    ensures { Performs (Ok (prove_plan network.now traces.now options))
+        (S.state shelf.old) (S.state shelf.new) (K.state out.old) (K.state out.new) result }
+{
+    let roads = load_network(alloc, shelf, network)?;
+    let taken = load_traces(alloc, shelf, traces)?;
+    let Ok(matcher) = Matcher::open(alloc, &roads, options) else {
+        return Err(Stop::NoMemory);
+    };
+    let text = text_of_proofs(alloc, &matcher, taken.as_slice())?;
+    put_text(out, text.as_slice())
+}

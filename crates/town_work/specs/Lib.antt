@@ -1,0 +1,2 @@
+pub mod Towns
+pub mod TownsDone
