@@ -1,6 +1,6 @@
 -- The text of a certificate that comes in blocks.
 use denote.Ref.{Bor}
-use Rattle.std.specs.Prelude.{ℕ, ◌≡◌, ◌+◌, ◌<◌, ◌⊎◌, ◌++◌, true, nat_le, Bool, List, [], ◌∷◌, length, slice_index_or}
+use Rattle.std.specs.Prelude.{ℕ, ◌≡◌, ◌+◌, ◌<◌, ◌⊎◌, ◌++◌, true, nat_le, Bool, List, [], ◌∷◌, fold, length, set, slice_index_or}
 use Rattle.std.specs.List.{AllByRecursion, AllZip, flat_map}
 use Rattle.bounded_search.specs.Table.{TableRow}
 use Rattle.row_text.specs.RowLine.{row_line}
@@ -39,6 +39,10 @@ abbrev pub IsPlacedIn : List (Bor (List ℕ)) → PlacedRead → Type 0
 IsPlacedIn parts placed =
     (placed.place < length parts)
     × ((d : Bor (List ℕ)) → IsReadOf (slice_index_or parts placed.place d).now placed.read)
+
+-- what was read of parts, put at their places
+abbrev pub put_at_places : List PartRead → List PlacedRead → List PartRead
+put_at_places reads done = fold (λ all placed. set all placed.place placed.read) reads done
 
 -- what was read of the parts of a text, one behind the other
 pub record AreReadsOf (text : List ℕ) (reads : List PartRead) : Type 0 where

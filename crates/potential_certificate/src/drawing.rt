@@ -1,7 +1,7 @@
 // The parts of a text, read side by side by workers that draw them. Serves the reader of blocks; decided by `AreReadsOf`.
 ghost use Rattle.std.specs.Prelude.{◌≡◌, ◌<◌, ◌≤◌, All, IfOk, length};
 ghost use Rattle.tickets.specs.Tickets.{IsOpenTicket};
-ghost use Rattle.potential_certificate.specs.Gathering.{AreEachReadOf, AreReadsOf, IsPlacedIn};
+ghost use Rattle.potential_certificate.specs.Gathering.{AreEachReadOf, AreReadsOf, IsPlacedIn, put_at_places};
 
 use crate::parts::{PartRead, cut, read_part, unread};
 use polyline_geometry::List;
@@ -79,10 +79,7 @@ fn unread_parts<'a>(alloc: Global, parts: &[&'a [u8]]) -> Result<Vec<PartRead<'a
 // Puts what was read of parts at their places.
 fn put_in<'a>(reads: &mut [PartRead<'a>], done: List<PlacedRead<'a>>)
     requires { All (λ placed. placed.place < length reads.old) done }
-    ensures count { length reads.new ≡ length reads.old }
-    ensures reads { (parts : _) → All (IsPlacedIn parts) done.entry
-        → AreEachReadOf parts reads.old
-        → AreEachReadOf parts reads.new }
+    ensures { reads.new ≡ put_at_places reads.old done.entry }
 {
     for PlacedRead { place, read } in done.into_vec() {
         reads[place] = read;
