@@ -1,3 +1,2 @@
 pub mod CertificateFiles
 pub mod CheckedProofs
-pub mod WholeTraces

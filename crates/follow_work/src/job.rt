@@ -18,7 +18,7 @@ use trace_reader::Trace;
 
 /// Follows traces with own rows, one after the other, and counts them.
 pub struct FollowJob<'n> {
-    follower: Matcher<'n>,
+    matcher: Matcher<'n>,
     rows: OwnRows<'n>,
     tally: Tally,
 }
@@ -27,7 +27,7 @@ pub struct FollowJob<'n> {
 impl<'n> Drop for FollowJob<'n> {
     fn drop(self) {
         let FollowJob {
-            follower: _,
+            matcher: _,
             rows: _,
             tally: _,
         } = self;
@@ -37,20 +37,20 @@ impl<'n> Drop for FollowJob<'n> {
 // Follows traces, appends their texts, and says how many pieces their matches have.
 fn write_followed<'n>(
     alloc: Global,
-    follower: &Matcher<'n>,
+    matcher: &Matcher<'n>,
     rows: &mut OwnRows<'n>,
     traces: &[Trace],
     into: &mut List<u8>,
 ) -> Result<u64, AllocError>
-    requires rows { AreRowsOf rows.old follower.now.network follower.now.params.bound }
+    requires rows { AreRowsOf rows.old matcher.now.network matcher.now.params.bound }
     requires traces { IsBounded traces.now }
-    ensures text { OnOk result (into.new ≡ into.old ++ followed_of follower.now traces.now) }
-    ensures pieces { IfOk result (ArePieces follower.now traces.now) }
-    ensures asks { OnOk result (AsksTraces follower.now traces.now rows.old rows.new) }
+    ensures text { OnOk result (into.new ≡ into.old ++ followed_of matcher.now traces.now) }
+    ensures pieces { IfOk result (ArePieces matcher.now traces.now) }
+    ensures asks { OnOk result (AsksTraces matcher.now traces.now rows.old rows.new) }
 {
     let mut pieces = 0;
     for trace in traces {
-        let count = follower.follow_trace(alloc, rows, trace, into)?;
+        let count = matcher.follow_trace(alloc, rows, trace, into)?;
         pieces += count;
     }
     Ok(pieces)
@@ -60,14 +60,14 @@ impl<'n> FollowJob<'n> {
     /// No trace was followed.
     pub fn open(alloc: Global, roads: &'n Network, options: Params) -> Result<Self, AllocError>
         requires { IsAccepted options }
-        ensures follower { IfOk result
-            (λ job. job.follower ≡ record { network = roads.now; params = options }) }
-        ensures begun { IfOk result (λ job. HasFollowed job.follower job.rows job.tally []) }
+        ensures matcher { IfOk result
+            (λ job. job.matcher ≡ record { network = roads.now; params = options }) }
+        ensures begun { IfOk result (λ job. HasFollowed job.matcher job.rows job.tally []) }
     {
-        let follower = Matcher::open(alloc, roads, options)?;
-        let rows = follower.rows(alloc)?;
+        let matcher = Matcher::open(alloc, roads, options)?;
+        let rows = matcher.rows(alloc)?;
         Ok(FollowJob {
-            follower,
+            matcher,
             rows,
             tally: Tally::NONE,
         })
@@ -75,12 +75,12 @@ impl<'n> FollowJob<'n> {
 }
 
 impl<'n> Job for FollowJob<'n> {
-    ghost text = { λ job. follow_job job.follower };
+    ghost text = { λ job. follow_job job.matcher };
 
-    ghost has = { λ job traces. HasFollowed job.follower job.rows job.tally traces };
+    ghost has = { λ job traces. HasFollowed job.matcher job.rows job.tally traces };
 
     fn take(&mut self, alloc: Global, traces: &[Trace], into: &mut List<u8>) -> Result<(), Stop> {
-        match write_followed(alloc, &self.follower, &mut self.rows, traces, into) {
+        match write_followed(alloc, &self.matcher, &mut self.rows, traces, into) {
             Ok(pieces) => {
                 self.tally.add(traces, pieces);
                 Ok(())

@@ -8,7 +8,7 @@ use Rattle.road_network.specs.NetworkFile.{network_of}
 use Rattle.road_network.specs.declared.fault.NetworkFault.{NetworkFault}
 use Rattle.trace_reader.specs.declared.trace.Trace.{Trace}
 use Rattle.trace_reader.specs.Reading.{file_fault, file_traces}
-use Rattle.prove_work.proofs.WholeTraces.{taken_lawful, traces_taken}
+use Rattle.program_frame.proofs.TakenTraces.{taken_lawful, traces_taken}
 use Rattle.match_program.specs.ProvedFiles.{ProvedFilesAreAccepted}
 use Rattle.match_program.proofs.ProvedTexts.{proved_texts_are_accepted}
 use Rattle.match_program.proofs.ReadIds.{read_ids}

@@ -31,8 +31,6 @@ mod proof_writing;
 mod reader;
 mod reading;
 mod rows;
-#[cfg(test)]
-mod tests;
 mod writing;
 
 pub use copying::certify;

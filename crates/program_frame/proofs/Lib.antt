@@ -9,5 +9,6 @@ pub mod Reading
 pub mod RunEnds
 pub mod Stages
 pub mod Streaming
+pub mod TakenTraces
 pub mod TraceCounts
 pub mod WholeReading

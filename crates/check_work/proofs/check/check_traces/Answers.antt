@@ -8,7 +8,7 @@ use Rattle.program_frame.proofs.Stages.{ends_performs, loads_fails, loads_perfor
 use Rattle.trace_reader.specs.Trace.{IsLawfulTrace}
 use Rattle.follow_work.specs.Setting.{Setting}
 use Rattle.check_work.specs.Check.{check_said}
-use Rattle.check_work.proofs.WholeTraces.{taken_lawful}
+use Rattle.program_frame.proofs.TakenTraces.{taken_lawful}
 use Rattle.check_work.proofs.check.check_traces.Goals as goal
 
 pub load_certificate-requires-clause-traces : goal.load_certificate-requires-clause-traces

@@ -11,26 +11,26 @@ pub loop-trace-init : goal.loop-trace-init
 loop-trace-init c = record {
   text = sym (append-nil c.args.into.now);
   pieces = record { are = refl; few = omega arith };
-  asks = asks_none c.args.follower.now c.args.rows.now c.requires.rows;
+  asks = asks_none c.args.matcher.now c.args.rows.now c.requires.rows;
 }
 
 pub loop-trace-preserved : goal.loop-trace-preserved
 loop-trace-preserved c =
     let inv = c.loop-trace.invariant in
     record {
-      text = followed_next c.args.follower.now c.args.traces.now c.loop-trace.trace-index c.trace-item.result c.args.into.now c.loop-trace.into c.follow_trace.new.into c.loop-trace-test.true c.trace-item.is inv.text c.in_ok-count.ensures.followed.written;
-      pieces = pieces_followed c.args.follower.now c.args.traces.now c.loop-trace.trace-index c.trace-item.result c.loop-trace.pieces c.in_ok-count.count c.loop-trace-test.true c.trace-item.is c.in_ok-count.ensures.followed.pieces inv.pieces;
-      asks = asks_next c.args.follower.now c.args.traces.now c.loop-trace.trace-index c.trace-item.result c.args.rows.now c.loop-trace.rows c.follow_trace.new.rows c.loop-trace-test.true c.trace-item.is inv.asks c.in_ok-count.ensures.asks.asks;
+      text = followed_next c.args.matcher.now c.args.traces.now c.loop-trace.trace-index c.trace-item.result c.args.into.now c.loop-trace.into c.follow_trace.new.into c.loop-trace-test.true c.trace-item.is inv.text c.in_ok-count.ensures.followed.written;
+      pieces = pieces_followed c.args.matcher.now c.args.traces.now c.loop-trace.trace-index c.trace-item.result c.loop-trace.pieces c.in_ok-count.count c.loop-trace-test.true c.trace-item.is c.in_ok-count.ensures.followed.pieces inv.pieces;
+      asks = asks_next c.args.matcher.now c.args.traces.now c.loop-trace.trace-index c.trace-item.result c.args.rows.now c.loop-trace.rows c.follow_trace.new.rows c.loop-trace-test.true c.trace-item.is inv.asks c.in_ok-count.ensures.asks.asks;
     }
 
 pub returns-clause-text : goal.returns-clause-text
 returns-clause-text c =
-    subst (λ t. c.loop-trace.into ≡ c.args.into.now ++ followed_of c.args.follower.now t) (take_all c.loop-trace.trace-index c.args.traces.now c.loop-trace-test.false) c.loop-trace.invariant.text
+    subst (λ t. c.loop-trace.into ≡ c.args.into.now ++ followed_of c.args.matcher.now t) (take_all c.loop-trace.trace-index c.args.traces.now c.loop-trace-test.false) c.loop-trace.invariant.text
 
 pub returns-clause-pieces : goal.returns-clause-pieces
 returns-clause-pieces c =
-    subst (λ t. ArePieces c.args.follower.now t c.loop-trace.pieces) (take_all c.loop-trace.trace-index c.args.traces.now c.loop-trace-test.false) c.loop-trace.invariant.pieces
+    subst (λ t. ArePieces c.args.matcher.now t c.loop-trace.pieces) (take_all c.loop-trace.trace-index c.args.traces.now c.loop-trace-test.false) c.loop-trace.invariant.pieces
 
 pub returns-clause-asks : goal.returns-clause-asks
 returns-clause-asks c =
-    subst (λ t. AsksTraces c.args.follower.now t c.args.rows.now c.loop-trace.rows) (take_all c.loop-trace.trace-index c.args.traces.now c.loop-trace-test.false) c.loop-trace.invariant.asks
+    subst (λ t. AsksTraces c.args.matcher.now t c.args.rows.now c.loop-trace.rows) (take_all c.loop-trace.trace-index c.args.traces.now c.loop-trace-test.false) c.loop-trace.invariant.asks

@@ -6,7 +6,7 @@ use Rattle.follow_work.proofs.job.write_followed.Given as goal
 
 abbrev pub invariant-loop-trace : goal.invariant-loop-trace
 invariant-loop-trace l = record {
-  text : l.into ≡ l.initial.into ++ followed_of l.follower (take l.trace-index l.traces);
-  pieces : ArePieces l.follower (take l.trace-index l.traces) l.pieces;
-  asks : AsksTraces l.follower (take l.trace-index l.traces) l.initial.rows l.rows;
+  text : l.into ≡ l.initial.into ++ followed_of l.matcher (take l.trace-index l.traces);
+  pieces : ArePieces l.matcher (take l.trace-index l.traces) l.pieces;
+  asks : AsksTraces l.matcher (take l.trace-index l.traces) l.initial.rows l.rows;
 }

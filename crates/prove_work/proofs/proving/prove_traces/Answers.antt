@@ -5,7 +5,8 @@ use Rattle.program_frame.proofs.Stages.{accepts_performs, accepts_refuses, ends_
 use Rattle.trace_reader.specs.Trace.{IsLawfulTrace}
 use Rattle.follow_work.specs.Setting.{Setting}
 use Rattle.prove_work.specs.Prove.{prove_said}
-use Rattle.prove_work.proofs.WholeTraces.{said_of_taken, taken_lawful, taken_refused}
+use Rattle.program_frame.proofs.TakenTraces.{taken_lawful}
+use Rattle.prove_work.proofs.WholeTraces.{said_of_taken, taken_refused}
 use Rattle.prove_work.proofs.proving.prove_traces.Goals as goal
 
 pub text_of_proofs-requires : goal.text_of_proofs-requires

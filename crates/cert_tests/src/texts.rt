@@ -1,11 +1,12 @@
+//! Texts of certificates, read whole and in blocks, and written.
 ghost use Rattle.std.specs.Prelude.{◌<◌};
 
-use crate::{
-    CertFault, Certificate, CertificateReader, certify, read_certificate, write_certificate,
-};
 use cost_model::Params;
 use match_text::Routed;
 use polyline_geometry::List;
+use potential_certificate::{
+    CertFault, Certificate, CertificateReader, certify, read_certificate, write_certificate,
+};
 use std::alloc::{AllocError, Global};
 use std::test::Fail;
 use std::thread::Threads;
