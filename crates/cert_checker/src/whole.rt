@@ -1,5 +1,5 @@
 //! The verdict on a certificate. Serves everyone; decided by `verdict`.
-ghost use Rattle.std.specs.Prelude.{◌≡◌, All, IfOk, None};
+ghost use Rattle.std.specs.Prelude.{◌≡◌, ◌≤◌, All, IfOk, None};
 ghost use Rattle.cost_model.specs.Options.{IsAccepted};
 ghost use Rattle.trace_reader.specs.Trace.{IsLawfulTrace};
 ghost use Rattle.cert_checker.specs.Rows.{first_bad_row};
@@ -21,6 +21,7 @@ use cost_model::Params;
 use potential_certificate::{Certificate, TraceProof};
 use road_network::Network;
 use std::alloc::{AllocError, Global};
+use std::thread;
 use std::thread::Threads;
 use trace_reader::Trace;
 
@@ -96,6 +97,31 @@ fn first_apart(traces: &[Trace], proofs: &[TraceProof]) -> Option<u64>
     }
 }
 
+/// The number of the first bad row, and the scan of all edges, which is made while the rows are tried.
+fn try_rows<'n, R: Threads + Sync>(
+    rt: &R,
+    alloc: Global,
+    net: &'n Network,
+    bound: u32,
+    rows: &[Row],
+) -> Result<(Option<u64>, EdgeScan<'n>), AllocError>
+    requires { bound ≤ 10_000_000 }
+    ensures bad { IfOk result (λ tried. tried.0 ≡ first_bad_row net.now bound rows.now) }
+    ensures scan { IfOk result (λ tried. tried.1 ≡ net.now) }
+{
+    let (bad, scan) = thread::join(
+        rt,
+        move || -> Result<Option<u64>, AllocError>
+            requires { bound ≤ 10_000_000 }
+            ensures { IfOk result (λ bad. bad ≡ first_bad_row net.entry.now bound rows.entry.now) }
+        { bad_row(rt, alloc, net, bound, rows) },
+        move || -> Result<EdgeScan<'_>, AllocError>
+            ensures { IfOk result (λ scan. scan ≡ net.entry.now) }
+        { EdgeScan::open(alloc, net) },
+    );
+    Ok((bad?, scan?))
+}
+
 /// Whether a certificate proves the match of these traces: the first condition of the whole that fails,
 /// of its rows, of the ids of its proofs, and of each trace in order.
 pub fn check_all<R: Threads + Sync>(
@@ -110,7 +136,7 @@ pub fn check_all<R: Threads + Sync>(
     requires traces { All IsLawfulTrace traces.now }
     ensures { IfOk result (λ v. v ≡ verdict net.now p.now traces.now c.now) }
 {
-    let bad = bad_row(rt, alloc, net, p.bound, c.rows.as_slice())?;
+    let (bad, scan) = try_rows(rt, alloc, net, p.bound, c.rows.as_slice())?;
     if let Some(place) = bad {
         return Ok(Verdict::Refused {
             condition: Condition::Row,
@@ -125,7 +151,6 @@ pub fn check_all<R: Threads + Sync>(
             place,
         });
     }
-    let scan = EdgeScan::open(alloc, net)?;
     let placed = PlacedRows::of(alloc, net, c.rows.as_slice())?;
     let ground = Ground {
         net,

@@ -16,14 +16,14 @@ returns-in-Some g c =
     let n = c.args.net.now in
     let p = c.args.p.now in
     refused_by_rows n p c.args.traces.now c.args.c.now c.in-Some.place
-    (sym c.in-Some.is ∙ c.in_ok-bad.ensures ∙ ap (first_bad_row n p.bound) c.as_slice.ensures)
+    (sym c.in-Some.is ∙ c.in_ok-bad.ensures.bad ∙ ap (first_bad_row n p.bound) c.as_slice.ensures)
 
 pub returns-in-Some-first_apart : goal.returns-in-Some-first_apart
 returns-in-Some-first_apart g c =
     let n = c.args.net.now in
     let p = c.args.p.now in
     refused_by_ids n p c.args.traces.now c.args.c.now c.in-Some-first_apart.place
-    (sym c.in_default.is ∙ c.in_ok-bad.ensures ∙ ap (first_bad_row n p.bound) c.as_slice.ensures)
+    (sym c.in_default.is ∙ c.in_ok-bad.ensures.bad ∙ ap (first_bad_row n p.bound) c.as_slice.ensures)
     (c.in-Some-first_apart.ensures ∙ ap (apart_from 0 c.args.traces.now) c.as_slice-2.ensures)
 
 pub batches-requires-clause-proofs : goal.batches-requires-clause-proofs
@@ -37,7 +37,7 @@ returns g c =
     let p = c.args.p.now in
     let traces = c.args.traces.now in
     let whole = c.args.c.now in
-    let right = sym c.in_default.is ∙ c.in_ok-bad.ensures ∙ ap (first_bad_row n p.bound) c.as_slice.ensures in
+    let right = sym c.in_default.is ∙ c.in_ok-bad.ensures.bad ∙ ap (first_bad_row n p.bound) c.as_slice.ensures in
     let same = sym c.in_default-first_apart.is ∙ c.first_apart.ensures ∙ ap (apart_from 0 traces) c.as_slice-2.ensures in
     let bs : List Batch = c.in_ok-batches.batches in
     let rows : c.in_ok-placed.placed ≡ whole.rows = c.in_ok-placed.ensures ∙ c.as_slice-3.ensures in
