@@ -11,10 +11,13 @@
 #![tactic(auto)]
 
 mod blank;
+mod front;
 mod laws_of_numbers;
 mod number;
+mod words;
 
 pub use blank::{is_blank, trim};
+pub use front::{digits_at_front, signed_at_front};
 pub use laws_of_numbers::{
     signed_has_one_spelling, signed_reads_back, unsigned_has_one_spelling, unsigned_reads_back,
 };
