@@ -1,5 +1,5 @@
 -- Numbers of few digits, alone and at the front of a text.
-use Rattle.std.proofs.Common.{◌≡◌, ◌≢◌, ℕ, ◌+◌, ◌<◌, ◌≤◌, ◌&&◌, ◌==◌, Bool, true, false, List, [], ◌∷◌, length, take, drop, get_or, ℤ, pos, neg_ℤ, Result, Ok, Err, inl, inr, refl, sym, ap, ◌∙◌, add-one, length-take-le, arith}
+use Rattle.std.proofs.Common.{◌≡◌, ◌≢◌, ℕ, ◌+◌, ◌<◌, ◌≤◌, ◌==◌, Bool, true, false, List, [], ◌∷◌, length, take, drop, get_or, ℤ, pos, neg_ℤ, Result, Ok, Err, inl, inr, refl, sym, ap, ◌∙◌, add-one, length-take-le, arith}
 use Rattle.std.specs.List.{list_all, prefix_len}
 use Rattle.std.specs.Result.{result_map_both}
 use Rattle.std.specs.Char.{is_ascii_digit}

@@ -7,6 +7,8 @@
 //!
 //! [`parse_unsigned`] and [`parse_signed`] read a number from a slice, [`write_unsigned`] and
 //! [`write_signed`] append one to a buffer, and [`trim`] drops the blanks at a field's ends.
+//! [`digits_at_front`] and [`signed_at_front`] read a short number before what else a text has, its
+//! digits eight at a time.
 //! Read the clause of `parse_unsigned` first.
 #![tactic(auto)]
 
