@@ -1,5 +1,5 @@
 -- What the fields of a record say.
-use Rattle.std.proofs.Common.{◌≡◌, ℕ, zero, suc, inl, inr, ◌≤◌, ◌++◌, List, [], ◌∷◌, Option, None, Some, Result, Ok, Err, refl, sym, ap, ◌∙◌, arith, drop, ℤ, pos}
+use Rattle.std.proofs.Common.{◌≡◌, ℕ, zero, suc, inl, inr, ◌≤◌, ◌++◌, List, [], ◌∷◌, Option, None, Some, Result, Ok, Err, refl, sym, ap, subst, ◌∙◌, arith, drop, ℤ, pos}
 use Rattle.std.specs.Result.{IfOk, result_map_both}
 use Rattle.std.specs.Prelude.{neg_ℤ}
 use Rattle.std.specs.Int.RustNames.{unsigned_abs}
@@ -12,11 +12,7 @@ use Rattle.decimal_text.proofs.Laws.{Spells-unsigned_within}
 use Rattle.polyline_geometry.specs.declared.plane.Point.{Point}
 use Rattle.polyline_geometry.specs.Plane.{InRange}
 use Rattle.road_network.specs.NetworkFile.{both, make_point, point_of, points_of, unless}
-use Rattle.road_network.specs.Rows.{worse}
-
--- one more point at the end of a line
-abbrev pub onto_end : List Point → Point → List Point
-onto_end line p = line ++ p ∷ []
+use Rattle.road_network.specs.Rows.{onto_end, worse}
 
 abbrev first_of : Point → List Point → List Point
 first_of p line = p ∷ line
@@ -82,6 +78,13 @@ signed-small most text =
       | inl t ↦ rw t (signed-map most (unsigned_within most (drop 1 text)) (λ n h. (Spells-unsigned_within most n (drop 1 text) h).small) (λ n. neg_ℤ (pos n)) neg-abs)
       | inr f ↦ rw f (signed-map most (unsigned_within most text) (λ n h. (Spells-unsigned_within most n text h).small) (λ n. pos n) (λ n. omega arith))
     ]
+
+abs-of : (most : ℕ) (read : Result ℤ NumberFault) (z : ℤ) → read ≡ Ok z → IfOk read (λ x. unsigned_abs x ≤ most) → unsigned_abs z ≤ most
+abs-of most (Ok x) z e h = let same : x ≡ z = cc in subst (λ y. unsigned_abs y ≤ most) same h
+abs-of most (Err fault) z e h = absurd (cc e)
+
+pub abs-signed : (text : List ℕ) (z : ℤ) → signed_within 1_000_000_000 text ≡ Ok z → unsigned_abs z ≤ 1_000_000_000
+abs-signed text z read = abs-of 1_000_000_000 (signed_within 1_000_000_000 text) z read (signed-small 1_000_000_000 text)
 
 pair-small : (x y : Result ℤ NumberFault) → IfOk x (λ z. unsigned_abs z ≤ 1_000_000_000) → IfOk y (λ z. unsigned_abs z ≤ 1_000_000_000) → IfOk (both make_point x y) InRange
 pair-small (Ok x) (Ok y) hx hy = record { x_abs = hx; y_abs = hy }
