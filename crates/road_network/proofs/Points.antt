@@ -143,10 +143,6 @@ LineResult = Result (List Point) NumberFault
 abbrev pub joined_lines : LineResult → LineResult → LineResult
 joined_lines = both (λ a b. a ++ b)
 
-pub lines-start : (rest : LineResult) → rest ≡ joined_lines (Ok []) rest
-lines-start (Ok line) = refl
-lines-start (Err fault) = refl
-
 lines-end : (before : LineResult) → joined_lines before (Ok []) ≡ before
 lines-end (Ok line) = ap Ok (append-nil line)
 lines-end (Err Misspelt) = refl

@@ -14,53 +14,6 @@ use Rattle.polyline_geometry.specs.Plane.{InRange}
 use Rattle.road_network.specs.NetworkFile.{both, make_point, point_of, points_of, unless}
 use Rattle.road_network.specs.Rows.{onto_end, worse}
 
-abbrev first_of : Point → List Point → List Point
-first_of p line = p ∷ line
-
-both-swap : (a : Result Point NumberFault) (b : Result (List Point) NumberFault) (c : Result Point NumberFault)
-    → both first_of a (both onto_end b c) ≡ both onto_end (both first_of a b) c
-both-swap (Ok a) (Ok b) (Ok c) = refl
-both-swap (Ok a) (Ok b) (Err e) = refl
-both-swap (Ok a) (Err Misspelt) c = refl
-both-swap (Ok a) (Err OutOfRange) (Ok c) = refl
-both-swap (Ok a) (Err OutOfRange) (Err e) = refl
-both-swap (Err Misspelt) b c = refl
-both-swap (Err OutOfRange) (Ok b) (Ok c) = refl
-both-swap (Err OutOfRange) (Ok b) (Err e) = refl
-both-swap (Err OutOfRange) (Err Misspelt) c = refl
-both-swap (Err OutOfRange) (Err OutOfRange) (Ok c) = refl
-both-swap (Err OutOfRange) (Err OutOfRange) (Err e) = refl
-
-both-first : (c : Result Point NumberFault) → both first_of c (Ok []) ≡ both onto_end (Ok []) c
-both-first (Ok c) = refl
-both-first (Err Misspelt) = refl
-both-first (Err OutOfRange) = refl
-
--- one more part
-points-more : (parts : List (List ℕ)) (part : List ℕ) → points_of (parts ++ part ∷ []) ≡ both onto_end (points_of parts) (point_of part)
-points-more [] part = both-first (point_of part)
-points-more (p ∷ parts) part = ap (λ k. both first_of (point_of p) k) (points-more parts part) ∙ both-swap (point_of p) (points_of parts) (point_of part)
-
-one-more : (fault : Option NumberFault) (line : List Point) (p : Point) → both onto_end (unless fault line) (Ok p) ≡ unless fault (line ++ p ∷ [])
-one-more None line p = refl
-one-more (Some Misspelt) line p = refl
-one-more (Some OutOfRange) line p = refl
-
-one-worse : (fault : Option NumberFault) (line : List Point) (e : NumberFault) → both onto_end (unless fault line) (Err e) ≡ Err (worse fault e)
-one-worse None line e = refl
-one-worse (Some Misspelt) line e = refl
-one-worse (Some OutOfRange) line e = refl
-
-pub part-read : (parts : List (List ℕ)) (part : List ℕ) (fault : Option NumberFault) (line : List Point) (p : Point) → points_of parts ≡ unless fault line → Ok p ≡ point_of part
-    → points_of (parts ++ part ∷ []) ≡ unless fault (line ++ p ∷ [])
-part-read parts part fault line p before is =
-    points-more parts part ∙ rw (before, sym is) (one-more fault line p)
-
-pub part-refused : (parts : List (List ℕ)) (part : List ℕ) (fault : Option NumberFault) (line : List Point) (e : NumberFault) → points_of parts ≡ unless fault line → Err e ≡ point_of part
-    → points_of (parts ++ part ∷ []) ≡ Err (worse fault e)
-part-refused parts part fault line e before is =
-    points-more parts part ∙ rw (before, sym is) (one-worse fault line e)
-
 -- a number that was read is in its range
 signed-map : (most : ℕ) (r : Result ℕ NumberFault) → ((n : ℕ) → r ≡ Ok n → n ≤ most) → (f : ℕ → ℤ) → ((n : ℕ) → unsigned_abs (f n) ≤ n)
     → IfOk (result_map_both f (λ (e : NumberFault). e) r) (λ z. unsigned_abs z ≤ most)

@@ -12,9 +12,7 @@ use crate::draft::RowHead;
 use crate::fault::NetworkFault;
 use crate::limits::COORDINATE_LIMIT;
 use csv::ByteRecord;
-use decimal_text::{
-    NumberFault, is_blank, parse_signed, parse_unsigned, signed_at_front, trim,
-};
+use decimal_text::{NumberFault, is_blank, parse_signed, parse_unsigned, signed_at_front, trim};
 use polyline_geometry::{List, Point};
 use std::alloc::AllocError;
 
