@@ -56,7 +56,7 @@ fewer_digits n m value le small =
     let more : 10 ^ n ≤ 10 ^ m = pow-le-pow_right (omega arith) le in
     omega (arith, more, small)
 
-last_digit : (byte last : ℕ) → is_ascii_digit byte ≡ true → last ≡ byte - 48 → last ≡ digit_value byte
+pub last_digit : (byte last : ℕ) → is_ascii_digit byte ≡ true → last ≡ byte - 48 → last ≡ digit_value byte
 last_digit byte last h e = grind arith
 
 -- 20 digits: the first 19 and the last

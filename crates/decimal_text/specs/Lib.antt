@@ -1,3 +1,5 @@
+pub mod AtFront
 pub mod Blank
 pub mod Number
 pub mod Spellings
+pub mod Words

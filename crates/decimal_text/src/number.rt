@@ -49,7 +49,7 @@ pub fn parse_signed(text: &[u8], most: u32) -> Result<i32, NumberFault>
     Ok(if is_negative { -magnitude } else { magnitude })
 }
 
-fn starts_with_minus(text: &[u8]) -> bool
+pub(crate) fn starts_with_minus(text: &[u8]) -> bool
     ensures { result ≡ starts_with_minus text.now }
 {
     !text.is_empty() && text[0] == b'-'

@@ -9,6 +9,7 @@ pub mod Lines
 pub mod Names
 pub mod Parts
 pub mod Places
+pub mod Points
 pub mod Readings
 pub mod Records
 pub mod RowsRead

@@ -1,5 +1,5 @@
 -- What the fields of a record say.
-use Rattle.std.proofs.Common.{◌≡◌, ℕ, zero, suc, inl, inr, ◌≤◌, ◌++◌, List, [], ◌∷◌, Option, None, Some, Result, Ok, Err, refl, sym, ap, ◌∙◌, arith, drop, ℤ, pos}
+use Rattle.std.proofs.Common.{◌≡◌, ℕ, zero, suc, inl, inr, ◌≤◌, ◌++◌, List, [], ◌∷◌, Option, None, Some, Result, Ok, Err, refl, sym, ap, subst, ◌∙◌, arith, drop, ℤ, pos}
 use Rattle.std.specs.Result.{IfOk, result_map_both}
 use Rattle.std.specs.Prelude.{neg_ℤ}
 use Rattle.std.specs.Int.RustNames.{unsigned_abs}
@@ -12,58 +12,7 @@ use Rattle.decimal_text.proofs.Laws.{Spells-unsigned_within}
 use Rattle.polyline_geometry.specs.declared.plane.Point.{Point}
 use Rattle.polyline_geometry.specs.Plane.{InRange}
 use Rattle.road_network.specs.NetworkFile.{both, make_point, point_of, points_of, unless}
-use Rattle.road_network.specs.Rows.{worse}
-
--- one more point at the end of a line
-abbrev pub onto_end : List Point → Point → List Point
-onto_end line p = line ++ p ∷ []
-
-abbrev first_of : Point → List Point → List Point
-first_of p line = p ∷ line
-
-both-swap : (a : Result Point NumberFault) (b : Result (List Point) NumberFault) (c : Result Point NumberFault)
-    → both first_of a (both onto_end b c) ≡ both onto_end (both first_of a b) c
-both-swap (Ok a) (Ok b) (Ok c) = refl
-both-swap (Ok a) (Ok b) (Err e) = refl
-both-swap (Ok a) (Err Misspelt) c = refl
-both-swap (Ok a) (Err OutOfRange) (Ok c) = refl
-both-swap (Ok a) (Err OutOfRange) (Err e) = refl
-both-swap (Err Misspelt) b c = refl
-both-swap (Err OutOfRange) (Ok b) (Ok c) = refl
-both-swap (Err OutOfRange) (Ok b) (Err e) = refl
-both-swap (Err OutOfRange) (Err Misspelt) c = refl
-both-swap (Err OutOfRange) (Err OutOfRange) (Ok c) = refl
-both-swap (Err OutOfRange) (Err OutOfRange) (Err e) = refl
-
-both-first : (c : Result Point NumberFault) → both first_of c (Ok []) ≡ both onto_end (Ok []) c
-both-first (Ok c) = refl
-both-first (Err Misspelt) = refl
-both-first (Err OutOfRange) = refl
-
--- one more part
-points-more : (parts : List (List ℕ)) (part : List ℕ) → points_of (parts ++ part ∷ []) ≡ both onto_end (points_of parts) (point_of part)
-points-more [] part = both-first (point_of part)
-points-more (p ∷ parts) part = ap (λ k. both first_of (point_of p) k) (points-more parts part) ∙ both-swap (point_of p) (points_of parts) (point_of part)
-
-one-more : (fault : Option NumberFault) (line : List Point) (p : Point) → both onto_end (unless fault line) (Ok p) ≡ unless fault (line ++ p ∷ [])
-one-more None line p = refl
-one-more (Some Misspelt) line p = refl
-one-more (Some OutOfRange) line p = refl
-
-one-worse : (fault : Option NumberFault) (line : List Point) (e : NumberFault) → both onto_end (unless fault line) (Err e) ≡ Err (worse fault e)
-one-worse None line e = refl
-one-worse (Some Misspelt) line e = refl
-one-worse (Some OutOfRange) line e = refl
-
-pub part-read : (parts : List (List ℕ)) (part : List ℕ) (fault : Option NumberFault) (line : List Point) (p : Point) → points_of parts ≡ unless fault line → Ok p ≡ point_of part
-    → points_of (parts ++ part ∷ []) ≡ unless fault (line ++ p ∷ [])
-part-read parts part fault line p before is =
-    points-more parts part ∙ rw (before, sym is) (one-more fault line p)
-
-pub part-refused : (parts : List (List ℕ)) (part : List ℕ) (fault : Option NumberFault) (line : List Point) (e : NumberFault) → points_of parts ≡ unless fault line → Err e ≡ point_of part
-    → points_of (parts ++ part ∷ []) ≡ Err (worse fault e)
-part-refused parts part fault line e before is =
-    points-more parts part ∙ rw (before, sym is) (one-worse fault line e)
+use Rattle.road_network.specs.Rows.{onto_end, worse}
 
 -- a number that was read is in its range
 signed-map : (most : ℕ) (r : Result ℕ NumberFault) → ((n : ℕ) → r ≡ Ok n → n ≤ most) → (f : ℕ → ℤ) → ((n : ℕ) → unsigned_abs (f n) ≤ n)
@@ -82,6 +31,13 @@ signed-small most text =
       | inl t ↦ rw t (signed-map most (unsigned_within most (drop 1 text)) (λ n h. (Spells-unsigned_within most n (drop 1 text) h).small) (λ n. neg_ℤ (pos n)) neg-abs)
       | inr f ↦ rw f (signed-map most (unsigned_within most text) (λ n h. (Spells-unsigned_within most n text h).small) (λ n. pos n) (λ n. omega arith))
     ]
+
+abs-of : (most : ℕ) (read : Result ℤ NumberFault) (z : ℤ) → read ≡ Ok z → IfOk read (λ x. unsigned_abs x ≤ most) → unsigned_abs z ≤ most
+abs-of most (Ok x) z e h = let same : x ≡ z = cc in subst (λ y. unsigned_abs y ≤ most) same h
+abs-of most (Err fault) z e h = absurd (cc e)
+
+pub abs-signed : (text : List ℕ) (z : ℤ) → signed_within 1_000_000_000 text ≡ Ok z → unsigned_abs z ≤ 1_000_000_000
+abs-signed text z read = abs-of 1_000_000_000 (signed_within 1_000_000_000 text) z read (signed-small 1_000_000_000 text)
 
 pair-small : (x y : Result ℤ NumberFault) → IfOk x (λ z. unsigned_abs z ≤ 1_000_000_000) → IfOk y (λ z. unsigned_abs z ≤ 1_000_000_000) → IfOk (both make_point x y) InRange
 pair-small (Ok x) (Ok y) hx hy = record { x_abs = hx; y_abs = hy }

@@ -1,18 +1,18 @@
 //! What the four fields of a record say.
-ghost use Rattle.std.specs.Prelude.{◌≡◌, ◌≢◌, ◌+◌, ◌<◌, ◌≤◌, ◌∷◌, [], IfOk, IfErr, OnOk, length};
-ghost use Rattle.std.specs.List.{All, position_or_len, sum_by};
+ghost use Rattle.std.specs.Prelude.{◌≡◌, ◌≢◌, ◌+◌, ◌<◌, ◌≤◌, ◌∷◌, [], true, IfOk, IfErr, OnOk, IfSome, MatchOption, length, take};
+ghost use Rattle.std.specs.List.{All, list_all, position_or_len, sum_by};
 ghost use Rattle.decimal_text.specs.Blank.{is_blank};
 ghost use Rattle.csv.specs.Records.{field_at, fields_of};
 ghost use Rattle.polyline_geometry.specs.Plane.{InRange};
 ghost use Rattle.road_network.specs.NetworkFile.{both, field_faults, field_with, first_fault, is_fault, line_of, make_point, point_of, row_of, row_from, unless};
-ghost use Rattle.road_network.specs.Rows.{row_with, worse};
+ghost use Rattle.road_network.specs.Rows.{is_within_part, onto_end, row_with, with_point, worse};
 ghost use Rattle.decimal_text.specs.Number.{unsigned_within};
 
 use crate::draft::RowHead;
 use crate::fault::NetworkFault;
 use crate::limits::COORDINATE_LIMIT;
 use csv::ByteRecord;
-use decimal_text::{NumberFault, is_blank, parse_signed, parse_unsigned, trim};
+use decimal_text::{NumberFault, is_blank, parse_signed, parse_unsigned, signed_at_front, trim};
 use polyline_geometry::{List, Point};
 use std::alloc::AllocError;
 
@@ -68,6 +68,86 @@ fn read_point(part: &[u8]) -> Result<Point, NumberFault>
     )
 }
 
+/// The first part of a line, and what stands behind its semicolon if there is one.
+fn first_part(text: &[u8]) -> (&[u8], Option<&[u8]>)
+    ensures line { MatchOption result.1 (line_of text.now ≡ with_point (point_of result.0.now) (Ok []))
+        (λ rest. line_of text.now ≡ with_point (point_of result.0.now) (line_of rest.now)) }
+    ensures shorter { IfSome result.1 (λ rest. length rest.now < length text.now) }
+{
+    for (i, byte) in text.iter().enumerate() {
+        if *byte == b';' {
+            return (&text[..i], Some(&text[i + 1..]));
+        }
+    }
+    (text, None)
+}
+
+/// A point at the front whose coordinates are short and have one space between them, and how many
+/// bytes it has.
+fn plain_point(text: &[u8]) -> Option<(Point, usize)>
+    ensures few { IfSome result (λ read. read.1 ≤ length text.now) }
+    ensures value { IfSome result (λ read. point_of (take read.1 text.now) ≡ Ok read.0) }
+    ensures part { IfSome result (λ read. list_all is_within_part (take read.1 text.now) ≡ true) }
+{
+    let (x, count) = signed_at_front(text)?;
+    if count == text.len() || text[count] != b' ' {
+        return None;
+    }
+    let (y, more) = signed_at_front(&text[count + 1..])?;
+    Some((Point { x, y }, count + 1 + more))
+}
+
+/// The same of a whole part, and what stands behind its semicolon if there is one.
+fn plain_part(text: &[u8]) -> Option<(Point, Option<&[u8]>)>
+    ensures line { IfSome result (λ read. MatchOption read.1 (line_of text.now ≡ with_point (Ok read.0) (Ok []))
+        (λ rest. line_of text.now ≡ with_point (Ok read.0) (line_of rest.now))) }
+    ensures within { IfSome result (λ read. InRange read.0) }
+    ensures shorter { IfSome result
+        (λ read. IfSome read.1 (λ rest. length rest.now < length text.now)) }
+{
+    let (point, count) = plain_point(text)?;
+    if count == text.len() {
+        return Some((point, None));
+    }
+    if text[count] == b';' {
+        return Some((point, Some(&text[count + 1..])));
+    }
+    None
+}
+
+/// The point of the first part of a line, and what stands behind its semicolon if there is one.
+fn first_point(text: &[u8]) -> (Result<Point, NumberFault>, Option<&[u8]>)
+    ensures line { MatchOption result.1 (line_of text.now ≡ with_point result.0 (Ok []))
+        (λ rest. line_of text.now ≡ with_point result.0 (line_of rest.now)) }
+    ensures within { IfOk result.0 InRange }
+    ensures shorter { IfSome result.1 (λ rest. length rest.now < length text.now) }
+{
+    if let Some((point, rest)) = plain_part(text) {
+        return (Ok(point), rest);
+    }
+    let (part, rest) = first_part(text);
+    (read_point(part), rest)
+}
+
+/// Puts a point to a line, or its fault to the faults of the points before it.
+fn put_point(
+    point: Result<Point, NumberFault>,
+    fault: Option<NumberFault>,
+    line: &mut List<Point>,
+) -> Result<Option<NumberFault>, AllocError>
+    ensures value { IfOk result (λ after. both onto_end (unless fault line.old) point ≡ unless after line.new) }
+    ensures within { IfOk point InRange → All InRange line.old → OnOk result (All InRange line.new) }
+    ensures few { OnOk result (length line.new ≤ length line.old + 1) }
+{
+    match point {
+        Ok(point) => {
+            line.push(point)?;
+            Ok(fault)
+        }
+        Err(found) => Ok(Some(worse(fault, found))),
+    }
+}
+
 /// Reads a line into `line`, in place of the points that it has, and says what is wrong with it.
 fn read_line(field: &[u8], line: &mut List<Point>) -> Result<Option<NumberFault>, AllocError>
     ensures value { IfOk result (λ fault. line_of field.now ≡ unless fault line.new) }
@@ -76,17 +156,15 @@ fn read_line(field: &[u8], line: &mut List<Point>) -> Result<Option<NumberFault>
 {
     line.truncate(0);
     let mut fault = None;
-    for part in field.split(|byte| *byte == b';') {
-        match read_point(part) {
-            Ok(point) => {
-                line.push(point)?;
-            }
-            Err(found) => {
-                fault = Some(worse(fault, found));
-            }
-        }
+    let mut rest = field;
+    loop {
+        let (point, behind) = first_point(rest);
+        fault = put_point(point, fault, line)?;
+        let Some(behind) = behind else {
+            return Ok(fault);
+        };
+        rest = behind;
     }
-    Ok(fault)
 }
 
 /// Whether a reading has this fault.

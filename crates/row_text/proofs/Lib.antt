@@ -1,9 +1,7 @@
 pub mod DigitsPut
-pub mod EightDigits
 pub mod Entries
 pub mod Kept
 pub mod Rules
 pub mod RowLines
 pub mod ShortNumbers
-pub mod WordBytes
 pub mod Written

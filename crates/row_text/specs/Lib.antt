@@ -1,4 +1,3 @@
 pub mod RowLine
 pub mod Reading
 pub mod Laws
-pub mod Words

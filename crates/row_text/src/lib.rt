@@ -18,7 +18,6 @@ mod numbers;
 mod reading;
 #[cfg(test)]
 mod tests;
-mod words;
 mod writing;
 
 pub use reading::read_row;

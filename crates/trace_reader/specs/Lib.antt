@@ -1,7 +1,7 @@
 pub mod Content
 pub mod Fault
+pub mod FirstField
 pub mod Parts
-pub mod Plain
 pub mod Reader
 pub mod Reading
 pub mod Row

@@ -1,19 +1,16 @@
 // One field of a row. A short number without blanks is read in one pass, any other field by its
 // ends.
-ghost use Rattle.std.specs.Prelude.{◌≡◌, ◌<◌, ◌≤◌, ◌∷◌, [], true, length, take, IfSome, MatchOption};
+ghost use Rattle.std.specs.Prelude.{◌≡◌, ◌≤◌, ◌∷◌, [], true, Ok, length, take, IfSome, MatchOption};
 ghost use Rattle.std.specs.List.{list_all};
-ghost use Rattle.std.specs.Char.{is_ascii_digit};
-ghost use Rattle.std.specs.Str.Parse.{digits_value};
-ghost use Rattle.trace_reader.specs.Plain.{first_of, IsPlain};
+ghost use Rattle.trace_reader.specs.FirstField.{first_of, is_within_field};
 ghost use Rattle.trace_reader.specs.Row.{fields_of, u32_of, coordinate_of};
 
-use decimal_text::{NumberFault, parse_signed, parse_unsigned, trim};
+use decimal_text::{
+    NumberFault, digits_at_front, parse_signed, parse_unsigned, signed_at_front, trim,
+};
 use memchr::memchr;
 
 const COORDINATE_LIMIT: u32 = 1_000_000_000;
-
-// So many digits write less than this limit.
-const MOST_DIGITS: usize = 9;
 
 /// The number of 32 bits in the first field, and what stands behind its comma if there is one.
 pub fn unsigned_field(text: &[u8]) -> (Result<u32, NumberFault>, Option<&[u8]>)
@@ -68,17 +65,13 @@ fn plain_coordinate(text: &[u8]) -> Option<(i32, Option<&[u8]>)>
     ensures rest { IfSome result (λ read. MatchOption read.1 (fields_of text.now ≡ first_of text.now ∷ [])
         (λ rest. fields_of text.now ≡ first_of text.now ∷ fields_of rest.now)) }
 {
-    if !text.is_empty() && text[0] == b'-' {
-        let (number, rest) = plain_number(&text[1..])?;
-        return Some((-(number as i32), rest));
-    }
-    let (number, rest) = plain_number(text)?;
-    Some((number as i32, rest))
+    let (number, count) = signed_at_front(text)?;
+    Some((number, behind_field(text, count)?))
 }
 
 // The number in the first field and what stands behind its comma, if the field is 1 to 9 digits.
 fn plain_number(text: &[u8]) -> Option<(u32, Option<&[u8]>)>
-    ensures number { IfSome result (λ read. IsPlain (first_of text.now) read.0) }
+    ensures number { IfSome result (λ read. u32_of (first_of text.now) ≡ Ok read.0) }
     ensures rest { IfSome result (λ read. MatchOption read.1 (fields_of text.now ≡ first_of text.now ∷ [])
         (λ rest. fields_of text.now ≡ first_of text.now ∷ fields_of rest.now)) }
 {
@@ -86,28 +79,22 @@ fn plain_number(text: &[u8]) -> Option<(u32, Option<&[u8]>)>
     if count == 0 {
         return None;
     }
-    if count == text.len() {
-        return Some((number, None));
-    }
-    if text[count] == b',' {
-        return Some((number, Some(&text[count + 1..])));
-    }
-    None
+    Some((number, behind_field(text, count)?))
 }
 
-// The number that the digits at the front write, and how many they are. It looks at 9 at most.
-fn digits_at_front(text: &[u8]) -> (u32, usize)
-    ensures few { (result.1 ≤ length text.now) × (result.1 ≤ 9) }
-    ensures digits { list_all is_ascii_digit (take result.1 text.now) ≡ true }
-    ensures value { result.0 ≡ digits_value 10 (take result.1 text.now) }
-    ensures small { result.0 < 1_000_000_000 }
+// What stands behind the comma, if the first field is as many bytes and a comma or the end follows.
+fn behind_field(text: &[u8], count: usize) -> Option<Option<&[u8]>>
+    requires few { count ≤ length text.now }
+    requires within { list_all is_within_field (take count text.now) ≡ true }
+    ensures field { IfSome result (λ _. first_of text.now ≡ take count text.now) }
+    ensures rest { IfSome result (λ rest. MatchOption rest (fields_of text.now ≡ first_of text.now ∷ [])
+        (λ rest. fields_of text.now ≡ first_of text.now ∷ fields_of rest.now)) }
 {
-    let most = text.len().min(MOST_DIGITS);
-    let mut number: u32 = 0;
-    let mut count = 0;
-    while count < most && text[count].is_ascii_digit() {
-        number = number * 10 + u32::from(text[count] - b'0');
-        count += 1;
+    if count == text.len() {
+        return Some(None);
     }
-    (number, count)
+    if text[count] == b',' {
+        return Some(Some(&text[count + 1..]));
+    }
+    None
 }

@@ -1,8 +1,16 @@
-use Rattle.std.proofs.Common.{sym, ap, ◌∙◌, arith}
+use Rattle.std.proofs.Common.{take, sym, ap, ◌∙◌, arith}
+use Rattle.std.specs.List.{list_all}
+use Rattle.std.specs.Char.{is_ascii_digit}
 use Rattle.std.specs.Str.Parse.{digits_value}
-use Rattle.row_text.proofs.ShortNumbers.{front_digits, digits_more, value_more, ninth_digit, all_digits}
-use Rattle.row_text.proofs.numbers.digits_at_front.Goals.{else-count-eq8-via-then-count-eq8+then-text-gt8+else-is_ascii_digit, else-count-eq8-via-then-count-eq8+else-text-gt8, else-count-eq8-via-else-count-eq8}
-use Rattle.row_text.proofs.numbers.digits_at_front.Goals as goal
+use Rattle.decimal_text.proofs.FrontDigits.{front_digits, all_digits, digits_taken}
+use Rattle.decimal_text.proofs.Spelling.{digits_more, value_more, last_digit}
+use Rattle.decimal_text.proofs.front.digits_at_front.Goals.{else-count-eq8-via-then-count-eq8+then-text-gt8+else-is_ascii_digit, else-count-eq8-via-then-count-eq8+else-text-gt8, else-count-eq8-via-else-count-eq8}
+use Rattle.decimal_text.proofs.front.digits_at_front.Goals as goal
+
+pub returns-in_default-clause-digits : goal.returns-in_default-clause-digits
+returns-in_default-clause-digits c =
+    let text = c.args.text.now in
+    ap (λ n. list_all is_ascii_digit (take n text)) c.digits_one_by_one.ensures.count ∙ digits_taken text
 
 pub returns-then-is_ascii_digit-clause-digits : goal.returns-then-is_ascii_digit-clause-digits
 returns-then-is_ascii_digit-clause-digits c =
@@ -17,7 +25,7 @@ returns-then-is_ascii_digit-clause-value c =
     let chunk = c.in-Some.ensures.cases in
     let f = front_digits c.args.text.now _ read.result.1 chunk.same chunk.enough read.ensures.count in
     let value = read.ensures.value ∙ ap (digits_value 10) f.1 in
-    value_more c.args.text.now 8 read.result.0 c.from.result c.if-text-gt8.true (rw c.if-count-eq8.true at value) (ninth_digit _ _ (sym c.is_ascii_digit.ensures.value ∙ c.if-is_ascii_digit.true) c.from.ensures)
+    value_more c.args.text.now 8 read.result.0 c.from.result c.if-text-gt8.true (rw c.if-count-eq8.true at value) (last_digit _ _ (sym c.is_ascii_digit.ensures.value ∙ c.if-is_ascii_digit.true) c.from.ensures)
 
 pub returns-clause-digits : goal.returns-clause-digits
 returns-clause-digits c =

@@ -1,6 +1,7 @@
 use Rattle.std.proofs.Common.{arith, sym, ◌∙◌}
-use Rattle.row_text.proofs.ShortNumbers.{digits_more, value_more, small_more, fewer_digits, all_digits}
-use Rattle.row_text.proofs.numbers.digits_one_by_one.Goals as goal
+use Rattle.decimal_text.proofs.FrontDigits.{all_digits}
+use Rattle.decimal_text.proofs.Spelling.{digits_more, value_more, small_more, fewer_digits}
+use Rattle.decimal_text.proofs.front.digits_one_by_one.Goals as goal
 
 pub overflow_mul-number : goal.overflow_mul-number
 overflow_mul-number c =
@@ -23,13 +24,13 @@ loop-count-preserved c =
       small = small_more c.loop-count.count c.loop-count.number c.from.result inv.small (grind arith);
     }
 
-pub returns-else-is_ascii_digit-clause-all : goal.returns-else-is_ascii_digit-clause-all
-returns-else-is_ascii_digit-clause-all c =
+pub returns-else-is_ascii_digit-clause-count : goal.returns-else-is_ascii_digit-clause-count
+returns-else-is_ascii_digit-clause-count c =
     let inv = c.loop-count.invariant in
-    all_digits c.args.text.now c.loop-count.count inv.few inv.digits (λ _. sym c.is_ascii_digit.ensures.value ∙ c.if-is_ascii_digit.false)
+    sym (all_digits c.args.text.now c.loop-count.count inv.few inv.digits (λ _. sym c.is_ascii_digit.ensures.value ∙ c.if-is_ascii_digit.false))
 
-pub returns-after-loop-count-clause-all : goal.returns-after-loop-count-clause-all
-returns-after-loop-count-clause-all c =
+pub returns-after-loop-count-clause-count : goal.returns-after-loop-count-clause-count
+returns-after-loop-count-clause-count c =
     let inv = c.loop-count.invariant in
     let no_more = c.loop-count-test.false in
-    all_digits c.args.text.now c.loop-count.count inv.few inv.digits (λ below. absurd (omega (arith, below, no_more)))
+    sym (all_digits c.args.text.now c.loop-count.count inv.few inv.digits (λ below. absurd (omega (arith, below, no_more))))

@@ -1,8 +1,8 @@
 use Rattle.std.proofs.Common.{sym, ◌∙◌, arith}
 use Rattle.std.proofs.lemmas.Nat.{xor_lt}
-use Rattle.row_text.proofs.EightDigits.{eight_bytes, eight_lanes, loaded, no_other, first_other, whole, part}
-use Rattle.row_text.proofs.WordBytes.{lanes_are}
-use Rattle.row_text.proofs.words.digits_of_eight.Goals as goal
+use Rattle.decimal_text.proofs.EightDigits.{eight_bytes, eight_lanes, loaded, no_other, first_other, whole, part}
+use Rattle.decimal_text.proofs.WordBytes.{lanes_are}
+use Rattle.decimal_text.proofs.words.digits_of_eight.Goals as goal
 
 pub returns-then-others-eq0-clause-count : goal.returns-then-others-eq0-clause-count
 returns-then-others-eq0-clause-count c =

@@ -1,5 +1,0 @@
-use Rattle.row_text.proofs.EightDigits.{bytes_up}
-use Rattle.row_text.proofs.words.keep_first.Goals as goal
-
-pub returns : goal.returns
-returns c = bytes_up c.args.word c.args.count c.requires
