@@ -1,5 +1,6 @@
 pub mod Building
 pub mod FaultLine
+pub mod Given
 pub mod Halves
 pub mod Options
 pub mod Syntax

@@ -1,8 +1,9 @@
 // The command that words ask for. Serves `run`; decided by `command_of`.
 ghost use Rattle.std.specs.Prelude.{◌≡◌, ◌≢◌, ◌⊎◌, map, string_bytes, Ok, Err, IfOk, IfErr};
 ghost use Rattle.std.specs.Result.{result_map_both};
-ghost use Rattle.clap.specs.Words.{first_of, found_of, kind_of, rows_of, subcommand_rows_of};
+ghost use Rattle.clap.specs.Words.{kind_of, subcommand_rows_of};
 ghost use Rattle.cost_model.specs.Options.{IsAccepted};
+ghost use Rattle.command_line.specs.Given.{given_for};
 ghost use Rattle.command_line.specs.Syntax.{all_kinds};
 ghost use Rattle.command_line.specs.Work.{AreNumbersWithin, plain, plain_work};
 ghost use Rattle.command_line.specs.Words.{command_named, command_of, entered_of, work_of};
@@ -66,7 +67,7 @@ fn command_in<'a>(matches: &ArgMatches<'a>) -> Result<Command<'a>, WordsFault>
 #[tactic(auto, unfolding(crate::specs::Words::command_named))]
 fn command_named<'a>(name: &str, found: &ArgMatches<'a>) -> Result<Command<'a>, WordsFault>
     ensures value { result_map_both plain (λ fault. fault) result
-        ≡ command_named name.now (λ name. first_of name (rows_of (found_of found.now))) }
+        ≡ command_named name.now (given_for found.now) }
     ensures accepted { IfOk result (λ command. IsAccepted command.options) }
     ensures within { IfOk result (λ command. AreNumbersWithin command.work) }
 {
@@ -77,7 +78,7 @@ fn command_named<'a>(name: &str, found: &ArgMatches<'a>) -> Result<Command<'a>, 
 
 fn read_work<'a>(name: &str, found: &ArgMatches<'a>) -> Result<Work<'a>, WordsFault>
     ensures value { result_map_both plain_work (λ fault. fault) result
-        ≡ work_of all_kinds name.now (λ name. first_of name (rows_of (found_of found.now))) }
+        ≡ work_of all_kinds name.now (given_for found.now) }
     ensures within { IfOk result AreNumbersWithin }
 {
     match name {

@@ -1,7 +1,7 @@
 // What the words give for a name. Serves `read_command`; decided by `options_of`.
 ghost use Rattle.std.specs.Prelude.{◌≡◌, IfOk, option_map};
-ghost use Rattle.clap.specs.Words.{first_of, found_of, rows_of};
 ghost use Rattle.cost_model.specs.Options.{IsAccepted, IsWithin};
+ghost use Rattle.command_line.specs.Given.{given_for};
 ghost use Rattle.command_line.specs.Options.{option_of, options_of};
 ghost use Rattle.command_line.specs.Halves.{limits_of, model_of};
 ghost use Rattle.command_line.specs.Values.{name_of, range_of, value_of};
@@ -14,8 +14,7 @@ use decimal_text::parse_unsigned;
 
 /// What the words give for a name.
 pub fn text_of<'a>(found: &ArgMatches<'a>, name: &str) -> Option<&'a str>
-    ensures { option_map (λ text. text.now) result
-        ≡ first_of name.now (rows_of (found_of found.now)) }
+    ensures { option_map (λ text. text.now) result ≡ given_for found.now name.now }
 {
     found.get_str(name)
 }
@@ -23,7 +22,7 @@ pub fn text_of<'a>(found: &ArgMatches<'a>, name: &str) -> Option<&'a str>
 /// The options that the words give, and the defaults of the others.
 #[tactic(auto, using(crate::proofs::Halves::in_halves))]
 pub fn read_options(found: &ArgMatches) -> Result<Params, WordsFault>
-    ensures value { result ≡ options_of (λ name. first_of name (rows_of (found_of found.now))) }
+    ensures value { result ≡ options_of (given_for found.now) }
     ensures accepted { IfOk result IsAccepted }
 {
     let params = read_model(found)?;
@@ -33,7 +32,7 @@ pub fn read_options(found: &ArgMatches) -> Result<Params, WordsFault>
 // The options that decide which roads and costs a point has, and the defaults of the others.
 #[tactic(auto, unfolding(crate::specs::Halves::model_of))]
 fn read_model(found: &ArgMatches) -> Result<Params, WordsFault>
-    ensures value { result ≡ model_of (λ name. first_of name (rows_of (found_of found.now))) }
+    ensures value { result ≡ model_of (given_for found.now) }
     ensures accepted { IfOk result IsAccepted }
 {
     let default = Params::DEFAULT;
@@ -50,8 +49,7 @@ fn read_model(found: &ArgMatches) -> Result<Params, WordsFault>
 #[tactic(auto, unfolding(crate::specs::Halves::limits_of))]
 fn read_limits(found: &ArgMatches, model: Params) -> Result<Params, WordsFault>
     requires { IsAccepted model }
-    ensures value { result
-        ≡ limits_of (λ name. first_of name (rows_of (found_of found.now))) model }
+    ensures value { result ≡ limits_of (given_for found.now) model }
     ensures accepted { IfOk result IsAccepted }
 {
     let default = Params::DEFAULT;
@@ -66,8 +64,7 @@ fn read_limits(found: &ArgMatches, model: Params) -> Result<Params, WordsFault>
 
 fn read_option(found: &ArgMatches, name: ValueName, default: u32) -> Result<u32, WordsFault>
     requires { IsWithin (range_of name).least (range_of name).most default }
-    ensures value { result
-        ≡ option_of name default (λ name. first_of name (rows_of (found_of found.now))) }
+    ensures value { result ≡ option_of name default (given_for found.now) }
     ensures range { IfOk result (IsWithin (range_of name).least (range_of name).most) }
 {
     match text_of(found, name.name()) {

@@ -1,3 +1,4 @@
+pub mod Ending
 pub mod Feeding
 pub mod Living
 pub mod Matching

@@ -1,9 +1,9 @@
 -- What a matcher makes of the traces that it takes.
-use Rattle.std.specs.Prelude.{◌≡◌, ◌≢◌, List, [], Result, Ok, Err, None, IfErr, IsErr}
+use Rattle.std.specs.Prelude.{◌≡◌, ◌≢◌, List, [], ◌∷◌, ◌++◌, Result, Ok, Err, Some, None, IfErr, IsErr}
+use Rattle.std.specs.declared.option.Option.{Option}
 use Rattle.edge_io.specs.State.{SinkState}
-use Rattle.program_frame.specs.Batches.{WritesBatch}
-use Rattle.program_frame.specs.Jobs.{CanTake, HasTaken, JobText}
-use Rattle.program_frame.specs.Performs.{PutsText}
+use Rattle.program_frame.specs.Batches.{PutsEnding, WritesBatch}
+use Rattle.program_frame.specs.Jobs.{CanTake, HasTaken, IsBounded, JobText}
 use Rattle.program_frame.specs.Refusals.{RefusesTraces}
 use Rattle.program_frame.specs.declared.stop.File.TheVariants.{Traces}
 use Rattle.program_frame.specs.declared.stop.Stop.{Stop}
@@ -24,6 +24,15 @@ abbrev pub MayTake : (List ATrace → Type 0) → Result (Unit {0}) Stop → Lis
 MayTake has (Ok done) traces = CanTake has traces
 MayTake has (Err stop) traces = Unit {0}
 
+-- a trace is written behind those before it, whichever they are, unless the work had stopped or stops
+abbrev pub WritesNext : JobText → (has has' : List ATrace → Type 0) → (out out' : SinkState) → ATrace
+    → (ended result : Result (Unit {0}) Stop) → Type 0
+WritesNext job has has' out out' trace ended result =
+    (base : SinkState) (traces : List ATrace)
+    → IsBounded (traces ++ trace ∷ [])
+    → WritesBatch job has base out traces [] ended
+    → WritesBatch job has' base out' (traces ++ trace ∷ []) [] result
+
 -- a matcher took these traces and then this last part, and wrote the text of the traces, or stopped
 pub record HasMatched (job : JobText) (has : List ATrace → Type 0) (out out' : SinkState)
     (took : List Part) (last : Part) (ended : Result (Unit {0}) Stop) : Type 0 where
@@ -39,6 +48,14 @@ pub record HasTakenAll (job job' : JobText) (has : List ATrace → Type 0) (out 
   pub relay : after.relay ≡ before.relay
   pub matched : HasMatched job has out out' after.parts last ended
 
+-- beside a reader a matcher took all; where no reader could be started, nothing has changed
+abbrev pub MatchesBeside : {J : Type 0} → (J → JobText) → (J → List ATrace → Type 0) → (job job' : J)
+    → (out out' : SinkState) → (take take' : Parts) → Option (Part × Result (Unit {0}) Stop) → Type 0
+MatchesBeside text has job job' out out' take take' None =
+    (take' ≡ take) × (job' ≡ job) × (out' ≡ out)
+MatchesBeside text has job job' out out' take take' (Some matched) =
+    HasTakenAll (text job) (text job') (has job') out out' take take' matched.0 matched.1
+
 -- a last part behind which a run may end
 abbrev pub MayEnd : (List ATrace → Type 0) → Part → Result (Unit {0}) Stop → Type 0
 MayEnd has (parts.Trace trace) ended = ⊥
@@ -53,7 +70,7 @@ abbrev pub EndsWithPart : JobText → (List ATrace → Type 0) → SinkState →
     → Result (Unit {0}) Stop → Type 0
 EndsWithPart job has out out' (parts.Trace trace) ended = ⊥
 EndsWithPart job has out out' parts.End ended =
-    (taken : List ATrace) → has taken → PutsText out out' (job.ending taken) ended
+    PutsEnding job has out out' ended
 EndsWithPart job has out out' (parts.Fault fault) ended =
     IfErr ended (RefusesTraces fault) × IsErr ended × (out' ≡ out)
 EndsWithPart job has out out' parts.ReadFailed ended = (ended ≡ Err (Unread Traces)) × (out' ≡ out)

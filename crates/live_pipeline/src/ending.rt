@@ -1,12 +1,7 @@
-// The end of a run, after the last part. Serves `live_traces`; decided by `Brings` and `HasMatched`.
-ghost use Rattle.std.specs.Prelude.{◌≡◌, [], List as ListOf, ℕ, Ok};
-ghost use Rattle.edge_io.specs.State.{ShelfState, SinkState};
-ghost use Rattle.program_frame.specs.Batches.{WritesBatch};
-ghost use Rattle.program_frame.specs.Stream.{works_traces};
-ghost use Rattle.trace_reader.specs.declared.trace.Trace.{Trace as ATrace};
-ghost use Rattle.live_pipeline.specs.Living.{LivePerforms};
+// The end of a run, after the last part. Serves `live_traces`; decided by `EndsTraces`.
+ghost use Rattle.std.specs.Prelude.{Ok};
+ghost use Rattle.live_pipeline.specs.Ending.{EndsTraces};
 ghost use Rattle.live_pipeline.specs.Matching.{EndsWithPart, MayEnd, NeverRefuses};
-ghost use Rattle.live_pipeline.specs.Reading.{Brings};
 
 use edge_io::Sink;
 use polyline_geometry::List;
@@ -50,12 +45,8 @@ pub fn end_traces<J: Job, K: Sink>(
 ) -> Result<(), Stop>
     requires calm { NeverRefuses (J.text job.old) }
     requires may { MayEnd (J.has job.old) last ended }
-    ensures { (name : ListOf ℕ) (shelf shelf' : ShelfState) (base : SinkState)
-        (traces : ListOf ATrace)
-        → Brings name shelf shelf' traces last
-        → WritesBatch (J.text job.old) (J.has job.old) base (K.state out.old) traces [] ended
-        → LivePerforms (Ok (works_traces name (J.text job.old))) shelf shelf' base (K.state out.new)
-        result }
+    ensures { EndsTraces (J.text job.old) (J.has job.old) (K.state out.old) (K.state out.new)
+        last ended result }
 {
     match ended {
         Ok(()) => end_with(alloc, job, last, out),

@@ -1,10 +1,8 @@
 // The matcher: traces from the relay, their text on out. Serves `live_traces`; decided by `HasMatched`.
-ghost use Rattle.std.specs.Prelude.{◌≡◌, ◌++◌, ◌∷◌, [], List as ListOf};
-ghost use Rattle.edge_io.specs.State.{SinkState};
-ghost use Rattle.program_frame.specs.Batches.{Holds, WritesBatch};
-ghost use Rattle.program_frame.specs.Jobs.{CanTake, IsBounded};
-ghost use Rattle.trace_reader.specs.declared.trace.Trace.{Trace as ATrace};
-ghost use Rattle.live_pipeline.specs.Matching.{HasTakenAll, MayTake, NeverRefuses};
+ghost use Rattle.std.specs.Prelude.{◌≡◌, ◌∷◌, []};
+ghost use Rattle.program_frame.specs.Batches.{WritesWaiting};
+ghost use Rattle.program_frame.specs.Jobs.{CanTake};
+ghost use Rattle.live_pipeline.specs.Matching.{HasTakenAll, MayTake, NeverRefuses, WritesNext};
 
 use edge_io::Sink;
 use polyline_geometry::List;
@@ -24,9 +22,8 @@ fn write_trace<J: Job, K: Sink>(
     requires calm { NeverRefuses (J.text job.old) }
     requires may { CanTake (J.has job.old) (trace ∷ []) }
     ensures text { J.text job.new ≡ J.text job.old }
-    ensures writes { (base : SinkState) (traces : ListOf ATrace)
-        → Holds (J.text job.old) (J.has job.old) base (K.state out.old) traces (trace ∷ [])
-        → WritesBatch (J.text job.old) (J.has job.new) base (K.state out.new) traces [] result }
+    ensures writes { WritesWaiting (J.text job.old) (J.has job.old) (J.has job.new)
+        (K.state out.old) (K.state out.new) (trace ∷ []) [] result }
 {
     let mut text = List::new(alloc);
     let traces = [trace];
@@ -45,10 +42,8 @@ fn write_next<J: Job, K: Sink>(
     requires calm { NeverRefuses (J.text job.old) }
     requires may { MayTake (J.has job.old) ended (trace ∷ []) }
     ensures text { J.text job.new ≡ J.text job.old }
-    ensures writes { (base : SinkState) (traces : ListOf ATrace) → IsBounded (traces ++ trace ∷ [])
-        → WritesBatch (J.text job.old) (J.has job.old) base (K.state out.old) traces [] ended
-        → WritesBatch (J.text job.old) (J.has job.new) base (K.state out.new)
-        (traces ++ trace ∷ []) [] result }
+    ensures writes { WritesNext (J.text job.old) (J.has job.old) (J.has job.new)
+        (K.state out.old) (K.state out.new) trace ended result }
 {
     match ended {
         Ok(()) => write_trace(alloc, job, trace, out),

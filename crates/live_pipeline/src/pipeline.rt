@@ -1,8 +1,9 @@
 // Reader and matcher, in two threads or in turn. Serves the programs; decided by `works_traces`.
-ghost use Rattle.std.specs.Prelude.{◌≡◌, [], Ok, MatchOption, string_bytes};
+ghost use Rattle.std.specs.Prelude.{◌≡◌, [], Ok, string_bytes};
 ghost use Rattle.program_frame.specs.Stream.{works_traces};
+ghost use Rattle.trace_relay.specs.Order.{no_parts};
 ghost use Rattle.live_pipeline.specs.Living.{LivePerforms};
-ghost use Rattle.live_pipeline.specs.Matching.{HasTakenAll, NeverRefuses};
+ghost use Rattle.live_pipeline.specs.Matching.{MatchesBeside, NeverRefuses};
 ghost use Rattle.live_pipeline.specs.Reading.{Keeps};
 
 use crate::closing::close_whole;
@@ -35,15 +36,12 @@ fn run_both<R: Threads + Wait + Sync, J: Job + Drop, S: Shelf + Send + Drop, K: 
     job: J,
     out: &mut K,
 ) -> (ReadDone<S>, TakePass, J, Option<(Part, Result<(), Stop>)>)
-    requires put { (put.relay ≡ relay.now.name) × (put.parts ≡ []) }
-    requires take { (take.relay ≡ relay.now.name) × (take.parts ≡ []) }
+    requires unused { (put ≡ no_parts relay.now.name) × (take ≡ no_parts relay.now.name) }
     requires calm { NeverRefuses (J.text job) }
     requires begun { J.has job [] }
     ensures done { Keeps S.state (string_bytes name.now) shelf put result.0 }
-    ensures matched { MatchOption result.3
-        ((result.1 ≡ take) × (result.2 ≡ job) × (K.state out.new ≡ K.state out.old))
-        (λ m. HasTakenAll (J.text job) (J.text result.2) (J.has result.2)
-        (K.state out.old) (K.state out.new) take result.1 m.0 m.1) }
+    ensures matched { MatchesBeside J.text J.has job result.2
+        (K.state out.old) (K.state out.new) take result.1 result.3 }
 {
     let refused = AtomicBool::new(false);
     let flag = &refused;
@@ -57,15 +55,12 @@ fn run_both<R: Threads + Wait + Sync, J: Job + Drop, S: Shelf + Send + Drop, K: 
             Option<(Part, Result<(), Stop>)>,
             &mut K,
         )
-            requires put { (put.relay ≡ relay.now.name) × (put.parts ≡ []) }
-            requires take { (take.relay ≡ relay.now.name) × (take.parts ≡ []) }
+            requires unused { (put ≡ no_parts relay.now.name) × (take ≡ no_parts relay.now.name) }
             requires calm { NeverRefuses (J.text job) }
             requires begun { J.has job [] }
             ensures done { Keeps S.state (string_bytes name.entry.now) shelf put result.0 }
-            ensures matched { MatchOption result.3
-                ((result.1 ≡ take) × (result.2 ≡ job) × (K.state result.4.now ≡ K.state out.entry.now))
-                (λ m. HasTakenAll (J.text job) (J.text result.2) (J.has result.2)
-                (K.state out.entry.now) (K.state result.4.now) take result.1 m.0 m.1) }
+            ensures matched { MatchesBeside J.text J.has job result.2
+                (K.state out.entry.now) (K.state result.4.now) take result.1 result.3 }
             ensures lent { result.4.ghost_name ≡ out.entry.ghost_name }
         {
             let promise = ReadPromise {
@@ -74,7 +69,7 @@ fn run_both<R: Threads + Wait + Sync, J: Job + Drop, S: Shelf + Send + Drop, K: 
                 name: Snapshot::of(name),
             };
             let reader = move || -> ReadDone<S>
-                requires { (put.relay ≡ relay.now.name) × (put.parts ≡ []) }
+                requires { put ≡ no_parts relay.now.name }
                 ensures { Keeps S.state (string_bytes name.entry.now) shelf put result }
             {
                 let mut shelf = shelf;

@@ -1,10 +1,11 @@
 -- How the answers of all turns come together.
-use Rattle.std.specs.Prelude.{◌≡◌, ◌<◌, ◌⊎◌, ℕ, List, length, slice_get, Option, Some, All, Any, Contains}
+use Rattle.std.specs.Prelude.{◌≡◌, ◌<◌, ◌⊎◌, ℕ, List, length, map, slice_get, Option, Some, All, Any, Contains}
 use Rattle.match_text.specs.declared.matched.MatchedTrace.{MatchedTrace}
 use Rattle.match_pool.specs.declared.turn.Strip.{Strip}
 use Rattle.match_pool.specs.declared.turn.Turn.{Turn}
+use Rattle.match_pool.specs.declared.worker.Done.{Done}
 use Rattle.match_pool.specs.Turns.{IsOver, IsStripOf}
-use Rattle.match_pool.specs.Working.{Job}
+use Rattle.match_pool.specs.Working.{Job, done_by}
 
 -- the turns of all workers at a strip are over
 pub record IsPile (j : Job) (strip : Strip) (turns : List Turn) : Type 0 where
@@ -17,6 +18,13 @@ abbrev pub Fills : (ℕ → MatchedTrace) → List ℕ → List (Option MatchedT
 Fills matched numbers old new =
     (k : ℕ) → k < length old
     → (slice_get new k ≡ Some (Some (matched k))) ⊎ ((slice_get new k ≡ slice_get old k) × (Contains numbers k → ⊥))
+
+-- answers stand in the slots of their places, whichever numbers and matches they are of
+abbrev pub PlacesAnswers : ℕ → List Done → (old new : List (Option MatchedTrace)) → Type 0
+PlacesAnswers first done old new =
+    (matched : ℕ → MatchedTrace) (numbers : List ℕ)
+    → done ≡ map (done_by first matched) numbers
+    → Fills matched numbers old new
 
 -- each rank of the strip was drawn in one of the turns
 abbrev pub AllDrawn : Strip → List Turn → Type 0

@@ -1,11 +1,10 @@
 //! The answers of all workers, in the order of the traces. Serves `match_all`; decided by `Fills`.
-ghost use Rattle.std.specs.Prelude.{◌≡◌, ◌<◌, ◌≤◌, ◌+◌, ℕ, All, IfOk, OnOk, IsSome, None, Some, length, map, replicate};
+ghost use Rattle.std.specs.Prelude.{◌≡◌, ◌<◌, ◌≤◌, ◌+◌, All, IfOk, OnOk, IsSome, None, Some, length, map, replicate};
 ghost use Rattle.std.specs.List.{AllZip};
-ghost use Rattle.match_text.specs.declared.matched.MatchedTrace.{MatchedTrace as AMatchedTrace};
 ghost use Rattle.trace_match.specs.Match.{match_of};
 ghost use Rattle.match_pool.specs.Drawing.{job_of};
-ghost use Rattle.match_pool.specs.Gathering.{AllDrawn, CoverTraces, Fills, IsPile};
-ghost use Rattle.match_pool.specs.Working.{done_by, matched_at};
+ghost use Rattle.match_pool.specs.Gathering.{AllDrawn, CoverTraces, Fills, IsPile, PlacesAnswers};
+ghost use Rattle.match_pool.specs.Working.{matched_at};
 
 use crate::batch::Batch;
 use crate::turn::{Strip, Turn};
@@ -29,9 +28,7 @@ fn blank(alloc: Global, count: usize) -> Result<Vec<Option<MatchedTrace>>, Alloc
 fn place(slots: &mut Vec<Option<MatchedTrace>>, first: u64, done: List<Done>)
     requires { All (λ d. (first ≤ d.place) × (d.place < first + length slots.old.items)) done }
     ensures count { length slots.new.items ≡ length slots.old.items }
-    ensures filled { (matched : ℕ → AMatchedTrace) (numbers : List ℕ)
-        → done ≡ map (done_by first matched) numbers
-        → Fills matched numbers slots.old.items slots.new.items }
+    ensures filled { PlacesAnswers first done slots.old.items slots.new.items }
 {
     for answer in done.into_vec() {
         let Done { place, matched } = answer;

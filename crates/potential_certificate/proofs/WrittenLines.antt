@@ -7,7 +7,7 @@ use Rattle.decimal_text.specs.Number.{decimal}
 use Rattle.match_text.specs.MatchText.{words_after}
 use Rattle.match_text.specs.declared.matched.Routed.{Routed}
 use Rattle.matching.specs.declared.parts.Cell.{Cell}
-use Rattle.potential_certificate.specs.CertificateText.{back_words, cell_word, first_line, form, gap_words, layer_line, point_lines}
+use Rattle.potential_certificate.specs.CertificateText.{back_words, cell_word, first_line, form, gap_words, layer_line, option_words, point_lines}
 use Rattle.potential_certificate.specs.Words.{cells_text, words_text}
 
 abbrev lf : List ℕ
@@ -21,24 +21,20 @@ words_both : (words others : List (List ℕ)) → words_text (words ++ others) �
 words_both [] others = refl
 words_both (word ∷ words) others = ap (λ (t : List ℕ). 32 ∷ (word ++ t)) (words_both words others) ∙ sym (append_assoc (32 ∷ word) (words_text words) (words_text others))
 
-abbrev options : Params → List (List ℕ)
-options p =
-    codes "k" ∷ decimal p.k ∷ codes "radius" ∷ decimal p.radius ∷ codes "sigma" ∷ decimal p.sigma ∷ codes "beta" ∷ decimal p.beta ∷ codes "bound" ∷ decimal p.bound ∷ []
-
 regroup : (old word number o k g : List ℕ) → (((((old ++ word) ++ number) ++ o) ++ k) ++ g) ++ lf ≡ old ++ (word ++ (number ++ ((o ++ (k ++ g)) ++ lf)))
 regroup old word number o k g = simp append_assoc
 
 pub first_written : (p : Params) (old a b c d e new : List ℕ)
-    → a ≡ old ++ codes "fmm-certificate" → b ≡ a ++ (codes " " ++ decimal (form p)) → c ≡ b ++ words_text (options p) → d ≡ c ++ words_text (back_words p)
+    → a ≡ old ++ codes "fmm-certificate" → b ≡ a ++ (codes " " ++ decimal (form p)) → c ≡ b ++ words_text (option_words p) → d ≡ c ++ words_text (back_words p)
     → e ≡ d ++ words_text (gap_words p) → new ≡ e ++ lf → new ≡ old ++ first_line p
 first_written p old a b c d e new first second third fourth fifth last =
-    let o = words_text (options p) in
+    let o = words_text (option_words p) in
     let k = words_text (back_words p) in
     let g = words_text (gap_words p) in
     let number = codes " " ++ decimal (form p) in
-    let tail : words_after (options p ++ (back_words p ++ gap_words p)) ≡ (o ++ (k ++ g)) ++ lf =
-    words_end (options p ++ (back_words p ++ gap_words p))
-    ∙ ap (λ (t : List ℕ). t ++ lf) (words_both (options p) (back_words p ++ gap_words p) ∙ ap (λ (t : List ℕ). o ++ t) (words_both (back_words p) (gap_words p))) in
+    let tail : words_after (option_words p ++ (back_words p ++ gap_words p)) ≡ (o ++ (k ++ g)) ++ lf =
+    words_end (option_words p ++ (back_words p ++ gap_words p))
+    ∙ ap (λ (t : List ℕ). t ++ lf) (words_both (option_words p) (back_words p ++ gap_words p) ∙ ap (λ (t : List ℕ). o ++ t) (words_both (back_words p) (gap_words p))) in
     last
     ∙ ap (λ (t : List ℕ). t ++ lf)
     (fifth ∙ ap (λ (t : List ℕ). t ++ g) (fourth ∙ ap (λ (t : List ℕ). t ++ k) (third ∙ ap (λ (t : List ℕ). t ++ o) (second ∙ ap (λ (t : List ℕ). t ++ number) first))))

@@ -23,6 +23,13 @@ text_limit = TEXT_LIMIT
 abbrev pub form : Params → ℕ
 form p = if p.gap == 2 ^ 32 - 1 then (if p.back == 0 then 1 else 2) else 3
 
+-- the options that every form names
+abbrev pub option_words : Params → List (List ℕ)
+option_words p =
+    codes "k" ∷ decimal p.k ∷ codes "radius" ∷ decimal p.radius
+    ∷ codes "sigma" ∷ decimal p.sigma ∷ codes "beta" ∷ decimal p.beta
+    ∷ codes "bound" ∷ decimal p.bound ∷ []
+
 abbrev pub back_words : Params → List (List ℕ)
 back_words p = if form p == 1 then [] else codes "back" ∷ decimal p.back ∷ []
 
@@ -32,9 +39,7 @@ gap_words p = if form p == 3 then codes "gap" ∷ decimal p.gap ∷ [] else []
 -- `fmm-certificate 1 k K radius A sigma S beta B bound U`, with `back W` and `gap G` in its forms
 abbrev pub first_line : Params → List ℕ
 first_line p = line (codes "fmm-certificate")
-    (decimal (form p) ∷ codes "k" ∷ decimal p.k ∷ codes "radius" ∷ decimal p.radius
-    ∷ codes "sigma" ∷ decimal p.sigma ∷ codes "beta" ∷ decimal p.beta
-    ∷ codes "bound" ∷ decimal p.bound ∷ back_words p ++ gap_words p)
+    (decimal (form p) ∷ option_words p ++ back_words p ++ gap_words p)
 
 -- `certified traces T rows R`
 abbrev pub last_line : ℕ → ℕ → List ℕ

@@ -1,8 +1,8 @@
 // The first and the last line of a certificate. Serves the writer and the reader; decided by
 // `first_line` and `last_line`.
-ghost use Rattle.std.specs.Prelude.{◌≡◌, ◌++◌, ◌∷◌, [], OnOk, codes};
+ghost use Rattle.std.specs.Prelude.{◌≡◌, ◌++◌, OnOk};
 ghost use Rattle.decimal_text.specs.Number.{decimal};
-ghost use Rattle.potential_certificate.specs.CertificateText.{back_words, first_line, form, gap_words, last_line};
+ghost use Rattle.potential_certificate.specs.CertificateText.{back_words, first_line, form, gap_words, last_line, option_words};
 ghost use Rattle.potential_certificate.specs.Words.{words_text};
 
 use cost_model::Params;
@@ -35,12 +35,9 @@ fn form(p: &Params) -> u32
     }
 }
 
-// Appends the options that are always named.
+// Appends the options that every form names.
 fn append_options(p: &Params, into: &mut List<u8>) -> Result<(), AllocError>
-    ensures { OnOk result (into.new ≡ into.old ++ words_text
-        (codes "k" ∷ decimal p.now.k ∷ codes "radius" ∷ decimal p.now.radius
-        ∷ codes "sigma" ∷ decimal p.now.sigma ∷ codes "beta" ∷ decimal p.now.beta
-        ∷ codes "bound" ∷ decimal p.now.bound ∷ [])) }
+    ensures { OnOk result (into.new ≡ into.old ++ words_text (option_words p.now)) }
 {
     append_number(b" k ", p.k, into)?;
     append_number(b" radius ", p.radius, into)?;

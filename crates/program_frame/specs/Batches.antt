@@ -11,7 +11,7 @@ use Rattle.trace_reader.specs.declared.fault.TraceFault.{TraceFault}
 use Rattle.trace_reader.specs.declared.fault.TraceFault.TheVariants.{Memory}
 use Rattle.program_frame.specs.Jobs.{IsBatch, IsBounded, JobText, bytes_give, traces_give}
 use Rattle.program_frame.specs.Outcome.{Outcome}
-use Rattle.program_frame.specs.Performs.{FailsToPut}
+use Rattle.program_frame.specs.Performs.{FailsToPut, PutsText}
 use Rattle.program_frame.specs.Streams.{EndsWith, StopsAs, StopsAt}
 use Rattle.program_frame.specs.declared.batches.Batches.{Batches}
 use Rattle.program_frame.specs.declared.stop.Stop.{Stop}
@@ -109,12 +109,18 @@ pub record RefusesAt (job : JobText) (base out out' : SinkState) (traces : List 
 -- ---- whatever the sink had before the first trace, and whatever traces are held or bytes were fed
 
 -- all that waited is written
+abbrev pub WritesWaiting : JobText → (has has' : List Trace → Type 0) → (out out' : SinkState)
+    → (waiting waiting' : List Trace) → Result (Unit {0}) Stop → Type 0
+WritesWaiting job has has' out out' waiting waiting' result =
+    (base : SinkState) (traces : List Trace)
+    → Holds job has base out traces waiting
+    → WritesBatch job has' base out' traces waiting' result
+
+-- the same of batches
 abbrev pub Writes : {J : Type 0} → (J → JobText) → (J → List Trace → Type 0) → (old new : Batches J)
     → (out out' : SinkState) → Result (Unit {0}) Stop → Type 0
 Writes text has old new out out' result =
-    (base : SinkState) (traces : List Trace)
-    → Holds (text old.job) (has old.job) base out traces old.waiting
-    → WritesBatch (text old.job) (has new.job) base out' traces new.waiting result
+    WritesWaiting (text old.job) (has old.job) (has new.job) out out' old.waiting new.waiting result
 
 -- a batch that is full is written
 abbrev pub WritesIfFull : {J : Type 0} → (J → JobText) → (J → List Trace → Type 0) → (old new : Batches J)
@@ -147,6 +153,12 @@ Takes text has old new out out' chunk result =
     (base : SinkState) (fed : List ℕ)
     → IsBetween (text old.job) (has old.job) base out fed old.reader old.waiting
     → TakesChunk (text old.job) (has new.job) base out' (fed ++ chunk) new.reader new.waiting result
+
+-- what stands behind the text of all traces is put, whichever traces were taken
+abbrev pub PutsEnding : JobText → (List Trace → Type 0) → (out out' : SinkState)
+    → Result (Unit {0}) Stop → Type 0
+PutsEnding job has out out' result =
+    (taken : List Trace) → has taken → PutsText out out' (job.ending taken) result
 
 -- the file is at its end, and all that stands behind the traces so far is written
 abbrev pub Finishes : {J : Type 0} → (J → JobText) → (J → List Trace → Type 0) → (old : Batches J)

@@ -90,3 +90,12 @@ TakesTraces job has before more old new (Err (Refused refusal line)) =
 TakesTraces job has before more old new (Err NoMemory) = Unit {0}
 TakesTraces job has before more old new (Err (Unread file)) = ⊥
 TakesTraces job has before more old new (Err Unwritten) = ⊥
+
+-- the same, whatever traces were taken before
+abbrev pub TakesMore : JobText → (has has' : List Trace → Type 0) → List Trace
+    → List ℕ → List ℕ → Result (Unit {0}) Stop → Type 0
+TakesMore job has has' more old new result =
+    (before : List Trace)
+    → has before
+    → IsBounded (before ++ more)
+    → TakesTraces job has' before more old new result

@@ -10,6 +10,7 @@ use Rattle.program_frame.specs.Plan.{Plan}
 use Rattle.program_frame.specs.Read.{IsReadSoFar, ReadsWhole}
 use Rattle.program_frame.specs.Refusals.{trace_limit}
 use Rattle.program_frame.specs.Streams.{streams}
+use Rattle.program_frame.specs.declared.batches.Batches.{Batches}
 use Rattle.program_frame.specs.declared.stop.File.TheVariants.{Traces}
 use Rattle.program_frame.specs.declared.stop.Stop.{Stop}
 
@@ -35,9 +36,9 @@ pub record IsTaken (job : JobText) (has : List Trace → Type 0) (name : List �
   pub between : IsBetween job has base out bytes reader waiting
 
 -- the file was taken whole, or the work has ended
-abbrev pub TakesFile : JobText → (List Trace → Type 0) → List ℕ → ShelfState → ShelfState
-    → SinkState → SinkState → TraceReader → List Trace → Result (Unit {0}) Stop → Type 0
-TakesFile job has name shelf shelf' base out reader waiting (Ok done) =
-    IsTaken job has name shelf shelf' base out reader waiting
-TakesFile job has name shelf shelf' base out reader waiting (Err stop) =
-    Performs (Ok (works_traces name job)) shelf shelf' base out (Err stop)
+abbrev pub TakesFile : {J : Type 0} → (J → JobText) → (J → List Trace → Type 0) → (old new : Batches J)
+    → List ℕ → (shelf shelf' : ShelfState) → (base out : SinkState) → Result (Unit {0}) Stop → Type 0
+TakesFile text has old new name shelf shelf' base out (Ok done) =
+    IsTaken (text old.job) (has new.job) name shelf shelf' base out new.reader new.waiting
+TakesFile text has old new name shelf shelf' base out (Err stop) =
+    Performs (Ok (works_traces name (text old.job))) shelf shelf' base out (Err stop)

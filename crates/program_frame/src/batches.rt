@@ -1,11 +1,9 @@
 // Traces that are read from chunks of a file, and are handed to a job batch by batch. Serves
 // `work_traces`; decided by `bytes_give`.
-ghost use Rattle.std.specs.Prelude.{◌≡◌, ◌≤◌, ◌<◌, ◌++◌, ◌^◌, [], List as ListOf, IfOk, length, drop};
+ghost use Rattle.std.specs.Prelude.{◌≡◌, ◌≤◌, ◌<◌, ◌^◌, [], IfOk, length, drop};
 ghost use Rattle.trace_reader.specs.Reader.{StandsFor};
-ghost use Rattle.trace_reader.specs.declared.trace.Trace.{Trace};
 ghost use Rattle.program_frame.specs.Batches.{PutsBefore};
 ghost use Rattle.program_frame.specs.Jobs.{HasTaken, JobText};
-ghost use Rattle.program_frame.specs.Performs.{PutsText};
 
 use crate::jobs::Job;
 use crate::load::refuse_traces;
@@ -59,7 +57,7 @@ fn behind(chunk: &[u8], taken: usize) -> &[u8]
 }
 
 impl<J: Job + Drop> Batches<J> {
-    ghost use Rattle.program_frame.specs.Batches.{Finishes, IsHeld, IsReady, Refuses, Takes, TakesFront, Writes, WritesIfFull};
+    ghost use Rattle.program_frame.specs.Batches.{Finishes, IsHeld, IsReady, PutsEnding, Refuses, Takes, TakesFront, Writes, WritesIfFull};
 
     /// Nothing was read.
     pub fn open(alloc: Global, job: J) -> Batches<J>
@@ -173,9 +171,8 @@ impl<J: Job + Drop> Batches<J> {
     // Writes what stands behind the text of all traces.
     fn put_ending<K: Sink>(&mut self, alloc: Global, out: &mut K) -> Result<(), Stop>
         requires { HasTaken (J.has self.old.job) }
-        ensures { (taken : ListOf Trace) → J.has self.old.job taken
-            → PutsText (K.state out.old) (K.state out.new)
-            ((J.text self.old.job).ending taken) result }
+        ensures { PutsEnding (J.text self.old.job) (J.has self.old.job)
+            (K.state out.old) (K.state out.new) result }
     {
         let mut text = List::new(alloc);
         match self.job.finish(alloc, &mut text) {

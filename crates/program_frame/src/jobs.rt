@@ -1,7 +1,7 @@
 // What a job does with the traces of a file. Serves `work_traces`; decided by `traces_give`.
 ghost use Rattle.std.specs.Prelude.{◌≡◌, ◌++◌, List as ListOf, OnOk};
 ghost use Rattle.trace_reader.specs.declared.trace.Trace.{Trace};
-ghost use Rattle.program_frame.specs.Jobs.{CanTake, HasTaken, IsBounded, JobText, TakesTraces};
+ghost use Rattle.program_frame.specs.Jobs.{CanTake, HasTaken, JobText, TakesMore};
 
 use crate::stop::Stop;
 use polyline_geometry::List;
@@ -21,9 +21,8 @@ pub trait Job {
     fn take(&mut self, alloc: Global, traces: &[Trace], into: &mut List<u8>) -> Result<(), Stop>
         requires { CanTake (has self.old) traces.now }
         ensures text { text self.new ≡ text self.old }
-        ensures takes { (before : ListOf Trace) → has self.old before → IsBounded (before ++ traces.now)
-            → TakesTraces (text self.old) (has self.new) before traces.now
-            into.old into.new result };
+        ensures takes { TakesMore (text self.old) (has self.old) (has self.new)
+            traces.now into.old into.new result };
 
     /// Appends what stands behind the text of all traces.
     fn finish(&mut self, alloc: Global, into: &mut List<u8>) -> Result<(), AllocError>

@@ -27,9 +27,8 @@ fn take_file<J: Job + Drop, S: Shelf, K: Sink>(
     requires { IsBetween (J.text batches.old.job) (J.has batches.old.job)
         (K.state out.old) (K.state out.old) [] batches.old.reader batches.old.waiting }
     ensures text { J.text batches.new.job ≡ J.text batches.old.job }
-    ensures takes { TakesFile (J.text batches.old.job) (J.has batches.new.job) name.now
-        (S.state shelf.old) (S.state shelf.new) (K.state out.old) (K.state out.new)
-        batches.new.reader batches.new.waiting result }
+    ensures takes { TakesFile J.text J.has batches.old batches.new name.now
+        (S.state shelf.old) (S.state shelf.new) (K.state out.old) (K.state out.new) result }
 {
     let mut chunk = Vec::new(alloc);
     let mut at: u64 = 0;

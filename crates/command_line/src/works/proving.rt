@@ -1,9 +1,9 @@
 // `prove NET TRACES`. Serves `read_work` and `program`; decided by `prove_kind`.
-ghost use Rattle.std.specs.Prelude.{◌≡◌, codes, IfOk};
+ghost use Rattle.std.specs.Prelude.{◌≡◌, IfOk};
 ghost use Rattle.std.specs.Result.{result_map_both};
-ghost use Rattle.clap.specs.Words.{first_of, found_of, rows_of};
+ghost use Rattle.command_line.specs.Given.{given_for};
 ghost use Rattle.command_line.specs.Work.{AreNumbersWithin, plain_work};
-ghost use Rattle.command_line.specs.works.Prove.{prove_of};
+ghost use Rattle.command_line.specs.works.Prove.{prove_kind};
 
 use crate::fault::WordsFault;
 use crate::read::text_of;
@@ -21,8 +21,7 @@ pub const FORM: Form = Form {
 /// The work, with the names that the words give.
 pub fn read_prove<'a>(found: &ArgMatches<'a>) -> Result<Work<'a>, WordsFault>
     ensures value { result_map_both plain_work (λ fault. fault) result
-        ≡ prove_of (first_of (codes "NET") (rows_of (found_of found.now)))
-        (first_of (codes "TRACES") (rows_of (found_of found.now))) }
+        ≡ prove_kind.work (given_for found.now) }
     ensures within { IfOk result AreNumbersWithin }
 {
     match (text_of(found, "NET"), text_of(found, "TRACES")) {

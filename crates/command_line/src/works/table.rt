@@ -1,9 +1,9 @@
 // `table NET`. Serves `read_work` and `program`; decided by `table_kind`.
-ghost use Rattle.std.specs.Prelude.{◌≡◌, codes};
+ghost use Rattle.std.specs.Prelude.{◌≡◌};
 ghost use Rattle.std.specs.Result.{result_map_both};
-ghost use Rattle.clap.specs.Words.{first_of, found_of, rows_of};
+ghost use Rattle.command_line.specs.Given.{given_for};
 ghost use Rattle.command_line.specs.Work.{plain_work};
-ghost use Rattle.command_line.specs.works.Table.{table_work};
+ghost use Rattle.command_line.specs.works.Table.{table_kind};
 
 use crate::fault::WordsFault;
 use crate::read::text_of;
@@ -21,7 +21,7 @@ pub const FORM: Form = Form {
 /// The work, with the name that the words give.
 pub fn read_table<'a>(found: &ArgMatches<'a>) -> Result<Work<'a>, WordsFault>
     ensures { result_map_both plain_work (λ fault. fault) result
-        ≡ table_work (first_of (codes "NET") (rows_of (found_of found.now))) }
+        ≡ table_kind.work (given_for found.now) }
 {
     match text_of(found, "NET") {
         Some(network) => Ok(Work::Table { network }),

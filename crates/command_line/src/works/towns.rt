@@ -1,11 +1,11 @@
 // `town N T SEED`. Serves `read_work` and `program`; decided by `town_kind`.
 ghost use Rattle.std.specs.Prelude.{◌≡◌, IfOk};
 ghost use Rattle.std.specs.Result.{result_map_both};
-ghost use Rattle.clap.specs.Words.{first_of, found_of, rows_of};
 ghost use Rattle.cost_model.specs.Options.{IsWithin};
+ghost use Rattle.command_line.specs.Given.{given_for};
 ghost use Rattle.command_line.specs.Work.{AreNumbersWithin, plain_work};
 ghost use Rattle.command_line.specs.Values.{name_of, range_of};
-ghost use Rattle.command_line.specs.works.Town.{argument_of, town_of};
+ghost use Rattle.command_line.specs.works.Town.{argument_of, town_kind};
 
 use crate::fault::WordsFault;
 use crate::read::{read_value, text_of};
@@ -23,8 +23,7 @@ pub const FORM: Form = Form {
 
 // The value of an argument.
 fn read_argument(found: &ArgMatches, name: ValueName) -> Result<u32, WordsFault>
-    ensures value { result
-        ≡ argument_of name (first_of (name_of name) (rows_of (found_of found.now))) }
+    ensures value { result ≡ argument_of name (given_for found.now (name_of name)) }
     ensures range { IfOk result (IsWithin (range_of name).least (range_of name).most) }
 {
     match text_of(found, name.name()) {
@@ -37,7 +36,7 @@ fn read_argument(found: &ArgMatches, name: ValueName) -> Result<u32, WordsFault>
 #[tactic(auto, unfolding(crate::specs::works::Town::town_of))]
 pub fn read_town<'a>(found: &ArgMatches<'a>) -> Result<Work<'a>, WordsFault>
     ensures value { result_map_both plain_work (λ fault. fault) result
-        ≡ town_of (λ name. first_of name (rows_of (found_of found.now))) }
+        ≡ town_kind.work (given_for found.now) }
     ensures within { IfOk result AreNumbersWithin }
 {
     Ok(Work::Town {

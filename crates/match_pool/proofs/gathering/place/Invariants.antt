@@ -1,8 +1,6 @@
-use Rattle.std.proofs.Common.{◌≡◌, ℕ, ◌+◌, ◌<◌, ◌≤◌, ◌++◌, All, List, length, map}
+use Rattle.std.proofs.Common.{◌≡◌, ◌+◌, ◌<◌, ◌≤◌, ◌++◌, All, length}
 use Rattle.std.specs.Vec.Iter.{into_iter_items, into_iter_len}
-use Rattle.match_text.specs.declared.matched.MatchedTrace.{MatchedTrace}
-use Rattle.match_pool.specs.Gathering.{Fills}
-use Rattle.match_pool.specs.Working.{done_by}
+use Rattle.match_pool.specs.Gathering.{PlacesAnswers}
 use Rattle.match_pool.specs.declared.worker.Done.{Done}
 use Rattle.match_pool.proofs.gathering.place.Given as goal
 
@@ -12,5 +10,5 @@ invariant-loop-answer l = record {
   left : into_iter_len l.answer-iterator ≡ length (into_iter_items l.answer-iterator);
   inside : All (λ (d : Done). (l.first ≤ d.place) × (d.place < l.first + length l.initial.slots.items)) (into_iter_items l.answer-iterator);
   count : length l.slots.items ≡ length l.initial.slots.items;
-  filled : (matched : ℕ → MatchedTrace) (numbers : List ℕ) → l.yielded ≡ map (done_by l.first matched) numbers → Fills matched numbers l.initial.slots.items l.slots.items;
+  filled : PlacesAnswers l.first l.yielded l.initial.slots.items l.slots.items;
 }
