@@ -1,5 +1,5 @@
 -- What the fields of a record say.
-use Rattle.std.proofs.Common.{◌≡◌, ℕ, zero, suc, inl, inr, ◌≤◌, ◌++◌, List, [], ◌∷◌, Option, None, Some, Result, Ok, Err, refl, sym, ap, subst, ◌∙◌, arith, drop, ℤ, pos}
+use Rattle.std.proofs.Common.{◌≡◌, ℕ, zero, suc, inl, inr, ◌≤◌, List, Result, Ok, Err, refl, subst, arith, drop, ℤ, pos}
 use Rattle.std.specs.Result.{IfOk, result_map_both}
 use Rattle.std.specs.Prelude.{neg_ℤ}
 use Rattle.std.specs.Int.RustNames.{unsigned_abs}
@@ -9,10 +9,8 @@ use Rattle.decimal_text.specs.declared.number.NumberFault.{NumberFault}
 use Rattle.decimal_text.specs.declared.number.NumberFault.TheVariants.{Misspelt, OutOfRange}
 use Rattle.decimal_text.specs.Number.{signed_within, unsigned_within}
 use Rattle.decimal_text.proofs.Laws.{Spells-unsigned_within}
-use Rattle.polyline_geometry.specs.declared.plane.Point.{Point}
 use Rattle.polyline_geometry.specs.Plane.{InRange}
-use Rattle.road_network.specs.NetworkFile.{both, make_point, point_of, points_of, unless}
-use Rattle.road_network.specs.Rows.{onto_end, worse}
+use Rattle.road_network.specs.NetworkFile.{both, make_point}
 
 -- a number that was read is in its range
 signed-map : (most : ℕ) (r : Result ℕ NumberFault) → ((n : ℕ) → r ≡ Ok n → n ≤ most) → (f : ℕ → ℤ) → ((n : ℕ) → unsigned_abs (f n) ≤ n)

@@ -12,36 +12,45 @@ fn fault_of(alloc: Global, bytes: &[u8]) -> Option<NetworkFault> {
     read_network(alloc, bytes).err()
 }
 
-// The line of a fault, or nothing where there is none.
-fn line_of(alloc: Global, fault: NetworkFault) -> List<u8> {
-    let mut line = List::new(alloc);
-    if let NetworkFault::Memory = fault {
-        return line;
-    }
-    let _ = fault.write_line(alloc, &mut line);
-    line
-}
-
+// Whether this is the line of the fault. Want of memory has none.
 fn has_line(alloc: Global, fault: NetworkFault, line: &[u8]) -> bool {
-    line_of(alloc, fault).as_slice() == line
+    if let NetworkFault::Memory = fault {
+        return false;
+    }
+    let mut text = List::new(alloc);
+    fault.write_line(alloc, &mut text).is_ok() && text.as_slice() == line
 }
 
 #[test]
-fn a_network_has_its_edges_and_nodes(rt: HostRuntime) -> Result<(), Fail> {
+fn a_network_has_its_edges(rt: HostRuntime) -> Result<(), Fail> {
     let net = read_network(rt.alloc(), TWO_EDGES)?;
-    assert_eq!(rt; (net.edge_count(), net.node_count()), (2, 3));
+    assert_eq!(rt; net.edge_count(), 2);
     assert_eq!(rt; net.name(EdgeId(0)), 10);
-    assert_eq!(rt;
-        (net.from(EdgeId(1)), net.to(EdgeId(1))),
-        (NodeId(1), NodeId(2))
-    );
     assert_eq!(rt; net.length(EdgeId(1)), 10_000);
     let line = [Point { x: 10_000, y: 0 }, Point { x: 20_000, y: 0 }];
     assert_eq!(rt; net.line(EdgeId(1)), line.as_slice());
     assert_eq!(rt; net.offsets(EdgeId(1)), [0, 10_000].as_slice());
+    Ok(())
+}
+
+#[test]
+fn a_network_has_its_nodes(rt: HostRuntime) -> Result<(), Fail> {
+    let net = read_network(rt.alloc(), TWO_EDGES)?;
+    assert_eq!(rt; (net.edge_count(), net.node_count()), (2, 3));
+    assert_eq!(rt;
+        (net.from(EdgeId(1)), net.to(EdgeId(1))),
+        (NodeId(1), NodeId(2))
+    );
     assert_eq!(rt; net.node_name(NodeId(2)), 3);
     assert_eq!(rt; net.out(NodeId(1)), [EdgeId(1)].as_slice());
     assert_eq!(rt; net.out(NodeId(2)), [].as_slice());
+    Ok(())
+}
+
+#[test]
+fn a_node_has_its_arcs(rt: HostRuntime) -> Result<(), Fail> {
+    let net = read_network(rt.alloc(), TWO_EDGES)?;
+    assert_eq!(rt; (net.edge_count(), net.node_count()), (2, 3));
     let arc = Arc {
         edge: EdgeId(1),
         to: NodeId(2),
@@ -81,26 +90,64 @@ fn the_longest_edge_and_no_edge(rt: HostRuntime) -> Result<(), Fail> {
     Ok(())
 }
 
+// One part in one pass, and parts with blanks, of ten digits and of many zeros.
+#[test]
+fn coordinates_of_many_spellings(rt: HostRuntime) -> Result<(), Fail> {
+    let file =
+        b"edge,from,to,line\n10,1,2,-123456789 -7;-0123456789 0;-123450000\t0;-123400000 12345678 \n";
+    let net = read_network(rt.alloc(), file)?;
+    assert_eq!(rt; net.edge_count(), 1);
+    let line = [
+        Point {
+            x: -123_456_789,
+            y: -7,
+        },
+        Point {
+            x: -123_456_789,
+            y: 0,
+        },
+        Point {
+            x: -123_450_000,
+            y: 0,
+        },
+        Point {
+            x: -123_400_000,
+            y: 12_345_678,
+        },
+    ];
+    assert_eq!(rt; net.line(EdgeId(0)), line.as_slice());
+    Ok(())
+}
+
+// Each file, and its first fault.
 #[test]
 fn the_first_fault_of_a_file(rt: HostRuntime) {
-    let alloc = rt.alloc();
-    let short = b"edge,from,to,line\n10,1,2,0 0\n11,2,3,10000 0;20000 0\n";
-    let long = b"edge,from,to,line\n10,1,2,0 0;100000001 0\n";
-    let misspelt = b"edge,from,to,line\n4294967296,1,2,0 0;+1 0\n";
-    let edge = b"edge,from,to,line\n10,1,2,0 0;10000 0\n11,2,3,10000 0;20000 0\n10,3,4,5 5;5 5\n";
-    let point = b"edge,from,to,line\n10,1,2,0 0;10000 0\n11,2,3,10000 0;20000 0\n12,3,4,5 5;5 5\n";
-    assert_eq!(rt; fault_of(alloc, b""), Some(NetworkFault::BadHeader));
-    assert_eq!(rt; fault_of(alloc, short), Some(NetworkFault::ShortLine(1)));
-    assert_eq!(rt; fault_of(alloc, long), Some(NetworkFault::EdgeTooLong(1)));
-    assert_eq!(rt;
-        fault_of(alloc, misspelt),
-        Some(NetworkFault::BadNumber(1, 4))
-    );
-    assert_eq!(rt; fault_of(alloc, edge), Some(NetworkFault::DuplicateEdge(3)));
-    assert_eq!(rt;
-        fault_of(alloc, point),
-        Some(NetworkFault::RepeatedPoint(3, 2))
-    );
+    let files: [(&[u8], NetworkFault); 6] = [
+        (b"", NetworkFault::BadHeader),
+        (
+            b"edge,from,to,line\n10,1,2,0 0\n11,2,3,10000 0;20000 0\n",
+            NetworkFault::ShortLine(1),
+        ),
+        (
+            b"edge,from,to,line\n10,1,2,0 0;100000001 0\n",
+            NetworkFault::EdgeTooLong(1),
+        ),
+        (
+            b"edge,from,to,line\n4294967296,1,2,0 0;+1 0\n",
+            NetworkFault::BadNumber(1, 4),
+        ),
+        (
+            b"edge,from,to,line\n10,1,2,0 0;10000 0\n11,2,3,10000 0;20000 0\n10,3,4,5 5;5 5\n",
+            NetworkFault::DuplicateEdge(3),
+        ),
+        (
+            b"edge,from,to,line\n10,1,2,0 0;10000 0\n11,2,3,10000 0;20000 0\n12,3,4,5 5;5 5\n",
+            NetworkFault::RepeatedPoint(3, 2),
+        ),
+    ];
+    for (file, fault) in files {
+        assert_eq!(rt; fault_of(rt.alloc(), file), Some(fault));
+    }
 }
 
 #[test]
@@ -113,85 +160,54 @@ fn a_file_above_the_limit(rt: HostRuntime) -> Result<(), Fail> {
     Ok(())
 }
 
+// Each fault, and its line.
 #[test]
 fn the_lines_of_the_faults(rt: HostRuntime) {
-    let alloc = rt.alloc();
-    assert!(rt; has_line(alloc, NetworkFault::BadHeader, b"network: bad header\n"));
-    assert!(rt;
-        has_line(
-            alloc,
+    let lines: [(NetworkFault, &[u8]); 12] = [
+        (NetworkFault::BadHeader, b"network: bad header\n"),
+        (
             NetworkFault::FieldCount(1),
-            b"network record 1: wrong number of fields\n"
-        )
-    );
-    assert!(rt;
-        has_line(
-            alloc,
+            b"network record 1: wrong number of fields\n",
+        ),
+        (
             NetworkFault::BadNumber(1, 2),
-            b"network record 1 field 2: bad number\n"
-        )
-    );
-    assert!(rt;
-        has_line(
-            alloc,
+            b"network record 1 field 2: bad number\n",
+        ),
+        (
             NetworkFault::OutOfRange(1, 3),
-            b"network record 1 field 3: out of range\n"
-        )
-    );
-    assert!(rt;
-        has_line(
-            alloc,
+            b"network record 1 field 3: out of range\n",
+        ),
+        (
             NetworkFault::DuplicateEdge(3),
-            b"network record 3: edge id repeated\n"
-        )
-    );
-    assert!(rt;
-        has_line(
-            alloc,
+            b"network record 3: edge id repeated\n",
+        ),
+        (
             NetworkFault::ShortLine(4),
-            b"network record 4: line too short\n"
-        )
-    );
-    assert!(rt;
-        has_line(
-            alloc,
+            b"network record 4: line too short\n",
+        ),
+        (
             NetworkFault::RepeatedPoint(3, 2),
-            b"network record 3 point 2: point repeated\n"
-        )
-    );
-    assert!(rt;
-        has_line(
-            alloc,
+            b"network record 3 point 2: point repeated\n",
+        ),
+        (
             NetworkFault::EdgeTooLong(1),
-            b"network record 1: edge too long\n"
-        )
-    );
-    assert!(rt;
-        has_line(
-            alloc,
+            b"network record 1: edge too long\n",
+        ),
+        (
             NetworkFault::TooManyEdges(150_001),
-            b"network record 150001: too many edges\n"
-        )
-    );
-    assert!(rt;
-        has_line(
-            alloc,
+            b"network record 150001: too many edges\n",
+        ),
+        (
             NetworkFault::TooManyNodes(30_001),
-            b"network record 30001: too many nodes\n"
-        )
-    );
-    assert!(rt;
-        has_line(
-            alloc,
+            b"network record 30001: too many nodes\n",
+        ),
+        (
             NetworkFault::TooManyPoints(9),
-            b"network record 9: too many points\n"
-        )
-    );
-    assert!(rt;
-        has_line(
-            alloc,
-            NetworkFault::FileTooLong,
-            b"network: file too long\n"
-        )
-    );
+            b"network record 9: too many points\n",
+        ),
+        (NetworkFault::FileTooLong, b"network: file too long\n"),
+    ];
+    for (fault, line) in lines {
+        assert!(rt; has_line(rt.alloc(), fault, line));
+    }
 }

@@ -1,6 +1,6 @@
 -- What the bytes of a trace file bring. They are read one after the other, and the fault that is
 -- known at the earliest byte decides.
-use Rattle.std.specs.Prelude.{ℕ, ◌+◌, ◌^◌, ◌==◌, List, [], ◌∷◌, ◌++◌, length, nat_le, Result, Ok, Err, Some, None, option_to_list, if◌then◌else◌}
+use Rattle.std.specs.Prelude.{◌≡◌, ℕ, ◌+◌, ◌^◌, ◌==◌, List, [], ◌∷◌, ◌++◌, length, nat_le, Result, Ok, Err, Some, None, option_to_list, if◌then◌else◌}
 use Rattle.std.specs.Prelude.{Option}
 use Rattle.std.specs.List.{fold}
 use Rattle.trace_reader.specs.Content.{Content, no_content, read_line}
@@ -81,6 +81,11 @@ abbrev pub end_content : Content → Option Header → Outcome
 end_content content None = record { traces = content.closed; fault = Some BadHeader }
 end_content content (Some header) =
     record { traces = content.closed ++ option_to_list content.open_trace; fault = None }
+
+-- what the end brings is these traces and this fault
+abbrev pub EndsWith : Content → Option Header → List Trace → Option TraceFault → Type 0
+EndsWith content header traces fault =
+    end_content content header ≡ record { traces = traces; fault = fault }
 
 abbrev pub end_read : Content → Result Content TraceFault → Outcome
 end_read before (Ok content) = end_content content content.header

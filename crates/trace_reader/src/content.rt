@@ -34,7 +34,7 @@ const POINT_LIMIT: usize = 100_000;
 impl ContentReader {
     ghost use Rattle.trace_reader.specs.Content.{add_row, read_line, no_content};
     ghost use Rattle.trace_reader.specs.Reader.{content_of};
-    ghost use Rattle.trace_reader.specs.Reading.{end_content};
+    ghost use Rattle.trace_reader.specs.Reading.{EndsWith};
 
     pub fn new(alloc: Global) -> Self
         ensures { content_of result [] ≡ no_content }
@@ -106,12 +106,11 @@ impl ContentReader {
 
     /// Appends the trace that is open at the end of the file, and begins anew.
     pub fn end(&mut self, into: &mut List<Trace>) -> Result<(), TraceFault>
-        ensures ok { OnOk result (end_content (content_of self.old into.old) self.old.header
-            ≡ record { traces = into.new; fault = None }) }
+        ensures ok { OnOk result
+            (EndsWith (content_of self.old into.old) self.old.header into.new None) }
         ensures anew { OnOk result (content_of self.new [] ≡ no_content) }
         ensures err { IfErr result (λ fault. fault ≢ TraceFault.Memory
-            → end_content (content_of self.old into.old) self.old.header
-            ≡ record { traces = into.old; fault = Some fault }) }
+            → EndsWith (content_of self.old into.old) self.old.header into.old (Some fault)) }
         ensures same { OnErr result (into.new ≡ into.old) }
     {
         match self.header {
