@@ -24,6 +24,7 @@ use Rattle.program_frame.specs.Refusals.{network_limit, network_said, trace_limi
 use Rattle.program_frame.specs.Total.{worded}
 use Rattle.program_frame.specs.WholeTraces.{traces_said}
 use Rattle.program_frame.specs.declared.stop.File.TheVariants.{Certificate as OfCertificate, Network, Traces}
+use Rattle.road_network.specs.Net.{Net}
 use Rattle.trace_reader.specs.declared.trace.Trace.{Trace}
 use Rattle.follow_work.specs.Setting.{Setting}
 
@@ -83,6 +84,11 @@ abbrev pub verdict_said : Option ℕ → Verdict → Result (Unit {0}) (List ℕ
 verdict_said bad_row Proved = Ok tt
 verdict_said bad_row (Refused x trace place) = Err (refused_line bad_row x trace place)
 
+-- what the verdict on a certificate says, with the place of the first row that is not right
+abbrev pub proofs_said : Net → Params → List Trace → Certificate → Result (Unit {0}) (List ℕ)
+proofs_said net p traces c =
+    verdict_said (first_bad_row net p.bound c.rows) (verdict net p traces c)
+
 -- ---- what is written
 
 -- how many pieces the proofs have
@@ -104,8 +110,7 @@ proved_line c =
 abbrev pub proved_or_refused : Setting → List Trace → Certificate → Result (List ℕ) (List ℕ)
 proved_or_refused on traces c =
     result_map_both (λ _. proved_line c) (λ line. line)
-    (verdict_said (first_bad_row on.network on.params.bound c.rows)
-    (verdict on.network on.params traces c))
+    (proofs_said on.network on.params traces c)
 
 abbrev pub check_said : Setting → List Trace → List ℕ → Result (List ℕ) (List ℕ)
 check_said on traces bytes =

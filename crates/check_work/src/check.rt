@@ -1,14 +1,11 @@
 // `check NET TRACES CERT`. Serves the program; decided by `check_plan`.
 ghost use Rattle.std.specs.Prelude.{◌≡◌, ◌++◌, ◌<◌, ◌^◌, All, Ok, IfOk, OnOk};
-ghost use Rattle.cert_checker.specs.Rows.{first_bad_row};
-ghost use Rattle.cert_checker.specs.Whole.{verdict};
 ghost use Rattle.cost_model.specs.Options.{IsAccepted};
-ghost use Rattle.potential_certificate.specs.CertificateText.{text_limit};
-ghost use Rattle.program_frame.specs.Loads.{Accepts, Loads};
+ghost use Rattle.program_frame.specs.Loads.{Accepts};
 ghost use Rattle.program_frame.specs.Performs.{Performs};
 ghost use Rattle.trace_reader.specs.Trace.{IsLawfulTrace};
-ghost use Rattle.check_work.specs.Check.{certificate_fault_line, certificate_in, check_plan, check_said, pieces_in, pieces_proved, proved_line, verdict_said};
-ghost use Rattle.check_work.specs.CheckDone.{RefusesCertificate};
+ghost use Rattle.check_work.specs.Check.{certificate_fault_line, certificate_in, check_plan, check_said, pieces_in, pieces_proved, proofs_said, proved_line};
+ghost use Rattle.check_work.specs.CheckDone.{LoadsCertificate, RefusesCertificate};
 
 use crate::certificate_file::read_certificate_file;
 use crate::verdicts::{accept_verdict, row_refused};
@@ -109,8 +106,7 @@ fn check_proofs<R: Threads + Sync>(
     requires options { IsAccepted options.now }
     requires traces { All IsLawfulTrace traces.now }
     ensures { Accepts Refusal.Certificate
-        (verdict_said (first_bad_row roads.now options.now.bound certificate.now.rows)
-        (verdict roads.now options.now traces.now certificate.now)) result }
+        (proofs_said roads.now options.now traces.now certificate.now) result }
 {
     let Ok(verdict) = check_all(rt, alloc, roads, options, traces, certificate) else {
         return Err(Stop::NoMemory);
@@ -147,8 +143,7 @@ fn accept_certificate<R: Threads + Sync>(
     requires options { IsAccepted options.now }
     requires traces { All IsLawfulTrace traces.now }
     ensures { Accepts Refusal.Certificate
-        (check_said (record { network = roads.now; params = options.now }) traces.now text)
-        result }
+        (check_said (record { network = roads.now; params = options.now }) traces.now text) result }
 {
     let certificate = read_proofs(alloc, options, text)?;
     check_proofs(rt, alloc, roads, options, traces, &certificate)?;
@@ -172,9 +167,8 @@ fn load_certificate<R: Threads + Sync, S: Shelf>(
 ) -> Result<List<u8>, Stop>
     requires options { IsAccepted options.now }
     requires traces { All IsLawfulTrace traces.now }
-    ensures { Loads Refusal.Certificate File.Certificate name.now text_limit
-        (check_said (record { network = roads.now; params = options.now }) traces.now)
-        (S.state shelf.old) (S.state shelf.new) result }
+    ensures { LoadsCertificate (record { network = roads.now; params = options.now }) traces.now
+        name.now (S.state shelf.old) (S.state shelf.new) result }
 {
     let text = read_certificate_file(rt, alloc, shelf, name, BLOCK)?;
     accept_certificate(rt, alloc, roads, options, traces, text)

@@ -1,5 +1,5 @@
 -- The plan that the words of the live program ask for: that of `follow` before them.
-use Rattle.std.specs.Prelude.{ℕ, List, ◌∷◌, codes, Option, Result, Ok, Err}
+use Rattle.std.specs.Prelude.{ℕ, List, ◌∷◌, codes, map, Option, Result, Ok, Err, String, string_bytes}
 use Rattle.command_line.specs.FaultLine.{fault_line}
 use Rattle.command_line.specs.Work.{PlainCommand, PlainWork}
 use Rattle.command_line.specs.Work.PlainWork.{check_files, follow_files, match_files, match_town, prove_files, stream_files, table_of_network}
@@ -31,3 +31,7 @@ with_follow words = codes "follow" ∷ words
 -- the plan that the words ask for, or the line of their refusal
 abbrev pub asked_by : List (List ℕ) → Result Plan (List ℕ)
 asked_by words = asked_of (command_of (with_follow words))
+
+-- the same of words as they are handed to a run
+abbrev pub asked_plan : {Z : Type 0} → List (String Z) → Result Plan (List ℕ)
+asked_plan words = asked_by (map string_bytes words)

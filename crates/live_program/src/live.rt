@@ -1,10 +1,10 @@
 // The top call: the work of `follow` with a reader in a thread of its own, what is said on err, and the
 // status. Serves `main`; decided by `LivePromises`.
-ghost use Rattle.std.specs.Prelude.{Ok, map, string_bytes};
+ghost use Rattle.std.specs.Prelude.{Ok};
 ghost use Rattle.cost_model.specs.Options.{IsAccepted};
 ghost use Rattle.follow_work.specs.Follow.{follow_plan};
 ghost use Rattle.live_pipeline.specs.Living.{LivePerforms, LivePromises};
-ghost use Rattle.live_program.specs.Words.{asked_by};
+ghost use Rattle.live_program.specs.Words.{asked_plan};
 ghost use Rattle.program_frame.specs.Refusals.{refusal_lines};
 
 use crate::words::follow_words;
@@ -54,7 +54,7 @@ fn perform<R: Threads + Wait + Sync, S: Shelf + Send + Drop, K: Sink>(
     shelf: S,
     out: &mut K,
 ) -> (Result<(), Stop>, S)
-    ensures { LivePerforms (asked_by (map string_bytes words.now))
+    ensures { LivePerforms (asked_plan words.now)
         (S.state shelf) (S.state result.1) (K.state out.old) (K.state out.new) result.0 }
 {
     let Ok(words) = follow_words(alloc, words) else {
@@ -83,10 +83,8 @@ pub fn live<R: Threads + Wait + Sync, S: Shelf + Send + Drop, K: Sink, E: Sink>(
     out: &mut K,
     err: &mut E,
 ) -> (u8, S)
-    ensures { LivePromises refusal_lines (asked_by (map string_bytes words.now))
-        (S.state shelf) (S.state result.1)
-        (K.state out.old) (K.state out.new)
-        (E.state err.old) (E.state err.new) result.0 }
+    ensures { LivePromises refusal_lines (asked_plan words.now) (S.state shelf) (S.state result.1)
+        (K.state out.old) (K.state out.new) (E.state err.old) (E.state err.new) result.0 }
 {
     let (ended, shelf) = perform(rt, alloc, words, shelf, out);
     let put = say(&ended, err);

@@ -1,5 +1,6 @@
 // `match NET TRACES [--table FILE]`. Serves the program; decided by `match_plan`.
-ghost use Rattle.std.specs.Prelude.{◌≡◌, ◌≤◌, ◌^◌, ◌++◌, [], All, Ok, IfOk, OnOk, option_map};
+ghost use Rattle.std.specs.Prelude.{◌≡◌, ◌≤◌, ◌^◌, ◌++◌, [], All, Ok, IfOk, OnOk};
+ghost use Rattle.std.specs.Option.{option_copied};
 ghost use Rattle.cost_model.specs.Options.{IsAccepted};
 ghost use Rattle.match_pool.specs.Learning.{AreReadersFor};
 ghost use Rattle.match_pool.specs.Working.{AreJobTraces};
@@ -147,8 +148,7 @@ pub fn match_traces<R: Threads + Sync, G: Gate, S: Shelf, K: Sink>(
     gate: &G,
 ) -> Result<(), Stop>
     requires { IsAccepted options }
-    ensures { Performs
-        (Ok (match_plan network.now traces.now (option_map (λ name. name.now) table.entry) options))
+    ensures { Performs (Ok (match_plan network.now traces.now (option_copied table.entry) options))
         (S.state shelf.old) (S.state shelf.new) (K.state out.old) (K.state out.new) result }
 {
     let roads = load_network(alloc, shelf, network)?;

@@ -1,5 +1,5 @@
 -- What a session stands for: the points that were fed to it.
-use Rattle.std.specs.Prelude.{◌≡◌, ◌⊎◌, ℕ, ◌+◌, ◌≤◌, List, [], ◌∷◌, ◌++◌, Result, OnOk, Contains, length, drop}
+use Rattle.std.specs.Prelude.{◌≡◌, ◌⊎◌, ℕ, ◌+◌, ◌<◌, ◌≤◌, List, [], ◌∷◌, ◌++◌, Result, OnOk, Contains, length, drop}
 use Rattle.cost_model.specs.declared.params.Params.{Params}
 use Rattle.road_network.specs.Net.{Net}
 use Rattle.bounded_search.specs.Rows.{RowsState, AsksOnly, Keeps}
@@ -42,6 +42,10 @@ no_points_of n p = record { network = n; params = p; first = 0; told = 0; layers
 pub record IsFedLayer (n : Net) (p : Params) (l : Layer) : Type 0 where
   pub layer : IsLayer n p l
   pub few : length l.candidates ≤ 32
+
+-- a point of its network that the session has room for
+abbrev pub CanFeed : Session → Layer → Type 0
+CanFeed s l = IsFedLayer s.network s.params l × (points_of s < 100_000)
 
 -- the match of these points asks for the row of node v
 abbrev pub AsksPoints : Net → Params → List Layer → ℕ → Type 0

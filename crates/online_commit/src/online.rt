@@ -3,7 +3,7 @@ ghost use Rattle.std.specs.Prelude.{◌≡◌, ◌<◌, [], ◌++◌, IfOk, OnEr
 ghost use Rattle.bounded_search.specs.Rows.{AreRowsOf, AsksOnly};
 ghost use Rattle.cost_model.specs.Options.{IsAccepted};
 ghost use Rattle.matching.specs.PieceSteps.{AsksIn};
-ghost use Rattle.online_commit.specs.Session.{AsksFed, AsksFinished, IsFed, IsFedLayer, IsFinished, StandsFor, no_points_of, points_of};
+ghost use Rattle.online_commit.specs.Session.{AsksFed, AsksFinished, CanFeed, IsFed, IsFinished, StandsFor, no_points_of, points_of};
 ghost use Rattle.online_commit.specs.Steps.{EndsBefore};
 
 use crate::closing::closing_items;
@@ -91,8 +91,7 @@ impl<'n> Online<'n> {
     /// of the route of a piece that is closed.
     pub fn feed<R: Rows>(&mut self, layer: Layer, rows: &mut R) -> Result<List<Item>, AllocError>
         requires rows { AreRowsOf (R.state rows.old) self.old.network self.old.params.bound }
-        requires layer { IsFedLayer self.old.network self.old.params layer }
-        requires room { points_of self.old < 100_000 }
+        requires layer { CanFeed self.old layer }
         ensures fed { IfOk result (IsFed self.old layer self.new) }
         ensures err { OnErr result (self.new ≡ self.old) }
         ensures asks { AsksFed self.old layer (R.state rows.old) result (R.state rows.new) }

@@ -2,7 +2,7 @@
 use Rattle.std.specs.Prelude.{◌≡◌, ◌↔◌, ℕ, ◌<◌, ◌^◌, List, [], None, Contains, length}
 use Rattle.bounded_search.specs.Rows.{AreRowsOf, RowsState}
 use Rattle.cost_model.specs.Options.{IsAccepted}
-use Rattle.program_frame.specs.Jobs.{points_of}
+use Rattle.program_frame.specs.Jobs.{IsBounded, points_of}
 use Rattle.program_frame.specs.declared.total.Tally.{Tally}
 use Rattle.program_frame.specs.declared.stop.Refusal.TheVariants.{Traces}
 use Rattle.program_frame.specs.declared.stop.Stop.{Stop}
@@ -12,9 +12,14 @@ use Rattle.trace_sessions.specs.declared.sessions.SessionFault.TheVariants.{Memo
 use Rattle.trace_reader.specs.declared.trace.Trace.{Trace}
 use Rattle.trace_sessions.specs.Sessions.{Keeps, Pair, SessionsState}
 use Rattle.trace_sessions.specs.StreamText.{full_id, points_in}
-use Rattle.trace_sessions.specs.Streaming.{AreLawful, AsksSome, pieces_told}
+use Rattle.trace_sessions.specs.Streaming.{AreLawful, AsksSome, CanStream, pieces_told}
 use Rattle.follow_work.specs.Setting.{Setting}
 use Rattle.stream_work.specs.Streams.{pairs_of, too_long_line}
+
+-- fragments of lawful traces, for whose points the sessions have room
+pub record CanTakeFragments (s : SessionsState) (fragments : List Trace) : Type 0 where
+  pub bounded : IsBounded fragments
+  pub can : CanStream s (points_of fragments)
 
 -- known is what some id asks for
 abbrev pub KnowsSome : SessionsState → List Pair → List ℕ → Type 0

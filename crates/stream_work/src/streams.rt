@@ -2,13 +2,12 @@
 ghost use Rattle.std.specs.Prelude.{◌≡◌, ◌++◌, [], List as ListOf, Ok, IfOk, OnOk};
 ghost use Rattle.bounded_search.specs.Rows.{AreRowsOf};
 ghost use Rattle.cost_model.specs.Options.{IsAccepted};
-ghost use Rattle.program_frame.specs.Jobs.{IsBounded, points_of};
 ghost use Rattle.program_frame.specs.Performs.{Performs};
 ghost use Rattle.trace_sessions.specs.Sessions.{Keeps, Pair};
 ghost use Rattle.trace_sessions.specs.StreamText.{points_in};
-ghost use Rattle.trace_sessions.specs.Streaming.{AsksStream, CanStream, Streams};
+ghost use Rattle.trace_sessions.specs.Streaming.{AsksStream, Streams};
 ghost use Rattle.stream_work.specs.Streams.{streams_job, streams_plan, too_long_line};
-ghost use Rattle.stream_work.specs.StreamsDone.{HasStreamed, StopsAtFault};
+ghost use Rattle.stream_work.specs.StreamsDone.{CanTakeFragments, HasStreamed, StopsAtFault};
 
 use bounded_search::OwnRows;
 use cost_model::Params;
@@ -40,8 +39,7 @@ fn stream_fragments(
 ) -> Result<u64, SessionFault>
     requires accepted { IsAccepted sessions.old.params }
     requires rows { AreRowsOf rows.old sessions.old.network sessions.old.params.bound }
-    requires traces { IsBounded traces.now }
-    requires can { CanStream sessions.old (points_of traces.now) }
+    requires fragments { CanTakeFragments sessions.old traces.now }
     ensures streams { (pairs : ListOf Pair) → Keeps sessions.old pairs
         → Streams sessions.old pairs (points_in traces.now) sessions.new into.old into.new result }
     ensures asks { AsksStream sessions.old (points_in traces.now) rows.old result rows.new }

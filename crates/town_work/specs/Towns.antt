@@ -36,9 +36,12 @@ town_text on traces = total_of on traces ++ cost_line (costs_of on traces)
 abbrev pub network_in : List ℕ → Net
 network_in bytes = result_unwrap_or (network_of bytes) no_net
 
+-- what is written of a town
+abbrev pub report_of_town : (side traces seed : ℕ) (options : Params) → List ℕ
+report_of_town side traces seed options =
+    town_text (record { network = network_in (network_text side); params = options })
+    (file_traces (traces_text side traces seed))
+
 -- no file is read: the bytes of the town are its files, and they have no fault
 abbrev pub town_plan : (side traces seed : ℕ) (options : Params) → Plan
-town_plan side traces seed options =
-    ends (done_with (town_text
-    (record { network = network_in (network_text side); params = options })
-    (file_traces (traces_text side traces seed))))
+town_plan side traces seed options = ends (done_with (report_of_town side traces seed options))

@@ -9,7 +9,7 @@ ghost use Rattle.town.specs.Traces.{traces_text};
 ghost use Rattle.trace_reader.specs.Reading.{file_traces};
 ghost use Rattle.match_work.specs.Matched.{pieces_in};
 ghost use Rattle.match_work.specs.Sharing.{IsStoreFor};
-ghost use Rattle.town_work.specs.Towns.{cost_line, network_in, town_plan, town_text};
+ghost use Rattle.town_work.specs.Towns.{cost_line, network_in, report_of_town, town_plan, town_text};
 ghost use Rattle.town_work.specs.TownsDone.{AreCosts, IsCost};
 
 use cost_model::Params;
@@ -135,9 +135,7 @@ fn town_report<R: Threads + Sync, G: Gate>(
 ) -> Result<List<u8>, AllocError>
     requires within { IsWithin 2 100 side × IsWithin 1 2_000 count }
     requires options { IsAccepted options }
-    ensures { IfOk result (λ text. text
-        ≡ town_text (record { network = network_in (network_text side); params = options })
-        (file_traces (traces_text side count seed))) }
+    ensures { IfOk result (λ text. text ≡ report_of_town side count seed options) }
 {
     let network = open_network(alloc, side)?;
     let traces = read_traces(alloc, side, count, seed)?;

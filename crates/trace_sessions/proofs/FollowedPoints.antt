@@ -21,7 +21,7 @@ use Rattle.trace_match.proofs.Lawful.{match_lawful}
 use Rattle.trace_match.proofs.TraceLayers.{matchable}
 use Rattle.online_commit.specs.declared.items.Item.{Item}
 use Rattle.online_commit.specs.Items.{handed, items_of, items_with}
-use Rattle.online_commit.specs.Session.{IsFed, IsFedLayer, IsFinished, Session, StandsFor, no_points_of, points_of}
+use Rattle.online_commit.specs.Session.{CanFeed, IsFed, IsFedLayer, IsFinished, Session, StandsFor, no_points_of, points_of}
 use Rattle.online_commit.proofs.Growing.{handed-stays}
 use Rattle.online_commit.proofs.Opened.{opened-stands}
 use Rattle.trace_sessions.specs.FollowText.{handed_at, left_of}
@@ -218,12 +218,17 @@ turned n p trace fixes i d layer s new pieces items lawful accepted trace_lawful
 
 -- the point may be fed
 pub can_feed : (n : Net) (p : Params) (trace : Trace) (fixes : List Fix) (i : ℕ) (d : Fix) (layer : Layer) (s : Session) (pieces : ℕ) → IsAccepted p → IsLawfulTrace trace → fixes ≡ trace.fixes → i < length fixes
-    → layer ≡ layer_of n p (get_or fixes i d) → HasFollowed n p trace i s pieces → IsFedLayer s.network s.params layer
+    → layer ≡ layer_of n p (get_or fixes i d) → HasFollowed n p trace i s pieces → CanFeed s layer
 can_feed n p trace fixes i d layer s pieces accepted lawful all low is has =
     let places = subst (λ (fs : List Fix). All (λ (f : Fix). InRange (place_of f)) fs) (sym all) lawful.in_range in
     let here = fed_layer n p (get_or fixes i d) accepted (places i d low) in
-    subst (λ (m : Net). IsFedLayer m s.params layer) (sym has.network)
-    (subst (λ (q : Params). IsFedLayer n q layer) (sym has.params) (subst (IsFedLayer n p) (sym is) here))
+    let within : i < length trace.fixes = subst (λ (fs : List Fix). i < length fs) all low in
+    let count = fed_count n p trace i s pieces has (omega (arith, within)) in
+    let few = lawful.few in (
+      subst (λ (m : Net). IsFedLayer m s.params layer) (sym has.network)
+          (subst (λ (q : Params). IsFedLayer n q layer) (sym has.params) (subst (IsFedLayer n p) (sym is) here)),
+      omega (arith, count, within, few),
+    )
 
 -- ---- the end
 

@@ -7,7 +7,7 @@ ghost use Rattle.cost_model.specs.Options.{IsAccepted};
 ghost use Rattle.road_network.specs.Net.{IsLawful};
 ghost use Rattle.trace_match.specs.Ground.{IsGridFor};
 ghost use Rattle.trace_match.specs.Match.{place_of};
-ghost use Rattle.online_commit.specs.Session.{AsksFed, AsksFinished, IsFedLayer, Session, points_of};
+ghost use Rattle.online_commit.specs.Session.{AsksFed, AsksFinished, CanFeed, Session, points_of};
 ghost use Rattle.trace_sessions.specs.declared.sessions.SessionFault.TheVariants.{Memory, NotOpen};
 ghost use Rattle.trace_sessions.specs.Sessions.{AsksClosed, AsksFedTo, Closes, IsCloseFault, Keeps, Pair, RefusesFix, TakesFix, length_of};
 ghost use Rattle.trace_sessions.specs.SessionsInside.{FeedsAt, FinishesAt, session_at, session_in};
@@ -92,8 +92,7 @@ fn feed_session<'n, R: Rows>(
 ) -> Result<List<Item>, AllocError>
     requires rows { let s = session_at sessions.old.entries id opened in
         AreRowsOf (R.state rows.old) s.network s.params.bound }
-    requires layer { let s = session_at sessions.old.entries id opened in
-        IsFedLayer s.network s.params layer × (points_of s < 100_000) }
+    requires layer { CanFeed (session_at sessions.old.entries id opened) layer }
     ensures fed { IfOk result (FeedsAt sessions.old.entries id opened.entry layer sessions.new.entries) }
     ensures err { OnErr result (sessions.new.entries ≡ sessions.old.entries) }
     ensures asks { AsksFed (session_at sessions.old.entries id opened.entry) layer

@@ -1,4 +1,5 @@
-use Rattle.std.proofs.Common.{Ok, subst, option_map}
+use Rattle.std.proofs.Common.{Ok, subst}
+use Rattle.std.specs.Option.{option_copied}
 use Rattle.std.proofs.lemmas.Result.{err_from_is_err_and}
 use Rattle.program_frame.specs.Performs.{Performs}
 use Rattle.program_frame.specs.Stream.{works_traces}
@@ -23,10 +24,10 @@ returns-in_default-open_store g c =
 pub returns-in_err-preload : goal.returns-in_err-preload
 returns-in_err-preload g c =
     let p = err_from_is_err_and c.from_residual-in_err-preload.result c.from_residual-in_err-preload.ensures.1 in
-    loads_performs _ _ c.in_ok-roads.ensures (rw (p.1, p.2) (preloads_fails (option_map (λ name. name.now) c.args.table) _ _ _ c.in_err-preload.ensures))
+    loads_performs _ _ c.in_ok-roads.ensures (rw (p.1, p.2) (preloads_fails (option_copied c.args.table) _ _ _ c.in_err-preload.ensures))
 
 pub returns : goal.returns
 returns g c =
-    loads_performs _ _ c.in_ok-roads.ensures (preloads_performs (option_map (λ name. name.now) c.args.table) _ _ _ c.in_ok-preload.ensures
+    loads_performs _ _ c.in_ok-roads.ensures (preloads_performs (option_copied c.args.table) _ _ _ c.in_ok-preload.ensures
     (subst (λ on. Performs (Ok (works_traces c.args.traces.now (match_text on))) (g.S.Shelf.state c.preload.new.shelf) (g.S.Shelf.state c.match_file.new.shelf) (g.K.Sink.state c.args.out.now) (g.K.Sink.state c.match_file.new.out) c.match_file.result)
     c.in-Ok.ensures c.match_file.ensures))

@@ -11,11 +11,11 @@ pub loop-trace-init : goal.loop-trace-init
 loop-trace-init c = no-fragments c.args.sessions.now c.args.into.now c.args.rows.now
 
 pub stream-requires-clause-rows : goal.stream-requires-clause-rows
-stream-requires-clause-rows c = taken-rows _ _ _ _ _ _ _ _ _ c.requires.can c.requires.rows c.loop-trace.invariant
+stream-requires-clause-rows c = taken-rows _ _ _ _ _ _ _ _ _ c.requires.fragments.can c.requires.rows c.loop-trace.invariant
 
 pub stream-requires-clause-can : goal.stream-requires-clause-can
 stream-requires-clause-can c =
-    taken-can _ _ c.args.traces.now c.loop-trace.trace-index c.trace-item.result _ _ _ _ _ c.loop-trace-test.true c.trace-item.is c.requires.traces c.requires.can c.loop-trace.invariant
+    taken-can _ _ c.args.traces.now c.loop-trace.trace-index c.trace-item.result _ _ _ _ _ c.loop-trace-test.true c.trace-item.is c.requires.fragments.bounded c.requires.fragments.can c.loop-trace.invariant
 
 pub returns-in_err-count-clause-streams : goal.returns-in_err-count-clause-streams
 returns-in_err-count-clause-streams c =
@@ -24,18 +24,18 @@ returns-in_err-count-clause-streams c =
 
 pub returns-in_err-count-clause-asks : goal.returns-in_err-count-clause-asks
 returns-in_err-count-clause-asks c =
-    taken-refused-asks _ _ c.args.traces.now c.loop-trace.trace-index c.trace-item.result _ _ _ _ _ _ _ _ c.from_residual.result c.loop-trace-test.true c.trace-item.is c.requires.can c.loop-trace.invariant
+    taken-refused-asks _ _ c.args.traces.now c.loop-trace.trace-index c.trace-item.result _ _ _ _ _ _ _ _ c.from_residual.result c.loop-trace-test.true c.trace-item.is c.requires.fragments.can c.loop-trace.invariant
     c.stream.ensures.asks c.from_residual.ensures.0
 
 pub overflow_add-pieces : goal.overflow_add-pieces
 overflow_add-pieces c =
-    let next = taken-next _ _ _ c.args.traces.now c.loop-trace.trace-index c.trace-item.result _ _ _ _ _ _ _ _ _ _ c.loop-trace-test.true c.trace-item.is c.requires.can c.loop-trace.invariant c.stream.ensures.streams c.stream.ensures.asks c.in_ok-count.was in
-    let few = taken-few _ _ c.args.traces.now (c.loop-trace.trace-index + 1) _ _ _ _ _ c.requires.accepted c.requires.traces c.requires.can next in
+    let next = taken-next _ _ _ c.args.traces.now c.loop-trace.trace-index c.trace-item.result _ _ _ _ _ _ _ _ _ _ c.loop-trace-test.true c.trace-item.is c.requires.fragments.can c.loop-trace.invariant c.stream.ensures.streams c.stream.ensures.asks c.in_ok-count.was in
+    let few = taken-few _ _ c.args.traces.now (c.loop-trace.trace-index + 1) _ _ _ _ _ c.requires.accepted c.requires.fragments.bounded c.requires.fragments.can next in
     omega (arith, few)
 
 pub loop-trace-preserved : goal.loop-trace-preserved
 loop-trace-preserved c =
-    taken-next _ _ _ c.args.traces.now c.loop-trace.trace-index c.trace-item.result _ _ _ _ _ _ _ _ _ _ c.loop-trace-test.true c.trace-item.is c.requires.can c.loop-trace.invariant c.stream.ensures.streams c.stream.ensures.asks c.in_ok-count.was
+    taken-next _ _ _ c.args.traces.now c.loop-trace.trace-index c.trace-item.result _ _ _ _ _ _ _ _ _ _ c.loop-trace-test.true c.trace-item.is c.requires.fragments.can c.loop-trace.invariant c.stream.ensures.streams c.stream.ensures.asks c.in_ok-count.was
 
 pub returns-clause-streams : goal.returns-clause-streams
 returns-clause-streams c pairs keeps =

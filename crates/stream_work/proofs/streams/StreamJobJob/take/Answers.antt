@@ -9,11 +9,11 @@ stream_fragments-requires-clause-accepted c = accepted-in _ _ _ _ _ c.requires.1
 pub stream_fragments-requires-clause-rows : goal.stream_fragments-requires-clause-rows
 stream_fragments-requires-clause-rows c = rows-are _ _ _ _ _ c.requires.1
 
-pub stream_fragments-requires-clause-traces : goal.stream_fragments-requires-clause-traces
-stream_fragments-requires-clause-traces c = bounded_back c.requires.0 c.args.traces.now c.requires.2
-
-pub stream_fragments-requires-clause-can : goal.stream_fragments-requires-clause-can
-stream_fragments-requires-clause-can c = can-stream _ _ _ _ c.requires.0 c.args.traces.now c.requires.1 c.requires.2
+pub stream_fragments-requires-clause-fragments : goal.stream_fragments-requires-clause-fragments
+stream_fragments-requires-clause-fragments c = record {
+  bounded = bounded_back c.requires.0 c.args.traces.now c.requires.2;
+  can = can-stream _ _ _ _ c.requires.0 c.args.traces.now c.requires.1 c.requires.2;
+}
 
 pub add-requires : goal.add-requires
 add-requires c =
