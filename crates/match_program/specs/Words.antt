@@ -1,5 +1,5 @@
 -- The plan that words ask for.
-use Rattle.std.specs.Prelude.{ℕ, List, Result}
+use Rattle.std.specs.Prelude.{ℕ, List, map, Result, String, string_bytes}
 use Rattle.std.specs.Result.{result_map_both}
 use Rattle.command_line.specs.FaultLine.{fault_line}
 use Rattle.command_line.specs.Work.{PlainCommand, PlainWork}
@@ -32,3 +32,7 @@ command_plan command = work_plan command.work command.options
 -- the plan that words ask for, or the line of their refusal
 abbrev pub asked_by : List (List ℕ) → Result Plan (List ℕ)
 asked_by words = result_map_both command_plan fault_line (command_of words)
+
+-- the same of words as they are handed to a run
+abbrev pub asked_plan : {Z : Type 0} → List (String Z) → Result Plan (List ℕ)
+asked_plan words = asked_by (map string_bytes words)

@@ -1,10 +1,9 @@
 // The top call: the work of the words, what is said on err, and the status. Serves `main`; decided
 // by `Promises`.
-ghost use Rattle.std.specs.Prelude.{map, string_bytes};
 ghost use Rattle.program_frame.specs.Performs.{Performs};
 ghost use Rattle.program_frame.specs.Promises.{Promises};
 ghost use Rattle.match_program.specs.RunLines.{run_lines};
-ghost use Rattle.match_program.specs.Words.{asked_by};
+ghost use Rattle.match_program.specs.Words.{asked_plan};
 
 use check_work::check_traces;
 use command_line::{Work, read_command};
@@ -29,7 +28,7 @@ fn perform<R: Threads + Sync, G: Gate, S: Shelf, K: Sink>(
     out: &mut K,
     gate: &G,
 ) -> Result<(), Stop>
-    ensures { Performs (asked_by (map string_bytes words.now))
+    ensures { Performs (asked_plan words.now)
         (S.state shelf.old) (S.state shelf.new) (K.state out.old) (K.state out.new) result }
 {
     let command = match read_command(alloc, words) {
@@ -96,10 +95,8 @@ pub fn run<R: Threads + Sync, G: Gate, S: Shelf, K: Sink, E: Sink>(
     err: &mut E,
     gate: &G,
 ) -> u8
-    ensures { Promises run_lines (asked_by (map string_bytes words.now))
-        (S.state shelf.old) (S.state shelf.new)
-        (K.state out.old) (K.state out.new)
-        (E.state err.old) (E.state err.new) result }
+    ensures { Promises run_lines (asked_plan words.now) (S.state shelf.old) (S.state shelf.new)
+        (K.state out.old) (K.state out.new) (E.state err.old) (E.state err.new) result }
 {
     let ended = perform(rt, alloc, words, shelf, out, gate);
     let put = say(&ended, err);
