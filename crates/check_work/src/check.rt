@@ -26,7 +26,7 @@ use trace_reader::Trace;
 
 // So many bytes of a certificate are read at once: enough for all processors to read their rows, and no more than are
 // soon read.
-const BLOCK: u64 = 8_388_608;
+const BLOCK: u64 = 16_777_216;
 
 // Appends the line of a fault of the text.
 fn append_fault(fault: CertFault, line: &mut List<u8>) -> Result<(), AllocError>
