@@ -53,13 +53,3 @@ empty_more buckets place empty k from to =
       ]
       | inr apart ↦ get_or-set_other buckets place k [] [] apart ∙ empty k from (omega arith)
     ]
-
--- buckets that are empty side by side
-pub empty_both : (buckets : List (List Waiting)) (first middle past : ℕ) → AreEmptyBetween first middle buckets → AreEmptyBetween middle past buckets → AreEmptyBetween first past buckets
-empty_both buckets first middle past low high k from to = elim (cases_lt k middle) [ inl lt ↦ low k from lt | inr ge ↦ high k ge to ]
-
--- what is in a bucket behind them does not matter
-pub still_empty : (buckets : List (List Waiting)) (first past less place : ℕ) (items : List Waiting) → AreEmptyBetween first past buckets → less ≤ past → less ≤ place → AreEmptyBetween first less (set buckets place items)
-still_empty buckets first past less place items empty le behind k from to =
-    let apart : k ≢ place = omega arith in
-    get_or-set_other buckets place k items [] apart ∙ empty k from (omega arith)

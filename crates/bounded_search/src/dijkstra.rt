@@ -158,7 +158,8 @@ impl Workspace {
     {
         net.known();
         self.label(origin, ORIGIN)?;
-        while let Some(next) = self.queue.pop() {
+        let mut place = 0;
+        while let Some(next) = self.queue.pop_from(&mut place) {
             self.relax_leaving(net, bound, next)?;
         }
         Ok(())

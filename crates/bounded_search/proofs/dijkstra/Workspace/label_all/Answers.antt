@@ -36,14 +36,14 @@ pub relax_leaving-requires-clause-next : goal.relax_leaving-requires-clause-next
 relax_leaving-requires-clause-next c =
     let w = c.loop-next.self in
     let next : Waiting = c.in-Some.next in
-    let under = reordered c.args.net.now c.args.bound c.args.origin.0 w.words.items w.queue (next ∷ c.pop.new.self) c.in-Some.ensures.taken c.loop-next.invariant.underway in
+    let under = reordered c.args.net.now c.args.bound c.args.origin.0 w.words.items w.queue (next ∷ c.pop_from.new.self) c.in-Some.ensures.taken c.loop-next.invariant.underway in
     let inside = under.inside 0 next (omega arith) in
     (omega (arith, inside.0, under.count), omega (arith, inside.1, c.requires.bound))
 
 pub loop-next-smaller : goal.loop-next-smaller
 loop-next-smaller c =
     let w = c.loop-next.self in
-    omega (arith, c.in_ok-relax_leaving.ensures.tries.less, length_permutation w.queue (c.in-Some.next ∷ c.pop.new.self) c.in-Some.ensures.taken)
+    omega (arith, c.in_ok-relax_leaving.ensures.tries.less, length_permutation w.queue (c.in-Some.next ∷ c.pop_from.new.self) c.in-Some.ensures.taken)
 
 pub loop-next-preserved : goal.loop-next-preserved
 loop-next-preserved c =
@@ -52,7 +52,7 @@ loop-next-preserved c =
     let s : ℕ = c.args.origin.0 in
     record {
       marked = r.marked (length c.args.net.now.nodes) c.loop-next.invariant.marked;
-      underway = r.tries.underway s (reordered c.args.net.now c.args.bound s w.words.items w.queue (c.in-Some.next ∷ c.pop.new.self) c.in-Some.ensures.taken c.loop-next.invariant.underway);
+      underway = r.tries.underway s (reordered c.args.net.now c.args.bound s w.words.items w.queue (c.in-Some.next ∷ c.pop_from.new.self) c.in-Some.ensures.taken c.loop-next.invariant.underway);
     }
 
 pub returns-clause-labelled : goal.returns-clause-labelled
