@@ -8,7 +8,7 @@ ghost use Rattle.bounded_search.specs.Labels.{entry_of};
 ghost use Rattle.bounded_search.specs.Marked.{AreMarked, IsClean, IsSized, MarksToo};
 ghost use Rattle.bounded_search.specs.Table.{IsRow};
 
-use crate::label_words::{NO_LABEL, ORIGIN, distance_in, label_in, word_by};
+use crate::label_words::{NO_LABEL, ORIGIN, distance_in, label_in, least_word, step_by};
 use crate::queue::{Queue, Waiting};
 use crate::table_row::Entry;
 use road_network::{Arc, EdgeId, Network, NodeId};
@@ -77,51 +77,44 @@ impl Workspace {
         self.marks[node.0 as usize / 64] |= 1 << (node.0 % 64);
     }
 
-    /// Lets a node wait at a distance, where that is nearer than it was before.
-    fn wait_nearer(&mut self, node: NodeId, distance: u32) -> Result<(), AllocError>
-        requires { node.0 < length self.old.words.items }
-        ensures words { self.new.words.items ≡ self.old.words.items }
-        ensures marks { self.new.marks.items ≡ self.old.marks.items }
-        ensures queue { OnOk result (Gains (nat_lt distance (distance_at self.old.words.items node.0))
-            (record { distance = distance; node = node.0 }) self.old.queue self.new.queue) }
-    {
-        let word = self.words[node.0 as usize];
-        if distance < distance_in(word) {
-            self.labelled = self.labelled.saturating_add(usize::from(word == NO_LABEL));
-            self.queue.push(Waiting {
-                distance,
-                node: node.0,
-            })?;
-        }
-        Ok(())
-    }
-
-    /// Gives a node the label of a word, and lets it wait where it becomes nearer.
+    /// Gives a node the label of a word. Where the node becomes nearer, it is marked and waits.
+    ///
+    /// A node that does not become nearer had a label before, so it is marked already.
     fn label(&mut self, node: NodeId, word: u64) -> Result<(), AllocError>
         requires node { (node.0 < length self.old.words.items) × (node.0 / 64 < length self.old.marks.items) }
+        requires near { word / 2 ^ 32 < no_label / 2 ^ 32 }
         ensures words { OnOk result (self.new.words.items ≡ slice_set self.old.words.items node.0 word) }
         ensures queue { OnOk result (Gains (nat_lt (word / 2 ^ 32) (distance_at self.old.words.items node.0))
             (record { distance = word / 2 ^ 32; node = node.0 }) self.old.queue self.new.queue) }
         ensures sized { (count : ℕ) → IsSized count self.old → IsSized count self.new }
         ensures marked { (count : ℕ) → AreMarked count self.old → OnOk result (AreMarked count self.new) }
     {
-        self.mark(node);
-        self.wait_nearer(node, distance_in(word))?;
+        let before = self.words[node.0 as usize];
         self.words[node.0 as usize] = word;
+        if distance_in(word) < distance_in(before) {
+            self.mark(node);
+            let is_new = before == NO_LABEL;
+            self.labelled = self.labelled.saturating_add(usize::from(is_new));
+            self.queue.push(Waiting {
+                distance: distance_in(word),
+                node: node.0,
+            })?;
+        }
         Ok(())
     }
 
     /// Tries an arc from a distance: where it gives its end a better label, that is written.
+    ///
+    /// One comparison is with both the bound and the label that is there: one branch in place of two.
     fn relax(&mut self, bound: u32, distance: u32, arc: Arc) -> Result<(), AllocError>
         requires end { (arc.to.0 < length self.old.words.items) × (arc.to.0 / 64 < length self.old.marks.items) }
-        requires fits { (arc.length ≤ 100_000_000) × (distance ≤ 10_000_000) }
+        requires fits { (arc.length ≤ 100_000_000) × (distance ≤ 10_000_000) × (bound ≤ 10_000_000) }
         ensures tries { OnOk result (Tries bound distance arc (state_of self.old) (state_of self.new)) }
         ensures sized { (count : ℕ) → IsSized count self.old → IsSized count self.new }
         ensures marked { (count : ℕ) → AreMarked count self.old → OnOk result (AreMarked count self.new) }
     {
-        let next = distance + arc.length;
-        let word = word_by(next, arc.edge);
-        if next > bound || word >= self.words[arc.to.0 as usize] {
+        let word = least_word(distance) + step_by(arc);
+        if word >= self.words[arc.to.0 as usize].min(least_word(bound + 1)) {
             return Ok(());
         }
         self.label(arc.to, word)
@@ -129,7 +122,7 @@ impl Workspace {
 
     /// Tries every edge out of a node that waited, unless it has become nearer since.
     fn relax_leaving(&mut self, net: &Network, bound: u32, next: Waiting) -> Result<(), AllocError>
-        requires next { HasNode net.now next.node × (next.distance ≤ 10_000_000) }
+        requires next { HasNode net.now next.node × (next.distance ≤ 10_000_000) × (bound ≤ 10_000_000) }
         requires sized { IsSized (length net.now.nodes) self.old }
         ensures tries { OnOk result (TriesLeaving net.now bound next (state_of self.old) (state_of self.new)) }
         ensures sized { IsSized (length net.now.nodes) self.new }

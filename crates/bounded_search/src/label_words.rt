@@ -3,7 +3,7 @@ ghost use Rattle.std.specs.Prelude.{◌≡◌, ◌/◌, ◌^◌};
 ghost use Rattle.bounded_search.specs.LabelWords.{label_in_word, no_label, origin_word, word_by, word_of};
 
 use crate::table_row::Label;
-use road_network::EdgeId;
+use road_network::{Arc, EdgeId};
 
 /// The word of a node without a label.
 pub const NO_LABEL: u64 = 0xffff_ffff_ffff_ffff;
@@ -17,6 +17,21 @@ pub fn word_by(distance: u32, e: EdgeId) -> u64
     ensures { result ≡ word_by distance e.0 }
 {
     u64::from(distance) << 32 | u64::from(e.0)
+}
+
+/// The least word of a distance.
+pub fn least_word(distance: u32) -> u64
+    ensures { result ≡ word_by distance 0 }
+{
+    u64::from(distance) << 32
+}
+
+/// The word of an arc's length and edge. With the least word of the distance where the arc begins, the sum is
+/// the word of the label that it gives.
+pub fn step_by(arc: Arc) -> u64
+    ensures { result ≡ word_by arc.length arc.edge.0 }
+{
+    word_by(arc.length, arc.edge)
 }
 
 /// The word of a label by its parts.

@@ -89,6 +89,6 @@ abbrev pub ContainsLeaving : Net → ℕ → List EdgeId → Type 0
 ContainsLeaving n v edges =
     (e : ℕ) → HasEdge n e → source n e ≡ v → Contains edges (record { 0 = e })
 
--- an edge with the node where it ends and its length
+-- an edge with its length and the node where it ends
 abbrev pub arc_of : Net → EdgeId → Arc
-arc_of n e = record { edge = e; to = record { 0 = target n e.0 }; length = span n e.0 }
+arc_of n e = record { edge = e; length = span n e.0; to = record { 0 = target n e.0 } }

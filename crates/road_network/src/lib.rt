@@ -44,12 +44,14 @@ pub struct NodeId(pub u32);
 #[derive(Clone, Copy, Debug, PartialEq, Eq, PartialOrd, Ord)]
 pub struct EdgeId(pub u32);
 
-/// An edge out of a node, with the node where it ends and its length in cm.
+/// An edge out of a node, with its length in cm and the node where it ends.
+///
+/// The edge and its length lie side by side, so that a search reads both as one number of eight bytes.
 #[derive(Clone, Copy, Debug, PartialEq, Eq)]
 pub struct Arc {
     pub edge: EdgeId,
-    pub to: NodeId,
     pub length: u32,
+    pub to: NodeId,
 }
 
 /// An edge with the snap of a point to it.
@@ -200,7 +202,7 @@ impl Network {
         &self.adjacency.leaving[first..end]
     }
 
-    /// The edges that begin at a node, by rising number, each with where it ends and its length.
+    /// The edges that begin at a node, by rising number, each with its length and where it ends.
     /// They lie side by side, so that a search reads no edge by its number.
     pub fn arcs(&self, n: NodeId) -> &[Arc]
         requires { HasNode self.now n.0 }

@@ -53,8 +53,8 @@ fn a_node_has_its_arcs(rt: HostRuntime) -> Result<(), Fail> {
     assert_eq!(rt; (net.edge_count(), net.node_count()), (2, 3));
     let arc = Arc {
         edge: EdgeId(1),
-        to: NodeId(2),
         length: 10_000,
+        to: NodeId(2),
     };
     assert_eq!(rt; net.arcs(NodeId(1)), [arc].as_slice());
     Ok(())

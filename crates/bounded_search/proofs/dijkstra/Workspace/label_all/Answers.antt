@@ -15,7 +15,7 @@ pub label-requires : goal.label-requires
 label-requires c =
     let sized = c.requires.clean.sized in
     let word = word_inside c.args.origin.0 (length c.args.net.now.nodes) c.requires.origin in
-    record { node = (omega (arith, sized.words_count, c.requires.origin), omega (arith, sized.marks_count, word)) }
+    record { near = omega arith; node = (omega (arith, sized.words_count, c.requires.origin), omega (arith, sized.marks_count, word)) }
 
 pub loop-next-init : goal.loop-next-init
 loop-next-init c =
@@ -38,7 +38,7 @@ relax_leaving-requires-clause-next c =
     let next : Waiting = c.in-Some.next in
     let under = reordered c.args.net.now c.args.bound c.args.origin.0 w.words.items w.queue (next ∷ c.pop_from.new.self) c.in-Some.ensures.taken c.loop-next.invariant.underway in
     let inside = under.inside 0 next (omega arith) in
-    (omega (arith, inside.0, under.count), omega (arith, inside.1, c.requires.bound))
+    (omega (arith, inside.0, under.count), omega (arith, inside.1, c.requires.bound), c.requires.bound)
 
 pub loop-next-smaller : goal.loop-next-smaller
 loop-next-smaller c =

@@ -47,7 +47,7 @@ relax-requires-clause-end c =
     (omega (arith, a.end, sized.words_count), omega (arith, word, sized.marks_count))
 
 pub relax-requires-clause-fits : goal.relax-requires-clause-fits
-relax-requires-clause-fits c = let a = c.loop-arc.invariant.arcs c.loop-arc.arc-index nothing c.loop-arc-test.true in (a.not_long, c.requires.next.1)
+relax-requires-clause-fits c = let a = c.loop-arc.invariant.arcs c.loop-arc.arc-index nothing c.loop-arc-test.true in (a.not_long, c.requires.next.1, c.requires.next.2)
 
 pub returns-in_err-relax-clause-sized : goal.returns-in_err-relax-clause-sized
 returns-in_err-relax-clause-sized c = c.in_err-relax.ensures.sized (length c.args.net.now.nodes) c.loop-arc.invariant.sized
