@@ -34,6 +34,11 @@ pub record IsRunFrom (line : List Point) (edge : EdgeId) (twin : Option EdgeId) 
   pub twin_is : r.twin ≡ twin
   pub first_is : r.first ≡ first
 
+-- the points of one line are those of another from its end to its start
+pub record IsTurned (line turned : List Point) : Type 0 where
+  pub count : length turned ≡ length line
+  pub points : (i j : ℕ) → i + j + 1 ≡ length line → point_at turned i ≡ point_at line j
+
 -- the line of edge t is that of edge e from its end to its start
 pub record IsReverse (net : Net) (e t : ℕ) : Type 0 where
   pub has : HasEdge net t
