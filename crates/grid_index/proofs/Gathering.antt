@@ -1,10 +1,11 @@
 -- What a look gathers.
-use Rattle.std.proofs.Common.{◌≡◌, ℕ, ◌+◌, ◌*◌, ◌<◌, ◌≤◌, ◌⊎◌, List, [], ◌∷◌, ◌++◌, get_or, length, map, All, ◌-ℤ◌, sym, ap, ◌∙◌, subst, arith, ⊎_elim, mul-le-mul}
+use Rattle.std.proofs.Common.{◌≡◌, ℕ, ◌+◌, ◌*◌, ◌<◌, ◌≤◌, ◌⊎◌, List, [], ◌∷◌, ◌++◌, get_or, length, flat_map, take, append_assoc, append-nil, All, Option, Some, None, option_to_list, ◌-ℤ◌, refl, sym, ap, ◌∙◌, subst, arith, ⊎_elim, mul-le-mul}
 use Rattle.std.specs.List.{Contains}
 use Rattle.std.specs.Int.RustNames.{unsigned_abs}
 use Rattle.std.proofs.lemmas.Bool.{cases_lt}
-use Rattle.std.proofs.lemmas.List.{get_or_default, get_or-map, length-map}
-use Rattle.std.proofs.lemmas.List.Elements.{All-push, Contains-push, Contains-append_left}
+use Rattle.std.proofs.lemmas.List.{get_or_default, take_more}
+use Rattle.std.proofs.lemmas.List.Concat.{flat_map-append}
+use Rattle.std.proofs.lemmas.List.Elements.{All-append, All-cons, All-contains, All-contains_itself, All-head, All-nil, All-push, All-tail, All-weaker, Contains-push, Contains-append_left, Contains-append_right}
 use Rattle.polyline_geometry.specs.declared.plane.Point.{Point}
 use Rattle.polyline_geometry.specs.Boxes.{InBox, InSquare, LineMeetsSquare}
 use Rattle.road_network.specs.declared.EdgeId.{EdgeId}
@@ -13,7 +14,7 @@ use Rattle.road_network.specs.Net.{Net, HasEdge, edge_line}
 use Rattle.grid_index.specs.declared.cells.Cells.{Cells}
 use Rattle.grid_index.specs.declared.runs.Run.{Run}
 use Rattle.grid_index.specs.Cells.{HasCell, cell}
-use Rattle.grid_index.specs.Runs.{IsNearRun, IsRun}
+use Rattle.grid_index.specs.Runs.{HasSegment, IsNearRun, IsRun, IsTwin, edges_of_run}
 use Rattle.grid_index.specs.GridOf.{AreHits, GridOf, IsGrid, runs_at}
 use Rattle.grid_index.specs.Table.{Appends, AppendsOne, Gathers}
 use Rattle.grid_index.proofs.RunBoxes.{box_within}
@@ -142,25 +143,63 @@ in_square p q reach h =
     let yy : unsigned_abs (p.y -ℤ q.y) * unsigned_abs (p.y -ℤ q.y) ≤ reach * reach = mul-le-mul h.y h.y in
     grind (arith, xx, yy)
 
-abbrev pub edge_of : Run → EdgeId
-edge_of r = r.edge
+-- the edges for which each run stands are among those for which all do
+edges_among : (runs : List Run) → All (λ r. All (Contains (flat_map edges_of_run runs)) (edges_of_run r)) runs
+edges_among [] = All-nil (λ r. All (Contains (flat_map edges_of_run [])) (edges_of_run r))
+edges_among (x ∷ xs) =
+    let rest = flat_map edges_of_run xs in
+    let whole = edges_of_run x ++ rest in
+    All-cons (λ r. All (Contains whole) (edges_of_run r)) x xs
+    (All-weaker (Contains (edges_of_run x)) (Contains whole) (λ e there. Contains-append_left (edges_of_run x) rest e there) (edges_of_run x) (All-contains_itself (edges_of_run x)))
+    (All-weaker (λ r. All (Contains rest) (edges_of_run r)) (λ r. All (Contains whole) (edges_of_run r))
+    (λ r all. All-weaker (Contains rest) (Contains whole) (λ e there. Contains-append_right (edges_of_run x) rest e there) (edges_of_run r) all) xs (edges_among xs))
 
--- a run's edge is among the edges of the runs
-edge_among : (runs : List Run) (r : Run) → Contains runs r → Contains (map edge_of runs) r.edge
-edge_among runs r there = (
-  there.0,
-  omega (arith, there.1, length-map runs edge_of),
-  get_or-map edge_of runs there.0 r r.edge there.1 ∙ ap edge_of there.2,
-)
+edge_among : (runs : List Run) (r : Run) (e : EdgeId) → Contains runs r → Contains (edges_of_run r) e → Contains (flat_map edges_of_run runs) e
+edge_among runs r e there one =
+    let whole = flat_map edges_of_run runs in
+    All-contains (Contains whole) (edges_of_run r) e (All-contains (λ v. All (Contains whole) (edges_of_run v)) runs r (edges_among runs) there) one
+
+-- the edges of one more run
+pub edges_more : (runs : List Run) (i : ℕ) (d : Run) (twin : Option EdgeId) (old one new : List EdgeId) → i < length runs → old ≡ flat_map edges_of_run (take i runs)
+    → one ≡ old ++ (get_or runs i d).edge ∷ [] → (get_or runs i d).twin ≡ twin → new ≡ one ++ option_to_list twin → new ≡ flat_map edges_of_run (take (i + 1) runs)
+edges_more runs i d twin old one new lt front edge twin-is is =
+    let r = get_or runs i d in
+    let next : new ≡ old ++ edges_of_run r = is ∙ ap (λ v. v ++ option_to_list twin) edge ∙ append_assoc old (r.edge ∷ []) (option_to_list twin) ∙ ap (λ o. old ++ r.edge ∷ option_to_list o) (sym twin-is) in
+    let more : flat_map edges_of_run (take (i + 1) runs) ≡ flat_map edges_of_run (take i runs) ++ edges_of_run r
+    = ap (flat_map edges_of_run) (take_more runs i d lt) ∙ flat_map-append edges_of_run (take i runs) (r ∷ []) ∙ ap (λ v. flat_map edges_of_run (take i runs) ++ v) (append-nil (edges_of_run r))
+    in
+    next ∙ ap (λ v. v ++ edges_of_run r) front ∙ sym more
+
+-- what holds of the edges of each run holds of those of all
+pub all_edges : (P : EdgeId → Type 0) (runs : List Run) → All (λ r. All P (edges_of_run r)) runs → All P (flat_map edges_of_run runs)
+all_edges P [] all = All-nil P
+all_edges P (x ∷ xs) all =
+    All-append P (edges_of_run x) (flat_map edges_of_run xs) (All-head (λ r. All P (edges_of_run r)) x xs all) (all_edges P xs (All-tail (λ r. All P (edges_of_run r)) x xs all))
+
+twin_has : (net : Net) (e : ℕ) (twin : Option EdgeId) → IsTwin net e twin → All (λ t. HasEdge net t.0) (option_to_list twin)
+twin_has net e None is = All-nil (λ t. HasEdge net t.0)
+twin_has net e (Some t) is = All-cons (λ v. HasEdge net v.0) t [] is.has (All-nil (λ v. HasEdge net v.0))
+
+-- the edges for which a run stands are edges of the network
+pub run_has : (net : Net) (r : Run) → IsRun net r → All (λ e. HasEdge net e.0) (edges_of_run r)
+run_has net r is = All-cons (λ e. HasEdge net e.0) r.edge (option_to_list r.twin) is.has (twin_has net r.edge.0 r.twin is.twin)
+
+-- the edge of a segment that the run has
+segment_edge : (net : Net) (r : Run) (e i : ℕ) → HasSegment net r e i → Contains (edges_of_run r) (record { 0 = e })
+segment_edge net r e i s =
+    let edge : EdgeId = record { 0 = e } in
+    ⊎_elim
+    (λ same. (0, omega arith, ap (λ v. let x : EdgeId = record { 0 = v } in x) same.0))
+    (λ mirror. subst (λ o. Contains (r.edge ∷ option_to_list o) edge) (sym mirror.0) (1, omega arith, refl))
+    s.is
 
 -- the edges of the hits of a square miss no edge near it
 pub hits_edge : (g : GridOf) (p : Point) (reach e : ℕ) (runs : List Run) → AreHits g p reach (2 * reach * reach) runs
-    → HasEdge g.net e → LineMeetsSquare (edge_line g.net e) p reach → Contains (map edge_of runs) (record { 0 = e })
+    → HasEdge g.net e → LineMeetsSquare (edge_line g.net e) p reach → Contains (flat_map edges_of_run runs) (record { 0 = e })
 hits_edge g p reach e runs h has meets =
     let q : Point = meets.2.0 in
     let hit = h.complete e meets.0 has meets.1 q meets.2.1 meets.2.2 (in_square p q reach meets.2.2) in
-    let edge-is : hit.0.edge ≡ record { 0 = e } = ap (λ v. let x : EdgeId = record { 0 = v } in x) hit.2.edge_is in
-    subst (Contains (map edge_of runs)) edge-is (edge_among runs hit.0 hit.1)
+    edge_among runs hit.0 (record { 0 = e }) hit.1 (segment_edge g.net hit.0 e meets.0 hit.2)
 
 -- what holds of each element of a list holds of those of a list that has no others
 pub all_within : (P : EdgeId → Type 0) (xs ys : List EdgeId) → ((e : EdgeId) → Contains xs e → Contains ys e) → All P ys → All P xs

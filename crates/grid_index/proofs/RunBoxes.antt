@@ -1,14 +1,14 @@
 -- Boxes of runs.
-use Rattle.std.proofs.Common.{◌≡◌, ℕ, ◌+◌, ◌<◌, ◌≤◌, List, subst, sym, inl, arith, ℤ, pos, negsuc, ◌≤ℤ◌, ⊎_elim}
+use Rattle.std.proofs.Common.{◌≡◌, ℕ, ◌+◌, ◌<◌, ◌≤◌, List, subst, sym, inl, inr, arith, ℤ, pos, negsuc, ◌≤ℤ◌, ⊎_elim}
 use Rattle.std.proofs.lemmas.Int.{ints}
 use Rattle.std.proofs.lemmas.Bool.{cases_lt}
 use Rattle.polyline_geometry.specs.declared.plane.Point.{Point}
 use Rattle.polyline_geometry.specs.Boxes.{InBox, IsBetween}
 use Rattle.polyline_geometry.specs.Plane.{point_at}
-use Rattle.road_network.specs.Net.{edge_line}
+use Rattle.road_network.specs.Net.{Net, edge_line}
 use Rattle.grid_index.specs.declared.runs.Run.{Run}
 use Rattle.grid_index.specs.GridOf.{GridOf, StandsFor}
-use Rattle.grid_index.specs.Runs.{IsBelow, IsRunOf}
+use Rattle.grid_index.specs.Runs.{HasSegment, IsBelow, IsReverse, IsRun, IsRunOf, IsTwin}
 
 pub ≤ℤ_twice : (a b c : ℤ) → a ≤ℤ b → b ≤ℤ c → a ≤ℤ c
 ≤ℤ_twice (pos a) (pos b) (pos c) h k = omega (arith, ints, h, k)
@@ -42,12 +42,41 @@ segment_within line r i q h le lt inside =
       y = between_within r.low.y r.high.y (point_at line i).y (point_at line (i + 1)).y q.y la.y lb.y ah.y bh.y inside.y;
     }
 
+between_turned : (a b z : ℤ) → IsBetween a b z → IsBetween b a z
+between_turned a b z is = ⊎_elim (λ up. inr up) (λ down. inl down) is
+
+-- a box is the same from either corner
+pub box_turned : (a b q : Point) → InBox a b q → InBox b a q
+box_turned a b q h = record { x = between_turned a.x b.x q.x h.x; y = between_turned a.y b.y q.y h.y }
+
+-- a segment of the twin has the ends of the run's own segment, the last one first
+pub own_box : (net : Net) (r : Run) (e i : ℕ) (q : Point) → IsRun net r → (s : HasSegment net r e i)
+    → InBox (point_at (edge_line net e) i) (point_at (edge_line net e) (i + 1)) q
+    → InBox (point_at (edge_line net r.edge.0) s.own) (point_at (edge_line net r.edge.0) (s.own + 1)) q
+own_box net r e i q is s inside =
+    let line = edge_line net r.edge.0 in
+    ⊎_elim
+    (λ same.
+    subst (λ v. InBox (point_at line v) (point_at line (v + 1)) q) same.1
+    (subst (λ v. InBox (point_at (edge_line net v) i) (point_at (edge_line net v) (i + 1)) q) (sym same.0) inside))
+    (λ mirror.
+    let twin : IsReverse net r.edge.0 e = subst (λ o. IsTwin net r.edge.0 o) mirror.0 is.twin in
+    let start = twin.turned i (s.own + 1) (omega (arith, mirror.1)) in
+    let end = twin.turned (i + 1) s.own (omega (arith, mirror.1)) in
+    box_turned (point_at line (s.own + 1)) (point_at line s.own) q
+    (subst (λ a. InBox a (point_at line s.own) q) start (subst (λ b. InBox (point_at (edge_line net e) i) b q) end inside)))
+    s.is
+
+-- the box of a segment lies in that of a run that has it
+pub run_holds : (net : Net) (r : Run) (e i : ℕ) (q : Point) → IsRun net r → HasSegment net r e i
+    → InBox (point_at (edge_line net e) i) (point_at (edge_line net e) (i + 1)) q → InBox r.low r.high q
+run_holds net r e i q is s inside =
+    segment_within (edge_line net r.edge.0) r s.own q is.run s.from_first s.before_end (own_box net r e i q is s inside)
+
 -- the box of a segment lies in that of a run that stands for it
 pub box_within : (g : GridOf) (e i : ℕ) (s : StandsFor g e i) (q : Point)
     → InBox (point_at (edge_line g.net e) i) (point_at (edge_line g.net e) (i + 1)) q → InBox s.run.low s.run.high q
-box_within g e i s q inside =
-    segment_within (edge_line g.net s.run.edge.0) s.run i q s.is_run.run s.segment.from_first s.segment.before_end
-    (subst (λ v. InBox (point_at (edge_line g.net v) i) (point_at (edge_line g.net v) (i + 1)) q) (sym s.segment.edge_is) inside)
+box_within g e i s q inside = run_holds g.net s.run e i q s.is_run s.segment inside
 
 -- what holds of both ends of a segment holds of the places from the first to the last
 pub of_both : (P : Point → Type 0) (line : List Point) (first i : ℕ) → P (point_at line first) → P (point_at line (first + 1)) → first ≤ i → i ≤ first + 1 → P (point_at line i)

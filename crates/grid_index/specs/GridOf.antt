@@ -40,7 +40,7 @@ Stands g r =
 pub record StandsFor (g : GridOf) (e i : ℕ) : Type 0 where
   pub run : Run
   pub is_run : IsRun g.net run
-  pub segment : HasSegment run e i
+  pub segment : HasSegment g.net run e i
   pub stands : Stands g run
 
 -- all runs are of the network, and each segment of each edge has one
@@ -55,7 +55,7 @@ pub record AreHits (g : GridOf) (p : Point) (reach far2 : ℕ) (runs : List Run)
   pub are_runs : All (IsRun g.net) runs
   pub complete : (e i : ℕ) → HasEdge g.net e → i + 1 < length (edge_line g.net e) → (q : Point)
       → InBox (point_at (edge_line g.net e) i) (point_at (edge_line g.net e) (i + 1)) q
-      → InSquare p reach q → distance2 p q ≤ far2 → HasRunFor runs e i
+      → InSquare p reach q → distance2 p q ≤ far2 → HasRunFor g.net runs e i
 
 -- the list has each edge with a segment whose box meets the square of half side `reach` round p
 abbrev pub ContainsNear : Net → Point → ℕ → List EdgeId → Type 0

@@ -1,5 +1,5 @@
 -- Runs of segments.
-use Rattle.std.specs.Prelude.{ℕ, ◌≡◌, ◌<◌, ◌≤◌, List, length, ◌≤ℤ◌}
+use Rattle.std.specs.Prelude.{ℕ, ◌≡◌, ◌+◌, ◌<◌, ◌≤◌, ◌⊎◌, List, ◌∷◌, Option, Some, IfSome, length, option_to_list, ◌≤ℤ◌}
 use Rattle.std.specs.List.{Contains}
 use Rattle.polyline_geometry.specs.declared.plane.Point.{Point}
 use Rattle.polyline_geometry.specs.Plane.{InRange, distance2, point_at}
@@ -26,26 +26,57 @@ pub record IsRunOf (line : List Point) (r : Run) : Type 0 where
   pub above_low : (i : ℕ) → r.first ≤ i → i ≤ r.end → IsBelow r.low (point_at line i)
   pub below_high : (i : ℕ) → r.first ≤ i → i ≤ r.end → IsBelow (point_at line i) r.high
 
--- the run is one of this edge, with this first segment
-pub record IsRunFrom (line : List Point) (edge : EdgeId) (first : ℕ) (r : Run) : Type 0 where
+-- the run is one of this edge and its twin, with this first segment
+pub record IsRunFrom (line : List Point) (edge : EdgeId) (twin : Option EdgeId) (first : ℕ)
+    (r : Run) : Type 0 where
   pub run : IsRunOf line r
   pub edge_is : r.edge ≡ edge
+  pub twin_is : r.twin ≡ twin
   pub first_is : r.first ≡ first
+
+-- the points of one line are those of another from its end to its start
+pub record IsTurned (line turned : List Point) : Type 0 where
+  pub count : length turned ≡ length line
+  pub points : (i j : ℕ) → i + j + 1 ≡ length line → point_at turned i ≡ point_at line j
+
+-- the line of edge t is that of edge e from its end to its start
+pub record IsReverse (net : Net) (e t : ℕ) : Type 0 where
+  pub has : HasEdge net t
+  pub count : length (edge_line net t) ≡ length (edge_line net e)
+  pub turned : (i j : ℕ) → i + j + 1 ≡ length (edge_line net e)
+      → point_at (edge_line net t) i ≡ point_at (edge_line net e) j
+
+-- where there is a twin, its line is that of edge e from its end to its start
+abbrev pub IsTwin : Net → ℕ → Option EdgeId → Type 0
+IsTwin net e twin = IfSome twin (λ t. IsReverse net e t.0)
 
 -- the run is one of the network's edges
 pub record IsRun (net : Net) (r : Run) : Type 0 where
   pub has : HasEdge net r.edge.0
+  pub twin : IsTwin net r.edge.0 r.twin
   pub run : IsRunOf (edge_line net r.edge.0) r
 
--- the run has segment i of edge e
-pub record HasSegment (r : Run) (e i : ℕ) : Type 0 where
-  pub edge_is : r.edge.0 ≡ e
-  pub from_first : r.first ≤ i
-  pub before_end : i < r.end
+-- segment i of edge e is segment `own` of this edge, or is that segment in the twin, from its end to
+-- its start
+abbrev pub IsSameSegment : Net → EdgeId → Option EdgeId → ℕ → ℕ → ℕ → Type 0
+IsSameSegment net edge twin e i own =
+    ((edge.0 ≡ e) × (i ≡ own))
+    ⊎ ((twin ≡ Some (record { 0 = e })) × (i + own + 2 ≡ length (edge_line net edge.0)))
+
+-- the run has segment i of edge e, as segment `own` of its own edge
+pub record HasSegment (net : Net) (r : Run) (e i : ℕ) : Type 0 where
+  pub own : ℕ
+  pub from_first : r.first ≤ own
+  pub before_end : own < r.end
+  pub is : IsSameSegment net r.edge r.twin e i own
 
 -- some run of the list has segment i of edge e
-abbrev pub HasRunFor : List Run → ℕ → ℕ → Type 0
-HasRunFor runs e i = (r : Run) × Contains runs r × HasSegment r e i
+abbrev pub HasRunFor : Net → List Run → ℕ → ℕ → Type 0
+HasRunFor net runs e i = (r : Run) × Contains runs r × HasSegment net r e i
+
+-- the edges for which the run stands
+abbrev pub edges_of_run : Run → List EdgeId
+edges_of_run r = r.edge ∷ option_to_list r.twin
 
 -- the box of the run has a place whose squared distance from p is at most this
 abbrev pub IsNearRun : Point → ℕ → Run → Type 0

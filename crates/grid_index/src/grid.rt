@@ -1,5 +1,5 @@
 //! The grid of a network. Serves searches of candidates; decided by `IsGrid`.
-ghost use Rattle.std.specs.Prelude.{◌≡◌, ℕ, ◌*◌, ◌≤◌, ◌↔◌, IfOk, IsTrue, map};
+ghost use Rattle.std.specs.Prelude.{◌≡◌, ℕ, ◌*◌, ◌≤◌, ◌↔◌, IfOk, IsTrue, flat_map};
 ghost use Rattle.std.specs.List.{All, Contains};
 ghost use Rattle.polyline_geometry.specs.declared.plane.Point.{Point as Place};
 ghost use Rattle.polyline_geometry.specs.Plane.{InRange};
@@ -9,7 +9,7 @@ ghost use Rattle.road_network.specs.Net.{HasEdge};
 ghost use Rattle.grid_index.specs.Cells.{HasCell, cell};
 ghost use Rattle.grid_index.specs.GridOf.{AreHits, ContainsNear, IsGrid, runs_at};
 ghost use Rattle.grid_index.specs.NearestCell.{HasNoneNearer, IsNearestCell};
-ghost use Rattle.grid_index.specs.Runs.{HasCorners};
+ghost use Rattle.grid_index.specs.Runs.{HasCorners, edges_of_run};
 ghost use Rattle.grid_index.specs.Rising.{AreRising};
 
 use crate::cells::{Cells, shifted};
@@ -49,6 +49,7 @@ impl<'n> Model for Grid<'n> {
 }
 
 /// About how many runs the lines of a network have: one for each edge, and one for each 16 points.
+/// Where edges stand together with their twins, there are up to half as many.
 fn runs_expected(net: &Network) -> usize {
     let mut runs = 0_usize;
     for number in 0..net.edge_count() {
@@ -81,11 +82,18 @@ fn in_order(mut edges: Vec<EdgeId>) -> Vec<EdgeId>
     edges
 }
 
-/// The edges of runs.
+/// The edges for which runs stand.
 fn edges_of(alloc: Global, runs: &[Run]) -> Result<Vec<EdgeId>, AllocError>
-    ensures { IfOk result (λ edges. edges.items ≡ map (λ r. r.edge) runs.now) }
+    ensures { IfOk result (λ edges. edges.items ≡ flat_map edges_of_run runs.now) }
 {
-    runs.iter().map(|run| run.edge).collect(alloc)
+    let mut edges = Vec::new(alloc);
+    for run in runs {
+        edges.push(run.edge)?;
+        if let Some(twin) = run.twin {
+            edges.push(twin)?;
+        }
+    }
+    Ok(edges)
 }
 
 impl<'n> Grid<'n> {

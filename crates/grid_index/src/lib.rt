@@ -3,9 +3,12 @@
 //!
 //! [`Grid::build`] cuts each line into runs of at most 16 segments, lays the plane out in square cells
 //! and enters each run at every cell that its box meets; runs with a box that meets more than 64
-//! cells stand in one list instead. [`Grid::near`] gives the edges near a point. Those who visit the
-//! cells themselves take [`Grid::cells_near`], [`Grid::runs_at`] and [`Grid::wide_runs`], each run at
-//! one cell by [`Grid::is_nearest_cell`], and leave out a cell by [`Grid::cell_distance2`].
+//! cells stand in one list instead. Where two edges have the same line, one from its end to its
+//! start, as those of a two-way street, the runs of the first stand for both.
+//!
+//! [`Grid::near`] gives the edges near a point. Those who visit the cells themselves take
+//! [`Grid::cells_near`], [`Grid::runs_at`] and [`Grid::wide_runs`], each run at one cell by
+//! [`Grid::is_nearest_cell`], and leave out a cell by [`Grid::cell_distance2`].
 //!
 //! Cells lie side by side in a table of `width` by `width` slots, which repeats over the plane:
 //! cell (column, row) has the slot of the remainders of both. Two far cells may share a slot, so a
@@ -22,6 +25,7 @@ mod starts;
 mod table;
 #[cfg(test)]
 mod tests;
+mod twins;
 
 pub use cells::Cells;
 pub use grid::Grid;

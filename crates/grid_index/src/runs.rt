@@ -25,6 +25,8 @@ pub struct Run {
     pub end: u32,
     pub low: Point,
     pub high: Point,
+    /// The edge with the same line from its end to its start, for which the run stands too.
+    pub twin: Option<EdgeId>,
 }
 
 /// The lesser of two coordinates.
@@ -79,11 +81,11 @@ pub fn high_corner(a: Point, b: Point) -> Point
 
 impl Run {
     /// The run of one segment.
-    fn of_segment(edge: EdgeId, line: &[Point], first: usize) -> Run
+    fn of_segment(edge: EdgeId, twin: Option<EdgeId>, line: &[Point], first: usize) -> Run
         requires line { IsLine line.now }
         requires few { length line.now ≤ 1_000_000 }
         requires first { first + 1 < length line.now }
-        ensures { IsRunFrom line.now edge first result × (result.end ≡ first + 1) }
+        ensures { IsRunFrom line.now edge twin first result × (result.end ≡ first + 1) }
     {
         let (a, b) = (line[first], line[first + 1]);
         Run {
@@ -92,6 +94,7 @@ impl Run {
             end: first as u32 + 1,
             low: low_corner(a, b),
             high: high_corner(a, b),
+            twin,
         }
     }
 
@@ -101,7 +104,8 @@ impl Run {
         requires few { length line.now ≤ 1_000_000 }
         requires run { IsRunOf line.now self }
         requires next { self.end + 1 < length line.now }
-        ensures { IsRunFrom line.now self.edge self.first result × (result.end ≡ self.end + 1) }
+        ensures { IsRunFrom line.now self.edge self.twin self.first result
+            × (result.end ≡ self.end + 1) }
     {
         let next = line[self.end as usize + 1];
         Run {
@@ -127,13 +131,13 @@ impl Run {
     }
 
     /// The longest small run that begins with a segment, or that segment alone.
-    pub(crate) fn from(edge: EdgeId, line: &[Point], first: usize) -> Run
+    pub(crate) fn from(edge: EdgeId, twin: Option<EdgeId>, line: &[Point], first: usize) -> Run
         requires line { IsLine line.now }
         requires few { length line.now ≤ 1_000_000 }
         requires first { first + 1 < length line.now }
-        ensures { IsRunFrom line.now edge first result }
+        ensures { IsRunFrom line.now edge twin first result }
     {
-        let mut run = Run::of_segment(edge, line, first);
+        let mut run = Run::of_segment(edge, twin, line, first);
         for next in first + 2..line.len().min(first + 1 + MOST_SEGMENTS) {
             let longer = run.with(line);
             if !longer.is_small() {

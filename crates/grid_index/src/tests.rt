@@ -35,6 +35,19 @@ fn near_a_wide_edge(rt: HostRuntime) -> Result<(), Fail> {
 }
 
 #[test]
+fn near_a_wide_street(rt: HostRuntime) -> Result<(), Fail> {
+    let net = read_network(
+        rt.alloc(),
+        b"edge,from,to,line\n1,1,2,0 0;500000 9;900000 0\n2,2,1,900000 0;500000 9;0 0\n",
+    )?;
+    let grid = Grid::build(rt.alloc(), &net, 1_000)?;
+    assert_eq!(rt; grid.wide_runs().len(), 2);
+    let near = grid.near(rt.alloc(), Point { x: 700_000, y: 5 }, 1_000)?;
+    assert_eq!(rt; near.as_slice(), [EdgeId(0), EdgeId(1)].as_slice());
+    Ok(())
+}
+
+#[test]
 fn near_nothing(rt: HostRuntime) -> Result<(), Fail> {
     let net = read_network(rt.alloc(), b"edge,from,to,line\n")?;
     let grid = Grid::build(rt.alloc(), &net, 10_000)?;

@@ -1,11 +1,11 @@
-use Rattle.std.proofs.Common.{get_or, pos}
+use Rattle.std.proofs.Common.{None, get_or, pos}
 use Rattle.std.proofs.lemmas.List.{get_or_default}
 use Rattle.grid_index.specs.declared.runs.Run.{Run}
 use Rattle.grid_index.proofs.Gathering.{appends_more}
 use Rattle.grid_index.proofs.table.append_near.Goals as goal
 
 abbrev none : Run
-none = record { edge = record { 0 = 0 }; first = 0; end = 0; low = record { x = pos 0; y = pos 0 }; high = record { x = pos 0; y = pos 0 } }
+none = record { edge = record { 0 = 0 }; first = 0; end = 0; low = record { x = pos 0; y = pos 0 }; high = record { x = pos 0; y = pos 0 }; twin = None }
 
 pub loop-run-preserved : goal.loop-run-preserved
 loop-run-preserved c =

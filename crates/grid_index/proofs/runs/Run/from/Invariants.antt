@@ -4,6 +4,6 @@ use Rattle.grid_index.proofs.runs.Run.from.Given as goal
 
 abbrev pub invariant-loop-next : goal.invariant-loop-next
 invariant-loop-next l = record {
-  run : IsRunFrom l.line l.fn.edge l.fn.first l.run;
+  run : IsRunFrom l.line l.fn.edge l.fn.twin l.fn.first l.run;
   next : l.next ≡ l.run.end + 1;
 }

@@ -15,6 +15,7 @@ returns c =
           below_high = λ i le lt. of_both (λ q. IsBelow q c.high_corner.result) line c.args.first i c.high_corner.ensures.first c.high_corner.ensures.second le lt;
         };
         edge_is = refl;
+        twin_is = refl;
         first_is = refl;
       },
       refl,

@@ -19,6 +19,7 @@ returns c =
               (λ k from to. below_twice (point_at line k) r.high c.high_corner.result (c.requires.run.below_high k from to) c.high_corner.ensures.first) c.high_corner.ensures.second le lt;
         };
         edge_is = refl;
+        twin_is = refl;
         first_is = refl;
       },
       refl,
