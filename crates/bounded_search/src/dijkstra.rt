@@ -190,9 +190,9 @@ impl Workspace {
         while rest != 0 {
             let bit = rest.trailing_zeros();
             self.take_entry(place as u32 * 64 + bit, entries)?;
-            rest &= !(1 << bit);
-            self.marks[place] = rest;
+            rest &= rest - 1;
         }
+        self.marks[place] = 0;
         Ok(())
     }
 
