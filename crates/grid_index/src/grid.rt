@@ -56,7 +56,7 @@ impl<'n> Model for Grid<'n> {
 }
 
 /// About how many runs the lines of a network have: one for each edge, and one for each 16 points.
-/// Where edges stand together with their twins, there are up to half as many.
+/// Twins have the same runs, so on two-way streets there are half as many.
 fn runs_expected(net: &Network) -> usize {
     let mut runs = 0_usize;
     for number in 0..net.edge_count() {
