@@ -8,3 +8,4 @@ pub mod LaidOut
 pub mod Rising
 pub mod Gathering
 pub mod NearestCells
+pub mod Extents

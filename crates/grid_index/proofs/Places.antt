@@ -13,7 +13,7 @@ rises (pos a) (negsuc z) h k = absurd (omega (arith, ints, k))
 rises (negsuc a) (pos z) h k = omega (arith, ints)
 rises (negsuc a) (negsuc z) h k = omega (arith, ints)
 
-falls : (a z b : ℤ) → unsigned_abs a ≤ 1_000_000_000 → a ≤ℤ z → z ≤ℤ b → shifted z ≤ shifted b
+pub falls : (a z b : ℤ) → unsigned_abs a ≤ 1_000_000_000 → a ≤ℤ z → z ≤ℤ b → shifted z ≤ shifted b
 falls (pos a) (pos z) (pos b) h k l = omega (arith, ints)
 falls (pos a) (pos z) (negsuc b) h k l = absurd (omega (arith, ints, l))
 falls (pos a) (negsuc z) b h k l = absurd (omega (arith, ints, k))

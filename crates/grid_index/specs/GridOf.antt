@@ -57,6 +57,13 @@ pub record AreHits (g : GridOf) (p : Point) (reach far2 : ℕ) (runs : List Run)
       → InBox (point_at (edge_line g.net e) i) (point_at (edge_line g.net e) (i + 1)) q
       → InSquare p reach q → distance2 p q ≤ far2 → HasRunFor g.net runs e i
 
+-- no segment has a box with a place in the square of half side `reach` round p
+abbrev pub HasNoneWithin : Net → Point → ℕ → Type 0
+HasNoneWithin net p reach =
+    (e i : ℕ) → HasEdge net e → i + 1 < length (edge_line net e) → (q : Point)
+    → InBox (point_at (edge_line net e) i) (point_at (edge_line net e) (i + 1)) q
+    → InSquare p reach q → ⊥
+
 -- the list has each edge with a segment whose box meets the square of half side `reach` round p
 abbrev pub ContainsNear : Net → Point → ℕ → List EdgeId → Type 0
 ContainsNear net p reach edges =

@@ -7,3 +7,4 @@ pub mod GridOf
 pub mod Table
 pub mod Inside
 pub mod Rising
+pub mod Extent

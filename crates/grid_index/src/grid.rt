@@ -7,13 +7,14 @@ ghost use Rattle.polyline_geometry.specs.Boxes.{InSquare};
 ghost use Rattle.road_network.specs.declared.EdgeId.{EdgeId as EdgeOf};
 ghost use Rattle.road_network.specs.Net.{HasEdge};
 ghost use Rattle.grid_index.specs.Cells.{HasCell, cell};
-ghost use Rattle.grid_index.specs.GridOf.{AreHits, ContainsNear, IsGrid, runs_at};
+ghost use Rattle.grid_index.specs.GridOf.{AreHits, ContainsNear, HasNoneWithin, IsGrid, runs_at};
 ghost use Rattle.grid_index.specs.NearestCell.{HasNoneNearer, IsNearestCell};
 ghost use Rattle.grid_index.specs.Runs.{HasCorners, edges_of_run};
 ghost use Rattle.grid_index.specs.Rising.{AreRising};
 
 use crate::cells::{Cells, shifted};
 use crate::entries::Layout;
+use crate::extent::Extent;
 use crate::nearest_cell::{cell_distance2, is_nearest_cell};
 use crate::runs::Run;
 use crate::table::Table;
@@ -27,12 +28,18 @@ use std::marker::Model;
 pub struct Grid<'n> {
     net: &'n Network,
     table: Table,
+    /// Holds the lines of the network.
+    extent: Extent,
 }
 
 // By hand, so that the functions that drop one call this.
 impl<'n> Drop for Grid<'n> {
     fn drop(self) {
-        let Grid { net: _, table: _ } = self;
+        let Grid {
+            net: _,
+            table: _,
+            extent: _,
+        } = self;
     }
 }
 
@@ -49,7 +56,7 @@ impl<'n> Model for Grid<'n> {
 }
 
 /// About how many runs the lines of a network have: one for each edge, and one for each 16 points.
-/// Where edges stand together with their twins, there are up to half as many.
+/// Twins have the same runs, so on two-way streets there are half as many.
 fn runs_expected(net: &Network) -> usize {
     let mut runs = 0_usize;
     for number in 0..net.edge_count() {
@@ -111,7 +118,8 @@ impl<'n> Grid<'n> {
             width_bits,
         };
         let table = Table::of(alloc, net, layout)?;
-        Ok(Grid { net, table })
+        let extent = Extent::of(net);
+        Ok(Grid { net, table, extent })
     }
 
     /// Takes no memory and does nothing: its clause tells what every grid meets.
@@ -142,6 +150,16 @@ impl<'n> Grid<'n> {
         self.table.gather_wide(&mut found, p, far2)?;
         self.table.gather(&mut found, cells, p, far2)?;
         Ok(found)
+    }
+
+    /// Whether the square of half side `reach` round a point lies beside the box of the whole network,
+    /// so that no segment comes near it. Takes no look at a cell.
+    pub fn is_far(&self, p: Point, reach: u32) -> bool
+        requires p_in { InRange p }
+        requires reach { reach ≤ self.now.side }
+        ensures { IsTrue result → HasNoneWithin self.now.net p reach }
+    {
+        self.extent.is_apart(p, reach)
     }
 
     /// The columns and rows of the cells that the square of half side `reach` round a point meets.

@@ -42,6 +42,8 @@ fn near_a_wide_street(rt: HostRuntime) -> Result<(), Fail> {
     )?;
     let grid = Grid::build(rt.alloc(), &net, 1_000)?;
     assert_eq!(rt; grid.wide_runs().len(), 2);
+    assert!(rt; grid.is_far(Point { x: 901_001, y: 5 }, 1_000));
+    assert!(rt; !grid.is_far(Point { x: 901_000, y: 5 }, 1_000));
     let near = grid.near(rt.alloc(), Point { x: 700_000, y: 5 }, 1_000)?;
     assert_eq!(rt; near.as_slice(), [EdgeId(0), EdgeId(1)].as_slice());
     Ok(())
