@@ -35,6 +35,10 @@ no_later_twice c x d2 i h k = record {
       omega (arith, a, b);
 }
 
+-- what comes behind k still does where it is farther
+pub behind_later : (k : ℕ) (found : List NearEdge) (d2 e far i : ℕ) → d2 ≤ far → IsBehind k found d2 e → IsAccounted k found far e i
+behind_later k found d2 e far i le behind = inr (record { full = behind.full; before = λ n d lt. precedes_farther (get_or found n d).d2 (get_or found n d).edge.0 d2 far e (behind.before n d lt) le })
+
 -- what is accounted for at a segment is at those that are farther, or as far and later
 pub accounted_later : (k : ℕ) (found : List NearEdge) (d2 e i far j : ℕ) → d2 ≤ far → (far ≤ d2 → i ≤ j) → IsAccounted k found d2 e i → IsAccounted k found far e j
 accounted_later k found d2 e i far j le tie h =
@@ -51,7 +55,7 @@ accounted_later k found d2 e i far j le tie h =
             omega (arith, a, b);
       };
     }))
-    (λ behind. inr (record { full = behind.full; before = λ n d lt. let p = behind.before n d lt in precedes_farther (get_or found n d).d2 (get_or found n d).edge.0 d2 far e p le }))
+    (λ behind. behind_later k found d2 e far j le behind)
     h
 
 pub of_contained : (P : NearEdge → Type 0) (xs : List NearEdge) (x : NearEdge) → All P xs → Contains xs x → P x
@@ -177,23 +181,22 @@ takes_list k old mid near place left wanted at =
 pub takes_put : (k : ℕ) (old mid new : List NearEdge) (near : NearEdge) → IsLeft k old mid near → IsWanted k old near → Puts k mid new near → Takes k old new near
 takes_put k old mid new near left wanted h = subst (λ l. Takes k old l near) (sym h.list) (takes_list k old mid near h.place left wanted h.place_is)
 
--- where all k come before it, nothing changes
-pub takes_behind : (k : ℕ) (found : List NearEdge) (near last : NearEdge) → 1 ≤ k → length found ≡ k → AreApart found → get_or found (k - 1) last ≡ last → ComesBefore last near → Takes k found found near
-takes_behind k found near last some full apart is before = record {
-  few = omega (arith, full);
-  apart = apart;
-  only = λ x there. inl there;
-  keeps = λ d2 e i h. h;
-  taken = inr (record {
-    full = full;
-    before = λ i d lt.
-        let end = get_or_default found (k - 1) d last (omega (arith, full, some)) ∙ is in
-        ⊎_elim
-        (λ below. let b = subst (ComesBefore (get_or found i d)) end (apart i (k - 1) d below (omega (arith, full, some))).before in precedes_twice (get_or found i d).d2 (get_or found i d).edge.0 last.d2 last.edge.0 near.d2 near.edge.0 b before)
-        (λ here. let e : k - 1 ≡ i = omega (arith, lt, full, here) in subst (λ c. ComesBefore c near) (sym end ∙ ap (λ v. get_or found v d) e) before)
-        (cases_lt i (k - 1));
-  });
+-- where k are found, what comes behind the last comes behind all of them
+pub behind_last : (k : ℕ) (found : List NearEdge) (d2 e : ℕ) (last : NearEdge) → 1 ≤ k → length found ≡ k → AreApart found → get_or found (k - 1) last ≡ last
+    → Precedes last.d2 last.edge.0 d2 e → IsBehind k found d2 e
+behind_last k found d2 e last some full apart is before = record {
+  full = full;
+  before = λ i d lt.
+      let end = get_or_default found (k - 1) d last (omega (arith, full, some)) ∙ is in
+      ⊎_elim
+      (λ below. let b = subst (ComesBefore (get_or found i d)) end (apart i (k - 1) d below (omega (arith, full, some))).before in precedes_twice (get_or found i d).d2 (get_or found i d).edge.0 last.d2 last.edge.0 d2 e b before)
+      (λ here. let same : k - 1 ≡ i = omega (arith, lt, full, here) in subst (λ (c : NearEdge). Precedes c.d2 c.edge.0 d2 e) (sym end ∙ ap (λ v. get_or found v d) same) before)
+      (cases_lt i (k - 1));
 }
+
+-- what k come before comes behind the last
+pub after_last : (k : ℕ) (found : List NearEdge) (d2 e : ℕ) → 1 ≤ k → IsBehind k found d2 e → Precedes (get_or found (k - 1) no_edge).d2 (get_or found (k - 1) no_edge).edge.0 d2 e
+after_last k found d2 e some behind = behind.before (k - 1) no_edge (omega (arith, some, behind.full))
 
 -- where the edge is told of as well, nothing changes
 pub takes_told : (k : ℕ) (found : List NearEdge) (near x : NearEdge) → length found ≤ k → AreApart found → Contains found x → x.edge.0 ≡ near.edge.0 → IsNoLater x near.d2 near.segment → Takes k found found near
@@ -204,26 +207,6 @@ takes_told k found near x few apart there same no_later = record {
   keeps = λ d2 e i h. h;
   taken = inl (record { entry = x; there = there; edge_is = same; no_later = no_later });
 }
-
--- it is wanted, where the last does not come before it
-pub is_wanted : (k : ℕ) (old : List NearEdge) (near : NearEdge) → 1 ≤ k → ((last : NearEdge) → length old ≡ k → get_or old (k - 1) last ≡ last → ComesBefore last near → ⊥) → IsWanted k old near
-is_wanted k old near some not_before d2 e full before =
-    let last = get_or old (k - 1) near in
-    let p : Precedes last.d2 last.edge.0 d2 e = before (k - 1) near (omega (arith, full, some)) in
-    let is = get_or_default old (k - 1) last near (omega (arith, full, some)) in
-    let never = not_before last full is in
-    ⊎_elim
-    (λ lt. absurd (never (record { near = omega (arith, lt); tie = λ le. absurd (omega (arith, le, lt)) })))
-    (λ ge. record {
-      near = omega (arith, ge, p.near);
-      tie = λ le.
-          let up = p.tie (omega (arith, le, ge)) in
-          ⊎_elim
-          (λ lt. absurd (never (record { near = omega (arith, ge, p.near, le); tie = λ same. lt })))
-          (λ low. omega (arith, low, up))
-          (cases_lt last.edge.0 near.edge.0);
-    })
-    (cases_lt last.d2 near.d2)
 
 -- nothing is taken out
 pub is_whole : (k : ℕ) (old : List NearEdge) (near : NearEdge) → length old ≤ k → AreApart old → All (λ c. c.edge.0 ≡ near.edge.0 → ⊥) old → IsLeft k old old near

@@ -6,6 +6,8 @@ pub mod EdgeBoxes
 pub mod Parts
 pub mod Shared
 pub mod Written
+pub mod Turned
+pub mod Twins
 pub mod Visiting
 pub mod Reached
 pub mod Visited

@@ -4,19 +4,18 @@ use Rattle.std.specs.Int.RustNames.{unsigned_abs}
 use Rattle.std.proofs.lemmas.Bool.{cases_lt}
 use Rattle.polyline_geometry.specs.declared.plane.Point.{Point}
 use Rattle.polyline_geometry.specs.Boxes.{InBox, InSquare}
-use Rattle.polyline_geometry.specs.Nearest.{segment_snap}
 use Rattle.polyline_geometry.specs.Plane.{distance2, point_at, share, snap_segment, snapped}
 use Rattle.polyline_geometry.proofs.Boxes.{snapped_in_box}
 use Rattle.road_network.specs.Net.{Net, HasEdge, IsLawful, edge_line}
 use Rattle.grid_index.specs.declared.cells.Cells.{Cells}
 use Rattle.grid_index.specs.Cells.{HasCell, cell}
 use Rattle.grid_index.specs.GridOf.{GridOf, IsGrid, StandsFor}
-use Rattle.grid_index.specs.Runs.{IsRun}
+use Rattle.grid_index.specs.Runs.{HasSegment, IsRun}
 use Rattle.grid_index.proofs.NearestCells.{nearest_place}
-use Rattle.grid_index.proofs.RunBoxes.{segment_within}
+use Rattle.grid_index.proofs.RunBoxes.{run_holds}
 use Rattle.candidate_search.specs.declared.best.NearEdge.{NearEdge}
 use Rattle.candidate_search.specs.declared.wanted.Search.{Search}
-use Rattle.candidate_search.specs.Best.{AreBest, HasSeen, HasSeenRows, HasSeenWide, IsAccounted}
+use Rattle.candidate_search.specs.Best.{AreBest, HasSeen, HasSeenRows, HasSeenWide}
 use Rattle.candidate_search.specs.Nearest.{AreNearestEdges}
 
 -- a number whose square is at most another's is at most the other
@@ -64,13 +63,9 @@ all_seen net g search found cells lawful same grid holds best wide rows = record
       let stands : StandsFor g e i = grid.complete e i (subst (λ (n : Net). HasEdge n e) (sym same) has) (subst (λ (n : Net). i + 1 < length (edge_line n e)) (sym same) lt) in
       let r = stands.run in
       let is : IsRun net r = subst (λ (n : Net). IsRun n r) same stands.is_run in
-      let here : InBox (point_at (edge_line net r.edge.0) i) (point_at (edge_line net r.edge.0) (i + 1)) q
-      = subst (λ v. InBox (point_at (edge_line net v) i) (point_at (edge_line net v) (i + 1)) q) (sym stands.segment.edge_is) (snapped_in_box a b p differ)
-      in
-      let inside = segment_within (edge_line net r.edge.0) r i q is.run stands.segment.from_first stands.segment.before_end here in
-      let seen = run_seen net g search found cells e i q stands is holds wide rows inside (close_square p q search.radius close) in
-      subst (λ v. (segment_snap (edge_line net v) p i).d2 ≤ search.radius * search.radius → IsAccounted search.k found (segment_snap (edge_line net v) p i).d2 v i) stands.segment.edge_is
-      (seen i stands.segment.from_first stands.segment.before_end) near;
+      let has_segment : HasSegment net r e i = subst (λ (n : Net). HasSegment n r e i) same stands.segment in
+      let inside = run_holds net r e i q is has_segment (snapped_in_box a b p differ) in
+      run_seen net g search found cells e i q stands is holds wide rows inside (close_square p q search.radius close) e i has_segment near;
 }
 
 -- nothing is found yet

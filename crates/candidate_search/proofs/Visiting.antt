@@ -1,12 +1,11 @@
 -- What is seen where runs are visited.
-use Rattle.std.proofs.Common.{◌≡◌, ℕ, suc, ◌+◌, ◌*◌, ◌<◌, ◌≤◌, List, length, get_or, sym, ap, ◌∙◌, subst, arith, ⊎_elim, pos}
+use Rattle.std.proofs.Common.{◌≡◌, ℕ, suc, ◌+◌, ◌<◌, ◌≤◌, None, List, length, get_or, sym, ap, ◌∙◌, subst, arith, ⊎_elim, pos}
 use Rattle.std.specs.List.{Contains}
 use Rattle.std.proofs.lemmas.Bool.{cases_lt}
 use Rattle.std.proofs.lemmas.List.{get_or_default}
-use Rattle.polyline_geometry.specs.declared.line.NearSegment.{NearSegment}
 use Rattle.polyline_geometry.specs.declared.plane.Point.{Point}
 use Rattle.polyline_geometry.specs.Boxes.{InBox}
-use Rattle.polyline_geometry.specs.Nearest.{AreFar, IsNearest, segment_snap}
+use Rattle.polyline_geometry.specs.Nearest.{AreFar, segment_snap}
 use Rattle.polyline_geometry.specs.Plane.{distance2, point_at, share, snap_segment, snapped}
 use Rattle.polyline_geometry.proofs.Boxes.{snapped_in_box}
 use Rattle.road_network.specs.Net.{Net, IsLawful, edge_line}
@@ -18,11 +17,12 @@ use Rattle.grid_index.specs.Runs.{IsRun}
 use Rattle.grid_index.proofs.RunBoxes.{segment_within}
 use Rattle.candidate_search.specs.declared.best.NearEdge.{NearEdge}
 use Rattle.candidate_search.specs.declared.wanted.Search.{Search}
-use Rattle.candidate_search.specs.Best.{AreBest, HasSeen, HasSeenCell, HasSeenRow, HasSeenRows, HasSeenWide, IsAccounted, IsLimit, IsNearEdge, Steps, Takes}
-use Rattle.candidate_search.proofs.BestLists.{accounted_later, all_contained, of_contained}
+use Rattle.candidate_search.specs.Best.{AreBest, HasSeen, HasSeenCell, HasSeenRow, HasSeenRows, HasSeenWide, IsLimit, IsNearEdge, Steps, Takes}
+use Rattle.candidate_search.proofs.BestLists.{all_contained, of_contained}
+use Rattle.candidate_search.proofs.Twins.{same_d2}
 
 abbrev pub nothing : Run
-nothing = record { edge = record { 0 = 0 }; first = 0; end = 0; low = record { x = pos 0; y = pos 0 }; high = record { x = pos 0; y = pos 0 } }
+nothing = record { edge = record { 0 = 0 }; first = 0; end = 0; low = record { x = pos 0; y = pos 0 }; high = record { x = pos 0; y = pos 0 }; twin = None }
 
 pub stays : (net : Net) (search : Search) (found : List NearEdge) → AreBest net search found → Steps net search found found
 stays net search found best = record { best = best; keeps = λ d2 e i h. h }
@@ -31,12 +31,14 @@ pub goes_on : (net : Net) (search : Search) (old now new : List NearEdge) → St
 goes_on net search old now new h k = record { best = k.best; keeps = λ d2 e i a. k.keeps d2 e i (h.keeps d2 e i a) }
 
 pub seen_still : (net : Net) (search : Search) (old new : List NearEdge) (r : Run) → Steps net search old new → HasSeen net search old r → HasSeen net search new r
-seen_still net search old new r steps h i le lt near = steps.keeps (segment_snap (edge_line net r.edge.0) search.at i).d2 r.edge.0 i (h i le lt near)
+seen_still net search old new r steps h e i has near = steps.keeps (segment_snap (edge_line net e) search.at i).d2 e i (h e i has near)
 
 -- where all segments of a run are as far as the limit
-pub seen_far : (net : Net) (search : Search) (found : List NearEdge) (r : Run) (limit : ℕ) → IsLimit search found limit
+pub seen_far : (net : Net) (search : Search) (found : List NearEdge) (r : Run) (limit : ℕ) → IsLawful net → IsRun net r → IsLimit search found limit
     → AreFar (edge_line net r.edge.0) search.at limit r.first r.end → HasSeen net search found r
-seen_far net search found r limit is far i le lt near = is.far (segment_snap (edge_line net r.edge.0) search.at i).d2 r.edge.0 i (far i le lt) near
+seen_far net search found r limit lawful run is far e i has near =
+    let same = same_d2 net r e i search.at lawful run has in
+    is.far (segment_snap (edge_line net e) search.at i).d2 e i (omega (arith, far has.own has.from_first has.before_end, same)) near
 
 -- where no place of its box is nearer than a number that is as far as the limit
 pub far_box : (net : Net) (search : Search) (found : List NearEdge) (r : Run) (limit d2 : ℕ) → IsLawful net → IsRun net r → IsLimit search found limit → limit ≤ d2
@@ -44,7 +46,7 @@ pub far_box : (net : Net) (search : Search) (found : List NearEdge) (r : Run) (l
 far_box net search found r limit d2 lawful is lim le least =
     let line = edge_line net r.edge.0 in
     let p = search.at in
-    seen_far net search found r limit lim (λ i from before.
+    seen_far net search found r limit lawful is lim (λ i from before.
     let a = point_at line i in
     let b = point_at line (i + 1) in
     let s : suc i ≡ i + 1 = omega arith in
@@ -53,23 +55,6 @@ far_box net search found r limit d2 lawful is lim le least =
     let inside = segment_within line r i q is.run from before (snapped_in_box a b p differ) in
     let far : limit ≤ (snap_segment a b p).d2 = omega (arith, le, least q inside) in
     subst (λ k. limit ≤ (snap_segment a (point_at line k) p).d2) (sym s) far)
-
--- one segment of the run is taken, the first of its nearest
-pub near_edge : (net : Net) (search : Search) (r : Run) (limit : ℕ) (s : NearSegment) (near : NearEdge) → IsRun net r → limit ≤ search.radius * search.radius + 1
-    → IsNearest (edge_line net r.edge.0) search.at r.first r.end s → s.d2 < limit → near.edge ≡ r.edge → near.segment ≡ s.segment → near.d2 ≡ s.d2
-    → IsNearEdge net search near
-near_edge net search r limit s near is low nearest lt edge_is segment_is d2_is =
-    let line = edge_line net r.edge.0 in
-    let base : IsNearEdge net search (record { edge = r.edge; segment = s.segment; d2 = s.d2 }) = record {
-      has = is.has;
-      within = omega (arith, nearest.before_end, is.run.within);
-      d2_is = nearest.d2_is;
-      near = omega (arith, lt, low);
-    }
-    in
-    subst (λ e. IsNearEdge net search (record { edge = e; segment = near.segment; d2 = near.d2 })) (sym edge_is)
-    (subst (λ v. IsNearEdge net search (record { edge = r.edge; segment = v; d2 = near.d2 })) (sym segment_is)
-    (subst (λ v. IsNearEdge net search (record { edge = r.edge; segment = s.segment; d2 = v })) (sym d2_is) base))
 
 pub taken_steps : (net : Net) (search : Search) (old new : List NearEdge) (near : NearEdge) → AreBest net search old → IsNearEdge net search near → Takes search.k old new near → Steps net search old new
 taken_steps net search old new near best is takes = record {
@@ -80,20 +65,6 @@ taken_steps net search old new near best is takes = record {
   };
   keeps = takes.keeps;
 }
-
-pub taken_seen : (net : Net) (search : Search) (old new : List NearEdge) (r : Run) (s : NearSegment) (near : NearEdge) → IsNearest (edge_line net r.edge.0) search.at r.first r.end s
-    → near.edge ≡ r.edge → near.segment ≡ s.segment → near.d2 ≡ s.d2 → Takes search.k old new near → HasSeen net search new r
-taken_seen net search old new r s near nearest edge_is segment_is d2_is takes i le lt close =
-    let d2 = (segment_snap (edge_line net r.edge.0) search.at i).d2 in
-    let far = nearest.least i le lt in
-    let one = subst (λ e. IsAccounted search.k new near.d2 e near.segment) (ap (λ e. e.0) edge_is) takes.taken in
-    accounted_later search.k new near.d2 r.edge.0 near.segment d2 i (omega (arith, far, d2_is))
-    (λ back.
-    ⊎_elim
-    (λ before. let up = nearest.earlier i le (omega (arith, before, segment_is)) in absurd (omega (arith, up, back, d2_is)))
-    (λ low. low)
-    (cases_lt i near.segment))
-    one
 
 -- the first `count` runs that have their nearest place in this cell
 abbrev pub HasSeenUpTo : Net → GridOf → Search → List NearEdge → List Run → ℕ → ℕ → ℕ → Type 0

@@ -1,14 +1,18 @@
 -- The nearest edges so far, while runs are visited in any order.
-use Rattle.std.specs.Prelude.{ℕ, ◌≡◌, ◌+◌, ◌*◌, ◌<◌, ◌≤◌, ◌⊎◌, List, length, slice_index_or, take}
+use Rattle.std.specs.Prelude.{ℕ, ◌≡◌, ◌+◌, ◌*◌, ◌<◌, ◌≤◌, ◌⊎◌, Some, List, length, slice_index_or, take}
 use Rattle.std.specs.List.{All, AllPairs, Contains, insert}
-use Rattle.polyline_geometry.specs.Nearest.{segment_snap}
+use Rattle.polyline_geometry.specs.declared.line.NearSegment.{NearSegment}
+use Rattle.polyline_geometry.specs.Nearest.{IsNearest, segment_snap}
+use Rattle.road_network.specs.declared.EdgeId.{EdgeId}
 use Rattle.road_network.specs.Net.{Net, HasEdge, edge_line}
 use Rattle.grid_index.specs.declared.cells.Cells.{Cells}
 use Rattle.grid_index.specs.declared.runs.Run.{Run}
 use Rattle.grid_index.specs.GridOf.{GridOf, runs_at}
 use Rattle.grid_index.specs.NearestCell.{IsNearestCell}
+use Rattle.grid_index.specs.Runs.{HasSegment, IsRun}
 use Rattle.candidate_search.specs.declared.best.NearEdge.{NearEdge}
 use Rattle.candidate_search.specs.declared.wanted.Search.{Search}
+use Rattle.candidate_search.specs.LastNearest.{IsLastNearest}
 
 -- edge e at the first squared distance comes before edge f at the second
 pub record Precedes (d2 e far f : ℕ) : Type 0 where
@@ -101,12 +105,39 @@ pub record IsLimit (search : Search) (found : List NearEdge) (limit : ℕ) : Typ
   pub low : limit ≤ search.radius * search.radius + 1
   pub far : (d2 e i : ℕ) → limit ≤ d2 → d2 ≤ search.radius * search.radius → IsAccounted search.k found d2 e i
 
--- all segments of the run within the radius are accounted for
+-- the segments of the run within the radius are accounted for, each with those of the reverse edge
 abbrev pub HasSeen : Net → Search → List NearEdge → Run → Type 0
 HasSeen net search found r =
+    (e i : ℕ) → HasSegment net r e i
+    → (segment_snap (edge_line net e) search.at i).d2 ≤ search.radius * search.radius
+    → IsAccounted search.k found (segment_snap (edge_line net e) search.at i).d2 e i
+
+-- the segments of the run's own edge are
+abbrev pub HasSeenOwn : Net → Search → List NearEdge → Run → Type 0
+HasSeenOwn net search found r =
     (i : ℕ) → r.first ≤ i → i < r.end
-    → (segment_snap (edge_line net r.edge.0) search.at i).d2 ≤ search.radius * search.radius
     → IsAccounted search.k found (segment_snap (edge_line net r.edge.0) search.at i).d2 r.edge.0 i
+
+-- the segments of the reverse edge are, where there is one
+abbrev pub HasSeenReverse : Net → Search → List NearEdge → Run → Type 0
+HasSeenReverse net search found r =
+    (twin : EdgeId) → r.twin ≡ Some twin
+    → (i own : ℕ) → r.first ≤ own → own < r.end → i + own + 2 ≡ length (edge_line net r.edge.0)
+    → IsAccounted search.k found (segment_snap (edge_line net r.edge.0) search.at own).d2 twin.0 i
+
+-- the first of the nearest segments of the run, within the radius
+pub record IsNearestIn (net : Net) (search : Search) (r : Run) (near : NearSegment) : Type 0 where
+  pub run : IsRun net r
+  pub nearest : IsNearest (edge_line net r.edge.0) search.at r.first r.end near
+  pub close : near.d2 ≤ search.radius * search.radius
+
+-- the first of the nearest segments of the reverse edge: the last of the run's, from the line's end
+pub record IsNearestOfReverse (net : Net) (search : Search) (r : Run) (twin : EdgeId) (near : NearSegment) (c : NearEdge) : Type 0 where
+  pub last : ℕ
+  pub last_is : IsLastNearest (edge_line net r.edge.0) search.at r.end near last
+  pub edge_is : c.edge ≡ twin
+  pub segment_is : c.segment + last + 2 ≡ length (edge_line net r.edge.0)
+  pub d2_is : c.d2 ≡ near.d2
 
 -- the runs that have their nearest place in this cell
 abbrev pub HasSeenCell : Net → GridOf → Search → List NearEdge → ℕ → ℕ → Type 0

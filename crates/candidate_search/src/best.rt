@@ -3,7 +3,7 @@
 ghost use Rattle.std.specs.Prelude.{◌≡◌, ℕ, ◌+◌, ◌*◌, ◌≤◌, ◌<◌, ◌↔◌, IsTrue, length, slice_index_or, OnOk};
 ghost use Rattle.std.specs.List.{All, remove};
 ghost use Rattle.candidate_search.specs.declared.best.NearEdge.{NearEdge as NearEdgeOf};
-ghost use Rattle.candidate_search.specs.Best.{AreApart, ComesBefore, IsLimit, IsNoLater, IsPlaceFor, IsPlaceOf, IsWanted, Puts, Takes};
+ghost use Rattle.candidate_search.specs.Best.{AreApart, ComesBefore, IsBehind, IsLimit, IsNoLater, IsPlaceFor, IsPlaceOf, IsWanted, Puts, Takes};
 
 use crate::wanted::Search;
 use road_network::EdgeId;
@@ -45,6 +45,19 @@ pub(crate) fn limit_for(found: &[NearEdge], search: Search) -> u64
     } else {
         found[search.k - 1].d2.min(beyond - 1) + 1
     }
+}
+
+/// Whether k are found that come before an edge at this squared distance.
+pub(crate) fn is_behind(found: &[NearEdge], search: Search, edge: EdgeId, d2: u64) -> bool
+    requires few { length found.now ≤ search.k }
+    requires apart { AreApart found.now }
+    ensures { IsTrue result ↔ IsBehind search.k found.now d2 edge.0 }
+{
+    if found.len() < search.k {
+        return false;
+    }
+    let last = found[search.k - 1];
+    last.d2 < d2 || last.d2 == d2 && last.edge.0 < edge.0
 }
 
 /// The place of an edge among those found, or their number.
@@ -138,10 +151,7 @@ pub(crate) fn take_near(
     requires apart { AreApart found.old.items }
     ensures { OnOk result (Takes search.k found.old.items found.new.items near) }
 {
-    if found.len() < search.k {
-        return take_wanted(found, search.k, near);
-    }
-    if found[search.k - 1].is_before(near) {
+    if is_behind(found.as_slice(), search, near.edge, near.d2) {
         return Ok(());
     }
     take_wanted(found, search.k, near)

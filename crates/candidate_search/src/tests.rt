@@ -143,3 +143,18 @@ fn two_lanes(rt: HostRuntime) -> Result<(), Fail> {
         second.as_slice(),
     )
 }
+
+#[test]
+fn both_ways_of_a_street_that_comes_back(rt: HostRuntime) -> Result<(), Fail> {
+    let network =
+        b"edge,from,to,line\n1,1,2,0 0;10000 0;10000 400;0 400\n2,2,1,0 400;10000 400;10000 0;0 0\n";
+    let wanted = [candidate(0, 40_000, 5_000), candidate(1, 40_000, 5_000)];
+    both(
+        &rt,
+        rt.alloc(),
+        network,
+        8,
+        Point { x: 5_000, y: 200 },
+        wanted.as_slice(),
+    )
+}

@@ -5,16 +5,92 @@ ghost use Rattle.polyline_geometry.specs.Plane.{InRange};
 ghost use Rattle.road_network.specs.Net.{Net};
 ghost use Rattle.grid_index.specs.NearestCell.{IsNearestCell};
 ghost use Rattle.grid_index.specs.Runs.{IsRun};
-ghost use Rattle.candidate_search.specs.Best.{AreBest, HasSeen, HasSeenCell, HasSeenRow, HasSeenRows, HasSeenWide, IsLimit, Steps};
+ghost use Rattle.candidate_search.specs.Best.{AreBest, HasSeen, HasSeenCell, HasSeenReverse, HasSeenRow, HasSeenRows, HasSeenWide, IsLimit, IsNearestIn, IsNearestOfReverse, Steps};
 
-use crate::best::{NearEdge, limit_for, take_near};
+use crate::best::{NearEdge, is_behind, limit_for, take_near};
+use crate::last_nearest::last_nearest;
 use crate::wanted::Search;
 use grid_index::{Cells, Grid, Run};
-use polyline_geometry::{distance2, nearest_in_box, nearest_segment};
-use road_network::Network;
+use polyline_geometry::{NearSegment, distance2, nearest_in_box, nearest_segment};
+use road_network::{EdgeId, Network};
 use std::alloc::AllocError;
 
-/// Measures the segments of a run.
+/// The nearest segment of the reverse edge of a run: the last of the nearest, counted from the end of
+/// the run's line.
+fn nearest_of_reverse(
+    net: &Network,
+    search: Search,
+    run: Run,
+    twin: EdgeId,
+    near: NearSegment,
+) -> NearEdge
+    requires { IsNearestIn net.now search run near }
+    ensures { IsNearestOfReverse net.now search run twin near result }
+{
+    net.known();
+    let line = net.line(run.edge);
+    let last = last_nearest(line, run.end as usize, search.at, near);
+    NearEdge {
+        edge: twin,
+        segment: (line.len() - 2 - last) as u32,
+        d2: near.d2,
+    }
+}
+
+/// Takes the nearest segment of the reverse edge of a run, where there is one.
+fn take_reverse(
+    net: &Network,
+    found: &mut Vec<NearEdge>,
+    search: Search,
+    run: Run,
+    near: NearSegment,
+) -> Result<(), AllocError>
+    requires near { IsNearestIn net.now search run near }
+    requires best { AreBest net.now search found.old.items }
+    ensures steps { OnOk result (Steps net.now search found.old.items found.new.items) }
+    ensures seen { OnOk result (HasSeenReverse net.now search found.new.items run) }
+{
+    net.known();
+    match run.twin {
+        None => Ok(()),
+        Some(twin) => {
+            if is_behind(found.as_slice(), search, twin, near.d2) {
+                return Ok(());
+            }
+            take_near(
+                found,
+                search,
+                nearest_of_reverse(net, search, run, twin, near),
+            )
+        }
+    }
+}
+
+/// Takes the nearest segment of a run, of its own edge and of the reverse edge.
+fn take_both(
+    net: &Network,
+    found: &mut Vec<NearEdge>,
+    search: Search,
+    run: Run,
+    near: NearSegment,
+) -> Result<(), AllocError>
+    requires near { IsNearestIn net.now search run near }
+    requires best { AreBest net.now search found.old.items }
+    ensures steps { OnOk result (Steps net.now search found.old.items found.new.items) }
+    ensures seen { OnOk result (HasSeen net.now search found.new.items run) }
+{
+    net.known();
+    let own = NearEdge {
+        edge: run.edge,
+        segment: near.segment as u32,
+        d2: near.d2,
+    };
+    take_near(found, search, own)?;
+    take_reverse(net, found, search, run, near)?;
+    Ok(())
+}
+
+/// Measures the segments of a run, for its own edge and for the reverse edge.
 fn measure_run(
     net: &Network,
     found: &mut Vec<NearEdge>,
@@ -32,14 +108,7 @@ fn measure_run(
     let (first, end) = (run.first as usize, run.end as usize);
     match nearest_segment(net.line(run.edge), first, end, search.at, limit) {
         None => Ok(()),
-        Some(near) => {
-            let near = NearEdge {
-                edge: run.edge,
-                segment: near.segment as u32,
-                d2: near.d2,
-            };
-            take_near(found, search, near)
-        }
+        Some(near) => take_both(net, found, search, run, near),
     }
 }
 
