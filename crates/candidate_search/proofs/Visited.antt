@@ -4,12 +4,13 @@ use Rattle.std.specs.Int.RustNames.{unsigned_abs}
 use Rattle.std.proofs.lemmas.Bool.{cases_lt}
 use Rattle.polyline_geometry.specs.declared.plane.Point.{Point}
 use Rattle.polyline_geometry.specs.Boxes.{InBox, InSquare}
+use Rattle.polyline_geometry.specs.Nearest.{segment_snap}
 use Rattle.polyline_geometry.specs.Plane.{distance2, point_at, share, snap_segment, snapped}
 use Rattle.polyline_geometry.proofs.Boxes.{snapped_in_box}
 use Rattle.road_network.specs.Net.{Net, HasEdge, IsLawful, edge_line}
 use Rattle.grid_index.specs.declared.cells.Cells.{Cells}
 use Rattle.grid_index.specs.Cells.{HasCell, cell}
-use Rattle.grid_index.specs.GridOf.{GridOf, IsGrid, StandsFor}
+use Rattle.grid_index.specs.GridOf.{GridOf, HasNoneWithin, IsGrid, StandsFor}
 use Rattle.grid_index.specs.Runs.{HasSegment, IsRun}
 use Rattle.grid_index.proofs.NearestCells.{nearest_place}
 use Rattle.grid_index.proofs.RunBoxes.{run_holds}
@@ -46,26 +47,38 @@ run_seen net g search found cells e i q s is holds wide rows inside close =
     rows (cell g.side h.place.y) at.bottom at.top (cell g.side h.place.x) at.left at.right s.run (there h.place h.inside) h.cell_is)
     s.stands
 
+-- the point of a segment to which p snaps lies in its box, and in the square where it is near
+record HasNearPlace (net : Net) (p : Point) (reach e i : ℕ) : Type 0 where
+  place : Point
+  inside : InBox (point_at (edge_line net e) i) (point_at (edge_line net e) (i + 1)) place
+  square : InSquare p reach place
+
+near_place : (net : Net) (p : Point) (reach e i : ℕ) → IsLawful net → HasEdge net e → i + 1 < length (edge_line net e) → (segment_snap (edge_line net e) p i).d2 ≤ reach * reach
+    → HasNearPlace net p reach e i
+near_place net p reach e i lawful has lt near =
+    let line = edge_line net e in
+    let a = point_at line i in
+    let b = point_at line (i + 1) in
+    let s : suc i ≡ i + 1 = omega arith in
+    let close : (snap_segment a b p).d2 ≤ reach * reach = subst (λ k. (snap_segment a (point_at line k) p).d2 ≤ reach * reach) s near in
+    let differ = (lawful.lines e has).differ i (record { x = pos 0; y = pos 0 }) (omega (arith, lt)) in
+    let q : Point = snapped a b (share a b p) (distance2 b a) in
+    record { place = q; inside = snapped_in_box a b p differ; square = close_square p q reach close }
+
 pub all_seen : (net : Net) (g : GridOf) (search : Search) (found : List NearEdge) (cells : Cells) → IsLawful net → g.net ≡ net → IsGrid g
     → HoldsSquare g search.at search.radius cells → AreBest net search found → HasSeenWide net g search found → HasSeenRows net g search found cells cells.bottom cells.top
     → AreNearestEdges net search found
 all_seen net g search found cells lawful same grid holds best wide rows = record {
   best = best;
   every = λ e i has lt near.
-      let line = edge_line net e in
-      let p = search.at in
-      let a = point_at line i in
-      let b = point_at line (i + 1) in
-      let s : suc i ≡ i + 1 = omega arith in
-      let close : (snap_segment a b p).d2 ≤ search.radius * search.radius = subst (λ k. (snap_segment a (point_at line k) p).d2 ≤ search.radius * search.radius) s near in
-      let differ = (lawful.lines e has).differ i (record { x = pos 0; y = pos 0 }) (omega (arith, lt)) in
-      let q : Point = snapped a b (share a b p) (distance2 b a) in
+      let close = near_place net search.at search.radius e i lawful has lt near in
+      let q = close.place in
       let stands : StandsFor g e i = grid.complete e i (subst (λ (n : Net). HasEdge n e) (sym same) has) (subst (λ (n : Net). i + 1 < length (edge_line n e)) (sym same) lt) in
       let r = stands.run in
       let is : IsRun net r = subst (λ (n : Net). IsRun n r) same stands.is_run in
       let has_segment : HasSegment net r e i = subst (λ (n : Net). HasSegment n r e i) same stands.segment in
-      let inside = run_holds net r e i q is has_segment (snapped_in_box a b p differ) in
-      run_seen net g search found cells e i q stands is holds wide rows inside (close_square p q search.radius close) e i has_segment near;
+      let inside = run_holds net r e i q is has_segment close.inside in
+      run_seen net g search found cells e i q stands is holds wide rows inside close.square e i has_segment near;
 }
 
 -- nothing is found yet
@@ -75,3 +88,12 @@ none_best net search found is = subst (λ l. AreBest net search l) (sym is) (rec
   apart = λ i j d lt under. absurd (omega (arith, under));
   each = λ i d lt. absurd (omega (arith, lt));
 })
+
+-- where no segment comes near, none is found
+pub none_near : (net : Net) (search : Search) (found : List NearEdge) → IsLawful net → found ≡ [] → HasNoneWithin net search.at search.radius → AreNearestEdges net search found
+none_near net search found lawful is none = record {
+  best = none_best net search found is;
+  every = λ e i has lt near.
+      let close = near_place net search.at search.radius e i lawful has lt near in
+      absurd (none e i has lt close.place close.inside close.square);
+}

@@ -63,7 +63,7 @@ fn candidates_of(
     Ok(list)
 }
 
-/// The nearest edges, by the runs of the grid.
+/// The nearest edges, by the runs of the grid. Beside the whole network there are none.
 fn nearest_edges(
     alloc: Global,
     net: &Network,
@@ -79,6 +79,9 @@ fn nearest_edges(
     net.known();
     grid.known();
     let mut found = Vec::new(alloc);
+    if grid.is_far(search.at, reach) {
+        return Ok(found);
+    }
     look_at_cells(
         net,
         grid,

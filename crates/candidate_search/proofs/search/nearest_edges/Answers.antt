@@ -1,10 +1,18 @@
 use Rattle.std.proofs.Common.{subst}
+use Rattle.road_network.specs.Net.{Net}
+use Rattle.grid_index.specs.GridOf.{HasNoneWithin}
 use Rattle.candidate_search.proofs.Visiting.{rows_still}
-use Rattle.candidate_search.proofs.Visited.{HoldsSquare, all_seen, none_best}
+use Rattle.candidate_search.proofs.Visited.{HoldsSquare, all_seen, none_best, none_near}
 use Rattle.candidate_search.proofs.search.nearest_edges.Goals as goal
 
 pub look_at_cells-requires-clause-best : goal.look_at_cells-requires-clause-best
 look_at_cells-requires-clause-best c = none_best c.args.net.now c.args.search c.new-found.result.items c.new-found.ensures.items
+
+pub returns-then-is_far : goal.returns-then-is_far
+returns-then-is_far c =
+    let search = c.args.search in
+    let far = subst (λ (n : Net). HasNoneWithin n search.at c.args.reach) c.requires.network (c.is_far.ensures c.if-is_far.true) in
+    none_near c.args.net.now search c.new-found.result.items c.known.ensures c.new-found.ensures.items (subst (HasNoneWithin c.args.net.now search.at) c.requires.reach far)
 
 pub returns : goal.returns
 returns c =
