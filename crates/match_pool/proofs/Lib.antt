@@ -8,4 +8,5 @@ pub mod Spots
 pub mod Taken
 pub mod Tours
 pub mod Turns
+pub mod Unmatched
 pub mod Yields

@@ -7,4 +7,5 @@ pub mod Learning
 pub mod Strips
 pub mod Tables
 pub mod Turns
+pub mod Unmatched
 pub mod Working

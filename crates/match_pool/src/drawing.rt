@@ -3,8 +3,8 @@ ghost use Rattle.std.specs.Prelude.{◌≡◌, ◌<◌, ◌≤◌, All, IfOk, le
 ghost use Rattle.match_pool.specs.Drawing.{WorksAt, job_of};
 ghost use Rattle.match_pool.specs.Working.{CanDraw, IsReaderFor, Stays};
 
-use crate::answer::match_one;
 use crate::batch::Batch;
+use crate::far::find_match;
 use crate::gate::Gate;
 use crate::worker::Done;
 use polyline_geometry::List;
@@ -34,19 +34,9 @@ pub fn draw_from<'s, G: Gate>(
         let number = numbers[rank as usize];
         let place = batch.first + number as u64;
         gate.begin(place, reader.store());
-        let answer = match_one(
-            batch.alloc,
-            batch.net,
-            batch.grid,
-            batch.params,
-            reader,
-            &batch.traces[number],
-        )?;
+        let matched = find_match(batch, reader, &batch.traces[number])?;
         gate.end(place, reader.store());
-        done.push(Done {
-            place,
-            matched: answer.matched,
-        })?;
+        done.push(Done { place, matched })?;
     }
     Ok(done)
 }

@@ -19,6 +19,7 @@ mod batch;
 mod crew;
 mod dealing;
 mod drawing;
+mod far;
 mod gate;
 mod gathering;
 mod routes;

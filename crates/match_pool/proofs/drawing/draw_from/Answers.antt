@@ -24,7 +24,7 @@ loop-rank-preserved g c =
     let traces = c.args.batch.now.traces.now in
     let below : k < length numbers = subst (λ (n : ℕ). k < n) c.requires.ticket.all (subst (λ (y : ℕ). y < c.args.claims.now.count) (sym x.3.0) x.3.1) in
     let drew = ap (λ (t : Drawn). t.numbers) x.2 ∙ ap (λ (y : ℕ). c.loop-rank.ticket.numbers ++ y ∷ []) (sym x.3.0) in
-    let asked = asks_value c.match_one.ensures.asks c.in_ok-answer.was in
+    let asked = asks_value c.find_match.ensures.asks c.in_ok-matched.was in
     let keeps = asked.only.keeps in
     let number = number_at numbers k in
     let inside : number < length traces = c.requires.numbers k 0 below in
@@ -38,5 +38,5 @@ loop-rank-preserved g c =
         claims = d.claims ∙ i.stays.claims;
       };
       opened = d.then;
-      working = goes_on _ _ _ _ _ _ _ k _ _ _ _ i.working below drew (rw item at c.in_ok-answer.ensures.answer.matched-is) c.in_ok-push.ensures.ok (rw item at asked);
+      working = goes_on _ _ _ _ _ _ _ k _ _ _ _ i.working below drew (rw item at c.in_ok-matched.ensures.matched) c.in_ok-push.ensures.ok (rw item at asked);
     }

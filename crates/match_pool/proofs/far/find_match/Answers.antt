@@ -1,0 +1,31 @@
+use Rattle.std.proofs.Common.{◌∙◌}
+use Rattle.std.specs.Prelude.{Result, Ok, Err, IfOk}
+use Rattle.bounded_search.proofs.Asking.{keeps_itself}
+use Rattle.row_store.specs.Store.{rows_state}
+use Rattle.match_pool.proofs.Unmatched.{unmatched_asks, unmatched_is}
+use Rattle.match_pool.proofs.far.find_match.Goals as goal
+
+ok_as : {A E : Type 0} (P Q : A → Type 0) (r : Result A E) → ((x : A) → P x → Q x) → IfOk r P → IfOk r Q
+ok_as P Q (Ok x) f h = f x h
+ok_as P Q (Err e) f h = tt
+
+ok_any : {A E : Type 0} (Q : A → Type 0) (r : Result A E) → ((x : A) → Q x) → IfOk r Q
+ok_any Q (Ok x) f = f x
+ok_any Q (Err e) f = tt
+
+pub returns-then-branch-clause-matched : goal.returns-then-branch-clause-matched
+returns-then-branch-clause-matched c =
+    let n = c.args.batch.now.net.now in
+    let p = c.args.batch.now.params.now in
+    let trace = c.args.trace.now in
+    let same = unmatched_is n p trace c.args.batch.now.ground.options c.requires.trace (c.in_ok-lies_far.ensures c.if-branch.true) in
+    ok_as _ _ c.unmatched.result (λ matched is. is ∙ same) c.unmatched.ensures
+
+pub returns-then-branch-clause-asks : goal.returns-then-branch-clause-asks
+returns-then-branch-clause-asks c =
+    let n = c.args.batch.now.net.now in
+    let p = c.args.batch.now.params.now in
+    let trace = c.args.trace.now in
+    let state = rows_state c.args.reader.now in
+    let asked = unmatched_asks n p trace state c.args.batch.now.ground.options c.requires.trace (c.in_ok-lies_far.ensures c.if-branch.true) in
+    record { keeps = keeps_itself state; asks = ok_any _ c.unmatched.result (λ matched. asked) }

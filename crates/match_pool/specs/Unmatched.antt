@@ -1,0 +1,18 @@
+-- Traces without candidates.
+use Rattle.std.specs.Prelude.{◌≡◌, [], length, replicate}
+use Rattle.cost_model.specs.declared.params.Params.{Params}
+use Rattle.match_text.specs.declared.matched.Label.TheVariants.{Missing}
+use Rattle.match_text.specs.declared.matched.MatchedTrace.{MatchedTrace}
+use Rattle.road_network.specs.Net.{Net}
+use Rattle.road_network.specs.Near.{candidates}
+use Rattle.trace_match.specs.Match.{place_of}
+use Rattle.trace_reader.specs.declared.trace.Fix.{Fix}
+use Rattle.trace_reader.specs.declared.trace.Trace.{Trace}
+
+-- the fix has no candidate
+abbrev pub HasNoCandidate : Net → Params → Fix → Type 0
+HasNoCandidate n p fix = candidates n p.k p.radius (place_of fix) ≡ []
+
+-- a trace with nothing for each of its fixes
+abbrev pub unmatched : Trace → MatchedTrace
+unmatched trace = record { id = trace.id; labels = replicate (length trace.fixes) Missing; pieces = [] }
