@@ -29,7 +29,7 @@ pub fn draw_from<'s, G: Gate>(
     ensures works { IfOk result (λ done. WorksAt (job_of batch.now) numbers.now
         reader.old ticket.old done reader.new ticket.new) }
 {
-    let mut done = List::new(batch.alloc);
+    let mut done = List::from_vec(Vec::with_capacity(batch.alloc, numbers.len())?);
     while let Some(rank) = claims.draw(ticket) {
         let number = numbers[rank as usize];
         let place = batch.first + number as u64;

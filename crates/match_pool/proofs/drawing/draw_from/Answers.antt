@@ -11,7 +11,7 @@ pub loop-rank-init : goal.loop-rank-init
 loop-rank-init g c = record {
   stays = record { reader = record { store = refl; held = λ k r x. x }; claims = refl };
   opened = c.requires.ticket.opened;
-  working = rw c.new-done.ensures (starts (job_of c.args.batch.now) c.args.numbers.now c.args.reader.now c.args.ticket.now.numbers);
+  working = rw (c.from_vec-done.ensures ∙ c.in_ok-with_capacity.ensures.items) (starts (job_of c.args.batch.now) c.args.numbers.now c.args.reader.now c.args.ticket.now.numbers);
 }
 
 pub loop-rank-preserved : goal.loop-rank-preserved
