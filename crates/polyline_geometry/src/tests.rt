@@ -1,6 +1,6 @@
 use crate::{
-    List, Point, extend_offsets, line_length, nearest_in_box, nearest_segment, root, snap_line,
-    snap_segment, straight,
+    List, NearSegments, Point, extend_offsets, line_length, nearest_in_box, nearest_segment,
+    nearest_segments, offset_on, root, snap_line, snap_segment, straight,
 };
 use std::test::Fail;
 
@@ -8,6 +8,13 @@ const CORNER: [Point; 3] = [
     Point { x: 0, y: 0 },
     Point { x: 10, y: 0 },
     Point { x: 10, y: 10 },
+];
+
+const ARCH: [Point; 4] = [
+    Point { x: 0, y: 0 },
+    Point { x: 0, y: 10 },
+    Point { x: 10, y: 10 },
+    Point { x: 10, y: 0 },
 ];
 
 #[test]
@@ -81,6 +88,59 @@ fn snap_to_a_corner(rt: HostRuntime) {
         ),
         Point { x: 10, y: 4 }
     );
+}
+
+#[test]
+fn segments_as_near(rt: HostRuntime) {
+    assert_eq!(rt;
+        nearest_segments(CORNER.as_slice(), 0, 2, Point { x: 10, y: 0 }, 1),
+        Some(NearSegments {
+            first: 0,
+            last: 1,
+            d2: 0
+        })
+    );
+    let arch = ARCH.as_slice();
+    let below = Point { x: 5, y: 0 };
+    assert_eq!(rt;
+        nearest_segments(arch, 0, 3, below, u64::MAX),
+        Some(NearSegments {
+            first: 0,
+            last: 2,
+            d2: 25
+        })
+    );
+    assert_eq!(rt;
+        nearest_segments(arch, 1, 3, below, 26),
+        Some(NearSegments {
+            first: 2,
+            last: 2,
+            d2: 25
+        })
+    );
+    assert_eq!(rt; nearest_segments(arch, 0, 3, below, 25), None);
+    assert_eq!(rt; nearest_segments(arch, 1, 1, below, u64::MAX), None);
+    assert_eq!(rt;
+        nearest_segments(arch, 0, 3, Point { x: 5, y: 8 }, 26),
+        Some(NearSegments {
+            first: 1,
+            last: 1,
+            d2: 4
+        })
+    );
+}
+
+#[test]
+fn offset_in_a_later_segment(rt: HostRuntime) -> Result<(), Fail> {
+    let arch = ARCH.as_slice();
+    let mut offsets = List::new(rt.alloc());
+    let length = extend_offsets(arch, 30, &mut offsets)?;
+    assert!(rt; length.is_some());
+    assert_eq!(rt;
+        offset_on(arch, offsets.as_slice(), Point { x: 12, y: 7 }, 2),
+        23
+    );
+    Ok(())
 }
 
 #[test]
