@@ -7,12 +7,12 @@ use Rattle.std.proofs.lemmas.Nat.{div_below, le-div}
 use Rattle.std.specs.Int.RustNames.{unsigned_abs}
 use Rattle.polyline_geometry.specs.declared.plane.Point.{Point}
 use Rattle.polyline_geometry.specs.Boxes.{InBox, InSquare, IsBetween}
-use Rattle.polyline_geometry.specs.Plane.{InRange, distance2, point_at}
+use Rattle.polyline_geometry.specs.Plane.{InRange, distance2, point_at, square}
 use Rattle.polyline_geometry.proofs.Boxes.{box_in_range}
 use Rattle.road_network.specs.Net.{Net, edge_line}
 use Rattle.grid_index.specs.declared.runs.Run.{Run}
 use Rattle.grid_index.specs.Cells.{cell, shifted}
-use Rattle.grid_index.specs.NearestCell.{IsNearestCell, nearest_between}
+use Rattle.grid_index.specs.NearestCell.{IsNearestCell, apart2, nearest_between}
 use Rattle.grid_index.specs.Runs.{HasCorners, IsBelow, IsBoxDistance, IsRun, IsRunOf}
 use Rattle.grid_index.proofs.Places.{between, rises}
 use Rattle.grid_index.proofs.RunBoxes.{below_twice}
@@ -157,10 +157,9 @@ as_far z w x h k is =
     omega (arith, a, b, is)
 
 -- the distance of the nearest place, from the shifted coordinates of both
-pub box_distance : (r : Run) (p : Point) (x y d2 : ℕ) → HasCorners r → InRange p → x ≡ nearest_between r.low.x r.high.x p.x → y ≡ nearest_between r.low.y r.high.y p.y
-    → d2 ≡ (x - shifted p.x + (shifted p.x - x)) * (x - shifted p.x + (shifted p.x - x)) + (y - shifted p.y + (shifted p.y - y)) * (y - shifted p.y + (shifted p.y - y))
-    → IsBelow r.low r.high → IsBoxDistance r p d2
-box_distance r p x y d2 corners in_range xs ys value rise =
+pub box_distance : (r : Run) (p : Point) (x y d2 : ℕ) → HasCorners r → IsBelow r.low r.high → InRange p → x ≡ nearest_between r.low.x r.high.x p.x → y ≡ nearest_between r.low.y r.high.y p.y
+    → d2 ≡ apart2 x (shifted p.x) + apart2 y (shifted p.y) → IsBoxDistance r p d2
+box_distance r p x y d2 corners rise in_range xs ys value =
     let u = nearest_coordinate r.low.x r.high.x p.x corners.low_in.x_abs corners.high_in.x_abs in_range.x_abs rise.x in
     let v = nearest_coordinate r.low.y r.high.y p.y corners.low_in.y_abs corners.high_in.y_abs in_range.y_abs rise.y in
     let place : Point = record { x = u.0; y = v.0 } in
@@ -168,16 +167,14 @@ box_distance r p x y d2 corners in_range xs ys value rise =
     let place_in = box_in_range r.low r.high place corners.low_in corners.high_in inside in
     let dx = as_far p.x u.0 x in_range.x_abs place_in.x_abs (u.1.shifted_is ∙ sym xs) in
     let dy = as_far p.y v.0 y in_range.y_abs place_in.y_abs (v.1.shifted_is ∙ sym ys) in
-    let is : distance2 p place ≡ d2 =
-    ap (λ a. a * a + unsigned_abs (p.y -ℤ v.0) * unsigned_abs (p.y -ℤ v.0)) dx
-    ∙ ap (λ b. (x - shifted p.x + (shifted p.x - x)) * (x - shifted p.x + (shifted p.x - x)) + b * b) dy ∙ sym value in
+    let is : distance2 p place ≡ d2 = ap (λ a. a * a + square (p.y -ℤ v.0)) dx ∙ ap (λ b. apart2 x (shifted p.x) + b * b) dy ∙ sym value in
     record {
       least = λ q there.
           let q_in = box_in_range r.low r.high q corners.low_in corners.high_in there in
           let lx = u.1.least q.x q_in.x_abs there.x in
           let ly = v.1.least q.y q_in.y_abs there.y in
-          let mx : unsigned_abs (p.x -ℤ u.0) * unsigned_abs (p.x -ℤ u.0) ≤ unsigned_abs (p.x -ℤ q.x) * unsigned_abs (p.x -ℤ q.x) = mul-le-mul lx lx in
-          let my : unsigned_abs (p.y -ℤ v.0) * unsigned_abs (p.y -ℤ v.0) ≤ unsigned_abs (p.y -ℤ q.y) * unsigned_abs (p.y -ℤ q.y) = mul-le-mul ly ly in
+          let mx : square (p.x -ℤ u.0) ≤ square (p.x -ℤ q.x) = mul-le-mul lx lx in
+          let my : square (p.y -ℤ v.0) ≤ square (p.y -ℤ q.y) = mul-le-mul ly ly in
           omega (arith, mx, my, is);
       place = place;
       inside = inside;

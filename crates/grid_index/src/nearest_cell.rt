@@ -1,10 +1,10 @@
 //! The one cell at which a look takes a run: that of the place of its box which is nearest to the
-//! point. Serves `Grid`; decided by `IsNearestCell`.
+//! point. Serves `Grid`; decided by `IsNearestCell` and `IsBoxDistance`.
 ghost use Rattle.std.specs.Prelude.{◌≡◌, ℕ, ◌+◌, ◌-◌, ◌*◌, ◌/◌, ◌≤◌, ◌↔◌, IsTrue, MatchOption, max, min};
 ghost use Rattle.std.specs.Int.RustNames.{unsigned_abs};
 ghost use Rattle.polyline_geometry.specs.Plane.{InRange};
 ghost use Rattle.road_network.specs.Net.{Net};
-ghost use Rattle.grid_index.specs.NearestCell.{HasNoneNearer, IsNearestCell, nearest_between};
+ghost use Rattle.grid_index.specs.NearestCell.{HasNoneNearer, IsNearestCell, apart2, nearest_between};
 ghost use Rattle.grid_index.specs.Runs.{HasCorners, IsBelow, IsBoxDistance};
 
 use crate::cells::shifted;
@@ -58,7 +58,7 @@ fn gap(x: u32, number: u32, side: u32) -> u64
 fn apart2(a: u32, b: u32) -> u64
     requires a_small { a ≤ 2_001_000_000 }
     requires b_small { b ≤ 2_001_000_000 }
-    ensures value { result ≡ (a - b + (b - a)) * (a - b + (b - a)) }
+    ensures value { result ≡ apart2 a b }
     ensures small { result ≤ 4_004_001_000_000_000_000 }
 {
     let apart = u64::from(a.abs_diff(b));
@@ -76,11 +76,10 @@ pub(crate) fn distance2_in_cell(
 ) -> Option<u64>
     requires some { 1 ≤ side }
     requires few { side ≤ 1_000_000 }
-    requires corners { HasCorners run.now }
+    requires corners { HasCorners run.now × IsBelow run.now.low run.now.high }
     requires p_in { InRange p }
     ensures { MatchOption result (IsNearestCell side p run.now column row → ⊥)
-        (λ d2. IsNearestCell side p run.now column row
-        × (IsBelow run.now.low run.now.high → IsBoxDistance run.now p d2)) }
+        (λ d2. IsNearestCell side p run.now column row × IsBoxDistance run.now p d2) }
 {
     let x = nearest_between(run.low.x, run.high.x, p.x);
     let y = nearest_between(run.low.y, run.high.y, p.y);
