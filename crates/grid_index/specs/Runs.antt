@@ -42,9 +42,7 @@ pub record IsTurned (line turned : List Point) : Type 0 where
 -- the line of edge t is that of edge e from its end to its start
 pub record IsReverse (net : Net) (e t : ℕ) : Type 0 where
   pub has : HasEdge net t
-  pub count : length (edge_line net t) ≡ length (edge_line net e)
-  pub turned : (i j : ℕ) → i + j + 1 ≡ length (edge_line net e)
-      → point_at (edge_line net t) i ≡ point_at (edge_line net e) j
+  pub turned : IsTurned (edge_line net e) (edge_line net t)
 
 -- where there is a twin, its line is that of edge e from its end to its start
 abbrev pub IsTwin : Net → ℕ → Option EdgeId → Type 0
