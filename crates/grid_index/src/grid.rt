@@ -1,5 +1,5 @@
 //! The grid of a network. Serves searches of candidates; decided by `IsGrid`.
-ghost use Rattle.std.specs.Prelude.{◌≡◌, ℕ, ◌*◌, ◌≤◌, ◌↔◌, IfOk, IsTrue, MatchOption, flat_map};
+ghost use Rattle.std.specs.Prelude.{◌≡◌, ℕ, ◌*◌, ◌≤◌, IfOk, IsTrue, MatchOption, flat_map};
 ghost use Rattle.std.specs.List.{All, Contains};
 ghost use Rattle.polyline_geometry.specs.declared.plane.Point.{Point as Place};
 ghost use Rattle.polyline_geometry.specs.Plane.{InRange};
