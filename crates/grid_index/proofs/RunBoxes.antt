@@ -61,8 +61,8 @@ own_box net r e i q is s inside =
     (subst (λ v. InBox (point_at (edge_line net v) i) (point_at (edge_line net v) (i + 1)) q) (sym same.0) inside))
     (λ mirror.
     let twin : IsReverse net r.edge.0 e = subst (λ o. IsTwin net r.edge.0 o) mirror.0 is.twin in
-    let start = twin.turned i (s.own + 1) (omega (arith, mirror.1)) in
-    let end = twin.turned (i + 1) s.own (omega (arith, mirror.1)) in
+    let start = twin.turned.points i (s.own + 1) (omega (arith, mirror.1)) in
+    let end = twin.turned.points (i + 1) s.own (omega (arith, mirror.1)) in
     box_turned (point_at line (s.own + 1)) (point_at line s.own) q
     (subst (λ a. InBox a (point_at line s.own) q) start (subst (λ b. InBox (point_at (edge_line net e) i) b q) end inside)))
     s.is

@@ -1,5 +1,5 @@
 -- The one cell at which a look takes a run.
-use Rattle.std.specs.Prelude.{ℕ, ◌≡◌, ◌/◌, ◌≤◌, ℤ, max, min}
+use Rattle.std.specs.Prelude.{ℕ, ◌≡◌, ◌+◌, ◌-◌, ◌*◌, ◌/◌, ◌≤◌, ℤ, max, min}
 use Rattle.polyline_geometry.specs.declared.plane.Point.{Point}
 use Rattle.polyline_geometry.specs.Boxes.{InBox}
 use Rattle.polyline_geometry.specs.Plane.{distance2}
@@ -11,6 +11,10 @@ use Rattle.grid_index.specs.Runs.{IsRun}
 -- of the coordinates from `low` to `high` the one that is nearest to z, shifted
 abbrev pub nearest_between : ℤ → ℤ → ℤ → ℕ
 nearest_between low high z = max (shifted low) (min (shifted z) (shifted high))
+
+-- how far apart two shifted coordinates are, squared
+abbrev pub apart2 : ℕ → ℕ → ℕ
+apart2 a b = (a - b + (b - a)) * (a - b + (b - a))
 
 -- the place of the run's box that is nearest to p lies in the cell of this column and row
 pub record IsNearestCell (side : ℕ) (p : Point) (r : Run) (column row : ℕ) : Type 0 where

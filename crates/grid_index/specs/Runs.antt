@@ -42,9 +42,7 @@ pub record IsTurned (line turned : List Point) : Type 0 where
 -- the line of edge t is that of edge e from its end to its start
 pub record IsReverse (net : Net) (e t : ℕ) : Type 0 where
   pub has : HasEdge net t
-  pub count : length (edge_line net t) ≡ length (edge_line net e)
-  pub turned : (i j : ℕ) → i + j + 1 ≡ length (edge_line net e)
-      → point_at (edge_line net t) i ≡ point_at (edge_line net e) j
+  pub turned : IsTurned (edge_line net e) (edge_line net t)
 
 -- where there is a twin, its line is that of edge e from its end to its start
 abbrev pub IsTwin : Net → ℕ → Option EdgeId → Type 0
@@ -81,3 +79,10 @@ edges_of_run r = r.edge ∷ option_to_list r.twin
 -- the box of the run has a place whose squared distance from p is at most this
 abbrev pub IsNearRun : Point → ℕ → Run → Type 0
 IsNearRun p far2 r = (q : Point) × InBox r.low r.high q × (distance2 p q ≤ far2)
+
+-- no place of the run's box is nearer to p than this, squared, and one is just that near
+pub record IsBoxDistance (r : Run) (p : Point) (d2 : ℕ) : Type 0 where
+  pub least : (q : Point) → InBox r.low r.high q → d2 ≤ distance2 p q
+  pub place : Point
+  pub inside : InBox r.low r.high place
+  pub is : distance2 p place ≡ d2

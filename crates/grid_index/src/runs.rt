@@ -2,10 +2,8 @@
 //! candidates; decided by `IsRunOf`.
 ghost use Rattle.std.specs.Prelude.{◌≡◌, ◌+◌, ◌<◌, ◌≤◌, length, ◌≤ℤ◌};
 ghost use Rattle.std.specs.Int.RustNames.{unsigned_abs};
-ghost use Rattle.polyline_geometry.specs.declared.plane.Point.{Point as Place};
-ghost use Rattle.polyline_geometry.specs.Boxes.{InBox};
-ghost use Rattle.polyline_geometry.specs.Plane.{InRange, IsLine, distance2};
-ghost use Rattle.grid_index.specs.Runs.{HasCorners, IsBelow, IsRunFrom, IsRunOf};
+ghost use Rattle.polyline_geometry.specs.Plane.{InRange, IsLine};
+ghost use Rattle.grid_index.specs.Runs.{HasCorners, IsBelow, IsBoxDistance, IsRunFrom, IsRunOf};
 
 use polyline_geometry::{Point, distance2, nearest_in_box};
 use road_network::EdgeId;
@@ -120,7 +118,7 @@ impl Run {
     pub(crate) fn distance2(self, p: Point) -> u64
         requires p_in { InRange p }
         requires corners { HasCorners self }
-        ensures { (q : Place) → InBox self.low self.high q → result ≤ distance2 p q }
+        ensures { IsBoxDistance self p result }
     {
         distance2(p, nearest_in_box(self.low, self.high, p))
     }

@@ -57,3 +57,23 @@ fn near_nothing(rt: HostRuntime) -> Result<(), Fail> {
     assert_eq!(rt; near.len(), 0);
     Ok(())
 }
+
+#[test]
+fn distance_in_one_cell(rt: HostRuntime) -> Result<(), Fail> {
+    let net = read_network(rt.alloc(), b"edge,from,to,line\n1,1,2,0 0;10000 0\n")?;
+    let grid = Grid::build(rt.alloc(), &net, 10_000)?;
+    let (start, p) = (Point { x: 0, y: 0 }, Point { x: -300, y: -400 });
+    let (column, row) = (grid.column_of(start), grid.row_of(start));
+    grid.known();
+    let runs = grid.runs_at(column, row);
+    assert_eq!(rt; runs.len(), 1);
+    for run in runs {
+        assert_eq!(rt; grid.distance2_in_cell(run, p, column, row), Some(250_000));
+        assert_eq!(rt; grid.distance2_in_cell(run, p, column + 1, row), None);
+        assert_eq!(rt;
+            grid.distance2_in_cell(run, p, column, grid.row_of(p)),
+            None
+        );
+    }
+    Ok(())
+}
