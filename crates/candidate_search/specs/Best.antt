@@ -64,6 +64,15 @@ pub record Takes (k : ℕ) (old new : List NearEdge) (near : NearEdge) : Type 0 
   pub keeps : Keeps k old new
   pub taken : IsAccounted k new near.d2 near.edge.0 near.segment
 
+-- a segment of each of two edges is taken
+pub record TakesPair (k : ℕ) (old new : List NearEdge) (a b : NearEdge) : Type 0 where
+  pub few : length new ≤ k
+  pub apart : AreApart new
+  pub only : (x : NearEdge) → Contains new x → Contains old x ⊎ ((x ≡ a) ⊎ (x ≡ b))
+  pub keeps : Keeps k old new
+  pub first_taken : IsAccounted k new a.d2 a.edge.0 a.segment
+  pub second_taken : IsAccounted k new b.d2 b.edge.0 b.segment
+
 -- where k are found, it comes before whatever comes behind all of them
 abbrev pub IsWanted : ℕ → List NearEdge → NearEdge → Type 0
 IsWanted k found near =
@@ -81,6 +90,25 @@ pub record Puts (k : ℕ) (old new : List NearEdge) (near : NearEdge) : Type 0 w
   pub place : ℕ
   pub place_is : IsPlaceFor old near place
   pub list : new ≡ take k (insert old place near)
+
+-- neither edge is among those found
+abbrev pub HasNeither : List NearEdge → ℕ → ℕ → Type 0
+HasNeither found e f = All (λ c. (c.edge.0 ≡ e → ⊥) × (c.edge.0 ≡ f → ⊥)) found
+
+-- two edges in order, neither of which is found yet, and no k are found that come before the second
+pub record IsNewPair (k : ℕ) (found : List NearEdge) (a b : NearEdge) : Type 0 where
+  pub near : a.d2 ≤ b.d2
+  pub below : a.edge.0 < b.edge.0
+  pub wanted : IsBehind k found b.d2 b.edge.0 → ⊥
+  pub neither : HasNeither found a.edge.0 b.edge.0
+
+-- each is put at its place, and what is then beyond the first k is dropped
+pub record PutsPair (k : ℕ) (old new : List NearEdge) (a b : NearEdge) : Type 0 where
+  pub place : ℕ
+  pub next : ℕ
+  pub place_is : IsPlaceFor old a place
+  pub next_is : IsPlaceFor (insert old place a) b next
+  pub list : new ≡ take k (insert (insert old place a) next b)
 
 -- the place of the edge among those found, or their number
 pub record IsPlaceOf (found : List NearEdge) (e place : ℕ) : Type 0 where
