@@ -1,5 +1,5 @@
 -- The cell of the place of a run's box that is nearest to a point.
-use Rattle.std.proofs.Common.{◌≡◌, ℕ, ◌+◌, ◌-◌, ◌*◌, ◌/◌, ◌<◌, ◌≤◌, List, min, max, IsTrue, ltb, arith, ℤ, pos, negsuc, ◌-ℤ◌, ◌≤ℤ◌, ⊎_elim, mul-le-mul, ap, sym, inl}
+use Rattle.std.proofs.Common.{◌≡◌, ℕ, ◌+◌, ◌-◌, ◌*◌, ◌/◌, ◌<◌, ◌≤◌, List, min, max, IsTrue, ltb, arith, ℤ, pos, negsuc, ◌-ℤ◌, ◌≤ℤ◌, ⊎_elim, mul-le-mul, ap, sym, inl, ◌∙◌}
 use Rattle.std.proofs.Math.Nat.{lt-div-mul-add}
 use Rattle.std.proofs.lemmas.Bool.{cases_lt, lt-ltb, ltb-true}
 use Rattle.std.proofs.lemmas.Int.{ints}
@@ -13,7 +13,7 @@ use Rattle.road_network.specs.Net.{Net, edge_line}
 use Rattle.grid_index.specs.declared.runs.Run.{Run}
 use Rattle.grid_index.specs.Cells.{cell, shifted}
 use Rattle.grid_index.specs.NearestCell.{IsNearestCell, nearest_between}
-use Rattle.grid_index.specs.Runs.{IsBelow, IsRun, IsRunOf}
+use Rattle.grid_index.specs.Runs.{HasCorners, IsBelow, IsBoxDistance, IsRun, IsRunOf}
 use Rattle.grid_index.proofs.Places.{between, rises}
 use Rattle.grid_index.proofs.RunBoxes.{below_twice}
 
@@ -146,4 +146,40 @@ nearest_place net side reach p q r is in_range inside close =
       inside = record { x = x.1.between_them; y = y.1.between_them };
       square = record { x = omega (arith, lx, close.x); y = omega (arith, ly, close.y) };
       cell_is = record { column_is = ap (λ v. v / side) (sym x.1.shifted_is); row_is = ap (λ v. v / side) (sym y.1.shifted_is) };
+    }
+
+-- a shifted coordinate that stands for w is as far from that of z as w is from z
+as_far : (z w : ℤ) (x : ℕ) → unsigned_abs z ≤ 1_000_000_000 → unsigned_abs w ≤ 1_000_000_000 → shifted w ≡ x
+    → unsigned_abs (z -ℤ w) ≡ x - shifted z + (shifted z - x)
+as_far z w x h k is =
+    let a = apart_at_least z w h k in
+    let b = apart_at_most z w h k in
+    omega (arith, a, b, is)
+
+-- the distance of the nearest place, from the shifted coordinates of both
+pub box_distance : (r : Run) (p : Point) (x y d2 : ℕ) → HasCorners r → InRange p → x ≡ nearest_between r.low.x r.high.x p.x → y ≡ nearest_between r.low.y r.high.y p.y
+    → d2 ≡ (x - shifted p.x + (shifted p.x - x)) * (x - shifted p.x + (shifted p.x - x)) + (y - shifted p.y + (shifted p.y - y)) * (y - shifted p.y + (shifted p.y - y))
+    → IsBelow r.low r.high → IsBoxDistance r p d2
+box_distance r p x y d2 corners in_range xs ys value rise =
+    let u = nearest_coordinate r.low.x r.high.x p.x corners.low_in.x_abs corners.high_in.x_abs in_range.x_abs rise.x in
+    let v = nearest_coordinate r.low.y r.high.y p.y corners.low_in.y_abs corners.high_in.y_abs in_range.y_abs rise.y in
+    let place : Point = record { x = u.0; y = v.0 } in
+    let inside : InBox r.low r.high place = record { x = u.1.between_them; y = v.1.between_them } in
+    let place_in = box_in_range r.low r.high place corners.low_in corners.high_in inside in
+    let dx = as_far p.x u.0 x in_range.x_abs place_in.x_abs (u.1.shifted_is ∙ sym xs) in
+    let dy = as_far p.y v.0 y in_range.y_abs place_in.y_abs (v.1.shifted_is ∙ sym ys) in
+    let is : distance2 p place ≡ d2 =
+    ap (λ a. a * a + unsigned_abs (p.y -ℤ v.0) * unsigned_abs (p.y -ℤ v.0)) dx
+    ∙ ap (λ b. (x - shifted p.x + (shifted p.x - x)) * (x - shifted p.x + (shifted p.x - x)) + b * b) dy ∙ sym value in
+    record {
+      least = λ q there.
+          let q_in = box_in_range r.low r.high q corners.low_in corners.high_in there in
+          let lx = u.1.least q.x q_in.x_abs there.x in
+          let ly = v.1.least q.y q_in.y_abs there.y in
+          let mx : unsigned_abs (p.x -ℤ u.0) * unsigned_abs (p.x -ℤ u.0) ≤ unsigned_abs (p.x -ℤ q.x) * unsigned_abs (p.x -ℤ q.x) = mul-le-mul lx lx in
+          let my : unsigned_abs (p.y -ℤ v.0) * unsigned_abs (p.y -ℤ v.0) ≤ unsigned_abs (p.y -ℤ q.y) * unsigned_abs (p.y -ℤ q.y) = mul-le-mul ly ly in
+          omega (arith, mx, my, is);
+      place = place;
+      inside = inside;
+      is = is;
     }

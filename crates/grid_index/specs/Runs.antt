@@ -81,3 +81,10 @@ edges_of_run r = r.edge ∷ option_to_list r.twin
 -- the box of the run has a place whose squared distance from p is at most this
 abbrev pub IsNearRun : Point → ℕ → Run → Type 0
 IsNearRun p far2 r = (q : Point) × InBox r.low r.high q × (distance2 p q ≤ far2)
+
+-- no place of the run's box is nearer to p than this, squared, and one is just that near
+pub record IsBoxDistance (r : Run) (p : Point) (d2 : ℕ) : Type 0 where
+  pub least : (q : Point) → InBox r.low r.high q → d2 ≤ distance2 p q
+  pub place : Point
+  pub inside : InBox r.low r.high place
+  pub is : distance2 p place ≡ d2

@@ -1,5 +1,5 @@
 //! The grid of a network. Serves searches of candidates; decided by `IsGrid`.
-ghost use Rattle.std.specs.Prelude.{◌≡◌, ℕ, ◌*◌, ◌≤◌, ◌↔◌, IfOk, IsTrue, flat_map};
+ghost use Rattle.std.specs.Prelude.{◌≡◌, ℕ, ◌*◌, ◌≤◌, ◌↔◌, IfOk, IsTrue, MatchOption, flat_map};
 ghost use Rattle.std.specs.List.{All, Contains};
 ghost use Rattle.polyline_geometry.specs.declared.plane.Point.{Point as Place};
 ghost use Rattle.polyline_geometry.specs.Plane.{InRange};
@@ -9,13 +9,13 @@ ghost use Rattle.road_network.specs.Net.{HasEdge};
 ghost use Rattle.grid_index.specs.Cells.{HasCell, cell};
 ghost use Rattle.grid_index.specs.GridOf.{AreHits, ContainsNear, HasNoneWithin, IsGrid, runs_at};
 ghost use Rattle.grid_index.specs.NearestCell.{HasNoneNearer, IsNearestCell};
-ghost use Rattle.grid_index.specs.Runs.{HasCorners, edges_of_run};
+ghost use Rattle.grid_index.specs.Runs.{IsBoxDistance, IsRun, edges_of_run};
 ghost use Rattle.grid_index.specs.Rising.{AreRising};
 
 use crate::cells::{Cells, shifted};
 use crate::entries::Layout;
 use crate::extent::Extent;
-use crate::nearest_cell::{cell_distance2, is_nearest_cell};
+use crate::nearest_cell::{cell_distance2, distance2_in_cell};
 use crate::runs::Run;
 use crate::table::Table;
 use polyline_geometry::{List, Point};
@@ -202,13 +202,15 @@ impl<'n> Grid<'n> {
         self.table.wide.as_slice()
     }
 
-    /// Whether the place of a run's box that is nearest to p lies in the cell of a column and a row.
-    pub fn is_nearest_cell(&self, run: Run, p: Point, column: u32, row: u32) -> bool
-        requires corners { HasCorners run }
+    /// The squared distance of p and the nearest place of a run's box, in cm², where that place lies
+    /// in the cell of a column and a row.
+    pub fn distance2_in_cell(&self, run: &Run, p: Point, column: u32, row: u32) -> Option<u64>
+        requires run { IsRun self.now.net run.now }
         requires p_in { InRange p }
-        ensures { IsTrue result ↔ IsNearestCell self.now.side p run column row }
+        ensures { MatchOption result (IsNearestCell self.now.side p run.now column row → ⊥)
+            (λ d2. IsNearestCell self.now.side p run.now column row × IsBoxDistance run.now p d2) }
     {
-        is_nearest_cell(run, p, column, row, self.table.layout.side)
+        distance2_in_cell(run, p, column, row, self.table.layout.side)
     }
 
     /// How far p is at least, squared, from the boxes of the runs that have their nearest place in

@@ -8,8 +8,8 @@
 //!
 //! [`Grid::near`] gives the edges near a point, and [`Grid::is_far`] tells that a point is far from
 //! the whole network. Those who visit the cells themselves take [`Grid::cells_near`],
-//! [`Grid::runs_at`] and [`Grid::wide_runs`], each run at one cell by [`Grid::is_nearest_cell`], and
-//! leave out a cell by [`Grid::cell_distance2`].
+//! [`Grid::runs_at`] and [`Grid::wide_runs`], each run at one cell by [`Grid::distance2_in_cell`],
+//! and leave out a cell by [`Grid::cell_distance2`].
 //!
 //! Cells lie side by side in a table of `width` by `width` slots, which repeats over the plane:
 //! cell (column, row) has the slot of the remainders of both. Two far cells may share a slot, so a

@@ -1,11 +1,11 @@
 //! The one cell at which a look takes a run: that of the place of its box which is nearest to the
 //! point. Serves `Grid`; decided by `IsNearestCell`.
-ghost use Rattle.std.specs.Prelude.{◌≡◌, ℕ, ◌+◌, ◌-◌, ◌*◌, ◌/◌, ◌≤◌, ◌↔◌, IsTrue, max, min};
+ghost use Rattle.std.specs.Prelude.{◌≡◌, ℕ, ◌+◌, ◌-◌, ◌*◌, ◌/◌, ◌≤◌, ◌↔◌, IsTrue, MatchOption, max, min};
 ghost use Rattle.std.specs.Int.RustNames.{unsigned_abs};
 ghost use Rattle.polyline_geometry.specs.Plane.{InRange};
 ghost use Rattle.road_network.specs.Net.{Net};
 ghost use Rattle.grid_index.specs.NearestCell.{HasNoneNearer, IsNearestCell, nearest_between};
-ghost use Rattle.grid_index.specs.Runs.{HasCorners};
+ghost use Rattle.grid_index.specs.Runs.{HasCorners, IsBelow, IsBoxDistance};
 
 use crate::cells::shifted;
 use crate::runs::Run;
@@ -19,7 +19,8 @@ fn nearest_between(low: i32, high: i32, z: i32) -> u32
     requires low_in { unsigned_abs low ≤ 1_000_000_000 }
     requires high_in { unsigned_abs high ≤ 1_000_000_000 }
     requires z_in { unsigned_abs z ≤ 1_000_000_000 }
-    ensures { result ≡ nearest_between low high z }
+    ensures value { result ≡ nearest_between low high z }
+    ensures small { result ≤ 2_001_000_000 }
 {
     shifted(low).max(shifted(z).min(shifted(high)))
 }
@@ -53,16 +54,41 @@ fn gap(x: u32, number: u32, side: u32) -> u64
     }
 }
 
-/// Whether the place of a run's box that is nearest to p lies in the cell of this column and row.
-pub(crate) fn is_nearest_cell(run: Run, p: Point, column: u32, row: u32, side: u32) -> bool
+/// How far apart two shifted coordinates are, squared.
+fn apart2(a: u32, b: u32) -> u64
+    requires a_small { a ≤ 2_001_000_000 }
+    requires b_small { b ≤ 2_001_000_000 }
+    ensures value { result ≡ (a - b + (b - a)) * (a - b + (b - a)) }
+    ensures small { result ≤ 4_004_001_000_000_000_000 }
+{
+    let apart = u64::from(a.abs_diff(b));
+    apart * apart
+}
+
+/// The squared distance of p and the nearest place of a run's box, in cm², where that place lies in
+/// the cell of this column and row.
+pub(crate) fn distance2_in_cell(
+    run: &Run,
+    p: Point,
+    column: u32,
+    row: u32,
+    side: u32,
+) -> Option<u64>
     requires some { 1 ≤ side }
     requires few { side ≤ 1_000_000 }
-    requires corners { HasCorners run }
+    requires corners { HasCorners run.now }
     requires p_in { InRange p }
-    ensures { IsTrue result ↔ IsNearestCell side p run column row }
+    ensures { MatchOption result (IsNearestCell side p run.now column row → ⊥)
+        (λ d2. IsNearestCell side p run.now column row
+        × (IsBelow run.now.low run.now.high → IsBoxDistance run.now p d2)) }
 {
-    is_within(nearest_between(run.low.x, run.high.x, p.x), column, side)
-        && is_within(nearest_between(run.low.y, run.high.y, p.y), row, side)
+    let x = nearest_between(run.low.x, run.high.x, p.x);
+    let y = nearest_between(run.low.y, run.high.y, p.y);
+    if is_within(x, column, side) && is_within(y, row, side) {
+        Some(apart2(x, shifted(p.x)) + apart2(y, shifted(p.y)))
+    } else {
+        None
+    }
 }
 
 /// How far p is at least, squared, from the boxes of the runs that have their nearest place in the
