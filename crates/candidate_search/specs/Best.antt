@@ -133,7 +133,7 @@ pub record IsLimit (search : Search) (found : List NearEdge) (limit : ℕ) : Typ
   pub low : limit ≤ search.radius * search.radius + 1
   pub far : (d2 e i : ℕ) → limit ≤ d2 → d2 ≤ search.radius * search.radius → IsAccounted search.k found d2 e i
 
--- the segments of the run within the radius are accounted for, each with those of the reverse edge
+-- the segments of the run within the radius are accounted for, each with those of its twin
 abbrev pub HasSeen : Net → Search → List NearEdge → Run → Type 0
 HasSeen net search found r =
     (e i : ℕ) → HasSegment net r e i
@@ -146,9 +146,9 @@ HasSeenOwn net search found r =
     (i : ℕ) → r.first ≤ i → i < r.end
     → IsAccounted search.k found (segment_snap (edge_line net r.edge.0) search.at i).d2 r.edge.0 i
 
--- the segments of the reverse edge are, where there is one
-abbrev pub HasSeenReverse : Net → Search → List NearEdge → Run → Type 0
-HasSeenReverse net search found r =
+-- the segments of the twin are, where there is one
+abbrev pub HasSeenTwin : Net → Search → List NearEdge → Run → Type 0
+HasSeenTwin net search found r =
     (twin : EdgeId) → r.twin ≡ Some twin
     → (i own : ℕ) → r.first ≤ own → own < r.end → i + own + 2 ≡ length (edge_line net r.edge.0)
     → IsAccounted search.k found (segment_snap (edge_line net r.edge.0) search.at own).d2 twin.0 i
@@ -159,8 +159,8 @@ pub record IsNearestIn (net : Net) (search : Search) (r : Run) (near : NearSegme
   pub nearest : IsNearest (edge_line net r.edge.0) search.at r.first r.end near
   pub close : near.d2 ≤ search.radius * search.radius
 
--- the first of the nearest segments of the reverse edge: the last of the run's, from the line's end
-pub record IsNearestOfReverse (net : Net) (search : Search) (r : Run) (twin : EdgeId) (near : NearSegment) (c : NearEdge) : Type 0 where
+-- the first of the nearest segments of the twin: the last of the run's, from the line's end
+pub record IsNearestOfTwin (net : Net) (search : Search) (r : Run) (twin : EdgeId) (near : NearSegment) (c : NearEdge) : Type 0 where
   pub last : ℕ
   pub last_is : IsLastNearest (edge_line net r.edge.0) search.at r.end near last
   pub edge_is : c.edge ≡ twin
