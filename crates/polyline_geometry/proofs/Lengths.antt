@@ -27,6 +27,13 @@ line_length_take (c ∷ rest) (suc i) h k =
     ap (λ n. line_length (take n (c ∷ rest))) e ∙ length_from_take c rest i (omega (arith, k))
     ∙ ap (λ n. line_length (take (suc i) (c ∷ rest)) + straight (point_at (c ∷ rest) n) (point_at (c ∷ rest) (suc i))) (sym b)
 
+-- one more segment of a line adds its straight length
+pub line_length_next : (line : List Point) (i : ℕ) → i + 1 < length line
+    → line_length (take (i + 1 + 1) line) ≡ line_length (take (i + 1) line) + straight (point_at line i) (point_at line (i + 1))
+line_length_next line i h =
+    let e : i + 1 - 1 ≡ i = omega arith in
+    line_length_take line (i + 1) (omega arith) h ∙ ap (λ k. line_length (take (i + 1) line) + straight (point_at line k) (point_at line (i + 1))) e
+
 length_from_push : (c : Point) (line : List Point) (a b : Point)
     → length_from c ((line ++ a ∷ []) ++ b ∷ []) ≡ length_from c (line ++ a ∷ []) + straight a b
 length_from_push c [] a b = omega arith

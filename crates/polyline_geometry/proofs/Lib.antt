@@ -8,3 +8,4 @@ pub mod Lengths
 pub mod OffsetLists
 pub mod Boxes
 pub mod Nearest
+pub mod Ties

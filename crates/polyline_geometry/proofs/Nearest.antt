@@ -10,7 +10,7 @@ use Rattle.polyline_geometry.specs.Boxes.{BoxMeetsSquare, LineMeetsSquare}
 use Rattle.polyline_geometry.specs.Nearest.{AreFar, IsNearest, SnapIsTheNearest, segment_snap}
 use Rattle.polyline_geometry.specs.declared.line.NearSegment.{NearSegment}
 use Rattle.std.specs.Prelude.{MatchOption}
-use Rattle.polyline_geometry.proofs.Lengths.{line_length_front, line_length_take}
+use Rattle.polyline_geometry.proofs.Lengths.{line_length_front, line_length_next}
 use Rattle.polyline_geometry.proofs.Parts.{div_le}
 use Rattle.polyline_geometry.proofs.Boxes.{share-le, snap_meets, snap_small}
 
@@ -88,15 +88,15 @@ pub record IsNearestSoFar (line : List Point) (p : Point) (limit first i : ℕ) 
   pub below_is : below ≡ least_below limit nearest
 
 -- one more segment is no nearer than a distance
-far_next : (line : List Point) (p : Point) (d2 first i : ℕ) → AreFar line p d2 first i → d2 ≤ (segment_snap line p i).d2 → AreFar line p d2 first (i + 1)
+pub far_next : (line : List Point) (p : Point) (d2 first i : ℕ) → AreFar line p d2 first i → d2 ≤ (segment_snap line p i).d2 → AreFar line p d2 first (i + 1)
 far_next line p d2 first i far here = λ k le lt.
     ⊎_elim (λ h. far k le h) (λ h. let e : i ≡ k = omega (arith, lt, h) in subst (λ v. d2 ≤ (segment_snap line p v).d2) e here) (cases_lt k i)
 
-segment_after : (line : List Point) (p : Point) (i : ℕ) → snap_segment (point_at line i) (point_at line (i + 1)) p ≡ segment_snap line p i
+pub segment_after : (line : List Point) (p : Point) (i : ℕ) → snap_segment (point_at line i) (point_at line (i + 1)) p ≡ segment_snap line p i
 segment_after line p i = let e : i + 1 ≡ suc i = omega arith in ap (λ k. snap_segment (point_at line i) (point_at line k) p) e
 
 -- one more segment that is no nearer
-told_same : (line : List Point) (p : Point) (limit first i : ℕ) (nearest : Option NearSegment) → AreTold line p limit first i nearest
+pub told_same : (line : List Point) (p : Point) (limit first i : ℕ) (nearest : Option NearSegment) → AreTold line p limit first i nearest
     → least_below limit nearest ≤ (segment_snap line p i).d2 → AreTold line p limit first (i + 1) nearest
 told_same line p limit first i None told far = far_next line p limit first i told far
 told_same line p limit first i (Some s) told far = (
@@ -165,10 +165,8 @@ segment_within line p n lt =
     let b : Point = point_at line (suc n) in
     let within = div_le (straight a b) (share a b p) (distance2 b a) (share-le a b p) in
     let e : n + 1 ≡ suc n = omega arith in
-    let m : n + 1 - 1 ≡ n = omega arith in
     let next : line_length (take (n + 1 + 1) line) ≡ line_length (take (n + 1) line) + straight a b
-    = line_length_take line (n + 1) (omega arith) lt ∙ ap (λ k. line_length (take (n + 1) line) + straight (point_at line k) (point_at line (n + 1))) m
-    ∙ ap (λ k. line_length (take (n + 1) line) + straight a (point_at line k)) e
+    = line_length_next line n lt ∙ ap (λ k. line_length (take (n + 1) line) + straight a (point_at line k)) e
     in
     let front = line_length_front line (n + 1 + 1) in
     omega (arith, within, next, front)

@@ -18,6 +18,10 @@ pub get_or-line_offsets : (line : List Point) (i d : ℕ) → i < length line �
 unfolding line_offsets
 get_or-line_offsets line i d h = get_or-map-range_with_len (offset_at line) 0 (length line) i i d h (omega arith)
 
+-- the offsets of a line are kept in a list
+pub kept_offset : (line : List Point) (offsets : List ℕ) (i : ℕ) → offsets ≡ line_offsets line → i < length line → get_or offsets i 0 ≡ offset_at line i
+kept_offset line offsets i kept h = ap (λ l. get_or l i 0) kept ∙ get_or-line_offsets line i 0 h
+
 -- the offset of the last point is the length of the line
 pub last_offset : (line : List Point) → 1 ≤ length line → slice_index (line_offsets line) (length line - 1) ≡ line_length line
 last_offset line some =

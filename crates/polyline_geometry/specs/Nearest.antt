@@ -1,6 +1,7 @@
--- The nearest segment of a line.
-use Rattle.std.specs.Prelude.{ℕ, ◌≡◌, suc, ◌+◌, ◌-◌, ◌<◌, ◌≤◌, List, length, take}
+-- The nearest segments of a line.
+use Rattle.std.specs.Prelude.{ℕ, ◌≡◌, suc, ◌+◌, ◌-◌, ◌<◌, ◌≤◌, List, length, take, nat_eq, if◌then◌else◌, Option, None, Some}
 use Rattle.polyline_geometry.specs.declared.line.NearSegment.{NearSegment}
+use Rattle.polyline_geometry.specs.declared.line.NearSegments.{NearSegments}
 use Rattle.polyline_geometry.specs.declared.plane.Point.{Point}
 use Rattle.polyline_geometry.specs.declared.plane.Snap.{Snap}
 use Rattle.polyline_geometry.specs.Plane.{IsLine, after, line_length, point_at, snap_line, snap_segment}
@@ -20,6 +21,23 @@ pub record IsNearest (line : List Point) (p : Point) (first end : ℕ) (s : Near
   pub before_end : s.segment < end
   pub earlier : (i : ℕ) → first ≤ i → i < s.segment → s.d2 < (segment_snap line p i).d2
   pub least : AreFar line p s.d2 first end
+
+-- s has the first and the last of the nearest among the segments from `first` up to before `end`
+pub record AreNearest (line : List Point) (p : Point) (first end : ℕ) (s : NearSegments) : Type 0 where
+  pub first_is : IsNearest line p first end (record { segment = s.first; d2 = s.d2 })
+  pub from_first : s.first ≤ s.last
+  pub before_end : s.last < end
+  pub as_near : s.d2 ≡ (segment_snap line p s.last).d2
+  pub farther : AreFar line p (s.d2 + 1) (s.last + 1) end
+
+-- the first of the nearest segments, where one more is as near as the earlier ones or nearer
+abbrev pub first_with : Option NearSegments → ℕ → ℕ → ℕ
+first_with None i d2 = i
+first_with (Some s) i d2 = if nat_eq s.d2 d2 then s.first else i
+
+-- the nearest segments, where one more is as near as the earlier ones or nearer
+abbrev pub with_segment : Option NearSegments → ℕ → ℕ → NearSegments
+with_segment nearest i d2 = record { first = first_with nearest i d2; last = i; d2 = d2 }
 
 -- the line has this segment, and `before` is the length of the segments before it
 pub record IsLengthBefore (line : List Point) (segment before : ℕ) : Type 0 where

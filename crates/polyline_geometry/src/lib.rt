@@ -7,7 +7,9 @@
 //!   [`Snap`]: the squared distance to the snapped point, and how far along the line that lies.
 //! - [`nearest_segment`] and [`snap_on`] are the two halves of a snap to a line, for callers that
 //!   look at a part of a line or keep the lengths of its fronts. [`offset_on`] is the second half for
-//!   those that keep the squared distance too.
+//!   those that keep the squared distance and the offsets of the line's points.
+//! - [`nearest_segments`] tells the first and the last of the nearest, for callers that need the
+//!   nearest segment of the line from its end to its start too.
 //! - [`nearest_in_box`] is the place of a box that is nearest to a point.
 //! - [`List`] is a vector that contracts see as the plain list of its items.
 //!
@@ -28,7 +30,10 @@ mod square_root;
 mod tests;
 
 pub use laws::snap_is_the_nearest;
-pub use line::{NearSegment, line_length, nearest_segment, offset_on, snap_line, snap_on};
+pub use line::{
+    NearSegment, NearSegments, line_length, nearest_segment, nearest_segments, offset_on,
+    snap_line, snap_on,
+};
 pub use list::List;
 pub use nearest_place::nearest_in_box;
 pub use offsets::extend_offsets;

@@ -1,12 +1,13 @@
-//! Lines: their length, their segment that is nearest to a point, and the snap of a point to them.
-//! Decided by `line_length`, `IsNearest` and `snap_line`.
+//! Lines: their length, their segments that are nearest to a point, and the snap of a point to them.
+//! Decided by `line_length`, `IsNearest`, `AreNearest` and `snap_line`.
 ghost use Rattle.std.specs.Prelude.{◌≡◌, suc, ◌+◌, ◌^◌, ◌<◌, ◌≤◌, All, length, take, MatchOption};
 ghost use Rattle.polyline_geometry.specs.Plane.{InRange, IsLine, after, line_length, snap_line, snap_segment};
-ghost use Rattle.polyline_geometry.specs.Nearest.{AreFar, IsLengthBefore, IsNearest, segment_snap};
+ghost use Rattle.polyline_geometry.specs.Nearest.{AreFar, AreNearest, IsLengthBefore, IsNearest, segment_snap, with_segment};
+ghost use Rattle.polyline_geometry.specs.Offsets.{line_offsets};
 
 use crate::nearest_place::nearest_in_box;
 use crate::plane::{Point, Snap, distance2, straight};
-use crate::segment::{snap_distance2, snap_offset, snap_segment};
+use crate::segment::{offset_along, snap_distance2, snap_segment};
 
 /// The sum of the segments of a line.
 fn sum_of_segments(line: &[Point]) -> u64
@@ -96,6 +97,59 @@ pub fn nearest_segment(
     nearest
 }
 
+/// The first and the last of the nearest among the segments of a part of a line, by their numbers
+/// from 0.
+#[derive(Clone, Copy, PartialEq, Eq, Debug)]
+pub struct NearSegments {
+    pub first: usize,
+    pub last: usize,
+    /// The squared distance of the point and those that it snaps to on them, in cm².
+    pub d2: u64,
+}
+
+/// The nearest segments, where one more is as near as the earlier ones or nearer.
+fn with_segment(nearest: Option<NearSegments>, segment: usize, d2: u64) -> NearSegments
+    ensures { result ≡ with_segment nearest segment d2 }
+{
+    let first = match nearest {
+        Some(before) if before.d2 == d2 => before.first,
+        _ => segment,
+    };
+    NearSegments {
+        first,
+        last: segment,
+        d2,
+    }
+}
+
+/// The first and the last of the nearest among the segments from `first` up to before `end`, where
+/// one is nearer than the limit. One pass; most segments are told by their box alone.
+pub fn nearest_segments(
+    line: &[Point],
+    first: usize,
+    end: usize,
+    p: Point,
+    limit: u64,
+) -> Option<NearSegments>
+    requires line { IsLine line.now }
+    requires order { first ≤ end }
+    requires end { end < length line.now }
+    requires p_in { InRange p }
+    ensures { MatchOption result (AreFar line.now p limit first end)
+        (λ s. AreNearest line.now p first end s × (s.d2 < limit)) }
+{
+    let mut nearest = None;
+    let mut below = limit;
+    for i in first..end {
+        if let Some(d2) = distance2_below(line[i], line[i + 1], p, below) {
+            nearest = Some(with_segment(nearest, i, d2));
+            // A later segment that is as near is found too.
+            below = d2 + 1;
+        }
+    }
+    nearest
+}
+
 /// The length of a line before a segment.
 fn length_before(line: &[Point], segment: usize) -> u32
     requires line { IsLine line.now }
@@ -123,17 +177,20 @@ pub fn snap_on(line: &[Point], before: u32, p: Point, segment: usize) -> Snap
     }
 }
 
-/// How far along a line a point snaps to, by the segment that it snaps to. The earlier segments have
-/// the length `before` together.
-pub fn offset_on(line: &[Point], before: u32, p: Point, segment: usize) -> u32
+/// How far along a line a point snaps to, by the segment that it snaps to and the offsets of the
+/// line's points. Takes no root.
+pub fn offset_on(line: &[Point], offsets: &[u32], p: Point, segment: usize) -> u32
     requires line { IsLine line.now }
     requires length { line_length line.now ≤ 100_000_000 }
+    requires offsets { offsets.now ≡ line_offsets line.now }
     requires p_in { InRange p }
-    requires before { IsLengthBefore line.now segment before }
+    requires segment { segment + 1 < length line.now }
     ensures { result ≡ line_length (take (suc segment) line.now)
         + (segment_snap line.now p segment).offset }
 {
-    before + snap_offset(line[segment], line[segment + 1], p)
+    let before = offsets[segment];
+    let length = offsets[segment + 1] - before;
+    before + offset_along(line[segment], line[segment + 1], p, length)
 }
 
 /// The snap of a point to a line.

@@ -3,7 +3,7 @@
 ghost use Rattle.std.specs.Prelude.{◌≡◌, ℕ, ◌*◌, ◌/◌, ◌-◌, ◌^◌, ◌<◌, ◌≤◌, pos, negsuc, ◌≤ℤ◌, ◌+ℤ◌, ◌-ℤ◌, ◌*ℤ◌};
 ghost use Rattle.std.specs.Int.{int_div_euclid};
 ghost use Rattle.std.specs.Int.RustNames.{unsigned_abs};
-ghost use Rattle.polyline_geometry.specs.Plane.{InRange, along, distance2, dot, share, snap_segment, snapped};
+ghost use Rattle.polyline_geometry.specs.Plane.{InRange, along, distance2, dot, share, snap_segment, snapped, straight};
 ghost use Rattle.polyline_geometry.specs.Parts.{IsPartOf, IsShare};
 
 use crate::plane::{Point, Snap, distance2, straight};
@@ -211,16 +211,17 @@ fn part_of_length(length: u32, t: u64, n: u64) -> u32
     }
 }
 
-/// How far along the segment from a to b a point snaps to, in cm.
+/// How far along the segment from a to b a point snaps to, in cm, by the length of the segment.
 #[tactic(auto, using(crate::proofs::Boxes::is_share))]
-pub(crate) fn snap_offset(a: Point, b: Point, p: Point) -> u32
+pub(crate) fn offset_along(a: Point, b: Point, p: Point, length: u32) -> u32
     requires a_in { InRange a }
     requires b_in { InRange b }
     requires p_in { InRange p }
     requires differ { a ≡ b → ⊥ }
+    requires length { length ≡ straight a b }
     ensures { result ≡ (snap_segment a b p).offset }
 {
-    part_of_length(straight(a, b), share(a, b, p), distance2(b, a))
+    part_of_length(length, share(a, b, p), distance2(b, a))
 }
 
 /// The snap of a point to the segment from a to b.
@@ -233,6 +234,6 @@ pub fn snap_segment(a: Point, b: Point, p: Point) -> Snap
 {
     Snap {
         d2: snap_distance2(a, b, p),
-        offset: snap_offset(a, b, p),
+        offset: offset_along(a, b, p, straight(a, b)),
     }
 }
