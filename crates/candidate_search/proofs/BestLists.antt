@@ -36,7 +36,7 @@ no_later_twice c x d2 i h k = record {
 }
 
 -- what comes behind k still does where it is farther
-pub behind_later : (k : ℕ) (found : List NearEdge) (d2 e far i : ℕ) → d2 ≤ far → IsBehind k found d2 e → IsAccounted k found far e i
+behind_later : (k : ℕ) (found : List NearEdge) (d2 e far i : ℕ) → d2 ≤ far → IsBehind k found d2 e → IsAccounted k found far e i
 behind_later k found d2 e far i le behind = inr (record { full = behind.full; before = λ n d lt. precedes_farther (get_or found n d).d2 (get_or found n d).edge.0 d2 far e (behind.before n d lt) le })
 
 -- what is accounted for at a segment is at those that are farther, or as far and later

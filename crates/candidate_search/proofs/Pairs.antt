@@ -1,12 +1,12 @@
 -- The nearest edges so far: two more at once.
-use Rattle.std.proofs.Common.{◌≡◌, ℕ, suc, ◌+◌, ◌-◌, ◌<◌, ◌≤◌, ◌⊎◌, List, length, get_or, take, All, refl, sym, ap, ◌∙◌, subst, inl, inr, arith, ⊎_elim, length-take}
+use Rattle.std.proofs.Common.{◌≡◌, ℕ, ◌+◌, ◌<◌, ◌≤◌, ◌⊎◌, List, length, get_or, take, All, sym, ap, ◌∙◌, subst, inl, inr, arith, ⊎_elim, length-take}
 use Rattle.std.specs.List.{Contains, insert}
 use Rattle.std.proofs.lemmas.Bool.{cases_lt}
 use Rattle.std.proofs.lemmas.List.{get_or_default}
-use Rattle.std.proofs.lemmas.List.Edits.{get_or-insert_above, get_or-insert_at, get_or-insert_below, length-insert}
+use Rattle.std.proofs.lemmas.List.Edits.{get_or-insert_at, get_or-insert_below, length-insert}
 use Rattle.std.proofs.lemmas.List.Elements.{All-take}
 use Rattle.candidate_search.specs.declared.best.NearEdge.{NearEdge}
-use Rattle.candidate_search.specs.Best.{AreApart, ComesBefore, IsAccounted, IsApart, IsBehind, IsNewPair, IsPlaceFor, IsWanted, Precedes, PutsPair, Takes, TakesPair}
+use Rattle.candidate_search.specs.Best.{AreApart, ComesBefore, IsAccounted, IsBehind, IsNewPair, IsPlaceFor, IsWanted, Precedes, PutsPair, Takes, TakesPair}
 use Rattle.candidate_search.proofs.BestLists.{accounted_later, accounted_one, all_contained, apart_insert, apart_take, comes_other, from_insert, from_take, in_insert, no_edge, of_contained, precedes_twice}
 
 -- what stands from a place on comes after it, where the first of these does

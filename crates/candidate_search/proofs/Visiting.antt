@@ -73,10 +73,10 @@ pair_steps net search old new a b best first second takes = record {
     few = takes.few;
     apart = takes.apart;
     each = all_contained (IsNearEdge net search) new (λ x there.
-    ⊎_elim
-    (λ m. of_contained (IsNearEdge net search) old x best.each m)
-    (λ is. ⊎_elim (λ e. subst (IsNearEdge net search) (sym e) first) (λ e. subst (IsNearEdge net search) (sym e) second) is)
-    (takes.only x there));
+        ⊎_elim
+        (λ m. of_contained (IsNearEdge net search) old x best.each m)
+        (λ is. ⊎_elim (λ e. subst (IsNearEdge net search) (sym e) first) (λ e. subst (IsNearEdge net search) (sym e) second) is)
+        (takes.only x there));
   };
   keeps = takes.keeps;
 }

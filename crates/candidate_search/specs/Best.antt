@@ -1,8 +1,8 @@
 -- The nearest edges so far, while runs are visited in any order.
 use Rattle.std.specs.Prelude.{ℕ, ◌≡◌, ◌+◌, ◌*◌, ◌<◌, ◌≤◌, ◌⊎◌, Some, List, length, slice_index_or, take}
 use Rattle.std.specs.List.{All, AllPairs, Contains, insert}
-use Rattle.polyline_geometry.specs.declared.line.NearSegment.{NearSegment}
-use Rattle.polyline_geometry.specs.Nearest.{IsNearest, segment_snap}
+use Rattle.polyline_geometry.specs.declared.line.NearSegments.{NearSegments}
+use Rattle.polyline_geometry.specs.Nearest.{AreNearest, segment_snap}
 use Rattle.road_network.specs.declared.EdgeId.{EdgeId}
 use Rattle.road_network.specs.Net.{Net, HasEdge, edge_line}
 use Rattle.grid_index.specs.declared.cells.Cells.{Cells}
@@ -12,7 +12,6 @@ use Rattle.grid_index.specs.NearestCell.{IsNearestCell}
 use Rattle.grid_index.specs.Runs.{HasSegment, IsRun}
 use Rattle.candidate_search.specs.declared.best.NearEdge.{NearEdge}
 use Rattle.candidate_search.specs.declared.wanted.Search.{Search}
-use Rattle.candidate_search.specs.LastNearest.{IsLastNearest}
 
 -- edge e at the first squared distance comes before edge f at the second
 pub record Precedes (d2 e far f : ℕ) : Type 0 where
@@ -153,18 +152,16 @@ HasSeenTwin net search found r =
     → (i own : ℕ) → r.first ≤ own → own < r.end → i + own + 2 ≡ length (edge_line net r.edge.0)
     → IsAccounted search.k found (segment_snap (edge_line net r.edge.0) search.at own).d2 twin.0 i
 
--- the first of the nearest segments of the run, within the radius
-pub record IsNearestIn (net : Net) (search : Search) (r : Run) (near : NearSegment) : Type 0 where
+-- the first and the last of the nearest segments of the run, within the radius
+pub record AreNearestIn (net : Net) (search : Search) (r : Run) (near : NearSegments) : Type 0 where
   pub run : IsRun net r
-  pub nearest : IsNearest (edge_line net r.edge.0) search.at r.first r.end near
+  pub nearest : AreNearest (edge_line net r.edge.0) search.at r.first r.end near
   pub close : near.d2 ≤ search.radius * search.radius
 
 -- the first of the nearest segments of the twin: the last of the run's, from the line's end
-pub record IsNearestOfTwin (net : Net) (search : Search) (r : Run) (twin : EdgeId) (near : NearSegment) (c : NearEdge) : Type 0 where
-  pub last : ℕ
-  pub last_is : IsLastNearest (edge_line net r.edge.0) search.at r.end near last
+pub record IsNearestOfTwin (net : Net) (r : Run) (twin : EdgeId) (near : NearSegments) (c : NearEdge) : Type 0 where
   pub edge_is : c.edge ≡ twin
-  pub segment_is : c.segment + last + 2 ≡ length (edge_line net r.edge.0)
+  pub segment_is : c.segment + near.last + 2 ≡ length (edge_line net r.edge.0)
   pub d2_is : c.d2 ≡ near.d2
 
 -- the runs that have their nearest place in this cell

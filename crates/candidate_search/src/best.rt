@@ -1,5 +1,5 @@
 //! The nearest edges so far, while runs are visited in any order. Serves `candidates`; decided by
-//! `Takes`.
+//! `Takes` and `TakesPair`.
 ghost use Rattle.std.specs.Prelude.{◌≡◌, ℕ, ◌+◌, ◌*◌, ◌≤◌, ◌<◌, ◌↔◌, IsTrue, length, slice_index_or, OnOk};
 ghost use Rattle.std.specs.List.{All, remove};
 ghost use Rattle.candidate_search.specs.declared.best.NearEdge.{NearEdge as NearEdgeOf};
@@ -48,7 +48,7 @@ pub(crate) fn limit_for(found: &[NearEdge], search: Search) -> u64
 }
 
 /// Whether k are found that come before an edge at this squared distance.
-pub(crate) fn is_behind(found: &[NearEdge], search: Search, edge: EdgeId, d2: u64) -> bool
+fn is_behind(found: &[NearEdge], search: Search, edge: EdgeId, d2: u64) -> bool
     requires few { length found.now ≤ search.k }
     requires apart { AreApart found.now }
     ensures { IsTrue result ↔ IsBehind search.k found.now d2 edge.0 }
@@ -104,41 +104,6 @@ fn put(found: &mut Vec<NearEdge>, k: usize, near: NearEdge) -> Result<(), AllocE
     make_room(found, k)?;
     let place = place_for(found.as_slice(), near);
     found.insert(place, near)?;
-    found.truncate(k);
-    Ok(())
-}
-
-/// The place of the first that comes after it, where those below a place come before it.
-fn place_after(found: &[NearEdge], place: usize, near: NearEdge) -> usize
-    requires apart { AreApart found.now }
-    requires others { All (λ c. c.edge.0 ≡ near.edge.0 → ⊥) found.now }
-    requires within { place ≤ length found.now }
-    requires before { (i : ℕ) (d : NearEdgeOf) → i < place → ComesBefore (slice_index_or found.now i d) near }
-    ensures { IsPlaceFor found.now near result }
-{
-    let mut next = place;
-    while next < found.len() && found[next].is_before(near) {
-        next += 1;
-    }
-    next
-}
-
-/// Puts two more edges at their places, and drops what is then beyond the first k.
-fn put_pair(
-    found: &mut Vec<NearEdge>,
-    k: usize,
-    own: NearEdge,
-    twin: NearEdge,
-) -> Result<(), AllocError>
-    requires apart { AreApart found.old.items }
-    requires pair { IsNewPair k found.old.items own twin }
-    ensures { OnOk result (PutsPair k found.old.items found.new.items own twin) }
-{
-    make_room(found, k)?;
-    let place = place_for(found.as_slice(), own);
-    found.insert(place, own)?;
-    let next = place_after(found.as_slice(), place + 1, twin);
-    found.insert(next, twin)?;
     found.truncate(k);
     Ok(())
 }
@@ -217,6 +182,42 @@ fn is_new_pair(found: &[NearEdge], search: Search, own: NearEdge, twin: NearEdge
         return false;
     }
     has_neither(found, own.edge, twin.edge)
+}
+
+/// The place of the first that comes after it, looked for from a place on.
+fn place_after(found: &[NearEdge], place: usize, near: NearEdge) -> usize
+    requires apart { AreApart found.now }
+    requires others { All (λ c. c.edge.0 ≡ near.edge.0 → ⊥) found.now }
+    requires within { place ≤ length found.now }
+    requires before { (i : ℕ) (d : NearEdgeOf) → i < place
+        → ComesBefore (slice_index_or found.now i d) near }
+    ensures { IsPlaceFor found.now near result }
+{
+    let mut next = place;
+    while next < found.len() && found[next].is_before(near) {
+        next += 1;
+    }
+    next
+}
+
+/// Puts two more edges at their places, and drops what is then beyond the first k.
+fn put_pair(
+    found: &mut Vec<NearEdge>,
+    k: usize,
+    own: NearEdge,
+    twin: NearEdge,
+) -> Result<(), AllocError>
+    requires apart { AreApart found.old.items }
+    requires pair { IsNewPair k found.old.items own twin }
+    ensures { OnOk result (PutsPair k found.old.items found.new.items own twin) }
+{
+    make_room(found, k)?;
+    let place = place_for(found.as_slice(), own);
+    found.insert(place, own)?;
+    let next = place_after(found.as_slice(), place + 1, twin);
+    found.insert(next, twin)?;
+    found.truncate(k);
+    Ok(())
 }
 
 /// Takes the nearest segments of two edges, both at once where they are new.

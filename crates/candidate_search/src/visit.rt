@@ -1,51 +1,43 @@
 //! Visits of the runs near a point, cell by cell from its own on. Serves `candidates`; decided by
 //! `HasSeenCell`.
-ghost use Rattle.std.specs.Prelude.{◌≡◌, OnOk};
+ghost use Rattle.std.specs.Prelude.{◌≡◌, ◌<◌, OnOk};
 ghost use Rattle.polyline_geometry.specs.Plane.{InRange};
 ghost use Rattle.road_network.specs.Net.{Net};
 ghost use Rattle.grid_index.specs.NearestCell.{IsNearestCell};
 ghost use Rattle.grid_index.specs.Runs.{IsBoxDistance, IsRun};
-ghost use Rattle.candidate_search.specs.Best.{AreBest, HasSeen, HasSeenCell, HasSeenRow, HasSeenRows, HasSeenWide, IsLimit, IsNearestIn, IsNearestOfTwin, Steps};
+ghost use Rattle.candidate_search.specs.Best.{AreBest, AreNearestIn, HasSeen, HasSeenCell, HasSeenRow, HasSeenRows, HasSeenWide, IsLimit, IsNearestOfTwin, Steps};
 
 use crate::best::{NearEdge, limit_for, take_near, take_pair};
-use crate::last_nearest::last_nearest;
 use crate::wanted::Search;
 use grid_index::{Cells, Grid, Run};
-use polyline_geometry::{NearSegment, distance2, nearest_in_box, nearest_segment};
+use polyline_geometry::{NearSegments, distance2, nearest_in_box, nearest_segments};
 use road_network::{EdgeId, Network};
 use std::alloc::AllocError;
 
 /// The nearest segment of the twin of a run: the last of the nearest, counted from the end of the
 /// run's line.
-fn nearest_of_twin(
-    net: &Network,
-    search: Search,
-    run: Run,
-    twin: EdgeId,
-    near: NearSegment,
-) -> NearEdge
-    requires { IsNearestIn net.now search run near }
-    ensures { IsNearestOfTwin net.now search run twin near result }
+fn nearest_of_twin(net: &Network, run: Run, twin: EdgeId, near: NearSegments) -> NearEdge
+    requires run { IsRun net.now run }
+    requires last { near.last < run.end }
+    ensures { IsNearestOfTwin net.now run twin near result }
 {
     net.known();
-    let line = net.line(run.edge);
-    let last = last_nearest(line, run.end as usize, search.at, near);
     NearEdge {
         edge: twin,
-        segment: (line.len() - 2 - last) as u32,
+        segment: (net.line(run.edge).len() - 2 - near.last) as u32,
         d2: near.d2,
     }
 }
 
-/// Takes the nearest segment of a run, of its own edge and of the twin, where there is one.
+/// Takes the nearest segments of a run, of its own edge and of the twin, where there is one.
 fn take_both(
     net: &Network,
     found: &mut Vec<NearEdge>,
     search: Search,
     run: Run,
-    near: NearSegment,
+    near: NearSegments,
 ) -> Result<(), AllocError>
-    requires near { IsNearestIn net.now search run near }
+    requires near { AreNearestIn net.now search run near }
     requires best { AreBest net.now search found.old.items }
     ensures steps { OnOk result (Steps net.now search found.old.items found.new.items) }
     ensures seen { OnOk result (HasSeen net.now search found.new.items run) }
@@ -53,17 +45,12 @@ fn take_both(
     net.known();
     let own = NearEdge {
         edge: run.edge,
-        segment: near.segment as u32,
+        segment: near.first as u32,
         d2: near.d2,
     };
     match run.twin {
         None => take_near(found, search, own),
-        Some(twin) => take_pair(
-            found,
-            search,
-            own,
-            nearest_of_twin(net, search, run, twin, near),
-        ),
+        Some(twin) => take_pair(found, search, own, nearest_of_twin(net, run, twin, near)),
     }
 }
 
@@ -83,7 +70,7 @@ fn measure_run(
 {
     net.known();
     let (first, end) = (run.first as usize, run.end as usize);
-    match nearest_segment(net.line(run.edge), first, end, search.at, limit) {
+    match nearest_segments(net.line(run.edge), first, end, search.at, limit) {
         None => Ok(()),
         Some(near) => take_both(net, found, search, run, near),
     }

@@ -1,4 +1,4 @@
-use Rattle.std.proofs.Common.{arith, subst, sym}
+use Rattle.std.proofs.Common.{subst, sym}
 use Rattle.candidate_search.specs.Best.{AreApart, IsLimit}
 use Rattle.candidate_search.proofs.Visiting.{far_box}
 use Rattle.candidate_search.proofs.visit.look_at_box.Goals as goal

@@ -9,7 +9,7 @@ returns-in-None-clause-steps c =
     let net = c.args.net.now in
     let search = c.args.search in
     let s = c.args.near in
-    let own : NearEdge = record { edge = c.args.run.edge; segment = s.segment; d2 = s.d2 } in
+    let own : NearEdge = record { edge = c.args.run.edge; segment = s.first; d2 = s.d2 } in
     on_ok_weaker c.take_near.result
     (λ takes. taken_steps net search c.args.found.now.items c.take_near.new.found.items own c.requires.best (own_near net search c.args.run s c.requires.near) takes)
     c.take_near.ensures
@@ -30,7 +30,7 @@ returns-in-Some-clause-steps c =
     let search = c.args.search in
     let r = c.args.run in
     let s = c.args.near in
-    let own : NearEdge = record { edge = r.edge; segment = s.segment; d2 = s.d2 } in
+    let own : NearEdge = record { edge = r.edge; segment = s.first; d2 = s.d2 } in
     let twin : NearEdge = c.nearest_of_twin.result in
     on_ok_weaker c.take_pair.result
     (λ takes. pair_steps net search c.args.found.now.items c.take_pair.new.found.items own twin c.requires.best (own_near net search r s c.requires.near)
