@@ -36,7 +36,7 @@ no_later_twice c x d2 i h k = record {
 }
 
 -- what comes behind k still does where it is farther
-pub behind_later : (k : ℕ) (found : List NearEdge) (d2 e far i : ℕ) → d2 ≤ far → IsBehind k found d2 e → IsAccounted k found far e i
+behind_later : (k : ℕ) (found : List NearEdge) (d2 e far i : ℕ) → d2 ≤ far → IsBehind k found d2 e → IsAccounted k found far e i
 behind_later k found d2 e far i le behind = inr (record { full = behind.full; before = λ n d lt. precedes_farther (get_or found n d).d2 (get_or found n d).edge.0 d2 far e (behind.before n d lt) le })
 
 -- what is accounted for at a segment is at those that are farther, or as far and later
@@ -70,7 +70,7 @@ apart_head x r h i d lt = h 0 (suc i) d (omega arith) (omega (arith, lt))
 apart_tail : (x : NearEdge) (r : List NearEdge) → AreApart (x ∷ r) → AreApart r
 apart_tail x r h i j d lt under = h (suc i) (suc j) d (omega (arith, lt)) (omega (arith, under))
 
-apart_insert : (xs : List NearEdge) (place : ℕ) (y : NearEdge) → AreApart xs → place ≤ length xs
+pub apart_insert : (xs : List NearEdge) (place : ℕ) (y : NearEdge) → AreApart xs → place ≤ length xs
     → ((i : ℕ) (d : NearEdge) → i < place → IsApart (get_or xs i d) y) → ((i : ℕ) (d : NearEdge) → place ≤ i → i < length xs → IsApart y (get_or xs i d))
     → AreApart (insert xs place y)
 apart_insert [] zero y h le before after = AllPairs-cons IsApart y [] (λ i d lt. absurd (omega (arith, lt))) h
@@ -83,20 +83,20 @@ apart_insert (x ∷ r) (suc place) y h le before after =
     (All-cons (IsApart x) y (drop place r) (before 0 y (omega arith)) (All-drop (IsApart x) place r head)))
     (apart_insert r place y (apart_tail x r h) (omega (arith, le)) (λ i d lt. before (suc i) d (omega (arith, lt))) (λ i d from lt. after (suc i) d (omega (arith, from)) (omega (arith, lt))))
 
-apart_take : (k : ℕ) (xs : List NearEdge) → AreApart xs → AreApart (take k xs)
+pub apart_take : (k : ℕ) (xs : List NearEdge) → AreApart xs → AreApart (take k xs)
 apart_take k xs h i j d lt under =
     let l = length-take k xs in
     let a = get_or-take k xs i d (omega (arith, lt, under, l)) in
     let b = get_or-take k xs j d (omega (arith, under, l)) in
     subst (λ v. IsApart (get_or (take k xs) i d) v) (sym b) (subst (λ u. IsApart u (get_or xs j d)) (sym a) (h i j d lt (omega (arith, under, l))))
 
-in_insert : (xs : List NearEdge) (place : ℕ) (y x : NearEdge) → Contains xs x → Contains (insert xs place y) x
+pub in_insert : (xs : List NearEdge) (place : ℕ) (y x : NearEdge) → Contains xs x → Contains (insert xs place y) x
 in_insert [] place y x h = absurd (omega (arith, h.1))
 in_insert (a ∷ r) zero y x h = (suc h.0, omega (arith, h.1), h.2)
 in_insert (a ∷ r) (suc place) y x (zero, lt, is) = (0, omega arith, is)
 in_insert (a ∷ r) (suc place) y x (suc i, lt, is) = let t = in_insert r place y x (i, omega (arith, lt), is) in (suc t.0, omega (arith, t.1), t.2)
 
-from_insert : (xs : List NearEdge) (place : ℕ) (y x : NearEdge) → Contains (insert xs place y) x → Contains xs x ⊎ (x ≡ y)
+pub from_insert : (xs : List NearEdge) (place : ℕ) (y x : NearEdge) → Contains (insert xs place y) x → Contains xs x ⊎ (x ≡ y)
 from_insert [] zero y x (zero, lt, is) = inr (sym is)
 from_insert [] zero y x (suc i, lt, is) = absurd (omega (arith, lt))
 from_insert [] (suc place) y x (zero, lt, is) = inr (sym is)
@@ -107,7 +107,7 @@ from_insert (a ∷ r) (suc place) y x (zero, lt, is) = inl (0, omega arith, is)
 from_insert (a ∷ r) (suc place) y x (suc i, lt, is) =
     ⊎_elim (λ t. inl (suc t.0, omega (arith, t.1), t.2)) (λ e. inr e) (from_insert r place y x (i, omega (arith, lt), is))
 
-from_take : (k : ℕ) (xs : List NearEdge) (x : NearEdge) → Contains (take k xs) x → Contains xs x
+pub from_take : (k : ℕ) (xs : List NearEdge) (x : NearEdge) → Contains (take k xs) x → Contains xs x
 from_take k xs x h =
     let l = length-take k xs in
     (h.0, omega (arith, h.1, l), sym (get_or-take k xs h.0 x (omega (arith, h.1, l))) ∙ h.2)
@@ -137,7 +137,7 @@ pub record IsLeft (k : ℕ) (old mid : List NearEdge) (near : NearEdge) : Type 0
   pub only : (x : NearEdge) → Contains mid x → Contains old x
   pub rest : (x : NearEdge) → Contains old x → Contains mid x ⊎ ((x.edge.0 ≡ near.edge.0) × IsNoLater near x.d2 x.segment)
 
-accounted_one : (k : ℕ) (xs : List NearEdge) (x : NearEdge) → AreApart xs → Contains xs x → IsAccounted k (take k xs) x.d2 x.edge.0 x.segment
+pub accounted_one : (k : ℕ) (xs : List NearEdge) (x : NearEdge) → AreApart xs → Contains xs x → IsAccounted k (take k xs) x.d2 x.edge.0 x.segment
 accounted_one k xs x apart h =
     ⊎_elim
     (λ there. inl (record { entry = x; there = there; edge_is = refl; no_later = record { near = omega arith; tie = λ le. omega arith } }))
@@ -283,7 +283,7 @@ pub limit_none : (search : Search) (found : List NearEdge) (limit : ℕ) → lim
 limit_none search found limit is = record { low = omega (arith, is); far = λ d2 e i le near. absurd (omega (arith, is, le, near)) }
 
 -- of two edges that differ one comes before the other
-comes_other : (x near : NearEdge) → (ComesBefore near x → ⊥) → (x.edge.0 ≡ near.edge.0 → ⊥) → ComesBefore x near
+pub comes_other : (x near : NearEdge) → (ComesBefore near x → ⊥) → (x.edge.0 ≡ near.edge.0 → ⊥) → ComesBefore x near
 comes_other x near not_before differ =
     ⊎_elim
     (λ lt. absurd (not_before (record { near = omega (arith, lt); tie = λ le. absurd (omega (arith, le, lt)) })))

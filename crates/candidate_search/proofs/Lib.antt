@@ -2,6 +2,7 @@ pub mod Order
 pub mod Found
 pub mod Taken
 pub mod BestLists
+pub mod Pairs
 pub mod EdgeBoxes
 pub mod Parts
 pub mod Shared

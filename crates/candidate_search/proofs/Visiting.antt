@@ -17,7 +17,7 @@ use Rattle.grid_index.specs.Runs.{IsRun}
 use Rattle.grid_index.proofs.RunBoxes.{segment_within}
 use Rattle.candidate_search.specs.declared.best.NearEdge.{NearEdge}
 use Rattle.candidate_search.specs.declared.wanted.Search.{Search}
-use Rattle.candidate_search.specs.Best.{AreBest, HasSeen, HasSeenCell, HasSeenRow, HasSeenRows, HasSeenWide, IsLimit, IsNearEdge, Steps, Takes}
+use Rattle.candidate_search.specs.Best.{AreBest, HasSeen, HasSeenCell, HasSeenRow, HasSeenRows, HasSeenWide, IsLimit, IsNearEdge, Steps, Takes, TakesPair}
 use Rattle.candidate_search.proofs.BestLists.{all_contained, of_contained}
 use Rattle.candidate_search.proofs.Twins.{same_d2}
 
@@ -62,6 +62,21 @@ taken_steps net search old new near best is takes = record {
     few = takes.few;
     apart = takes.apart;
     each = all_contained (IsNearEdge net search) new (λ x there. ⊎_elim (λ m. of_contained (IsNearEdge net search) old x best.each m) (λ e. subst (IsNearEdge net search) (sym e) is) (takes.only x there));
+  };
+  keeps = takes.keeps;
+}
+
+pub pair_steps : (net : Net) (search : Search) (old new : List NearEdge) (a b : NearEdge) → AreBest net search old → IsNearEdge net search a → IsNearEdge net search b → TakesPair search.k old new a b
+    → Steps net search old new
+pair_steps net search old new a b best first second takes = record {
+  best = record {
+    few = takes.few;
+    apart = takes.apart;
+    each = all_contained (IsNearEdge net search) new (λ x there.
+        ⊎_elim
+        (λ m. of_contained (IsNearEdge net search) old x best.each m)
+        (λ is. ⊎_elim (λ e. subst (IsNearEdge net search) (sym e) first) (λ e. subst (IsNearEdge net search) (sym e) second) is)
+        (takes.only x there));
   };
   keeps = takes.keeps;
 }

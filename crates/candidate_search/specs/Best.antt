@@ -1,8 +1,8 @@
 -- The nearest edges so far, while runs are visited in any order.
 use Rattle.std.specs.Prelude.{ℕ, ◌≡◌, ◌+◌, ◌*◌, ◌<◌, ◌≤◌, ◌⊎◌, Some, List, length, slice_index_or, take}
 use Rattle.std.specs.List.{All, AllPairs, Contains, insert}
-use Rattle.polyline_geometry.specs.declared.line.NearSegment.{NearSegment}
-use Rattle.polyline_geometry.specs.Nearest.{IsNearest, segment_snap}
+use Rattle.polyline_geometry.specs.declared.line.NearSegments.{NearSegments}
+use Rattle.polyline_geometry.specs.Nearest.{AreNearest, segment_snap}
 use Rattle.road_network.specs.declared.EdgeId.{EdgeId}
 use Rattle.road_network.specs.Net.{Net, HasEdge, edge_line}
 use Rattle.grid_index.specs.declared.cells.Cells.{Cells}
@@ -12,7 +12,6 @@ use Rattle.grid_index.specs.NearestCell.{IsNearestCell}
 use Rattle.grid_index.specs.Runs.{HasSegment, IsRun}
 use Rattle.candidate_search.specs.declared.best.NearEdge.{NearEdge}
 use Rattle.candidate_search.specs.declared.wanted.Search.{Search}
-use Rattle.candidate_search.specs.LastNearest.{IsLastNearest}
 
 -- edge e at the first squared distance comes before edge f at the second
 pub record Precedes (d2 e far f : ℕ) : Type 0 where
@@ -64,6 +63,15 @@ pub record Takes (k : ℕ) (old new : List NearEdge) (near : NearEdge) : Type 0 
   pub keeps : Keeps k old new
   pub taken : IsAccounted k new near.d2 near.edge.0 near.segment
 
+-- a segment of each of two edges is taken
+pub record TakesPair (k : ℕ) (old new : List NearEdge) (a b : NearEdge) : Type 0 where
+  pub few : length new ≤ k
+  pub apart : AreApart new
+  pub only : (x : NearEdge) → Contains new x → Contains old x ⊎ ((x ≡ a) ⊎ (x ≡ b))
+  pub keeps : Keeps k old new
+  pub first_taken : IsAccounted k new a.d2 a.edge.0 a.segment
+  pub second_taken : IsAccounted k new b.d2 b.edge.0 b.segment
+
 -- where k are found, it comes before whatever comes behind all of them
 abbrev pub IsWanted : ℕ → List NearEdge → NearEdge → Type 0
 IsWanted k found near =
@@ -81,6 +89,25 @@ pub record Puts (k : ℕ) (old new : List NearEdge) (near : NearEdge) : Type 0 w
   pub place : ℕ
   pub place_is : IsPlaceFor old near place
   pub list : new ≡ take k (insert old place near)
+
+-- neither edge is among those found
+abbrev pub HasNeither : List NearEdge → ℕ → ℕ → Type 0
+HasNeither found e f = All (λ c. (c.edge.0 ≡ e → ⊥) × (c.edge.0 ≡ f → ⊥)) found
+
+-- two edges in order, neither of which is found yet, and no k are found that come before the second
+pub record IsNewPair (k : ℕ) (found : List NearEdge) (a b : NearEdge) : Type 0 where
+  pub near : a.d2 ≤ b.d2
+  pub below : a.edge.0 < b.edge.0
+  pub wanted : IsBehind k found b.d2 b.edge.0 → ⊥
+  pub neither : HasNeither found a.edge.0 b.edge.0
+
+-- each is put at its place, and what is then beyond the first k is dropped
+pub record PutsPair (k : ℕ) (old new : List NearEdge) (a b : NearEdge) : Type 0 where
+  pub place : ℕ
+  pub next : ℕ
+  pub place_is : IsPlaceFor old a place
+  pub next_is : IsPlaceFor (insert old place a) b next
+  pub list : new ≡ take k (insert (insert old place a) next b)
 
 -- the place of the edge among those found, or their number
 pub record IsPlaceOf (found : List NearEdge) (e place : ℕ) : Type 0 where
@@ -105,7 +132,7 @@ pub record IsLimit (search : Search) (found : List NearEdge) (limit : ℕ) : Typ
   pub low : limit ≤ search.radius * search.radius + 1
   pub far : (d2 e i : ℕ) → limit ≤ d2 → d2 ≤ search.radius * search.radius → IsAccounted search.k found d2 e i
 
--- the segments of the run within the radius are accounted for, each with those of the reverse edge
+-- the segments of the run within the radius are accounted for, each with those of its twin
 abbrev pub HasSeen : Net → Search → List NearEdge → Run → Type 0
 HasSeen net search found r =
     (e i : ℕ) → HasSegment net r e i
@@ -118,25 +145,23 @@ HasSeenOwn net search found r =
     (i : ℕ) → r.first ≤ i → i < r.end
     → IsAccounted search.k found (segment_snap (edge_line net r.edge.0) search.at i).d2 r.edge.0 i
 
--- the segments of the reverse edge are, where there is one
-abbrev pub HasSeenReverse : Net → Search → List NearEdge → Run → Type 0
-HasSeenReverse net search found r =
+-- the segments of the twin are, where there is one
+abbrev pub HasSeenTwin : Net → Search → List NearEdge → Run → Type 0
+HasSeenTwin net search found r =
     (twin : EdgeId) → r.twin ≡ Some twin
     → (i own : ℕ) → r.first ≤ own → own < r.end → i + own + 2 ≡ length (edge_line net r.edge.0)
     → IsAccounted search.k found (segment_snap (edge_line net r.edge.0) search.at own).d2 twin.0 i
 
--- the first of the nearest segments of the run, within the radius
-pub record IsNearestIn (net : Net) (search : Search) (r : Run) (near : NearSegment) : Type 0 where
+-- the first and the last of the nearest segments of the run, within the radius
+pub record AreNearestIn (net : Net) (search : Search) (r : Run) (near : NearSegments) : Type 0 where
   pub run : IsRun net r
-  pub nearest : IsNearest (edge_line net r.edge.0) search.at r.first r.end near
+  pub nearest : AreNearest (edge_line net r.edge.0) search.at r.first r.end near
   pub close : near.d2 ≤ search.radius * search.radius
 
--- the first of the nearest segments of the reverse edge: the last of the run's, from the line's end
-pub record IsNearestOfReverse (net : Net) (search : Search) (r : Run) (twin : EdgeId) (near : NearSegment) (c : NearEdge) : Type 0 where
-  pub last : ℕ
-  pub last_is : IsLastNearest (edge_line net r.edge.0) search.at r.end near last
+-- the first of the nearest segments of the twin: the last of the run's, from the line's end
+pub record IsNearestOfTwin (net : Net) (r : Run) (twin : EdgeId) (near : NearSegments) (c : NearEdge) : Type 0 where
   pub edge_is : c.edge ≡ twin
-  pub segment_is : c.segment + last + 2 ≡ length (edge_line net r.edge.0)
+  pub segment_is : c.segment + near.last + 2 ≡ length (edge_line net r.edge.0)
   pub d2_is : c.d2 ≡ near.d2
 
 -- the runs that have their nearest place in this cell

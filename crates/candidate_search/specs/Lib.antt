@@ -1,6 +1,5 @@
 pub mod Best
 pub mod Boxes
-pub mod LastNearest
 pub mod Nearest
 pub mod Placed
 pub mod Scanned

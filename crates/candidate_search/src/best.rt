@@ -1,9 +1,9 @@
 //! The nearest edges so far, while runs are visited in any order. Serves `candidates`; decided by
-//! `Takes`.
+//! `Takes` and `TakesPair`.
 ghost use Rattle.std.specs.Prelude.{◌≡◌, ℕ, ◌+◌, ◌*◌, ◌≤◌, ◌<◌, ◌↔◌, IsTrue, length, slice_index_or, OnOk};
 ghost use Rattle.std.specs.List.{All, remove};
 ghost use Rattle.candidate_search.specs.declared.best.NearEdge.{NearEdge as NearEdgeOf};
-ghost use Rattle.candidate_search.specs.Best.{AreApart, ComesBefore, IsBehind, IsLimit, IsNoLater, IsPlaceFor, IsPlaceOf, IsWanted, Puts, Takes};
+ghost use Rattle.candidate_search.specs.Best.{AreApart, ComesBefore, HasNeither, IsBehind, IsLimit, IsNewPair, IsNoLater, IsPlaceFor, IsPlaceOf, IsWanted, Puts, PutsPair, Takes, TakesPair};
 
 use crate::wanted::Search;
 use road_network::EdgeId;
@@ -48,7 +48,7 @@ pub(crate) fn limit_for(found: &[NearEdge], search: Search) -> u64
 }
 
 /// Whether k are found that come before an edge at this squared distance.
-pub(crate) fn is_behind(found: &[NearEdge], search: Search, edge: EdgeId, d2: u64) -> bool
+fn is_behind(found: &[NearEdge], search: Search, edge: EdgeId, d2: u64) -> bool
     requires few { length found.now ≤ search.k }
     requires apart { AreApart found.now }
     ensures { IsTrue result ↔ IsBehind search.k found.now d2 edge.0 }
@@ -84,12 +84,12 @@ fn place_for(found: &[NearEdge], near: NearEdge) -> usize
     place
 }
 
-/// Takes the memory for k edges and one more, where none is found yet.
+/// Takes the memory for k edges and two more, where none is found yet.
 fn make_room(found: &mut Vec<NearEdge>, k: usize) -> Result<(), AllocError>
     ensures { found.new.items ≡ found.old.items }
 {
     if found.is_empty() {
-        found.reserve(k.saturating_add(1))
+        found.reserve(k.saturating_add(2))
     } else {
         Ok(())
     }
@@ -155,4 +155,86 @@ pub(crate) fn take_near(
         return Ok(());
     }
     take_wanted(found, search.k, near)
+}
+
+/// Whether neither edge is among those found.
+fn has_neither(found: &[NearEdge], one: EdgeId, other: EdgeId) -> bool
+    ensures { IsTrue result ↔ HasNeither found.now one.0 other.0 }
+{
+    for near in found {
+        if near.edge.0 == one.0 || near.edge.0 == other.0 {
+            return false;
+        }
+    }
+    true
+}
+
+/// Whether two edges stand in order and both are new and wanted.
+fn is_new_pair(found: &[NearEdge], search: Search, own: NearEdge, twin: NearEdge) -> bool
+    requires few { length found.now ≤ search.k }
+    requires apart { AreApart found.now }
+    ensures { IsTrue result ↔ IsNewPair search.k found.now own twin }
+{
+    if own.d2 > twin.d2 || own.edge.0 >= twin.edge.0 {
+        return false;
+    }
+    if is_behind(found, search, twin.edge, twin.d2) {
+        return false;
+    }
+    has_neither(found, own.edge, twin.edge)
+}
+
+/// The place of the first that comes after it, looked for from a place on.
+fn place_after(found: &[NearEdge], place: usize, near: NearEdge) -> usize
+    requires apart { AreApart found.now }
+    requires others { All (λ c. c.edge.0 ≡ near.edge.0 → ⊥) found.now }
+    requires within { place ≤ length found.now }
+    requires before { (i : ℕ) (d : NearEdgeOf) → i < place
+        → ComesBefore (slice_index_or found.now i d) near }
+    ensures { IsPlaceFor found.now near result }
+{
+    let mut next = place;
+    while next < found.len() && found[next].is_before(near) {
+        next += 1;
+    }
+    next
+}
+
+/// Puts two more edges at their places, and drops what is then beyond the first k.
+fn put_pair(
+    found: &mut Vec<NearEdge>,
+    k: usize,
+    own: NearEdge,
+    twin: NearEdge,
+) -> Result<(), AllocError>
+    requires apart { AreApart found.old.items }
+    requires pair { IsNewPair k found.old.items own twin }
+    ensures { OnOk result (PutsPair k found.old.items found.new.items own twin) }
+{
+    make_room(found, k)?;
+    let place = place_for(found.as_slice(), own);
+    found.insert(place, own)?;
+    let next = place_after(found.as_slice(), place + 1, twin);
+    found.insert(next, twin)?;
+    found.truncate(k);
+    Ok(())
+}
+
+/// Takes the nearest segments of two edges, both at once where they are new.
+pub(crate) fn take_pair(
+    found: &mut Vec<NearEdge>,
+    search: Search,
+    own: NearEdge,
+    twin: NearEdge,
+) -> Result<(), AllocError>
+    requires few { length found.old.items ≤ search.k }
+    requires apart { AreApart found.old.items }
+    ensures { OnOk result (TakesPair search.k found.old.items found.new.items own twin) }
+{
+    if is_new_pair(found.as_slice(), search, own, twin) {
+        return put_pair(found, search.k, own, twin);
+    }
+    take_near(found, search, own)?;
+    take_near(found, search, twin)?;
+    Ok(())
 }

@@ -5,8 +5,8 @@
 //! distance and then by edge number, cut to the first k. Runs are visited cell by cell from the
 //! point's own on, and only the k nearest edges so far are kept, so that a segment is measured only
 //! where its box is nearer than the farthest that is kept. A run of a two-way street is measured once
-//! for both of its edges. No root is taken of the segments before the nearest: the network keeps the
-//! offsets of their points.
+//! for its edge and for the twin, and both are put into the list at once. [`candidates`] takes no root:
+//! the network keeps the offsets of the points of its lines.
 //!
 //! An [`EdgeScan`] answers the same for many points, by a scan of all edges that points which lie near
 //! each other share, and [`candidates_plain_all`] by one that it makes.
@@ -16,7 +16,6 @@ mod best;
 mod boxes;
 mod edge_scan;
 mod groups;
-mod last_nearest;
 #[cfg(test)]
 mod many_points_tests;
 mod nearest;

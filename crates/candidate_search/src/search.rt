@@ -36,12 +36,15 @@ fn candidate_of(net: &Network, search: Search, near: NearEdge) -> Candidate
     ensures { result ≡ candidate_at net.now search.at near.edge.0 }
 {
     net.known();
-    let segment = near.segment as usize;
-    let before = net.offsets(near.edge)[segment];
     Candidate {
         edge: near.edge,
         d2: near.d2,
-        offset: offset_on(net.line(near.edge), before, search.at, segment),
+        offset: offset_on(
+            net.line(near.edge),
+            net.offsets(near.edge),
+            search.at,
+            near.segment as usize,
+        ),
     }
 }
 

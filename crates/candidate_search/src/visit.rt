@@ -1,80 +1,43 @@
 //! Visits of the runs near a point, cell by cell from its own on. Serves `candidates`; decided by
 //! `HasSeenCell`.
-ghost use Rattle.std.specs.Prelude.{◌≡◌, OnOk};
+ghost use Rattle.std.specs.Prelude.{◌≡◌, ◌<◌, OnOk};
 ghost use Rattle.polyline_geometry.specs.Plane.{InRange};
 ghost use Rattle.road_network.specs.Net.{Net};
 ghost use Rattle.grid_index.specs.NearestCell.{IsNearestCell};
-ghost use Rattle.grid_index.specs.Runs.{IsRun};
-ghost use Rattle.candidate_search.specs.Best.{AreBest, HasSeen, HasSeenCell, HasSeenReverse, HasSeenRow, HasSeenRows, HasSeenWide, IsLimit, IsNearestIn, IsNearestOfReverse, Steps};
+ghost use Rattle.grid_index.specs.Runs.{IsBoxDistance, IsRun};
+ghost use Rattle.candidate_search.specs.Best.{AreBest, AreNearestIn, HasSeen, HasSeenCell, HasSeenRow, HasSeenRows, HasSeenWide, IsLimit, IsNearestOfTwin, Steps};
 
-use crate::best::{NearEdge, is_behind, limit_for, take_near};
-use crate::last_nearest::last_nearest;
+use crate::best::{NearEdge, limit_for, take_near, take_pair};
 use crate::wanted::Search;
 use grid_index::{Cells, Grid, Run};
-use polyline_geometry::{NearSegment, distance2, nearest_in_box, nearest_segment};
+use polyline_geometry::{NearSegments, distance2, nearest_in_box, nearest_segments};
 use road_network::{EdgeId, Network};
 use std::alloc::AllocError;
 
-/// The nearest segment of the reverse edge of a run: the last of the nearest, counted from the end of
-/// the run's line.
-fn nearest_of_reverse(
-    net: &Network,
-    search: Search,
-    run: Run,
-    twin: EdgeId,
-    near: NearSegment,
-) -> NearEdge
-    requires { IsNearestIn net.now search run near }
-    ensures { IsNearestOfReverse net.now search run twin near result }
+/// The nearest segment of the twin of a run: the last of the nearest, counted from the end of the
+/// run's line.
+fn nearest_of_twin(net: &Network, run: Run, twin: EdgeId, near: NearSegments) -> NearEdge
+    requires run { IsRun net.now run }
+    requires last { near.last < run.end }
+    ensures { IsNearestOfTwin net.now run twin near result }
 {
     net.known();
-    let line = net.line(run.edge);
-    let last = last_nearest(line, run.end as usize, search.at, near);
     NearEdge {
         edge: twin,
-        segment: (line.len() - 2 - last) as u32,
+        segment: (net.line(run.edge).len() - 2 - near.last) as u32,
         d2: near.d2,
     }
 }
 
-/// Takes the nearest segment of the reverse edge of a run, where there is one.
-fn take_reverse(
-    net: &Network,
-    found: &mut Vec<NearEdge>,
-    search: Search,
-    run: Run,
-    near: NearSegment,
-) -> Result<(), AllocError>
-    requires near { IsNearestIn net.now search run near }
-    requires best { AreBest net.now search found.old.items }
-    ensures steps { OnOk result (Steps net.now search found.old.items found.new.items) }
-    ensures seen { OnOk result (HasSeenReverse net.now search found.new.items run) }
-{
-    net.known();
-    match run.twin {
-        None => Ok(()),
-        Some(twin) => {
-            if is_behind(found.as_slice(), search, twin, near.d2) {
-                return Ok(());
-            }
-            take_near(
-                found,
-                search,
-                nearest_of_reverse(net, search, run, twin, near),
-            )
-        }
-    }
-}
-
-/// Takes the nearest segment of a run, of its own edge and of the reverse edge.
+/// Takes the nearest segments of a run, of its own edge and of the twin, where there is one.
 fn take_both(
     net: &Network,
     found: &mut Vec<NearEdge>,
     search: Search,
     run: Run,
-    near: NearSegment,
+    near: NearSegments,
 ) -> Result<(), AllocError>
-    requires near { IsNearestIn net.now search run near }
+    requires near { AreNearestIn net.now search run near }
     requires best { AreBest net.now search found.old.items }
     ensures steps { OnOk result (Steps net.now search found.old.items found.new.items) }
     ensures seen { OnOk result (HasSeen net.now search found.new.items run) }
@@ -82,15 +45,16 @@ fn take_both(
     net.known();
     let own = NearEdge {
         edge: run.edge,
-        segment: near.segment as u32,
+        segment: near.first as u32,
         d2: near.d2,
     };
-    take_near(found, search, own)?;
-    take_reverse(net, found, search, run, near)?;
-    Ok(())
+    match run.twin {
+        None => take_near(found, search, own),
+        Some(twin) => take_pair(found, search, own, nearest_of_twin(net, run, twin, near)),
+    }
 }
 
-/// Measures the segments of a run, for its own edge and for the reverse edge.
+/// Measures the segments of a run, for its own edge and for the twin.
 fn measure_run(
     net: &Network,
     found: &mut Vec<NearEdge>,
@@ -106,13 +70,36 @@ fn measure_run(
 {
     net.known();
     let (first, end) = (run.first as usize, run.end as usize);
-    match nearest_segment(net.line(run.edge), first, end, search.at, limit) {
+    match nearest_segments(net.line(run.edge), first, end, search.at, limit) {
         None => Ok(()),
         Some(near) => take_both(net, found, search, run, near),
     }
 }
 
-/// Looks at a run: its segments are measured where its box is near enough.
+/// Looks at a run, by how far its box is: its segments are measured where that is near enough.
+fn look_at_box(
+    net: &Network,
+    found: &mut Vec<NearEdge>,
+    search: Search,
+    run: Run,
+    d2: u64,
+) -> Result<(), AllocError>
+    requires run { IsRun net.now run }
+    requires d2 { IsBoxDistance run search.at d2 }
+    requires best { AreBest net.now search found.old.items }
+    ensures steps { OnOk result (Steps net.now search found.old.items found.new.items) }
+    ensures seen { OnOk result (HasSeen net.now search found.new.items run) }
+{
+    net.known();
+    let limit = limit_for(found.as_slice(), search);
+    if d2 < limit {
+        measure_run(net, found, search, run, limit)
+    } else {
+        Ok(())
+    }
+}
+
+/// Looks at a run.
 fn look_at_run(
     net: &Network,
     found: &mut Vec<NearEdge>,
@@ -124,14 +111,8 @@ fn look_at_run(
     ensures steps { OnOk result (Steps net.now search found.old.items found.new.items) }
     ensures seen { OnOk result (HasSeen net.now search found.new.items run) }
 {
-    net.known();
-    let limit = limit_for(found.as_slice(), search);
     let place = nearest_in_box(run.low, run.high, search.at);
-    if distance2(search.at, place) < limit {
-        measure_run(net, found, search, run, limit)
-    } else {
-        Ok(())
-    }
+    look_at_box(net, found, search, run, distance2(search.at, place))
 }
 
 /// Looks at the runs that stand at no cell.
@@ -160,20 +141,20 @@ fn look_at_run_once(
     grid: &Grid,
     found: &mut Vec<NearEdge>,
     search: Search,
-    run: Run,
+    run: &Run,
     column: u32,
     row: u32,
 ) -> Result<(), AllocError>
-    requires run { IsRun net.now run }
+    requires network { grid.now.net ≡ net.now }
+    requires run { IsRun net.now run.now }
     requires best { AreBest net.now search found.old.items }
     ensures steps { OnOk result (Steps net.now search found.old.items found.new.items) }
-    ensures seen { OnOk result (IsNearestCell grid.now.side search.at run column row
-        → HasSeen net.now search found.new.items run) }
+    ensures seen { OnOk result (IsNearestCell grid.now.side search.at run.now column row
+        → HasSeen net.now search found.new.items run.now) }
 {
-    if grid.is_nearest_cell(run, search.at, column, row) {
-        look_at_run(net, found, search, run)
-    } else {
-        Ok(())
+    match grid.distance2_in_cell(run, search.at, column, row) {
+        None => Ok(()),
+        Some(d2) => look_at_box(net, found, search, *run, d2),
     }
 }
 
@@ -201,7 +182,7 @@ fn look_at_cell(
         return Ok(());
     }
     for run in runs {
-        look_at_run_once(net, grid, found, search, *run, column, row)?;
+        look_at_run_once(net, grid, found, search, run, column, row)?;
     }
     Ok(())
 }

@@ -1,32 +1,19 @@
-use Rattle.std.proofs.Common.{◌≡◌, ◌+◌, ◌<◌, suc, length, take, get_or, ap, ◌∙◌, subst, sym, arith}
+use Rattle.std.proofs.Common.{◌≡◌, ◌+◌, suc, length, take, ap, ◌∙◌, subst, sym, arith}
 use Rattle.polyline_geometry.specs.declared.line.NearSegment.{NearSegment}
 use Rattle.polyline_geometry.specs.declared.plane.Snap.{Snap}
 use Rattle.polyline_geometry.specs.Plane.{after, line_length, snap_line}
 use Rattle.polyline_geometry.specs.Nearest.{segment_snap}
 use Rattle.polyline_geometry.specs.Offsets.{line_offsets}
 use Rattle.polyline_geometry.proofs.Nearest.{whole_near}
-use Rattle.polyline_geometry.proofs.OffsetLists.{get_or-line_offsets, length-line_offsets}
 use Rattle.road_network.specs.Net.{edge_line}
 use Rattle.road_network.specs.Near.{candidate}
 use Rattle.candidate_search.proofs.search.candidate_of.Goals as goal
 
-pub bounds-offsets-segment : goal.bounds-offsets-segment
-bounds-offsets-segment c =
-    let line = edge_line c.args.net.now c.args.near.edge.0 in
-    let n = ap length c.offsets.ensures ∙ length-line_offsets line in
-    omega (arith, n, c.requires.1.before_end)
+pub offset_on-requires-clause-offsets : goal.offset_on-requires-clause-offsets
+offset_on-requires-clause-offsets c = c.offsets.ensures ∙ ap line_offsets (sym c.line.ensures)
 
-pub offset_on-requires-clause-before : goal.offset_on-requires-clause-before
-offset_on-requires-clause-before c =
-    let line = c.line.result.now in
-    let s = c.args.near.segment in
-    let n = ap length c.line.ensures in
-    let within : s < length line = omega (arith, c.requires.1.before_end, n) in
-    let e : s + 1 ≡ suc s = omega arith in
-    record {
-      within = omega (arith, c.requires.1.before_end, n);
-      before_is = ap (λ l. get_or l s 0) (c.offsets.ensures ∙ ap line_offsets (sym c.line.ensures)) ∙ get_or-line_offsets line s 0 within ∙ ap (λ n. line_length (take n line)) e;
-    }
+pub offset_on-requires-clause-segment : goal.offset_on-requires-clause-segment
+offset_on-requires-clause-segment c = omega (arith, c.requires.1.before_end, ap length c.line.ensures)
 
 pub returns : goal.returns
 returns c =

@@ -1,5 +1,5 @@
 use Rattle.std.proofs.Common.{subst, arith}
-use Rattle.polyline_geometry.specs.Nearest.{AreFar, IsNearest}
+use Rattle.polyline_geometry.specs.Nearest.{AreFar, AreNearest}
 use Rattle.candidate_search.proofs.Visiting.{seen_far}
 use Rattle.candidate_search.proofs.visit.measure_run.Goals as goal
 
@@ -15,6 +15,6 @@ take_both-requires-clause-near c =
     let r = c.args.run in
     record {
       run = c.requires.run;
-      nearest = subst (λ l. IsNearest l c.args.search.at r.first r.end c.in-Some.near) c.line.ensures c.in-Some.ensures.0;
+      nearest = subst (λ l. AreNearest l c.args.search.at r.first r.end c.in-Some.near) c.line.ensures c.in-Some.ensures.0;
       close = omega (arith, c.in-Some.ensures.1, c.requires.limit.low);
     }

@@ -1,0 +1,24 @@
+use Rattle.std.proofs.Common.{◌≡◌, ◌∙◌, ap, sym, subst}
+use Rattle.std.specs.List.{All, insert}
+use Rattle.candidate_search.specs.declared.best.NearEdge.{NearEdge}
+use Rattle.candidate_search.specs.Best.{AreApart, IsPlaceFor}
+use Rattle.candidate_search.proofs.Pairs.{apart_placed, others_placed}
+use Rattle.candidate_search.proofs.best.put_pair.Goals as goal
+
+pub place_after-next-requires-clause-apart : goal.place_after-next-requires-clause-apart
+place_after-next-requires-clause-apart c =
+    let found = c.args.found.now.items in
+    let own = c.args.own in
+    let place = c.place_for-place.result in
+    let at = subst (λ l. IsPlaceFor l own place) (c.as_slice.ensures.value ∙ c.make_room.ensures) c.place_for-place.ensures in
+    let is : c.insert.new.self.items ≡ insert found place own = c.in_ok-insert.ensures.items ∙ ap (λ l. insert l place own) c.make_room.ensures in
+    subst AreApart (sym (c.as_slice-2.ensures.value ∙ is)) (apart_placed found own place c.requires.apart (λ i d lt. (c.requires.pair.neither i d lt).0) at)
+
+pub place_after-next-requires-clause-others : goal.place_after-next-requires-clause-others
+place_after-next-requires-clause-others c =
+    let found = c.args.found.now.items in
+    let own = c.args.own in
+    let twin = c.args.twin in
+    let place = c.place_for-place.result in
+    let is : c.insert.new.self.items ≡ insert found place own = c.in_ok-insert.ensures.items ∙ ap (λ l. insert l place own) c.make_room.ensures in
+    subst (All (λ (d : NearEdge). d.edge.0 ≡ twin.edge.0 → ⊥)) (sym (c.as_slice-2.ensures.value ∙ is)) (others_placed c.args.k found own twin place c.requires.pair)
