@@ -25,8 +25,8 @@ pub twin_d2 : (net : Net) (e t i own : ℕ) (p : Point) → IsLawful net → Has
     → (segment_snap (edge_line net t) p i).d2 ≡ (segment_snap (edge_line net e) p own).d2
 twin_d2 net e t i own p lawful has reverse count =
     let line = edge_line net e in
-    let start : point_at (edge_line net t) i ≡ point_at line (suc own) = reverse.turned i (suc own) (omega (arith, count)) in
-    let end : point_at (edge_line net t) (suc i) ≡ point_at line own = reverse.turned (suc i) own (omega (arith, count)) in
+    let start : point_at (edge_line net t) i ≡ point_at line (suc own) = reverse.turned.points i (suc own) (omega (arith, count)) in
+    let end : point_at (edge_line net t) (suc i) ≡ point_at line own = reverse.turned.points (suc i) own (omega (arith, count)) in
     let s : own + 1 ≡ suc own = omega arith in
     let differ = subst (λ v. point_at line own ≡ point_at line v → ⊥) s ((lawful.lines e has).differ own (record { x = pos 0; y = pos 0 }) (omega (arith, count))) in
     ap (λ a. (snap_segment a (point_at (edge_line net t) (suc i)) p).d2) start ∙ ap (λ b. (snap_segment (point_at line (suc own)) b p).d2) end
@@ -70,7 +70,7 @@ twin_near net search r twin s near lawful h twin_is is =
     let reverse = twin_of net r twin h.run twin_is in
     let base : IsNearEdge net search (record { edge = twin; segment = near.segment; d2 = near.d2 }) = record {
       has = reverse.has;
-      within = omega (arith, is.segment_is, reverse.count);
+      within = omega (arith, is.segment_is, reverse.turned.count);
       d2_is = is.d2_is ∙ h.nearest.as_near ∙ sym (twin_d2 net r.edge.0 twin.0 near.segment s.last search.at lawful h.run.has reverse is.segment_is);
       near = omega (arith, is.d2_is, h.close);
     }
