@@ -9,15 +9,19 @@ use Rattle.bounded_search.proofs.ClosedTables.{none_some}
 use Rattle.bounded_search.specs.LabelWords.{label_in_word, last_in, no_label, word_at, word_by}
 
 -- a word that is not that of no label has its label
-pub label_there : (word : ℕ) → word ≢ no_label → label_in_word word ≡ Some (record { distance = word / 2 ^ 32; last = last_in (word % 2 ^ 32) })
-label_there word apart = elim (eqb_tells word no_label) [ inl t ↦ absurd (apart t.1) | inr t ↦ rw t.0 refl ]
+pub label_there : (bound : ℕ) (word : ℕ) → word ≢ no_label bound → label_in_word bound word ≡ Some (record { distance = word / 2 ^ 32; last = last_in (word % 2 ^ 32) })
+label_there bound word apart = elim (eqb_tells word (no_label bound)) [ inl t ↦ absurd (apart t.1) | inr t ↦ rw t.0 refl ]
 
 -- where a word has a label it is another than that of no label
-pub word_there : (word : ℕ) (l : Label) → label_in_word word ≡ Some l → word ≢ no_label
-word_there word l h same = none_some refl (rw (eq-eqb word no_label same) at h)
+pub word_there : (bound : ℕ) (word : ℕ) (l : Label) → label_in_word bound word ≡ Some l → word ≢ no_label bound
+word_there bound word l h same = none_some refl (rw (eq-eqb word (no_label bound) same) at h)
 
-pub word_none : (word : ℕ) → label_in_word word ≡ None → word ≡ no_label
-word_none word h = elim (eqb_tells word no_label) [ inl t ↦ t.1 | inr t ↦ absurd (none_some (rw t.0 at h) refl) ]
+pub word_none : (bound : ℕ) (word : ℕ) → label_in_word bound word ≡ None → word ≡ no_label bound
+word_none bound word h = elim (eqb_tells word (no_label bound)) [ inl t ↦ t.1 | inr t ↦ absurd (none_some (rw t.0 at h) refl) ]
+
+-- and that of no label has none
+pub none_in : (bound word : ℕ) → word ≡ no_label bound → label_in_word bound word ≡ None
+none_in bound word is = rw (eq-eqb word (no_label bound) is) refl
 
 pub last_there : (e : ℕ) → e < 2 ^ 32 - 1 → last_in e ≡ Some (record { 0 = e })
 last_there e lt = let apart : e ≢ 2 ^ 32 - 1 = omega arith in rw (ne_eqb e (2 ^ 32 - 1) apart) refl
@@ -42,24 +46,24 @@ pub not_farther : (a b : ℕ) → a ≤ b → a / 2 ^ 32 ≤ b / 2 ^ 32
 not_farther a b le = omega arith
 
 -- what is in an array after a write
-pub word_here : (words : List ℕ) (v word : ℕ) → v < length words → word_at (set words v word) v ≡ word
-word_here words v word lt = get_or-set_same words v word no_label lt
+pub word_here : (bound : ℕ) (words : List ℕ) (v word : ℕ) → v < length words → word_at bound (set words v word) v ≡ word
+word_here bound words v word lt = get_or-set_same words v word (no_label bound) lt
 
-pub word_elsewhere : (words : List ℕ) (v w word : ℕ) → w ≢ v → word_at (set words v word) w ≡ word_at words w
-word_elsewhere words v w word apart = get_or-set_other words v w word no_label apart
+pub word_elsewhere : (bound : ℕ) (words : List ℕ) (v w word : ℕ) → w ≢ v → word_at bound (set words v word) w ≡ word_at bound words w
+word_elsewhere bound words v w word apart = get_or-set_other words v w word (no_label bound) apart
 
 -- where a label was taken out there is none
-pub cleared : (words : List ℕ) (v : ℕ) → word_at (set words v no_label) v ≡ no_label
-cleared words v =
+pub cleared : (bound : ℕ) (words : List ℕ) (v : ℕ) → word_at bound (set words v (no_label bound)) v ≡ no_label bound
+cleared bound words v =
     elim (cases_lt v (length words)) [
-      | inl lt ↦ word_here words v no_label lt
-      | inr past ↦ get_or_past (set words v no_label) v no_label (omega (arith, length-set words v no_label))
+      | inl lt ↦ word_here bound words v (no_label bound) lt
+      | inr past ↦ get_or_past (set words v (no_label bound)) v (no_label bound) (omega (arith, length-set words v (no_label bound)))
     ]
 
 -- a node that has a label where that of v was taken out is not v, and had it before
-pub left_over : (words : List ℕ) (v w : ℕ) → word_at (set words v no_label) w ≢ no_label → (w ≢ v) × (word_at words w ≢ no_label)
-left_over words v w there =
+pub left_over : (bound : ℕ) (words : List ℕ) (v w : ℕ) → word_at bound (set words v (no_label bound)) w ≢ no_label bound → (w ≢ v) × (word_at bound words w ≢ no_label bound)
+left_over bound words v w there =
     elim (cases_eq w v) [
-      | inl same ↦ absurd (there (ap (word_at (set words v no_label)) same ∙ cleared words v))
-      | inr apart ↦ (apart, λ none. there (word_elsewhere words v w no_label apart ∙ none))
+      | inl same ↦ absurd (there (ap (word_at bound (set words v (no_label bound))) same ∙ cleared bound words v))
+      | inr apart ↦ (apart, λ none. there (word_elsewhere bound words v w (no_label bound) apart ∙ none))
     ]

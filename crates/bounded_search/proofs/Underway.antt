@@ -1,8 +1,8 @@
 -- Each step of a search keeps what it is underway with, and at its end the labels are a closed table.
-use Rattle.std.proofs.Common.{◌≡◌, ◌≢◌, ℕ, zero, suc, ◌+◌, ◌-◌, ◌/◌, ◌%◌, ◌^◌, ◌<◌, ◌≤◌, ◌⊎◌, inl, inr, Bool, true, false, ltb, leb, length, List, [], ◌∷◌, map, sum, set, length-set, slice_index_or, Some, refl, sym, ap, subst, ◌∙◌, arith}
+use Rattle.std.proofs.Common.{◌≡◌, ◌≢◌, ℕ, zero, suc, ◌+◌, ◌-◌, ◌/◌, ◌%◌, ◌^◌, ◌<◌, ◌≤◌, ◌⊎◌, inl, inr, Bool, true, false, ltb, length, List, [], ◌∷◌, map, sum, set, length-set, slice_index_or, Some, refl, sym, ap, subst, ◌∙◌, arith}
 use Rattle.std.proofs.Math.ListN.{get_or-map}
 use Rattle.std.proofs.lemmas.List.{length-map}
-use Rattle.std.proofs.lemmas.Bool.{cases_eq, cases_lt, cases_Bool, and_parts, and_cases, lt-ltb, ltb-true, ltb-false, leb-true, leb-false, false≢true}
+use Rattle.std.proofs.lemmas.Bool.{cases_eq, cases_lt, cases_Bool, lt-ltb, ltb-true, ltb-false, false≢true}
 use Rattle.std.proofs.lemmas.List.Elements.{All-cons, All-nil, Contains-append_right}
 use Rattle.std.proofs.lemmas.List.Sorted.{All-permutation, Contains-permutation, length_permutation}
 use Rattle.std.proofs.lemmas.List.Sums.{sum_by-set}
@@ -60,30 +60,29 @@ gains_length true x old new g = omega (arith, length_permutation (x ∷ old) new
 gains_length false x old new g = omega (arith, ap length g)
 
 -- an array in which v has a smaller word
-record IsLowered (v word : ℕ) (words after : List ℕ) : Type 0 where
-  here : word_at after v ≡ word
-  others : (w : ℕ) → w ≢ v → word_at after w ≡ word_at words w
-  lower : word < word_at words v
+record IsLowered (bound : ℕ) (v word : ℕ) (words after : List ℕ) : Type 0 where
+  here : word_at bound after v ≡ word
+  others : (w : ℕ) → w ≢ v → word_at bound after w ≡ word_at bound words w
+  lower : word < word_at bound words v
 
-lowered : (words : List ℕ) (v word : ℕ) → v < length words → word < word_at words v → IsLowered v word words (set words v word)
-lowered words v word lt less = record { here = word_here words v word lt; others = λ w apart. word_elsewhere words v w word apart; lower = less }
+lowered : (bound : ℕ) (words : List ℕ) (v word : ℕ) → v < length words → word < word_at bound words v → IsLowered bound v word words (set words v word)
+lowered bound words v word lt less = record { here = word_here bound words v word lt; others = λ w apart. word_elsewhere bound words v w word apart; lower = less }
 
-no_word_rises : (v word : ℕ) (words after : List ℕ) → IsLowered v word words after → (w : ℕ) → word_at after w ≤ word_at words w
-no_word_rises v word words after low w =
+no_word_rises : (bound : ℕ) (v word : ℕ) (words after : List ℕ) → IsLowered bound v word words after → (w : ℕ) → word_at bound after w ≤ word_at bound words w
+no_word_rises bound v word words after low w =
     elim (cases_eq w v) [
-      | inl same ↦ omega (arith, ap (word_at after) same, ap (word_at words) same, low.here, low.lower)
+      | inl same ↦ omega (arith, ap (word_at bound after) same, ap (word_at bound words) same, low.here, low.lower)
       | inr apart ↦ omega (arith, low.others w apart)
     ]
 
-no_node_farther : (v word : ℕ) (words after : List ℕ) → IsLowered v word words after → (w : ℕ) → distance_at after w ≤ distance_at words w
-no_node_farther v word words after low w = not_farther (word_at after w) (word_at words w) (no_word_rises v word words after low w)
+no_node_farther : (bound : ℕ) (v word : ℕ) (words after : List ℕ) → IsLowered bound v word words after → (w : ℕ) → distance_at bound after w ≤ distance_at bound words w
+no_node_farther bound v word words after low w = not_farther (word_at bound after w) (word_at bound words w) (no_word_rises bound v word words after low w)
 
 -- a better label by edge e, which begins at distance d and ends within the bound
 record IsBetter (n : Net) (bound d : ℕ) (words : List ℕ) (e : ℕ) : Type 0 where
   has : HasEdge n e
-  starts : distance_at words (source n e) ≡ d
-  within : d + span n e ≤ bound
-  lower : word_by (d + span n e) e < word_at words (target n e)
+  starts : distance_at bound words (source n e) ≡ d
+  lower : word_by (d + span n e) e < word_at bound words (target n e)
 
 abbrev word_of : Net → ℕ → ℕ → ℕ
 word_of n d e = word_by (d + span n e) e
@@ -94,72 +93,74 @@ edge_small n e lawful has = omega (arith, lawful.few_edges)
 -- it is not the label of the edge's own node
 not_itself : (n : Net) (bound d : ℕ) (words : List ℕ) (e : ℕ) → IsLawful n → IsBetter n bound d words e → source n e ≢ target n e
 not_itself n bound d words e lawful better same =
-    let far : distance_at words (target n e) ≡ d = ap (distance_at words) (sym same) ∙ better.starts in
+    let far : distance_at bound words (target n e) ≡ d = ap (distance_at bound words) (sym same) ∙ better.starts in
     omega (arith, far, better.lower, lawful.not_empty e better.has)
 
 -- the words after it
 record IsWritten (n : Net) (bound d : ℕ) (words after : List ℕ) (e : ℕ) : Type 0 where
   better : IsBetter n bound d words e
-  low : IsLowered (target n e) (word_of n d e) words after
-  starts_still : distance_at after (source n e) ≡ d
+  within : d + span n e ≤ bound
+  low : IsLowered bound (target n e) (word_of n d e) words after
+  starts_still : distance_at bound after (source n e) ≡ d
 
-written : (n : Net) (bound d : ℕ) (words : List ℕ) (e : ℕ) → IsLawful n → length words ≡ length n.nodes → IsBetter n bound d words e → IsWritten n bound d words (set words (target n e) (word_of n d e)) e
-written n bound d words e lawful count better =
+written : (n : Net) (bound d : ℕ) (words : List ℕ) (e : ℕ) → IsLawful n → length words ≡ length n.nodes → IsBetter n bound d words e → d + span n e ≤ bound → IsWritten n bound d words (set words (target n e) (word_of n d e)) e
+written n bound d words e lawful count better within =
     let v : ℕ = target n e in
-    let low : IsLowered v (word_of n d e) words (set words v (word_of n d e)) = lowered words v (word_of n d e) (omega (arith, count, lawful.targets e better.has)) better.lower in
+    let low : IsLowered bound v (word_of n d e) words (set words v (word_of n d e)) = lowered bound words v (word_of n d e) (omega (arith, count, lawful.targets e better.has)) better.lower in
     record {
       better = better;
+      within = within;
       low = low;
       starts_still = ap (λ (word : ℕ). word / 2 ^ 32) (low.others (source n e) (not_itself n bound d words e lawful better)) ∙ better.starts;
     }
 
-held_after : (n : Net) (bound d s : ℕ) (words after : List ℕ) (e : ℕ) → IsLawful n → IsWritten n bound d words after e → ((v : ℕ) → word_at words v ≢ no_label → v ≢ s → IsHeld n bound words v) → (v : ℕ) → word_at after v ≢ no_label → v ≢ s → IsHeld n bound after v
+held_after : (n : Net) (bound d s : ℕ) (words after : List ℕ) (e : ℕ) → IsLawful n → IsWritten n bound d words after e → ((v : ℕ) → word_at bound words v ≢ no_label bound → v ≢ s → IsHeld n bound words v) → (v : ℕ) → word_at bound after v ≢ no_label bound → v ≢ s → IsHeld n bound after v
 held_after n bound d s words after e lawful w held v there apart =
     elim (cases_eq v (target n e)) [
       | inl same ↦
-          let here : word_at after v ≡ word_of n d e = ap (word_at after) same ∙ w.low.here in
+          let here : word_at bound after v ≡ word_of n d e = ap (word_at bound after) same ∙ w.low.here in
           let small : e < 2 ^ 32 - 1 = edge_small n e lawful w.better.has in
-          let far : distance_at after v ≡ d + span n e = ap (λ (word : ℕ). word / 2 ^ 32) here ∙ distance_by (d + span n e) e (omega arith) in
+          let far : distance_at bound after v ≡ d + span n e = ap (λ (word : ℕ). word / 2 ^ 32) here ∙ distance_by (d + span n e) e (omega arith) in
           record {
             edge = e;
             has = w.better.has;
             ends = sym same;
             distance = omega (arith, far, w.starts_still);
             last = ap (λ (word : ℕ). word % 2 ^ 32) here ∙ last_by (d + span n e) e (omega arith);
-            within = omega (arith, far, w.better.within);
+            within = omega (arith, far, w.within);
           }
       | inr differs ↦
-          let is : word_at after v ≡ word_at words v = w.low.others v differs in
+          let is : word_at bound after v ≡ word_at bound words v = w.low.others v differs in
           let old : IsHeld n bound words v = held v (λ none. there (is ∙ none)) apart in
-          let far : distance_at after v ≡ distance_at words v = ap (λ (word : ℕ). word / 2 ^ 32) is in
+          let far : distance_at bound after v ≡ distance_at bound words v = ap (λ (word : ℕ). word / 2 ^ 32) is in
           record {
             edge = old.edge;
             has = old.has;
             ends = old.ends;
-            distance = omega (arith, far, old.distance, no_node_farther (target n e) (word_of n d e) words after w.low (source n old.edge));
+            distance = omega (arith, far, old.distance, no_node_farther bound (target n e) (word_of n d e) words after w.low (source n old.edge));
             last = ap (λ (word : ℕ). word % 2 ^ 32) is ∙ old.last;
             within = omega (arith, far, old.within);
           }
     ]
 
 -- an edge that was tried from the same distance still is
-still_tried : (n : Net) (words after : List ℕ) (f : ℕ) → ((w : ℕ) → word_at after w ≤ word_at words w) → distance_at after (source n f) ≡ distance_at words (source n f) → IsTried n words f → IsTried n after f
-still_tried n words after f less same tried =
-    let far : word_by (distance_at after (source n f) + span n f) f ≡ word_by (distance_at words (source n f) + span n f) f = ap (λ (k : ℕ). word_by (k + span n f) f) same in
+still_tried : (bound : ℕ) (n : Net) (words after : List ℕ) (f : ℕ) → ((w : ℕ) → word_at bound after w ≤ word_at bound words w) → distance_at bound after (source n f) ≡ distance_at bound words (source n f) → IsTried n bound words f → IsTried n bound after f
+still_tried bound n words after f less same tried =
+    let far : word_by (distance_at bound after (source n f) + span n f) f ≡ word_by (distance_at bound words (source n f) + span n f) f = ap (λ (k : ℕ). word_by (k + span n f) f) same in
     omega (arith, less (target n f), tried, far)
 
 -- what an edge may be: its node waits, or it is pending, or it was tried
-abbrev IsSeen : Net → SearchState → (ℕ → Type 0) → ℕ → Type 0
-IsSeen n state pending f = Waits state.queue (source n f) (distance_at state.words (source n f)) ⊎ (pending f ⊎ IsTried n state.words f)
+abbrev IsSeen : (bound : ℕ) → Net → SearchState → (ℕ → Type 0) → ℕ → Type 0
+IsSeen bound n state pending f = Waits state.queue (source n f) (distance_at bound state.words (source n f)) ⊎ (pending f ⊎ IsTried n bound state.words f)
 
 -- at an edge whose node keeps its distance
-seen_still : (n : Net) (old new : SearchState) (pending left : ℕ → Type 0) (f : ℕ) → ((y : Waiting) → Contains old.queue y → Contains new.queue y) → ((w : ℕ) → word_at new.words w ≤ word_at old.words w) → distance_at new.words (source n f) ≡ distance_at old.words (source n f) → (pending f → left f ⊎ IsTried n new.words f) → IsSeen n old pending f → IsSeen n new left f
-seen_still n old new pending left f keeps less same splits seen =
+seen_still : (bound : ℕ) (n : Net) (old new : SearchState) (pending left : ℕ → Type 0) (f : ℕ) → ((y : Waiting) → Contains old.queue y → Contains new.queue y) → ((w : ℕ) → word_at bound new.words w ≤ word_at bound old.words w) → distance_at bound new.words (source n f) ≡ distance_at bound old.words (source n f) → (pending f → left f ⊎ IsTried n bound new.words f) → IsSeen bound n old pending f → IsSeen bound n new left f
+seen_still bound n old new pending left f keeps less same splits seen =
     elim seen [
-      | inl waits ↦ inl (subst (Waits new.queue (source n f)) (sym same) (keeps (record { distance = distance_at old.words (source n f); node = source n f }) waits))
+      | inl waits ↦ inl (subst (Waits new.queue (source n f)) (sym same) (keeps (record { distance = distance_at bound old.words (source n f); node = source n f }) waits))
       | inr rest ↦ elim rest [
         | inl is ↦ inr (splits is)
-        | inr tried ↦ inr (inr (still_tried n old.words new.words f less same tried))
+        | inr tried ↦ inr (inr (still_tried bound n old.words new.words f less same tried))
       ]
     ]
 
@@ -167,7 +168,7 @@ seen_still n old new pending left f keeps less same splits seen =
 record IsStep (n : Net) (bound d u : ℕ) (a : Arc) (old new : SearchState) : Type 0 where
   lawful : IsLawful n
   arc : IsLeaving n u a
-  starts : distance_at old.words u ≡ d
+  starts : distance_at bound old.words u ≡ d
   tries : Tries bound d a old new
 
 same_edge : (n : Net) (a : Arc) (f : ℕ) → arc_of n (record { 0 = f }) ≡ a → f ≡ a.edge.0
@@ -184,16 +185,12 @@ no_better n bound d u s a arcs old new step not under =
     let queue : new.queue ≡ old.queue = rw not at step.tries.queue in
     let same : new ≡ old = ap (λ (k : List ℕ). record { words = k; queue = new.queue }) words ∙ ap (λ (k : List Waiting). record { words = old.words; queue = k }) queue in
     let e : ℕ = a.edge.0 in
-    let starts : distance_at old.words (source n e) ≡ d = ap (distance_at old.words) step.arc.starts ∙ step.starts in
+    let starts : distance_at bound old.words (source n e) ≡ d = ap (distance_at bound old.words) step.arc.starts ∙ step.starts in
     let length_is : a.length ≡ span n e = ap (λ (k : Arc). k.length) step.arc.is in
     let to_is : a.to.0 ≡ target n e = ap (λ (k : Arc). k.to.0) step.arc.is in
-    let tried : distance_at old.words (source n e) + span n e ≤ bound → IsTried n old.words e = λ short.
-    elim (and_cases (leb (d + a.length) bound) (ltb (word_by (d + a.length) e) (word_at old.words a.to.0)) not) [
-      | inl over ↦ absurd (omega (arith, starts, length_is, leb-false (d + a.length) bound over))
-      | inr worse ↦
-          let up : word_at old.words a.to.0 ≤ word_by (d + a.length) e = ltb-false (word_by (d + a.length) e) (word_at old.words a.to.0) worse in
-          omega (arith, up, starts, length_is, ap (word_at old.words) to_is)
-    ] in
+    let tried : distance_at bound old.words (source n e) + span n e ≤ bound → IsTried n bound old.words e = λ short.
+    let up : word_at bound old.words a.to.0 ≤ word_by (d + a.length) e = ltb-false (word_by (d + a.length) e) (word_at bound old.words a.to.0) not in
+    omega (arith, up, starts, length_is, ap (word_at bound old.words) to_is) in
     subst (λ (k : SearchState). IsUnderway n bound s k (IsPending n arcs)) (sym same) (record {
       count = under.count;
       origin = under.origin;
@@ -202,7 +199,7 @@ no_better n bound d u s a arcs old new step not under =
         | inl waits ↦ inl waits
         | inr rest ↦ elim rest [
           | inl pending ↦ elim (pending_splits n a arcs f pending) [
-            | inl is ↦ inr (inr (subst (IsTried n old.words) (sym is) (tried (subst (λ (k : ℕ). distance_at old.words (source n k) + span n k ≤ bound) is short))))
+            | inl is ↦ inr (inr (subst (IsTried n bound old.words) (sym is) (tried (subst (λ (k : ℕ). distance_at bound old.words (source n k) + span n k ≤ bound) is short))))
             | inr left ↦ inr (inl left)
           ]
           | inr is ↦ inr (inr is)
@@ -214,26 +211,35 @@ no_better n bound d u s a arcs old new step not under =
 better_at : (n : Net) (bound d u : ℕ) (a : Arc) (old new : SearchState) → IsStep n bound d u a old new → is_better bound d a old.words ≡ true → IsBetter n bound d old.words a.edge.0
 better_at n bound d u a old new step is =
     let e : ℕ = a.edge.0 in
-    let parts = and_parts (leb (d + a.length) bound) (ltb (word_by (d + a.length) e) (word_at old.words a.to.0)) is in
     let length_is : a.length ≡ span n e = ap (λ (k : Arc). k.length) step.arc.is in
     let to_is : a.to.0 ≡ target n e = ap (λ (k : Arc). k.to.0) step.arc.is in
     record {
       has = step.arc.has;
-      starts = ap (distance_at old.words) step.arc.starts ∙ step.starts;
-      within = omega (arith, leb-true (d + a.length) bound parts.0, length_is);
-      lower = omega (arith, ltb-true (word_by (d + a.length) e) (word_at old.words a.to.0) parts.1, length_is, ap (word_at old.words) to_is);
+      starts = ap (distance_at bound old.words) step.arc.starts ∙ step.starts;
+      lower = omega (arith, ltb-true (word_by (d + a.length) e) (word_at bound old.words a.to.0) is, length_is, ap (word_at bound old.words) to_is);
     }
+
+-- no word is beyond that of no label
+no_word_beyond : (n : Net) (bound s : ℕ) (state : SearchState) (pending : ℕ → Type 0) → IsUnderway n bound s state pending → (v : ℕ) → word_at bound state.words v ≤ no_label bound
+no_word_beyond n bound s state pending under v =
+    elim (cases_eq (word_at bound state.words v) (no_label bound)) [
+      | inl none ↦ omega (arith, none)
+      | inr there ↦ elim (cases_eq v s) [
+        | inl same ↦ omega (arith, ap (word_at bound state.words) same, under.origin)
+        | inr apart ↦ let h : IsHeld n bound state.words v = under.held v there apart in omega (arith, h.within)
+      ]
+    ]
 
 -- the words of the new state, and its queue
 record IsAfter (n : Net) (bound d : ℕ) (e : ℕ) (old new : SearchState) : Type 0 where
   wrote : IsWritten n bound d old.words new.words e
   count : length new.words ≡ length old.words
   keeps : (y : Waiting) → Contains old.queue y → Contains new.queue y
-  nearer : d + span n e < distance_at old.words (target n e) → Waits new.queue (target n e) (d + span n e)
+  nearer : d + span n e < distance_at bound old.words (target n e) → Waits new.queue (target n e) (d + span n e)
   inside : All (λ x. (x.node < length new.words) × (x.distance ≤ bound)) new.queue
 
-after_step : (n : Net) (bound d u : ℕ) (a : Arc) (old new : SearchState) → IsStep n bound d u a old new → is_better bound d a old.words ≡ true → length old.words ≡ length n.nodes → All (λ x. (x.node < length old.words) × (x.distance ≤ bound)) old.queue → IsAfter n bound d a.edge.0 old new
-after_step n bound d u a old new step is count inside =
+after_step : (n : Net) (bound d u : ℕ) (a : Arc) (old new : SearchState) → IsStep n bound d u a old new → is_better bound d a old.words ≡ true → d + span n a.edge.0 ≤ bound → length old.words ≡ length n.nodes → All (λ x. (x.node < length old.words) × (x.distance ≤ bound)) old.queue → IsAfter n bound d a.edge.0 old new
+after_step n bound d u a old new step is within count inside =
     let e : ℕ = a.edge.0 in
     let length_is : a.length ≡ span n e = ap (λ (k : Arc). k.length) step.arc.is in
     let to_is : a.to.0 ≡ target n e = ap (λ (k : Arc). k.to.0) step.arc.is in
@@ -245,33 +251,33 @@ after_step n bound d u a old new step is count inside =
     let x_is : x ≡ record { distance = d + span n e; node = target n e } = ap (λ (k : ℕ). record { distance = d + k; node = a.to.0 }) length_is ∙ ap (λ (k : ℕ). record { distance = d + span n e; node = k }) to_is in
     let waits : Gains (is_nearer bound d a old.words) x old.queue new.queue = step.tries.queue in
     record {
-      wrote = subst (λ (k : List ℕ). IsWritten n bound d old.words k e) (sym words) (written n bound d old.words e step.lawful count better);
+      wrote = subst (λ (k : List ℕ). IsWritten n bound d old.words k e) (sym words) (written n bound d old.words e step.lawful count better within);
       count = same_count;
       keeps = gains_keeps (is_nearer bound d a old.words) x old.queue new.queue waits;
       nearer = λ less.
-          let test : ltb (d + a.length) (distance_at old.words a.to.0) ≡ true = lt-ltb (d + a.length) (distance_at old.words a.to.0) (omega (arith, less, length_is, ap (distance_at old.words) to_is)) in
+          let test : ltb (d + a.length) (distance_at bound old.words a.to.0) ≡ true = lt-ltb (d + a.length) (distance_at bound old.words a.to.0) (omega (arith, less, length_is, ap (distance_at bound old.words) to_is)) in
           let there : Contains new.queue x = gains_there (is_nearer bound d a old.words) x old.queue new.queue (rw (is, test) refl) waits in
           subst (Contains new.queue) x_is there;
       inside = gains_inside (λ y. (y.node < length new.words) × (y.distance ≤ bound)) (is_nearer bound d a old.words) x old.queue new.queue waits
-          (λ near. (omega (arith, same_count, count, step.arc.end), omega (arith, better.within, length_is)))
+          (λ near. (omega (arith, same_count, count, step.arc.end), omega (arith, within, length_is)))
           (subst (λ (k : ℕ). All (λ y. (y.node < k) × (y.distance ≤ bound)) old.queue) (sym same_count) inside);
     }
 
 -- an edge out of the node that has the better label
-seen_there : (n : Net) (bound d e : ℕ) (old new : SearchState) (arcs : List Arc) (a : Arc) (f : ℕ) → IsLawful n → a.edge.0 ≡ e → IsAfter n bound d e old new → source n f ≡ target n e → (distance_at old.words (source n f) + span n f ≤ bound → IsSeen n old (IsPending n (a ∷ arcs)) f) → distance_at new.words (source n f) + span n f ≤ bound → IsSeen n new (IsPending n arcs) f
+seen_there : (n : Net) (bound d e : ℕ) (old new : SearchState) (arcs : List Arc) (a : Arc) (f : ℕ) → IsLawful n → a.edge.0 ≡ e → IsAfter n bound d e old new → source n f ≡ target n e → (distance_at bound old.words (source n f) + span n f ≤ bound → IsSeen bound n old (IsPending n (a ∷ arcs)) f) → distance_at bound new.words (source n f) + span n f ≤ bound → IsSeen bound n new (IsPending n arcs) f
 seen_there n bound d e old new arcs a f lawful is after from before short =
     let low = after.wrote.low in
     let small : e < 2 ^ 32 - 1 = edge_small n e lawful after.wrote.better.has in
-    let here : distance_at new.words (source n f) ≡ d + span n e = ap (distance_at new.words) from ∙ (ap (λ (word : ℕ). word / 2 ^ 32) low.here ∙ distance_by (d + span n e) e (omega arith)) in
-    elim (cases_lt (d + span n e) (distance_at old.words (target n e))) [
+    let here : distance_at bound new.words (source n f) ≡ d + span n e = ap (distance_at bound new.words) from ∙ (ap (λ (word : ℕ). word / 2 ^ 32) low.here ∙ distance_by (d + span n e) e (omega arith)) in
+    elim (cases_lt (d + span n e) (distance_at bound old.words (target n e))) [
       | inl nearer ↦
           let waits : Waits new.queue (target n e) (d + span n e) = after.nearer nearer in
-          let same : record { distance = d + span n e; node = target n e } ≡ record { distance = distance_at new.words (source n f); node = source n f } = ap (λ (k : ℕ). record { distance = k; node = target n e }) (sym here) ∙ ap (λ (k : ℕ). record { distance = distance_at new.words (source n f); node = k }) (sym from) in
+          let same : record { distance = d + span n e; node = target n e } ≡ record { distance = distance_at bound new.words (source n f); node = source n f } = ap (λ (k : ℕ). record { distance = k; node = target n e }) (sym here) ∙ ap (λ (k : ℕ). record { distance = distance_at bound new.words (source n f); node = k }) (sym from) in
           inl (subst (Contains new.queue) same waits)
       | inr as_far ↦
-          let no_farther : distance_at new.words (source n f) ≤ distance_at old.words (source n f) = no_node_farther (target n e) (word_of n d e) old.words new.words low (source n f) in
-          let same : distance_at new.words (source n f) ≡ distance_at old.words (source n f) = omega (arith, here, as_far, no_farther, ap (distance_at old.words) from) in
-          seen_still n old new (IsPending n (a ∷ arcs)) (IsPending n arcs) f after.keeps (no_word_rises (target n e) (word_of n d e) old.words new.words low) same
+          let no_farther : distance_at bound new.words (source n f) ≤ distance_at bound old.words (source n f) = no_node_farther bound (target n e) (word_of n d e) old.words new.words low (source n f) in
+          let same : distance_at bound new.words (source n f) ≡ distance_at bound old.words (source n f) = omega (arith, here, as_far, no_farther, ap (distance_at bound old.words) from) in
+          seen_still bound n old new (IsPending n (a ∷ arcs)) (IsPending n arcs) f after.keeps (no_word_rises bound (target n e) (word_of n d e) old.words new.words low) same
           (λ pending. elim (pending_splits n a arcs f pending) [
             | inl one ↦ absurd (not_itself n bound d old.words e lawful after.wrote.better (ap (source n) (sym (one ∙ is)) ∙ from))
             | inr left ↦ inl left
@@ -280,14 +286,14 @@ seen_there n bound d e old new arcs a f lawful is after from before short =
     ]
 
 -- and any other edge
-seen_elsewhere : (n : Net) (bound d e : ℕ) (old new : SearchState) (arcs : List Arc) (a : Arc) (f : ℕ) → a.edge.0 ≡ e → IsAfter n bound d e old new → source n f ≢ target n e → (distance_at old.words (source n f) + span n f ≤ bound → IsSeen n old (IsPending n (a ∷ arcs)) f) → distance_at new.words (source n f) + span n f ≤ bound → IsSeen n new (IsPending n arcs) f
+seen_elsewhere : (n : Net) (bound d e : ℕ) (old new : SearchState) (arcs : List Arc) (a : Arc) (f : ℕ) → a.edge.0 ≡ e → IsAfter n bound d e old new → source n f ≢ target n e → (distance_at bound old.words (source n f) + span n f ≤ bound → IsSeen bound n old (IsPending n (a ∷ arcs)) f) → distance_at bound new.words (source n f) + span n f ≤ bound → IsSeen bound n new (IsPending n arcs) f
 seen_elsewhere n bound d e old new arcs a f is after apart before short =
     let low = after.wrote.low in
-    let same : distance_at new.words (source n f) ≡ distance_at old.words (source n f) = ap (λ (word : ℕ). word / 2 ^ 32) (low.others (source n f) apart) in
-    let tried : IsTried n new.words e = omega (arith, low.here, ap (λ (k : ℕ). word_by (k + span n e) e) after.wrote.starts_still) in
-    seen_still n old new (IsPending n (a ∷ arcs)) (IsPending n arcs) f after.keeps (no_word_rises (target n e) (word_of n d e) old.words new.words low) same
+    let same : distance_at bound new.words (source n f) ≡ distance_at bound old.words (source n f) = ap (λ (word : ℕ). word / 2 ^ 32) (low.others (source n f) apart) in
+    let tried : IsTried n bound new.words e = omega (arith, low.here, ap (λ (k : ℕ). word_by (k + span n e) e) after.wrote.starts_still) in
+    seen_still bound n old new (IsPending n (a ∷ arcs)) (IsPending n arcs) f after.keeps (no_word_rises bound (target n e) (word_of n d e) old.words new.words low) same
     (λ pending. elim (pending_splits n a arcs f pending) [
-      | inl one ↦ inr (subst (IsTried n new.words) (sym (one ∙ is)) tried)
+      | inl one ↦ inr (subst (IsTried n bound new.words) (sym (one ∙ is)) tried)
       | inr left ↦ inl left
     ])
     (before (omega (arith, short, same)))
@@ -295,11 +301,13 @@ seen_elsewhere n bound d e old new arcs a f is after apart before short =
 with_better : (n : Net) (bound d u s : ℕ) (a : Arc) (arcs : List Arc) (old new : SearchState) → IsStep n bound d u a old new → is_better bound d a old.words ≡ true → IsUnderway n bound s old (IsPending n (a ∷ arcs)) → IsUnderway n bound s new (IsPending n arcs)
 with_better n bound d u s a arcs old new step is under =
     let e : ℕ = a.edge.0 in
-    let after : IsAfter n bound d e old new = after_step n bound d u a old new step is under.count under.inside in
+    let better : IsBetter n bound d old.words e = better_at n bound d u a old new step is in
+    let within : d + span n e ≤ bound = omega (arith, better.lower, no_word_beyond n bound s old (IsPending n (a ∷ arcs)) under (target n e)) in
+    let after : IsAfter n bound d e old new = after_step n bound d u a old new step is within under.count under.inside in
     let low = after.wrote.low in
     let far : 1 ≤ span n e = step.lawful.not_empty e step.arc.has in
     let apart : s ≢ target n e = λ same.
-    let at : word_at old.words (target n e) ≡ origin_word = ap (word_at old.words) (sym same) ∙ under.origin in
+    let at : word_at bound old.words (target n e) ≡ origin_word = ap (word_at bound old.words) (sym same) ∙ under.origin in
     omega (arith, at, low.lower) in
     record {
       count = after.count ∙ under.count;
@@ -313,7 +321,7 @@ with_better n bound d u s a arcs old new step is under =
     }
 
 -- a tried arc is pending no more
-pub step_keeps : (n : Net) (bound d u s : ℕ) (a : Arc) (arcs : List Arc) (old new : SearchState) → IsLawful n → IsLeaving n u a → distance_at old.words u ≡ d → Tries bound d a old new → IsUnderway n bound s old (IsPending n (a ∷ arcs)) → IsUnderway n bound s new (IsPending n arcs)
+pub step_keeps : (n : Net) (bound d u s : ℕ) (a : Arc) (arcs : List Arc) (old new : SearchState) → IsLawful n → IsLeaving n u a → distance_at bound old.words u ≡ d → Tries bound d a old new → IsUnderway n bound s old (IsPending n (a ∷ arcs)) → IsUnderway n bound s new (IsPending n arcs)
 step_keeps n bound d u s a arcs old new lawful arc starts tries under =
     let step : IsStep n bound d u a old new = record { lawful = lawful; arc = arc; starts = starts; tries = tries } in
     elim (cases_Bool (is_better bound d a old.words)) [
@@ -322,7 +330,7 @@ step_keeps n bound d u s a arcs old new lawful arc starts tries under =
     ]
 
 -- and its node keeps its distance, and the array its length
-pub starts_still : (n : Net) (bound d u : ℕ) (a : Arc) (old new : SearchState) → IsLawful n → IsLeaving n u a → length old.words ≡ length n.nodes → distance_at old.words u ≡ d → Tries bound d a old new → (distance_at new.words u ≡ d) × (length new.words ≡ length n.nodes)
+pub starts_still : (n : Net) (bound d u : ℕ) (a : Arc) (old new : SearchState) → IsLawful n → IsLeaving n u a → length old.words ≡ length n.nodes → distance_at bound old.words u ≡ d → Tries bound d a old new → (distance_at bound new.words u ≡ d) × (length new.words ≡ length n.nodes)
 starts_still n bound d u a old new lawful arc count starts tries =
     let step : IsStep n bound d u a old new = record { lawful = lawful; arc = arc; starts = starts; tries = tries } in
     let e : ℕ = a.edge.0 in
@@ -330,12 +338,12 @@ starts_still n bound d u a old new lawful arc count starts tries =
       | inl is ↦
           let first : new.words ≡ set old.words a.to.0 (word_by (d + a.length) e) = rw is at tries.words in
           let apart : u ≢ a.to.0 = λ same. not_itself n bound d old.words e lawful (better_at n bound d u a old new step is) (arc.starts ∙ (same ∙ ap (λ (k : Arc). k.to.0) arc.is)) in (
-            ap (λ (k : List ℕ). distance_at k u) first ∙ (ap (λ (word : ℕ). word / 2 ^ 32) (word_elsewhere old.words a.to.0 u (word_by (d + a.length) e) apart) ∙ starts),
+            ap (λ (k : List ℕ). distance_at bound k u) first ∙ (ap (λ (word : ℕ). word / 2 ^ 32) (word_elsewhere bound old.words a.to.0 u (word_by (d + a.length) e) apart) ∙ starts),
             ap length first ∙ (length-set old.words a.to.0 (word_by (d + a.length) e) ∙ count),
           )
       | inr not ↦
           let same : new.words ≡ old.words = rw not at tries.words in
-          (ap (λ (k : List ℕ). distance_at k u) same ∙ starts, ap length same ∙ count)
+          (ap (λ (k : List ℕ). distance_at bound k u) same ∙ starts, ap length same ∙ count)
     ]
 
 -- the effort falls, or at least does not rise
@@ -344,10 +352,9 @@ no_more_effort bound d a old new lt tries =
     let word : ℕ = word_by (d + a.length) a.edge.0 in
     elim (cases_Bool (is_better bound d a old.words)) [
       | inl is ↦
-          let parts = and_parts (leb (d + a.length) bound) (ltb word (word_at old.words a.to.0)) is in
           let words : new.words ≡ set old.words a.to.0 word = rw is at tries.words in
-          let falls : sum (set old.words a.to.0 word) + word_at old.words a.to.0 ≡ sum old.words + word = sum_by-set (λ (x : ℕ). x) old.words a.to.0 word no_label lt in
-          let less : word < word_at old.words a.to.0 = ltb-true word (word_at old.words a.to.0) parts.1 in
+          let falls : sum (set old.words a.to.0 word) + word_at bound old.words a.to.0 ≡ sum old.words + word = sum_by-set (λ (x : ℕ). x) old.words a.to.0 word (no_label bound) lt in
+          let less : word < word_at bound old.words a.to.0 = ltb-true word (word_at bound old.words a.to.0) is in
           let total : sum new.words ≡ sum (set old.words a.to.0 word) = ap sum words in
           omega (arith, falls, less, total, gains_length (is_nearer bound d a old.words) (record { distance = d + a.length; node = a.to.0 }) old.queue new.queue tries.queue)
       | inr not ↦
@@ -357,14 +364,14 @@ no_more_effort bound d a old new lt tries =
     ]
 
 -- a node that became nearer since it waited is not taken
-pub not_taken : (n : Net) (bound s : ℕ) (x : Waiting) (words : List ℕ) (queue : List Waiting) → distance_at words x.node ≢ x.distance → IsUnderway n bound s (record { words = words; queue = x ∷ queue }) NonePending → IsUnderway n bound s (record { words = words; queue = queue }) NonePending
+pub not_taken : (n : Net) (bound s : ℕ) (x : Waiting) (words : List ℕ) (queue : List Waiting) → distance_at bound words x.node ≢ x.distance → IsUnderway n bound s (record { words = words; queue = x ∷ queue }) NonePending → IsUnderway n bound s (record { words = words; queue = queue }) NonePending
 not_taken n bound s x words queue stale under = record {
   count = under.count;
   origin = under.origin;
   held = under.held;
   tried = λ f has short. elim (under.tried f has short) [
-    | inl waits ↦ elim (front_or_rest x queue (record { distance = distance_at words (source n f); node = source n f }) waits) [
-      | inl same ↦ absurd (stale (ap (λ (k : Waiting). distance_at words k.node) (sym same) ∙ ap (λ (k : Waiting). k.distance) same))
+    | inl waits ↦ elim (front_or_rest x queue (record { distance = distance_at bound words (source n f); node = source n f }) waits) [
+      | inl same ↦ absurd (stale (ap (λ (k : Waiting). distance_at bound words k.node) (sym same) ∙ ap (λ (k : Waiting). k.distance) same))
       | inr rest ↦ inl rest
     ]
     | inr rest ↦ inr rest
@@ -382,7 +389,7 @@ taken n bound s x words queue under = record {
   origin = under.origin;
   held = under.held;
   tried = λ f has short. elim (under.tried f has short) [
-    | inl waits ↦ elim (front_or_rest x queue (record { distance = distance_at words (source n f); node = source n f }) waits) [
+    | inl waits ↦ elim (front_or_rest x queue (record { distance = distance_at bound words (source n f); node = source n f }) waits) [
       | inl same ↦ inr (inl (contains_map (arc_of n) (leaving n x.node) (record { 0 = f }) (leaving_every n x.node f has (ap (λ (k : Waiting). k.node) same))))
       | inr rest ↦ inl rest
     ]
@@ -411,101 +418,101 @@ reordered n bound s words old new perm under = record {
   origin = under.origin;
   held = under.held;
   tried = λ f has short. elim (under.tried f has short) [
-    | inl waits ↦ inl (Contains-permutation old new (record { distance = distance_at words (source n f); node = source n f }) perm waits)
+    | inl waits ↦ inl (Contains-permutation old new (record { distance = distance_at bound words (source n f); node = source n f }) perm waits)
     | inr rest ↦ inr rest
   ];
   inside = All-permutation (λ x. (x.node < length words) × (x.distance ≤ bound)) old new perm under.inside;
 }
 
 -- a search begins with its origin waiting
-pub begun : (n : Net) (bound s : ℕ) (words : List ℕ) (queue : List Waiting) → bound ≤ 10_000_000 → s < length n.nodes → length words ≡ length n.nodes → ((v : ℕ) → word_at words v ≡ no_label) → IsPermutation (record { distance = 0; node = s } ∷ []) queue → IsUnderway n bound s (record { words = set words s origin_word; queue = queue }) NonePending
-begun n bound s words queue low has count none perm =
+pub begun : (n : Net) (bound s : ℕ) (words : List ℕ) (queue : List Waiting) → s < length n.nodes → length words ≡ length n.nodes → ((v : ℕ) → word_at bound words v ≡ no_label bound) → IsPermutation (record { distance = 0; node = s } ∷ []) queue → IsUnderway n bound s (record { words = set words s origin_word; queue = queue }) NonePending
+begun n bound s words queue has count none perm =
     let lt : s < length words = omega (arith, count) in
     let after : List ℕ = set words s origin_word in
-    let here : word_at after s ≡ origin_word = word_here words s origin_word lt in
+    let here : word_at bound after s ≡ origin_word = word_here bound words s origin_word lt in
     let x : Waiting = record { distance = 0; node = s } in
-    let others : (v : ℕ) → v ≢ s → word_at after v ≡ no_label = λ v apart. word_elsewhere words s v origin_word apart ∙ none v in
+    let others : (v : ℕ) → v ≢ s → word_at bound after v ≡ no_label bound = λ v apart. word_elsewhere bound words s v origin_word apart ∙ none v in
     record {
       count = length-set words s origin_word ∙ count;
       origin = here;
       held = λ v there apart. absurd (there (others v apart));
       tried = λ f got short. elim (cases_eq (source n f) s) [
         | inl same ↦
-            let far : distance_at after (source n f) ≡ 0 = ap (λ (k : ℕ). word_at after k / 2 ^ 32) same ∙ ap (λ (word : ℕ). word / 2 ^ 32) here in
-            let is : x ≡ record { distance = distance_at after (source n f); node = source n f } = ap (λ (k : ℕ). record { distance = k; node = s }) (sym far) ∙ ap (λ (k : ℕ). record { distance = distance_at after (source n f); node = k }) (sym same) in
+            let far : distance_at bound after (source n f) ≡ 0 = ap (λ (k : ℕ). word_at bound after k / 2 ^ 32) same ∙ ap (λ (word : ℕ). word / 2 ^ 32) here in
+            let is : x ≡ record { distance = distance_at bound after (source n f); node = source n f } = ap (λ (k : ℕ). record { distance = k; node = s }) (sym far) ∙ ap (λ (k : ℕ). record { distance = distance_at bound after (source n f); node = k }) (sym same) in
             inl (subst (Contains queue) is (Contains-permutation (x ∷ []) queue x perm (in_front x [])))
-        | inr apart ↦ absurd (let far : distance_at after (source n f) ≡ 2 ^ 32 - 1 = ap (λ (word : ℕ). word / 2 ^ 32) (others (source n f) apart) in omega (arith, far))
+        | inr apart ↦ absurd (let beyond : word_at bound after (source n f) ≡ no_label bound = others (source n f) apart in omega (arith, beyond, short))
       ];
       inside = All-permutation (λ y. (y.node < length after) × (y.distance ≤ bound)) (x ∷ []) queue perm
           (All-cons (λ y. (y.node < length after) × (y.distance ≤ bound)) x [] (omega (arith, lt, length-set words s origin_word), omega arith) (All-nil (λ y. (y.node < length after) × (y.distance ≤ bound))));
     }
 
 -- where nothing waits and nothing is pending, every edge within the bound was tried
-tried_all : (n : Net) (bound s : ℕ) (words : List ℕ) → IsUnderway n bound s (record { words = words; queue = [] }) NonePending → (e : ℕ) → HasEdge n e → distance_at words (source n e) + span n e ≤ bound → IsTried n words e
+tried_all : (n : Net) (bound s : ℕ) (words : List ℕ) → IsUnderway n bound s (record { words = words; queue = [] }) NonePending → (e : ℕ) → HasEdge n e → distance_at bound words (source n e) + span n e ≤ bound → IsTried n bound words e
 tried_all n bound s words under e has short =
     elim (under.tried e has short) [
       | inl waits ↦ absurd (let lt = waits.1 in omega arith)
       | inr rest ↦ elim rest [ inl none ↦ absurd none | inr tried ↦ tried ]
     ]
 
-label_is : (words : List ℕ) (v : ℕ) (l : Label) → label_at words v ≡ Some l → l ≡ record { distance = distance_at words v; last = last_in (word_at words v % 2 ^ 32) }
-label_is words v l h = same_Some l (record { distance = distance_at words v; last = last_in (word_at words v % 2 ^ 32) }) (sym h ∙ label_there (word_at words v) (word_there (word_at words v) l h))
+label_is : (bound : ℕ) (words : List ℕ) (v : ℕ) (l : Label) → label_at bound words v ≡ Some l → l ≡ record { distance = distance_at bound words v; last = last_in (word_at bound words v % 2 ^ 32) }
+label_is bound words v l h = same_Some l (record { distance = distance_at bound words v; last = last_in (word_at bound words v % 2 ^ 32) }) (sym h ∙ label_there bound (word_at bound words v) (word_there bound (word_at bound words v) l h))
 
 -- a node within the bound is labelled
-labelled_within : (words : List ℕ) (v bound : ℕ) → bound ≤ 10_000_000 → distance_at words v ≤ bound → label_at words v ≡ Some (record { distance = distance_at words v; last = last_in (word_at words v % 2 ^ 32) })
-labelled_within words v bound low short = label_there (word_at words v) (λ none. let far : distance_at words v ≡ 2 ^ 32 - 1 = ap (λ (word : ℕ). word / 2 ^ 32) none in omega (arith, far))
+labelled_within : (words : List ℕ) (v bound : ℕ) → distance_at bound words v ≤ bound → label_at bound words v ≡ Some (record { distance = distance_at bound words v; last = last_in (word_at bound words v % 2 ^ 32) })
+labelled_within words v bound short = label_there bound (word_at bound words v) (λ none. omega (arith, none, short))
 
-closed_label : (n : Net) (bound s : ℕ) (words : List ℕ) → IsLawful n → bound ≤ 10_000_000 → IsUnderway n bound s (record { words = words; queue = [] }) NonePending → (v : ℕ) (l : Label) → label_at words v ≡ Some l → IsClosedAt n bound s (label_at words) v l
-closed_label n bound s words lawful low under v l at =
-    let there : word_at words v ≢ no_label = word_there (word_at words v) l at in
-    let is : l ≡ record { distance = distance_at words v; last = last_in (word_at words v % 2 ^ 32) } = label_is words v l at in
-    let far : l.distance ≡ distance_at words v = ap (λ (k : Label). k.distance) is in
+closed_label : (n : Net) (bound s : ℕ) (words : List ℕ) → IsLawful n → IsUnderway n bound s (record { words = words; queue = [] }) NonePending → (v : ℕ) (l : Label) → label_at bound words v ≡ Some l → IsClosedAt n bound s (label_at bound words) v l
+closed_label n bound s words lawful under v l at =
+    let there : word_at bound words v ≢ no_label bound = word_there bound (word_at bound words v) l at in
+    let is : l ≡ record { distance = distance_at bound words v; last = last_in (word_at bound words v % 2 ^ 32) } = label_is bound words v l at in
+    let far : l.distance ≡ distance_at bound words v = ap (λ (k : Label). k.distance) is in
     record {
       within = elim (cases_eq v s) [
         | inl same ↦
-            let none : distance_at words v ≡ 0 = ap (λ (k : ℕ). word_at words k / 2 ^ 32) same ∙ ap (λ (word : ℕ). word / 2 ^ 32) under.origin in
+            let none : distance_at bound words v ≡ 0 = ap (λ (k : ℕ). word_at bound words k / 2 ^ 32) same ∙ ap (λ (word : ℕ). word / 2 ^ 32) under.origin in
             omega (arith, far, none)
         | inr apart ↦ let h : IsHeld n bound words v = under.held v there apart in omega (arith, far, h.within)
       ];
       reached = λ apart.
           let h : IsHeld n bound words v = under.held v there apart in
           let u : ℕ = source n h.edge in
-          let tried : word_at words (target n h.edge) ≤ word_by (distance_at words u + span n h.edge) h.edge = tried_all n bound s words under h.edge h.has (omega (arith, h.distance, h.within)) in
+          let tried : word_at bound words (target n h.edge) ≤ word_by (distance_at bound words u + span n h.edge) h.edge = tried_all n bound s words under h.edge h.has (omega (arith, h.distance, h.within)) in
           let small : h.edge < 2 ^ 32 - 1 = edge_small n h.edge lawful h.has in
-          let at_end : word_at words (target n h.edge) ≡ word_at words v = ap (word_at words) h.ends in
+          let at_end : word_at bound words (target n h.edge) ≡ word_at bound words v = ap (word_at bound words) h.ends in
           record {
             edge = h.edge;
             has = h.has;
             ends = h.ends;
-            before = record { distance = distance_at words u; last = last_in (word_at words u % 2 ^ 32) };
-            listed = labelled_within words u bound low (omega (arith, h.distance, h.within));
+            before = record { distance = distance_at bound words u; last = last_in (word_at bound words u % 2 ^ 32) };
+            listed = labelled_within words u bound (omega (arith, h.distance, h.within));
             distance = omega (arith, far, h.distance, tried, small, at_end);
             last = ap (λ (k : Label). k.last) is ∙ (ap last_in h.last ∙ last_there h.edge small);
           };
       relaxed = λ e has from short.
           let d : ℕ = l.distance + span n e in
-          let starts : distance_at words (source n e) ≡ l.distance = ap (distance_at words) from ∙ sym far in
-          let tried : word_at words (target n e) ≤ word_by d e = subst (λ (k : ℕ). word_at words (target n e) ≤ word_by (k + span n e) e) starts (tried_all n bound s words under e has (omega (arith, starts, short))) in
+          let starts : distance_at bound words (source n e) ≡ l.distance = ap (distance_at bound words) from ∙ sym far in
+          let tried : word_at bound words (target n e) ≤ word_by d e = subst (λ (k : ℕ). word_at bound words (target n e) ≤ word_by (k + span n e) e) starts (tried_all n bound s words under e has (omega (arith, starts, short))) in
           let small : e < 2 ^ 32 - 1 = edge_small n e lawful has in
           let w : ℕ = target n e in
-          let no_farther : distance_at words w ≤ d = omega (arith, tried, small) in
+          let no_farther : distance_at bound words w ≤ d = omega (arith, tried, small) in
           record {
-            label = record { distance = distance_at words w; last = last_in (word_at words w % 2 ^ 32) };
-            listed = labelled_within words w bound low (omega (arith, no_farther, short));
-            no_worse = elim (cases_lt (distance_at words w) d) [
+            label = record { distance = distance_at bound words w; last = last_in (word_at bound words w % 2 ^ 32) };
+            listed = labelled_within words w bound (omega (arith, no_farther, short));
+            no_worse = elim (cases_lt (distance_at bound words w) d) [
               | inl nearer ↦ inl nearer
               | inr as_far ↦
-                  let up : word_at words w % 2 ^ 32 ≤ e = omega (arith, tried, as_far, no_farther) in
-                  inr (record { 0 = word_at words w % 2 ^ 32 }, omega (arith, as_far, no_farther), last_there (word_at words w % 2 ^ 32) (omega (arith, up, small)), up)
+                  let up : word_at bound words w % 2 ^ 32 ≤ e = omega (arith, tried, as_far, no_farther) in
+                  inr (record { 0 = word_at bound words w % 2 ^ 32 }, omega (arith, as_far, no_farther), last_there (word_at bound words w % 2 ^ 32) (omega (arith, up, small)), up)
             ];
           };
     }
 
 -- where nothing waits the labels are closed
-pub closed_at_end : (n : Net) (bound s : ℕ) (words : List ℕ) (queue : List Waiting) → IsLawful n → bound ≤ 10_000_000 → queue ≡ [] → IsUnderway n bound s (record { words = words; queue = queue }) NonePending → IsClosed n bound s (label_at words)
-closed_at_end n bound s words queue lawful low none going =
+pub closed_at_end : (n : Net) (bound s : ℕ) (words : List ℕ) (queue : List Waiting) → IsLawful n → queue ≡ [] → IsUnderway n bound s (record { words = words; queue = queue }) NonePending → IsClosed n bound s (label_at bound words)
+closed_at_end n bound s words queue lawful none going =
     let under : IsUnderway n bound s (record { words = words; queue = [] }) NonePending = subst (λ (k : List Waiting). IsUnderway n bound s (record { words = words; queue = k }) NonePending) none going in
     record {
-      origin = ap label_in_word under.origin;
-      closed = closed_label n bound s words lawful low under;
+      origin = ap (label_in_word bound) under.origin ∙ label_there bound origin_word (omega arith);
+      closed = closed_label n bound s words lawful under;
     }

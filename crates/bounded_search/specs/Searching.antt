@@ -6,8 +6,7 @@ use Rattle.bounded_search.specs.declared.queue.Waiting.{Waiting}
 use Rattle.bounded_search.specs.declared.table_row.Entry.{Entry}
 use Rattle.bounded_search.specs.declared.table_row.Label.{Label}
 use Rattle.bounded_search.specs.Closed.{IsClosed}
-use Rattle.bounded_search.specs.LabelWords.{label_at}
-use Rattle.bounded_search.specs.Marked.{AreMarked, IsClean, IsSized, IsTaken}
+use Rattle.bounded_search.specs.Marked.{AreMarked, IsClean, IsTaken, KeepsSizes, labels_of}
 use Rattle.bounded_search.specs.Table.{RisesFrom, label_in}
 use Rattle.bounded_search.specs.Underway.{IsUnderway, NonePending, SearchState, effort}
 
@@ -17,8 +16,8 @@ pub record TriesLeaving (n : Net) (bound : ℕ) (next : Waiting) (old new : Sear
   pub less : effort new ≤ effort old
 
 -- every node within the bound has its label and is marked, and none waits
-pub record IsLabelled (n : Net) (bound s : ℕ) (w : Workspace) : Type 0 where
-  pub closed : IsClosed n bound s (label_at w.words.items)
+pub record IsLabelled (n : Net) (s : ℕ) (w : Workspace) : Type 0 where
+  pub closed : IsClosed n w.bound s (labels_of w)
   pub marked : AreMarked (length n.nodes) w
   pub none_waiting : w.queue ≡ []
 
@@ -33,6 +32,6 @@ pub record ListsLabels (labels : ℕ → Option Label) (entries : List Entry) : 
   pub same : (v : ℕ) → label_in entries v ≡ labels v
 
 -- the arrays keep their sizes, and after Ok nothing is left in them
-pub record EndsClean {A E : Type 0} (count : ℕ) (result : Result A E) (w : Workspace) : Type 0 where
-  pub sized : IsSized count w
-  pub clean : OnOk result (IsClean count w)
+pub record EndsClean {A E : Type 0} (result : Result A E) (old new : Workspace) : Type 0 where
+  pub sized : KeepsSizes old new
+  pub clean : OnOk result (IsClean (length old.words.items) new)

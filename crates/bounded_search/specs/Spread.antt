@@ -20,18 +20,19 @@ pub record FitsIn (n : Net) (bound : ℕ) (x : Entry) : Type 0 where
   pub within : x.distance ≤ bound
 
 -- the words say what the entries say
-abbrev pub IsSpread : List Entry → List ℕ → Type 0
-IsSpread entries words = (v : ℕ) → label_at words v ≡ label_in entries v
+abbrev pub IsSpread : ℕ → List Entry → List ℕ → Type 0
+IsSpread bound entries words = (v : ℕ) → label_at bound words v ≡ label_in entries v
 
 -- only nodes of the entries are labelled, and all else is as before
 pub record KeepsOthers (entries : List Entry) (old new : Workspace) : Type 0 where
-  pub none : (v : ℕ) → entry_in entries v ≡ None → word_at new.words.items v ≡ no_label
+  pub none : (v : ℕ) → entry_in entries v ≡ None → word_at old.bound new.words.items v ≡ no_label old.bound
+  pub bound : new.bound ≡ old.bound
   pub count : length new.words.items ≡ length old.words.items
   pub marks : new.marks.items ≡ old.marks.items
   pub queue : new.queue ≡ old.queue
 
 -- the answer tells whether a row may have all entries, and then the words say what they say
-pub record Spreads (n : Net) (bound : ℕ) (entries : List Entry) (fits : Bool) (old new : Workspace) : Type 0 where
-  pub fits_all : IsTrue fits ↔ All (FitsIn n bound) entries
-  pub words : IsTrue fits → IsSpread entries new.words.items
+pub record Spreads (n : Net) (entries : List Entry) (fits : Bool) (old new : Workspace) : Type 0 where
+  pub fits_all : IsTrue fits ↔ All (FitsIn n old.bound) entries
+  pub words : IsTrue fits → IsSpread old.bound entries new.words.items
   pub others : KeepsOthers entries old new

@@ -1,5 +1,5 @@
 -- What a search keeps. It holds in whatever order the waiting nodes are taken: the order is only for speed.
-use Rattle.std.specs.Prelude.{ℕ, ◌≡◌, ◌≢◌, ◌⊎◌, ◌+◌, ◌<◌, ◌≤◌, ◌%◌, ◌^◌, ◌&&◌, Bool, true, false, nat_lt, nat_le, if◌then◌else◌, List, ◌∷◌, length, slice_set}
+use Rattle.std.specs.Prelude.{ℕ, ◌≡◌, ◌≢◌, ◌⊎◌, ◌+◌, ◌<◌, ◌≤◌, ◌%◌, ◌^◌, ◌&&◌, Bool, true, false, nat_lt, if◌then◌else◌, List, ◌∷◌, length, slice_set}
 use Rattle.std.specs.List.{All, Contains, sum}
 use Rattle.std.specs.List.Sorted.{IsPermutation}
 use Rattle.road_network.specs.Net.{Net, HasEdge, source, target, span}
@@ -25,20 +25,20 @@ pub record IsHeld (n : Net) (bound : ℕ) (words : List ℕ) (v : ℕ) : Type 0 
   pub edge : ℕ
   pub has : HasEdge n edge
   pub ends : target n edge ≡ v
-  pub distance : distance_at words (source n edge) + span n edge ≤ distance_at words v
-  pub last : word_at words v % 2 ^ 32 ≡ edge
-  pub within : distance_at words v ≤ bound
+  pub distance : distance_at bound words (source n edge) + span n edge ≤ distance_at bound words v
+  pub last : word_at bound words v % 2 ^ 32 ≡ edge
+  pub within : distance_at bound words v ≤ bound
 
 -- the node where edge e ends has a label no worse than by this edge
-abbrev pub IsTried : Net → List ℕ → ℕ → Type 0
-IsTried n words e = word_at words (target n e) ≤ word_by (distance_at words (source n e) + span n e) e
+abbrev pub IsTried : Net → ℕ → List ℕ → ℕ → Type 0
+IsTried n bound words e = word_at bound words (target n e) ≤ word_by (distance_at bound words (source n e) + span n e) e
 
 -- every label was held, and every edge within the bound was tried, or its node waits at its distance, or the edge is pending
 pub record IsUnderway (n : Net) (bound s : ℕ) (state : SearchState) (pending : ℕ → Type 0) : Type 0 where
   pub count : length state.words ≡ length n.nodes
-  pub origin : word_at state.words s ≡ origin_word
-  pub held : (v : ℕ) → word_at state.words v ≢ no_label → v ≢ s → IsHeld n bound state.words v
-  pub tried : (e : ℕ) → HasEdge n e → distance_at state.words (source n e) + span n e ≤ bound → Waits state.queue (source n e) (distance_at state.words (source n e)) ⊎ (pending e ⊎ IsTried n state.words e)
+  pub origin : word_at bound state.words s ≡ origin_word
+  pub held : (v : ℕ) → word_at bound state.words v ≢ no_label bound → v ≢ s → IsHeld n bound state.words v
+  pub tried : (e : ℕ) → HasEdge n e → distance_at bound state.words (source n e) + span n e ≤ bound → Waits state.queue (source n e) (distance_at bound state.words (source n e)) ⊎ (pending e ⊎ IsTried n bound state.words e)
   pub inside : All (λ x. (x.node < length state.words) × (x.distance ≤ bound)) state.queue
 
 -- nothing is pending
@@ -49,12 +49,12 @@ NonePending e = ⊥
 abbrev pub effort : SearchState → ℕ
 effort state = sum state.words + length state.queue
 
--- whether an arc from distance d gives its end a better label, and whether a nearer one
+-- whether an arc from distance d gives its end a better label, and whether a nearer one; a node without a label is just beyond the bound
 abbrev pub is_better : ℕ → ℕ → Arc → List ℕ → Bool
-is_better bound d a words = nat_le (d + a.length) bound && nat_lt (word_by (d + a.length) a.edge.0) (word_at words a.to.0)
+is_better bound d a words = nat_lt (word_by (d + a.length) a.edge.0) (word_at bound words a.to.0)
 
 abbrev pub is_nearer : ℕ → ℕ → Arc → List ℕ → Bool
-is_nearer bound d a words = is_better bound d a words && nat_lt (d + a.length) (distance_at words a.to.0)
+is_nearer bound d a words = is_better bound d a words && nat_lt (d + a.length) (distance_at bound words a.to.0)
 
 -- x waits too, where it is to
 abbrev pub Gains : Bool → Waiting → List Waiting → List Waiting → Type 0

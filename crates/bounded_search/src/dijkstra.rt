@@ -3,12 +3,12 @@ ghost use Rattle.std.specs.Prelude.{◌≡◌, ◌<◌, ◌≤◌, ◌/◌, ◌^
 ghost use Rattle.road_network.specs.Net.{HasNode};
 ghost use Rattle.bounded_search.specs.Underway.{Gains, Tries, state_of};
 ghost use Rattle.bounded_search.specs.Searching.{EndsClean, IsLabelled, ListsLabels, TakesMarked, TriesLeaving};
-ghost use Rattle.bounded_search.specs.LabelWords.{distance_at, label_at, no_label};
+ghost use Rattle.bounded_search.specs.LabelWords.{distance_at, no_label};
 ghost use Rattle.bounded_search.specs.Labels.{entry_of};
-ghost use Rattle.bounded_search.specs.Marked.{AreMarked, IsClean, IsSized, MarksToo};
+ghost use Rattle.bounded_search.specs.Marked.{AreMarked, IsClean, IsSized, KeepsSizes, MarksToo, labels_of};
 ghost use Rattle.bounded_search.specs.Table.{IsRow};
 
-use crate::label_words::{NO_LABEL, ORIGIN, distance_in, label_in, least_word, step_by};
+use crate::label_words::{ORIGIN, distance_in, label_in, least_word, no_label, step_by};
 use crate::queue::{Queue, Waiting};
 use crate::table_row::Entry;
 use road_network::{Arc, EdgeId, Network, NodeId};
@@ -18,7 +18,10 @@ use std::alloc::{AllocError, Global};
 ///
 /// Each labelled node is marked by one bit. So the entries come out by rising node number, and what has to
 /// be cleared is found, in a look at every 64 nodes.
+///
+/// All words are made for one bound: that of a node without a label is just beyond it.
 pub struct Workspace {
+    pub(crate) bound: u32,
     pub(crate) words: Vec<u64>,
     marks: Vec<u64>,
     /// How many nodes are labelled: so much memory their entries take.
@@ -30,6 +33,7 @@ pub struct Workspace {
 impl Drop for Workspace {
     fn drop(self) {
         let Workspace {
+            bound: _,
             words: _,
             marks: _,
             labelled: _,
@@ -53,13 +57,16 @@ fn bucket_shift(net: &Network, bound: u32) -> u32
 }
 
 impl Workspace {
-    /// Arrays for the nodes of a network, with nothing in them.
+    /// Arrays for the nodes of a network and a bound, with nothing in them.
     pub fn new(alloc: Global, net: &Network, bound: u32) -> Result<Workspace, AllocError>
-        ensures { IfOk result (IsClean (length net.now.nodes)) }
+        requires { bound ≤ 10_000_000 }
+        ensures bound { IfOk result (λ w. w.bound ≡ bound) }
+        ensures clean { IfOk result (IsClean (length net.now.nodes)) }
     {
         let nodes = net.node_count() as usize;
         Ok(Workspace {
-            words: vec![in alloc; NO_LABEL; nodes]?,
+            bound,
+            words: vec![in alloc; no_label(bound); nodes]?,
             marks: vec![in alloc; 0; nodes / 64 + 1]?,
             labelled: 0,
             queue: Queue::new(alloc, bound, bucket_shift(net, bound))?,
@@ -71,7 +78,7 @@ impl Workspace {
         requires { node.0 / 64 < length self.old.marks.items }
         ensures words { self.new.words.items ≡ self.old.words.items }
         ensures queue { self.new.queue ≡ self.old.queue }
-        ensures count { length self.new.marks.items ≡ length self.old.marks.items }
+        ensures sized { KeepsSizes self.old self.new }
         ensures marks { MarksToo self.old.marks.items node.0 self.new.marks.items }
     {
         self.marks[node.0 as usize / 64] |= 1 << (node.0 % 64);
@@ -82,18 +89,18 @@ impl Workspace {
     /// A node that does not become nearer had a label before, so it is marked already.
     fn label(&mut self, node: NodeId, word: u64) -> Result<(), AllocError>
         requires node { (node.0 < length self.old.words.items) × (node.0 / 64 < length self.old.marks.items) }
-        requires near { word / 2 ^ 32 < no_label / 2 ^ 32 }
         ensures words { OnOk result (self.new.words.items ≡ slice_set self.old.words.items node.0 word) }
-        ensures queue { OnOk result (Gains (nat_lt (word / 2 ^ 32) (distance_at self.old.words.items node.0))
+        ensures queue { OnOk result (Gains (nat_lt (word / 2 ^ 32) (distance_at self.old.bound self.old.words.items node.0))
             (record { distance = word / 2 ^ 32; node = node.0 }) self.old.queue self.new.queue) }
-        ensures sized { (count : ℕ) → IsSized count self.old → IsSized count self.new }
-        ensures marked { (count : ℕ) → AreMarked count self.old → OnOk result (AreMarked count self.new) }
+        ensures sized { KeepsSizes self.old self.new }
+        ensures marked { (count : ℕ) → word / 2 ^ 32 ≤ self.old.bound
+            → AreMarked count self.old → OnOk result (AreMarked count self.new) }
     {
         let before = self.words[node.0 as usize];
         self.words[node.0 as usize] = word;
         if distance_in(word) < distance_in(before) {
             self.mark(node);
-            let is_new = before == NO_LABEL;
+            let is_new = distance_in(before) > self.bound;
             self.labelled = self.labelled.saturating_add(usize::from(is_new));
             self.queue.push(Waiting {
                 distance: distance_in(word),
@@ -105,27 +112,27 @@ impl Workspace {
 
     /// Tries an arc from a distance: where it gives its end a better label, that is written.
     ///
-    /// One comparison is with both the bound and the label that is there: one branch in place of two.
-    fn relax(&mut self, bound: u32, distance: u32, arc: Arc) -> Result<(), AllocError>
+    /// One comparison is with both the bound and the label that is there, since no word is beyond that of no label.
+    fn relax(&mut self, distance: u32, arc: Arc) -> Result<(), AllocError>
         requires end { (arc.to.0 < length self.old.words.items) × (arc.to.0 / 64 < length self.old.marks.items) }
-        requires fits { (arc.length ≤ 100_000_000) × (distance ≤ 10_000_000) × (bound ≤ 10_000_000) }
-        ensures tries { OnOk result (Tries bound distance arc (state_of self.old) (state_of self.new)) }
-        ensures sized { (count : ℕ) → IsSized count self.old → IsSized count self.new }
+        requires fits { (arc.length ≤ 100_000_000) × (distance ≤ 10_000_000) }
+        ensures tries { OnOk result (Tries self.old.bound distance arc (state_of self.old) (state_of self.new)) }
+        ensures sized { KeepsSizes self.old self.new }
         ensures marked { (count : ℕ) → AreMarked count self.old → OnOk result (AreMarked count self.new) }
     {
         let word = least_word(distance) + step_by(arc);
-        if word >= self.words[arc.to.0 as usize].min(least_word(bound + 1)) {
+        if word >= self.words[arc.to.0 as usize] {
             return Ok(());
         }
         self.label(arc.to, word)
     }
 
     /// Tries every edge out of a node that waited, unless it has become nearer since.
-    fn relax_leaving(&mut self, net: &Network, bound: u32, next: Waiting) -> Result<(), AllocError>
-        requires next { HasNode net.now next.node × (next.distance ≤ 10_000_000) × (bound ≤ 10_000_000) }
+    fn relax_leaving(&mut self, net: &Network, next: Waiting) -> Result<(), AllocError>
+        requires next { HasNode net.now next.node × (next.distance ≤ 10_000_000) }
         requires sized { IsSized (length net.now.nodes) self.old }
-        ensures tries { OnOk result (TriesLeaving net.now bound next (state_of self.old) (state_of self.new)) }
-        ensures sized { IsSized (length net.now.nodes) self.new }
+        ensures tries { OnOk result (TriesLeaving net.now self.old.bound next (state_of self.old) (state_of self.new)) }
+        ensures sized { KeepsSizes self.old self.new }
         ensures marked { (count : ℕ) → AreMarked count self.old → OnOk result (AreMarked count self.new) }
     {
         net.known();
@@ -133,7 +140,7 @@ impl Workspace {
             return Ok(());
         }
         for arc in net.arcs(NodeId(next.node)) {
-            self.relax(bound, next.distance, *arc)?;
+            self.relax(next.distance, *arc)?;
         }
         Ok(())
     }
@@ -142,39 +149,39 @@ impl Workspace {
     ///
     /// A node waits again each time that it becomes nearer. When none waits, every edge within the bound has
     /// been tried from its node's last distance. Taking the nearest first makes that rare.
-    fn label_all(&mut self, net: &Network, bound: u32, origin: NodeId) -> Result<(), AllocError>
+    fn label_all(&mut self, net: &Network, origin: NodeId) -> Result<(), AllocError>
         requires origin { HasNode net.now origin.0 }
-        requires bound { bound ≤ 10_000_000 }
         requires clean { IsClean (length net.now.nodes) self.old }
-        ensures labelled { OnOk result (IsLabelled net.now bound origin.0 self.new) }
-        ensures sized { IsSized (length net.now.nodes) self.new }
+        ensures labelled { OnOk result (IsLabelled net.now origin.0 self.new) }
+        ensures sized { KeepsSizes self.old self.new }
     {
         net.known();
         self.label(origin, ORIGIN)?;
         let mut place = 0;
         while let Some(next) = self.queue.pop_from(&mut place) {
-            self.relax_leaving(net, bound, next)?;
+            self.relax_leaving(net, next)?;
         }
         Ok(())
     }
 
     /// Takes the label of a node out, and appends the entry that it gives.
     fn take_entry(&mut self, node: u32, entries: &mut Vec<Entry>) -> Result<(), AllocError>
-        requires { node < length self.old.words.items }
-        ensures entries { OnOk result
-            (entries.new.items ≡ entries.old.items ++ entry_of node (label_at self.old.words.items node)) }
-        ensures words { OnOk result (self.new.words.items ≡ slice_set self.old.words.items node no_label) }
-        ensures count { length self.new.words.items ≡ length self.old.words.items }
+        requires { (node < length self.old.words.items) × (self.old.bound ≤ 10_000_000) }
+        ensures entries { OnOk result (entries.new.items
+            ≡ entries.old.items ++ entry_of node (labels_of self.old node)) }
+        ensures words { OnOk result
+            (self.new.words.items ≡ slice_set self.old.words.items node (no_label self.old.bound)) }
+        ensures sized { KeepsSizes self.old self.new }
         ensures others { (self.new.marks.items ≡ self.old.marks.items) × (self.new.queue ≡ self.old.queue) }
     {
-        if let Some(label) = label_in(self.words[node as usize]) {
+        if let Some(label) = label_in(self.bound, self.words[node as usize]) {
             entries.push(Entry {
                 node: NodeId(node),
                 distance: label.distance,
                 last: label.last,
             })?;
         }
-        self.words[node as usize] = NO_LABEL;
+        self.words[node as usize] = no_label(self.bound);
         Ok(())
     }
 
@@ -183,7 +190,7 @@ impl Workspace {
         requires place { (place < length self.old.marks.items) × (length self.old.words.items ≤ 60_000) }
         requires marked { AreMarked (length self.old.words.items) self.old }
         ensures takes { OnOk result (TakesMarked place self.old entries.old.items self.new entries.new.items) }
-        ensures sized { IsSized (length self.old.words.items) self.new }
+        ensures sized { KeepsSizes self.old self.new }
         ensures queue { self.new.queue ≡ self.old.queue }
     {
         let mut rest = self.marks[place];
@@ -201,8 +208,8 @@ impl Workspace {
         requires few { length self.old.words.items ≤ 60_000 }
         requires marked { AreMarked (length self.old.words.items) self.old }
         requires none_waiting { self.old.queue ≡ [] }
-        ensures entries { IfOk result (λ entries. ListsLabels (label_at self.old.words.items) entries.items) }
-        ensures clean { EndsClean (length self.old.words.items) result self.new }
+        ensures entries { IfOk result (λ entries. ListsLabels (labels_of self.old) entries.items) }
+        ensures clean { EndsClean result self.old self.new }
     {
         let mut entries = Vec::with_capacity(alloc, self.labelled)?;
         for place in 0..self.marks.len() {
@@ -217,27 +224,26 @@ impl Workspace {
         &mut self,
         alloc: Global,
         net: &Network,
-        bound: u32,
         origin: NodeId,
     ) -> Result<Vec<Entry>, AllocError>
         requires origin { HasNode net.now origin.0 }
-        requires bound { bound ≤ 10_000_000 }
         requires clean { IsClean (length net.now.nodes) self.old }
         ensures row { IfOk result (λ entries.
-            IsRow net.now bound origin.0 (record { origin = origin.0; entries = entries.items })) }
-        ensures clean { EndsClean (length net.now.nodes) result self.new }
+            IsRow net.now self.old.bound origin.0 (record { origin = origin.0; entries = entries.items })) }
+        ensures clean { EndsClean result self.old self.new }
     {
         net.known();
-        self.label_all(net, bound, origin)?;
+        self.label_all(net, origin)?;
         self.take_entries(alloc)
     }
 
     /// Empties the arrays after a search that was broken off, in as many steps as they have places.
     pub fn clear(&mut self)
         requires { IsSized (length self.old.words.items) self.old }
-        ensures { IsClean (length self.old.words.items) self.new }
+        ensures bound { self.new.bound ≡ self.old.bound }
+        ensures clean { IsClean (length self.old.words.items) self.new }
     {
-        self.words.fill(NO_LABEL);
+        self.words.fill(no_label(self.bound));
         self.marks.fill(0);
         self.labelled = 0;
         self.queue.clear();

@@ -1,12 +1,9 @@
 //! Labels in eight bytes. Serves the search and the check by words; decided by `label_in_word`.
-ghost use Rattle.std.specs.Prelude.{◌≡◌, ◌/◌, ◌^◌};
+ghost use Rattle.std.specs.Prelude.{◌≡◌, ◌≤◌, ◌/◌, ◌^◌};
 ghost use Rattle.bounded_search.specs.LabelWords.{label_in_word, no_label, origin_word, word_by, word_of};
 
 use crate::table_row::Label;
 use road_network::{Arc, EdgeId};
-
-/// The word of a node without a label.
-pub const NO_LABEL: u64 = 0xffff_ffff_ffff_ffff;
 
 /// The word of an origin: distance 0 and no last edge.
 pub const ORIGIN: u64 = 0xffff_ffff;
@@ -24,6 +21,16 @@ pub fn least_word(distance: u32) -> u64
     ensures { result ≡ word_by distance 0 }
 {
     u64::from(distance) << 32
+}
+
+/// The word of a node without a label: the least of all words beyond the bound.
+///
+/// So what is less than a node's word is both within the bound and better than the label that is there.
+pub fn no_label(bound: u32) -> u64
+    requires { bound ≤ 10_000_000 }
+    ensures { result ≡ no_label bound }
+{
+    least_word(bound + 1)
 }
 
 /// The word of an arc's length and edge. With the least word of the distance where the arc begins, the sum is
@@ -44,18 +51,19 @@ pub fn word_of(distance: u32, last: Option<EdgeId>) -> u64
     }
 }
 
-/// The distance in a word. That of no label is beyond every bound.
+/// The distance in a word. That of no label is just beyond the bound.
 pub fn distance_in(word: u64) -> u32
     ensures { result ≡ word / 2 ^ 32 }
 {
     (word >> 32) as u32
 }
 
-/// The label in a word.
-pub fn label_in(word: u64) -> Option<Label>
-    ensures { result ≡ label_in_word word }
+/// The label in a word of a search within a bound.
+pub fn label_in(bound: u32, word: u64) -> Option<Label>
+    requires { bound ≤ 10_000_000 }
+    ensures { result ≡ label_in_word bound word }
 {
-    if word == NO_LABEL {
+    if word == no_label(bound) {
         return None;
     }
     let last = (word & 0xffff_ffff) as u32;

@@ -18,7 +18,6 @@ use std::marker::Model;
 pub struct Searcher<'n> {
     alloc: Global,
     network: &'n Network,
-    bound: u32,
     workspace: Workspace,
 }
 
@@ -28,7 +27,6 @@ impl<'n> Drop for Searcher<'n> {
         let Searcher {
             alloc: _,
             network: _,
-            bound: _,
             workspace: _,
         } = self;
     }
@@ -56,7 +54,6 @@ impl<'n> Searcher<'n> {
         Ok(Searcher {
             alloc,
             network,
-            bound,
             workspace,
         })
     }
@@ -78,10 +75,9 @@ impl<'n> Searcher<'n> {
         ensures row { IsTrue result ↔ IsRow self.old.network self.old.bound origin.0 row.now }
     {
         let network = self.network;
-        let bound = self.bound;
         network.known();
         row.known();
-        row.origin() == origin && self.workspace.gives_all(network, bound, row.entries())
+        row.origin() == origin && self.workspace.gives_all(network, row.entries())
     }
 
     /// The row of an origin, as `search` finds it.
@@ -92,9 +88,8 @@ impl<'n> Searcher<'n> {
     {
         let alloc = self.alloc;
         let network = self.network;
-        let bound = self.bound;
         network.known();
-        match self.workspace.entries(alloc, network, bound, origin) {
+        match self.workspace.entries(alloc, network, origin) {
             Ok(entries) => Ok(Row {
                 origin,
                 middle: place_between(&entries, 0, entries.len(), origin).unwrap_or(0),

@@ -6,6 +6,6 @@ use Rattle.bounded_search.proofs.dijkstra.Workspace.are_given.Given as goal
 
 abbrev pub invariant-loop-place : goal.invariant-loop-place
 invariant-loop-place l = record {
-  each : All (IsRelaxedAt l.net l.bound none_skipped (label_in l.entries)) (take l.place l.entries);
-  counted : l.given ≡ sum_by (given_by l.net l.bound none_skipped l.entries) (take l.place l.entries);
+  each : All (IsRelaxedAt l.net l.self.bound none_skipped (label_in l.entries)) (take l.place l.entries);
+  counted : l.given ≡ sum_by (given_by l.net l.self.bound none_skipped l.entries) (take l.place l.entries);
 }

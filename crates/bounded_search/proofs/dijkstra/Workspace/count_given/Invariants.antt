@@ -6,6 +6,6 @@ use Rattle.bounded_search.proofs.dijkstra.Workspace.count_given.Given as goal
 
 abbrev pub invariant-loop-arc : goal.invariant-loop-arc
 invariant-loop-arc l = record {
-  relaxed : All (IsRelaxedOrBack l.bound (label_at l.self.words.items) None l.x.distance) (take l.arc-index l.arc-items);
-  counted : l.count ≡ count_by (arc_gives l.bound (label_at l.self.words.items) None l.x.distance) (take l.arc-index l.arc-items);
+  relaxed : All (IsRelaxedOrBack l.self.bound (label_at l.self.bound l.self.words.items) None l.x.distance) (take l.arc-index l.arc-items);
+  counted : l.count ≡ count_by (arc_gives l.self.bound (label_at l.self.bound l.self.words.items) None l.x.distance) (take l.arc-index l.arc-items);
 }

@@ -1,8 +1,10 @@
-use Rattle.std.proofs.Common.{ℕ, Result, Ok, Err, IfOk, sym, subst, rules, arith}
+use Rattle.std.proofs.Common.{◌≡◌, ℕ, Result, Ok, Err, IfOk, sym, subst, rules, arith}
+use Rattle.std.specs.Prelude.{OnOk}
 use Rattle.bounded_search.specs.LabelWords.{label_at}
-use Rattle.bounded_search.specs.Marked.{AreMarked}
-use Rattle.bounded_search.specs.Searching.{EndsClean, ListsLabels}
+use Rattle.bounded_search.specs.Marked.{AreMarked, IsClean}
+use Rattle.bounded_search.specs.Searching.{ListsLabels}
 use Rattle.bounded_search.specs.Table.{IsRow}
+use Rattle.bounded_search.proofs.MarkedNodes.{keeps_both}
 use Rattle.bounded_search.proofs.RowOfLabels.{row_of_labels}
 use Rattle.bounded_search.proofs.dijkstra.Workspace.entries.Goals as goal
 
@@ -11,21 +13,29 @@ if_ok P Q (Ok x) p f = f x p
 if_ok P Q (Err e) p f = tt
 
 pub take_entries-requires-clause-few : goal.take_entries-requires-clause-few
-take_entries-requires-clause-few c = omega (arith, c.in_ok-label_all.ensures.sized.words_count, c.known.ensures.few_nodes)
+take_entries-requires-clause-few c = omega (arith, c.in_ok-label_all.ensures.labelled.marked.sized.words_count, c.known.ensures.few_nodes)
 
 pub take_entries-requires-clause-marked : goal.take_entries-requires-clause-marked
-take_entries-requires-clause-marked c = subst (λ (k : ℕ). AreMarked k c.label_all.new.self) (sym c.in_ok-label_all.ensures.sized.words_count) c.in_ok-label_all.ensures.labelled.marked
+take_entries-requires-clause-marked c = subst (λ (k : ℕ). AreMarked k c.label_all.new.self) (sym c.in_ok-label_all.ensures.labelled.marked.sized.words_count) c.in_ok-label_all.ensures.labelled.marked
 
 pub returns-clause-row : goal.returns-clause-row
 returns-clause-row c =
     let n = c.args.net.now in
     let s : ℕ = c.args.origin.0 in
     let labels = c.label_all.new.self.words.items in
-    if_ok (λ x. ListsLabels (label_at labels) x.items) (λ x. IsRow n c.args.bound s (record { origin = s; entries = x.items })) c.take_entries.result c.take_entries.ensures.entries
-    (λ x lists. row_of_labels n c.args.bound s labels x.items c.known.ensures c.in_ok-label_all.ensures.labelled.closed lists.rising lists.same)
+    let bound : ℕ = c.label_all.new.self.bound in
+    let same : bound ≡ c.args.self.now.bound = c.in_ok-label_all.ensures.sized.bound in
+    if_ok (λ x. ListsLabels (label_at bound labels) x.items) (λ x. IsRow n c.args.self.now.bound s (record { origin = s; entries = x.items })) c.take_entries.result c.take_entries.ensures.entries
+    (λ x lists. subst (λ (k : ℕ). IsRow n k s (record { origin = s; entries = x.items })) same (row_of_labels n bound s labels x.items c.known.ensures c.in_ok-label_all.ensures.labelled.closed lists.rising lists.same))
 
 pub returns-clause-clean : goal.returns-clause-clean
-returns-clause-clean c = subst (λ (k : ℕ). EndsClean k c.take_entries.result c.take_entries.new.self) c.in_ok-label_all.ensures.sized.words_count c.take_entries.ensures.clean
+returns-clause-clean c =
+    let first = c.in_ok-label_all.ensures.sized in
+    let ends = c.take_entries.ensures.clean in
+    record {
+      sized = keeps_both c.args.self.now c.label_all.new.self c.take_entries.new.self first ends.sized;
+      clean = subst (λ (k : ℕ). OnOk c.take_entries.result (IsClean k c.take_entries.new.self)) first.words_count ends.clean;
+    }
 
 pub returns-in_err-label_all-clause-clean : goal.returns-in_err-label_all-clause-clean
 returns-in_err-label_all-clause-clean c = record { sized = c.in_err-label_all.ensures.sized; clean = search rules }

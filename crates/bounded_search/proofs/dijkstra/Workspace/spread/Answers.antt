@@ -15,8 +15,9 @@ nothing = record { node = record { 0 = 0 }; distance = 0; last = None }
 
 pub loop-x-init : goal.loop-x-init
 loop-x-init c = record {
-  spread = none_spread c.args.self.now.words.items c.requires.clean.none_labelled;
-  fits = All-nil (FitsIn c.args.net.now c.args.bound);
+  spread = none_spread c.args.self.now.bound c.args.self.now.words.items c.requires.clean.none_labelled;
+  fits = All-nil (FitsIn c.args.net.now c.args.self.now.bound);
+  bound = refl;
   count = refl;
   marks = refl;
   queue = refl;
@@ -28,12 +29,13 @@ returns-then-not-fits c =
     let entries : List Entry = c.args.entries.now in
     let i : ℕ = c.loop-x.x-index in
     let lt : i < length entries = omega arith in
-    let unfit : All (FitsIn c.args.net.now c.args.bound) entries → false ≡ true = λ all. subst (λ (k : Bool). IsTrue k) c.if-not-fits.true (c.fits.ensures.1 (all i nothing lt)) in
+    let unfit : All (FitsIn c.args.net.now c.args.self.now.bound) entries → false ≡ true = λ all. subst (λ (k : Bool). IsTrue k) c.if-not-fits.true (c.fits.ensures.1 (all i nothing lt)) in
     record {
       fits_all = (λ t. absurd (true≢false (sym t)), unfit);
       words = λ t. absurd (true≢false (sym t));
       others = record {
-        none = none_else entries i c.loop-x.self.words.items inv.spread;
+        none = none_else c.args.self.now.bound entries i c.loop-x.self.words.items inv.spread;
+        bound = inv.bound;
         count = inv.count;
         marks = inv.marks;
         queue = inv.queue;
@@ -47,12 +49,13 @@ loop-x-preserved c =
     let i : ℕ = c.loop-x.x-index in
     let lt : i < length entries = omega arith in
     let x : Entry = get_or entries i nothing in
-    let fits : FitsIn c.args.net.now c.args.bound x = c.fits.ensures.0 (search rules) in
+    let fits : FitsIn c.args.net.now c.args.self.now.bound x = c.fits.ensures.0 (search rules) in
     let inside : x.node.0 < length c.loop-x.self.words.items = omega (arith, fits.node, inv.count, c.requires.clean.sized.words_count) in
-    let is : label_in_word c.word_of.result ≡ Some (label_of x) = ap label_in_word c.word_of.ensures ∙ label_of_word c.args.net.now x.distance x.last c.known.ensures (omega (arith, fits.within, c.requires.bound)) fits.last in
+    let is : label_in_word c.args.self.now.bound c.word_of.result ≡ Some (label_of x) = ap (label_in_word c.args.self.now.bound) c.word_of.ensures ∙ label_of_word c.args.net.now c.args.self.now.bound x.distance x.last c.known.ensures fits.within fits.last in
     record {
-      spread = spread_next entries i nothing c.loop-x.self.words.items c.word_of.result c.requires.rising lt inside is inv.spread;
-      fits = All-more (FitsIn c.args.net.now c.args.bound) entries i nothing lt inv.fits fits;
+      spread = spread_next c.args.self.now.bound entries i nothing c.loop-x.self.words.items c.word_of.result c.requires.rising lt inside is inv.spread;
+      fits = All-more (FitsIn c.args.net.now c.args.self.now.bound) entries i nothing lt inv.fits fits;
+      bound = inv.bound;
       count = length-set c.loop-x.self.words.items x.node.0 c.word_of.result ∙ inv.count;
       marks = inv.marks;
       queue = inv.queue;
@@ -63,12 +66,13 @@ returns c =
     let inv = c.loop-x.invariant in
     let entries : List Entry = c.args.entries.now in
     let whole = take_all c.loop-x.x-index entries (omega arith) in
-    let fits : All (FitsIn c.args.net.now c.args.bound) entries = rw whole at inv.fits in
+    let fits : All (FitsIn c.args.net.now c.args.self.now.bound) entries = rw whole at inv.fits in
     record {
       fits_all = (λ t. fits, λ all. refl);
-      words = λ t. subst (λ (k : List Entry). IsSpread k c.loop-x.self.words.items) whole inv.spread;
+      words = λ t. subst (λ (k : List Entry). IsSpread c.args.self.now.bound k c.loop-x.self.words.items) whole inv.spread;
       others = record {
-        none = none_else entries c.loop-x.x-index c.loop-x.self.words.items inv.spread;
+        none = none_else c.args.self.now.bound entries c.loop-x.x-index c.loop-x.self.words.items inv.spread;
+        bound = inv.bound;
         count = inv.count;
         marks = inv.marks;
         queue = inv.queue;

@@ -5,8 +5,9 @@ use Rattle.bounded_search.proofs.dijkstra.Workspace.spread.Given as goal
 
 abbrev pub invariant-loop-x : goal.invariant-loop-x
 invariant-loop-x l = record {
-  spread : IsSpread (take l.x-index l.entries) l.self.words.items;
-  fits : All (FitsIn l.net l.bound) (take l.x-index l.entries);
+  spread : IsSpread l.fn.self.bound (take l.x-index l.entries) l.self.words.items;
+  fits : All (FitsIn l.net l.fn.self.bound) (take l.x-index l.entries);
+  bound : l.self.bound ≡ l.fn.self.bound;
   count : length l.self.words.items ≡ length l.fn.self.words.items;
   marks : l.self.marks.items ≡ l.fn.self.marks.items;
   queue : l.self.queue ≡ l.fn.self.queue;

@@ -1,4 +1,4 @@
-use Rattle.std.proofs.Common.{◌≡◌, ◌∷◌, ◌+◌, ◌<◌, ap, ℕ, List, [], None, length, length-set, drop, get_or, sym, subst, ◌∙◌, arith, refl}
+use Rattle.std.proofs.Common.{◌≡◌, ◌∷◌, ◌+◌, ◌<◌, ap, ℕ, List, [], None, length, length-set, set, drop, get_or, sym, subst, ◌∙◌, arith, refl}
 use Rattle.std.proofs.lemmas.List.{drop_all}
 use Rattle.std.proofs.lemmas.Grind.{common_steps}
 use Rattle.bounded_search.specs.declared.table_row.Entry.{Entry}
@@ -27,16 +27,20 @@ loop-x-preserved c =
     let x : Entry = get_or entries i nothing in
     let rest : List Entry = drop (i + 1) entries in
     let next : drop i entries ≡ x ∷ rest = grind (arith, common_steps) in
-    let left : (v : ℕ) → entry_in (x ∷ rest) v ≡ None → word_at words v ≡ no_label = subst (λ (k : List Entry). (v : ℕ) → entry_in k v ≡ None → word_at words v ≡ no_label) next inv.left in
+    let bound : ℕ = c.args.self.now.bound in
+    let word_is : c.no_label-none.result ≡ no_label bound = c.no_label-none.ensures in
+    let left : (v : ℕ) → entry_in (x ∷ rest) v ≡ None → word_at bound words v ≡ no_label bound = subst (λ (k : List Entry). (v : ℕ) → entry_in k v ≡ None → word_at bound words v ≡ no_label bound) next inv.left in
     elim c.if-node-len.branch [
       | then-node-len w ↦ record {
-        left = subst (λ (k : Workspace). (v : ℕ) → entry_in rest v ≡ None → word_at k.words.items v ≡ no_label) (sym w.self-is) (less_left x rest words left);
-        count = ap (λ (k : Workspace). length k.words.items) w.self-is ∙ (length-set words x.node.0 no_label ∙ inv.count);
+        left = subst (λ (k : Workspace). (v : ℕ) → entry_in rest v ≡ None → word_at bound k.words.items v ≡ no_label bound) (sym w.self-is) (subst (λ (k : ℕ). (v : ℕ) → entry_in rest v ≡ None → word_at bound (set words x.node.0 k) v ≡ no_label bound) (sym word_is) (less_left bound x rest words left));
+        bound = ap (λ (k : Workspace). k.bound) w.self-is ∙ inv.bound;
+        count = ap (λ (k : Workspace). length k.words.items) w.self-is ∙ (length-set words x.node.0 c.no_label-none.result ∙ inv.count);
         marks = ap (λ (k : Workspace). k.marks.items) w.self-is ∙ inv.marks;
         queue = ap (λ (k : Workspace). k.queue) w.self-is ∙ inv.queue;
       }
       | else-node-len w ↦ record {
-        left = subst (λ (k : Workspace). (v : ℕ) → entry_in rest v ≡ None → word_at k.words.items v ≡ no_label) (sym w.self-is) (none_left x rest words (omega (arith, w.if-node-len.false, c.len.ensures)) left);
+        left = subst (λ (k : Workspace). (v : ℕ) → entry_in rest v ≡ None → word_at bound k.words.items v ≡ no_label bound) (sym w.self-is) (none_left bound x rest words (omega (arith, w.if-node-len.false, c.len.ensures)) left);
+        bound = ap (λ (k : Workspace). k.bound) w.self-is ∙ inv.bound;
         count = ap (λ (k : Workspace). length k.words.items) w.self-is ∙ inv.count;
         marks = ap (λ (k : Workspace). k.marks.items) w.self-is ∙ inv.marks;
         queue = ap (λ (k : Workspace). k.queue) w.self-is ∙ inv.queue;

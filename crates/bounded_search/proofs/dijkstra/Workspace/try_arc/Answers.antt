@@ -9,23 +9,25 @@ use Rattle.bounded_search.proofs.dijkstra.Workspace.try_arc.Goals as goal
 
 pub returns-clause-some : goal.returns-clause-some
 returns-clause-some c =
+    let bound : ℕ = c.args.self.now.bound in
     let words : List ℕ = c.args.self.now.words.items in
     let v : ℕ = c.args.arc.to.0 in
     let e : ℕ = c.args.arc.edge.0 in
     let d : ℕ = c.args.distance + c.args.arc.length in
-    let at : c.index-word.result.now ≡ word_at words v = get_or_read words v c.index-word.result.now c.requires.end.0 c.index-word.ensures no_label in
-    let le : word_at words v ≤ word_by d e = omega (arith, c.if-word-by.false, at, c.word_by-by.ensures) in
-    let listed = (listed_where words v e d c.requires.end.1 (omega (arith, c.requires.fits))).0 le in
+    let at : c.index-word.result.now ≡ word_at bound words v = get_or_read words v c.index-word.result.now c.requires.end.0 c.index-word.ensures (no_label bound) in
+    let le : word_at bound words v ≤ word_by d e = omega (arith, c.if-word-by.false, at, c.word_by-by.ensures) in
+    let listed = (listed_where bound words v e d c.requires.end.1 (omega (arith, c.if-at-self.false))).0 le in
     (λ t forward short. listed, λ h. refl)
 
 pub returns-clause-given : goal.returns-clause-given
 returns-clause-given c =
+    let bound : ℕ = c.args.self.now.bound in
     let words : List ℕ = c.args.self.now.words.items in
     let v : ℕ = c.args.arc.to.0 in
     let e : ℕ = c.args.arc.edge.0 in
     let d : ℕ = c.args.distance + c.args.arc.length in
-    let at : c.index-word.result.now ≡ word_at words v = get_or_read words v c.index-word.result.now c.requires.end.0 c.index-word.ensures no_label in
-    let within : nat_le d c.args.bound ≡ true = elim (leb_tells d c.args.bound) [ inl t ↦ t.0 | inr t ↦ absurd (omega (arith, t.1, c.if-at-bound.false)) ] in
-    let same : (word_at words v == word_by d e) ≡ is_label_by (label_at words v) d e = label_where words v e d c.requires.end.1 (omega (arith, c.requires.fits)) in
-    let test : (c.index-word.result.now == c.word_by-by.result) ≡ (word_at words v == word_by d e) = ap (λ (k : ℕ). k == c.word_by-by.result) at ∙ ap (λ (k : ℕ). word_at words v == k) c.word_by-by.ensures in
+    let at : c.index-word.result.now ≡ word_at bound words v = get_or_read words v c.index-word.result.now c.requires.end.0 c.index-word.ensures (no_label bound) in
+    let within : nat_le d bound ≡ true = elim (leb_tells d bound) [ inl t ↦ t.0 | inr t ↦ absurd (omega (arith, t.1, c.if-at-self.false)) ] in
+    let same : (word_at bound words v == word_by d e) ≡ is_label_by (label_at bound words v) d e = label_where bound words v e d c.requires.end.1 (omega (arith, c.if-at-self.false)) in
+    let test : (c.index-word.result.now == c.word_by-by.result) ≡ (word_at bound words v == word_by d e) = ap (λ (k : ℕ). k == c.word_by-by.result) at ∙ ap (λ (k : ℕ). word_at bound words v == k) c.word_by-by.ensures in
     rw within (test ∙ same)

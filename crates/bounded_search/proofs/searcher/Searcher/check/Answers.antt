@@ -11,7 +11,7 @@ use Rattle.bounded_search.proofs.searcher.Searcher.check.Goals as goal
 pub returns-then-eq-clause-row : goal.returns-then-eq-clause-row
 returns-then-eq-clause-row c =
     let n = c.self.inside.network.now in
-    let bound = c.self.inside.bound in
+    let bound = c.self.inside.workspace.bound in
     let row = c.args.row.now in
     let same : row.origin ≡ c.args.origin.0 = grind (arith, nat_tests) in
     let has : HasNode n row.origin = subst (HasNode n) (sym same) (subst (λ (o : BoundedTable). HasNode o.network c.args.origin.0) (sym c.self.view_is) c.requires) in
