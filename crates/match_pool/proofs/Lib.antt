@@ -3,6 +3,7 @@ pub mod Found
 pub mod Hired
 pub mod Learning
 pub mod Lists
+pub mod OneFix
 pub mod Slots
 pub mod Spots
 pub mod Taken

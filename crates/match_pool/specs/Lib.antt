@@ -4,6 +4,7 @@ pub mod Dealing
 pub mod Drawing
 pub mod Gathering
 pub mod Learning
+pub mod OneFix
 pub mod Strips
 pub mod Tables
 pub mod Turns

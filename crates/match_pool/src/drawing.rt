@@ -4,7 +4,7 @@ ghost use Rattle.match_pool.specs.Drawing.{WorksAt, job_of};
 ghost use Rattle.match_pool.specs.Working.{CanDraw, IsReaderFor, Stays};
 
 use crate::batch::Batch;
-use crate::far::find_match;
+use crate::finding::find_match;
 use crate::gate::Gate;
 use crate::worker::Done;
 use polyline_geometry::List;

@@ -1,20 +1,15 @@
-//! Traces that lie far from the whole network, whose match is found without their layers. Serves `draw_from`;
-//! decided by `match_of`.
-ghost use Rattle.std.specs.Prelude.{◌≡◌, true, All, IfOk, IsTrue};
+//! Traces that lie far from the whole network, whose match is found without their layers. Serves `find_match`;
+//! decided by `unmatched`.
+ghost use Rattle.std.specs.Prelude.{◌≡◌, All, IfOk, IsTrue};
 ghost use Rattle.polyline_geometry.specs.Plane.{InRange};
-ghost use Rattle.bounded_search.specs.Rows.{AsksAs};
-ghost use Rattle.row_store.specs.Store.{rows_state};
-ghost use Rattle.trace_match.specs.Match.{asks, match_of, place_of};
+ghost use Rattle.trace_match.specs.Match.{place_of};
 ghost use Rattle.trace_reader.specs.Trace.{IsLawfulTrace};
 ghost use Rattle.match_pool.specs.Unmatched.{HasNoCandidate, unmatched};
-ghost use Rattle.match_pool.specs.Working.{IsReaderFor};
 
-use crate::answer::match_one;
 use crate::batch::Batch;
 use candidate_search::candidates;
 use match_text::{Label, MatchedTrace};
 use polyline_geometry::{List, Point};
-use row_store::Reader;
 use std::alloc::{AllocError, Global};
 use trace_reader::{Fix, Trace};
 
@@ -33,7 +28,7 @@ fn is_far(batch: &Batch, fix: &Fix) -> Result<bool, AllocError>
 }
 
 /// Whether all fixes of a trace do. Most traces are told by their first fix.
-fn lies_far(batch: &Batch, trace: &Trace) -> Result<bool, AllocError>
+pub(crate) fn lies_far(batch: &Batch, trace: &Trace) -> Result<bool, AllocError>
     requires { IsLawfulTrace trace.now }
     ensures { IfOk result (λ far. IsTrue far
         → All (HasNoCandidate batch.now.net.now batch.now.params.now) trace.now.fixes) }
@@ -47,7 +42,7 @@ fn lies_far(batch: &Batch, trace: &Trace) -> Result<bool, AllocError>
 }
 
 /// The match of a trace none of whose fixes has a candidate.
-fn unmatched(alloc: Global, trace: &Trace) -> Result<MatchedTrace, AllocError>
+pub(crate) fn unmatched(alloc: Global, trace: &Trace) -> Result<MatchedTrace, AllocError>
     ensures { IfOk result (λ matched. matched ≡ unmatched trace.now) }
 {
     let labels = vec![in alloc; Label::Missing; trace.fixes.len()]?;
@@ -56,31 +51,4 @@ fn unmatched(alloc: Global, trace: &Trace) -> Result<MatchedTrace, AllocError>
         labels: List::from_vec(labels),
         pieces: List::new(alloc),
     })
-}
-
-/// The match of a trace of the batch. Exactly the rows that it asks for become known.
-pub fn find_match<'s>(
-    batch: &Batch,
-    reader: &mut Reader<'s>,
-    trace: &Trace,
-) -> Result<MatchedTrace, AllocError>
-    requires reader { IsReaderFor batch.now.net.now batch.now.params.now reader.old }
-    requires trace { IsLawfulTrace trace.now }
-    ensures matched { IfOk result
-        (λ matched. matched ≡ match_of batch.now.net.now batch.now.params.now trace.now) }
-    ensures asks { AsksAs (rows_state reader.old) (λ _ v. asks batch.now.net.now batch.now.params.now trace.now v ≡ true)
-        result (rows_state reader.new) }
-{
-    if lies_far(batch, trace)? {
-        return unmatched(batch.alloc, trace);
-    }
-    let answer = match_one(
-        batch.alloc,
-        batch.net,
-        batch.grid,
-        batch.params,
-        reader,
-        trace,
-    )?;
-    Ok(answer.matched)
 }

@@ -8,6 +8,9 @@
 //! - [`work`] does the same for one worker and one word.
 //! - A [`Gate`] is told of each trace.
 //!
+//! A trace of one fix is matched by these to its nearest edge, and one far from the whole network to nothing,
+//! without the layers and cells of [`match_one`].
+//!
 //! What the match is, `match_of` in trace_match's `specs/Match.antt` says, and `asks` there which rows
 //! a trace asks for: exactly those become known. The clauses to read first are `answer` and `asks` of
 //! [`match_one`], and those of [`match_all`].
@@ -20,8 +23,10 @@ mod crew;
 mod dealing;
 mod drawing;
 mod far;
+mod finding;
 mod gate;
 mod gathering;
+mod one_fix;
 mod routes;
 mod strips;
 mod tables;

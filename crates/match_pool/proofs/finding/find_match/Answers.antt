@@ -1,9 +1,10 @@
-use Rattle.std.proofs.Common.{◌∙◌}
+use Rattle.std.proofs.Common.{sym, ◌∙◌}
 use Rattle.std.specs.Prelude.{Result, Ok, Err, IfOk}
 use Rattle.bounded_search.proofs.Asking.{keeps_itself}
 use Rattle.row_store.specs.Store.{rows_state}
+use Rattle.match_pool.proofs.OneFix.{one_asks}
 use Rattle.match_pool.proofs.Unmatched.{unmatched_asks, unmatched_is}
-use Rattle.match_pool.proofs.far.find_match.Goals as goal
+use Rattle.match_pool.proofs.finding.find_match.Goals as goal
 
 ok_as : {A E : Type 0} (P Q : A → Type 0) (r : Result A E) → ((x : A) → P x → Q x) → IfOk r P → IfOk r Q
 ok_as P Q (Ok x) f h = f x h
@@ -12,6 +13,12 @@ ok_as P Q (Err e) f h = tt
 ok_any : {A E : Type 0} (Q : A → Type 0) (r : Result A E) → ((x : A) → Q x) → IfOk r Q
 ok_any Q (Ok x) f = f x
 ok_any Q (Err e) f = tt
+
+pub returns-then-len-eq1-clause-asks : goal.returns-then-len-eq1-clause-asks
+returns-then-len-eq1-clause-asks c =
+    let state = rows_state c.args.reader.now in
+    let asked = one_asks c.args.batch.now.net.now c.args.batch.now.params.now c.args.trace.now state (sym c.len.ensures ∙ c.if-len-eq1.true) in
+    record { keeps = keeps_itself state; asks = ok_any _ c.match_fix.result (λ matched. asked) }
 
 pub returns-then-branch-clause-matched : goal.returns-then-branch-clause-matched
 returns-then-branch-clause-matched c =

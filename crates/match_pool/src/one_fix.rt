@@ -1,0 +1,71 @@
+//! Traces of one fix, which are matched to their nearest edge. Serves `find_match`; decided by `match_of`.
+ghost use Rattle.std.specs.Prelude.{◌≡◌, ◌*◌, ◌≤◌, IfOk, length};
+ghost use Rattle.polyline_geometry.specs.Plane.{InRange};
+ghost use Rattle.road_network.specs.Net.{HasEdge};
+ghost use Rattle.trace_match.specs.Match.{match_of, place_of};
+ghost use Rattle.trace_reader.specs.Trace.{IsLawfulTrace};
+ghost use Rattle.match_pool.specs.OneFix.{nearest_edge, on_edge};
+
+use crate::batch::Batch;
+use crate::far::unmatched;
+use candidate_search::candidates;
+use cost_model::{Params, emission};
+use match_text::{Label, MatchedTrace, Routed};
+use polyline_geometry::{List, Point};
+use road_network::Candidate;
+use std::alloc::AllocError;
+use trace_reader::{Fix, Trace};
+
+/// The edge that lies nearest to a fix, if one is within the radius.
+fn nearest_edge(batch: &Batch, fix: &Fix) -> Result<Option<Candidate>, AllocError>
+    requires { InRange (place_of fix.now) }
+    ensures { IfOk result (λ found.
+        found ≡ nearest_edge batch.now.net.now batch.now.params.now fix.now) }
+{
+    let at = Point { x: fix.x, y: fix.y };
+    let one = Params {
+        k: 1,
+        ..*batch.params
+    };
+    let found = candidates(batch.alloc, batch.net, batch.grid, &one, at)?;
+    Ok(found.get(0).copied())
+}
+
+/// The match of a trace of this id whose one fix lies on this edge.
+fn on_edge(batch: &Batch, id: u32, nearest: Candidate) -> Result<MatchedTrace, AllocError>
+    requires edge { HasEdge batch.now.net.now nearest.edge.0 }
+    requires within { nearest.d2 ≤ batch.now.params.now.radius * batch.now.params.now.radius }
+    ensures { IfOk result (λ matched.
+        matched ≡ on_edge batch.now.net.now batch.now.params.now id nearest) }
+{
+    let edge = batch.net.name(nearest.edge);
+    let label = Label::On {
+        edge,
+        offset: nearest.offset,
+        d2: nearest.d2,
+    };
+    let piece = Routed {
+        first: 0,
+        last: 0,
+        cost: emission(batch.params, nearest.d2),
+        route: List::from_vec(vec![in batch.alloc; edge]?),
+    };
+    Ok(MatchedTrace {
+        id,
+        labels: List::from_vec(vec![in batch.alloc; label]?),
+        pieces: List::from_vec(vec![in batch.alloc; piece]?),
+    })
+}
+
+/// The match of a trace of one fix.
+pub(crate) fn match_fix(batch: &Batch, trace: &Trace) -> Result<MatchedTrace, AllocError>
+    requires trace { IsLawfulTrace trace.now }
+    requires one { length trace.now.fixes ≡ 1 }
+    ensures { IfOk result (λ matched.
+        matched ≡ match_of batch.now.net.now batch.now.params.now trace.now) }
+{
+    match nearest_edge(batch, &trace.fixes.as_slice()[0])? {
+        Some(nearest) => on_edge(batch, trace.id, nearest),
+        None => unmatched(batch.alloc, trace),
+    }
+}
