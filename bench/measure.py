@@ -22,6 +22,7 @@ JOBS = [
     ("load network", "city-net.csv", ["match", "city-net.csv", "no-traces.csv", *ONE_WORKER]),
     ("read points", "city-points.csv", ["match", "far-net.csv", "city-points.csv", *ONE_WORKER]),
     ("match points", "city-points.csv", ["match", "city-net.csv", "city-points.csv", *ONE_WORKER]),
+    ("match apart", "city-traces.csv", ["match", "city-net.csv", "city-traces.csv", "--gap", "0", *ONE_WORKER]),
     ("match town", "town-traces.csv", ["match", "town-net.csv", "town-traces.csv", *ONE_WORKER]),
     ("match city", "city-traces.csv", ["match", "city-net.csv", "city-traces.csv", *ONE_WORKER]),
     ("match country", "country-traces.csv", ["match", "country-net.csv", "country-traces.csv", *ONE_WORKER]),
