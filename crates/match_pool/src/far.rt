@@ -14,7 +14,7 @@ use std::alloc::{AllocError, Global};
 use trace_reader::{Fix, Trace};
 
 /// Whether a fix lies so far from the whole network that it has no candidate.
-fn is_far(batch: &Batch, fix: &Fix) -> Result<bool, AllocError>
+fn fix_lies_far(batch: &Batch, fix: &Fix) -> Result<bool, AllocError>
     requires { InRange (place_of fix.now) }
     ensures { IfOk result (λ far. IsTrue far
         → HasNoCandidate batch.now.net.now batch.now.params.now fix.now) }
@@ -34,7 +34,7 @@ pub(crate) fn lies_far(batch: &Batch, trace: &Trace) -> Result<bool, AllocError>
         → All (HasNoCandidate batch.now.net.now batch.now.params.now) trace.now.fixes) }
 {
     for fix in trace.fixes.as_slice() {
-        if !is_far(batch, fix)? {
+        if !fix_lies_far(batch, fix)? {
             return Ok(false);
         }
     }

@@ -15,7 +15,7 @@ loop-fix-preserved c k d lt =
     (λ below. c.loop-fix.invariant k d below)
     (λ here.
     let e : i ≡ k = omega (arith, lt, here) in
-    subst (HasNoCandidate n p) (get_or_default items i _ d c.loop-fix-test.true ∙ ap (λ v. get_or items v d) e) (c.in_ok-is_far.ensures c.if-not-branch.false))
+    subst (HasNoCandidate n p) (get_or_default items i _ d c.loop-fix-test.true ∙ ap (λ v. get_or items v d) e) (c.in_ok-fix_lies_far.ensures c.if-not-branch.false))
     (cases_lt k i)
 
 pub returns : goal.returns
