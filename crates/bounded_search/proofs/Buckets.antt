@@ -2,7 +2,7 @@
 use Rattle.std.proofs.Common.{◌≡◌, ℕ, zero, suc, ◌+◌, ◌<◌, List, [], ◌∷◌, ◌++◌, inl, inr, length, set, length-set, get_or-set_same, get_or-set_other, slice_index_or, refl, sym, ap, subst, ◌∙◌, arith, append_assoc}
 use Rattle.std.proofs.lemmas.Bool.{cases_eq, cases_lt}
 use Rattle.std.proofs.lemmas.List.{get_or_past}
-use Rattle.std.proofs.lemmas.List.Sorted.{IsPermutation-append_right, IsPermutation-middle, IsPermutation-sym, IsPermutation-trans}
+use Rattle.std.proofs.lemmas.List.Sorted.{IsPermutation-append_comm, IsPermutation-append_left, IsPermutation-append_right, IsPermutation-middle, IsPermutation-refl, IsPermutation-sym, IsPermutation-trans}
 use Rattle.std.specs.List.Sorted.{IsPermutation}
 use Rattle.bounded_search.specs.declared.queue.Waiting.{Waiting}
 use Rattle.bounded_search.specs.QueueInside.{AreEmptyBetween, joined}
@@ -11,14 +11,20 @@ use Rattle.bounded_search.specs.QueueInside.{AreEmptyBetween, joined}
 to_front : (b : List Waiting) (x : Waiting) (xs ys : List Waiting) → IsPermutation xs (x ∷ ys) → IsPermutation (b ++ xs) (x ∷ (b ++ ys))
 to_front b x xs ys perm = IsPermutation-trans (b ++ xs) (b ++ x ∷ ys) (x ∷ (b ++ ys)) (IsPermutation-append_right b xs (x ∷ ys) perm) (IsPermutation-middle b x ys)
 
--- what waits after the last item of a bucket was taken out
-pub joined_pop : (buckets : List (List Waiting)) (place : ℕ) (left : List Waiting) (x : Waiting) → place < length buckets → slice_index_or buckets place [] ≡ left ++ x ∷ [] → IsPermutation (joined buckets) (x ∷ joined (set buckets place left))
-joined_pop [] place left x lt is = absurd (omega arith)
-joined_pop (b ∷ buckets) zero left x lt is =
-    let at : b ++ joined buckets ≡ left ++ x ∷ joined buckets = ap (λ (k : List Waiting). k ++ joined buckets) is ∙ append_assoc left (x ∷ []) (joined buckets) in
-    subst (λ (k : List Waiting). IsPermutation k (x ∷ (left ++ joined buckets))) (sym at) (IsPermutation-middle left x (joined buckets))
-joined_pop (b ∷ buckets) (suc place) left x lt is =
-    to_front b x (joined buckets) (joined (set buckets place left)) (joined_pop buckets place left x (omega arith) is)
+-- two lists change their places before a third
+exchanged : (xs ys zs : List Waiting) → IsPermutation (xs ++ (ys ++ zs)) (ys ++ (xs ++ zs))
+exchanged xs ys zs =
+    let both : IsPermutation ((xs ++ ys) ++ zs) ((ys ++ xs) ++ zs) = IsPermutation-append_left zs (xs ++ ys) (ys ++ xs) (IsPermutation-append_comm xs ys) in
+    subst (λ (k : List Waiting). IsPermutation (xs ++ (ys ++ zs)) k) (append_assoc ys xs zs) (subst (λ (k : List Waiting). IsPermutation k ((ys ++ xs) ++ zs)) (append_assoc xs ys zs) both)
+
+-- what waits after a bucket was taken out
+pub joined_without : (buckets : List (List Waiting)) (place : ℕ) → place < length buckets → IsPermutation (joined buckets) (slice_index_or buckets place [] ++ joined (set buckets place []))
+joined_without [] place lt = absurd (omega arith)
+joined_without (b ∷ buckets) zero lt = IsPermutation-refl (b ++ joined buckets)
+joined_without (b ∷ buckets) (suc place) lt =
+    let taken : List Waiting = slice_index_or buckets place [] in
+    let left : List Waiting = joined (set buckets place []) in
+    IsPermutation-trans (b ++ joined buckets) (b ++ (taken ++ left)) (taken ++ (b ++ left)) (IsPermutation-append_right b (joined buckets) (taken ++ left) (joined_without buckets place (omega arith))) (exchanged b taken left)
 
 -- and after one was added
 pub joined_push : (buckets : List (List Waiting)) (place : ℕ) (x : Waiting) → place < length buckets → IsPermutation (x ∷ joined buckets) (joined (set buckets place (slice_index_or buckets place [] ++ x ∷ [])))

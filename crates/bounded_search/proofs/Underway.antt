@@ -29,7 +29,7 @@ front_or_rest_at x xs y zero lt e = inl (sym e)
 front_or_rest_at x xs y (suc k) lt e = inr (k, omega arith, e)
 
 -- what is listed is at the front or behind it
-front_or_rest : {X : Type 0} (x : X) (xs : List X) (y : X) → Contains (x ∷ xs) y → (y ≡ x) ⊎ Contains xs y
+pub front_or_rest : {X : Type 0} (x : X) (xs : List X) (y : X) → Contains (x ∷ xs) y → (y ≡ x) ⊎ Contains xs y
 front_or_rest x xs y h = front_or_rest_at x xs y h.0 h.1 h.2
 
 in_front : {X : Type 0} (x : X) (xs : List X) → Contains (x ∷ xs) x
@@ -39,7 +39,7 @@ behind : {X : Type 0} (x : X) (xs : List X) (y : X) → Contains xs y → Contai
 behind x xs y h = Contains-append_right (x ∷ []) xs y h
 
 -- a queue that gains a node keeps all others
-gains_keeps : (b : Bool) (x : Waiting) (old new : List Waiting) → Gains b x old new → (y : Waiting) → Contains old y → Contains new y
+pub gains_keeps : (b : Bool) (x : Waiting) (old new : List Waiting) → Gains b x old new → (y : Waiting) → Contains old y → Contains new y
 gains_keeps true x old new g y h = Contains-permutation (x ∷ old) new y g (behind x old y h)
 gains_keeps false x old new g y h = subst (λ (k : List Waiting). Contains k y) (sym g) h
 
@@ -47,7 +47,7 @@ pub gains_one : (b : Bool) (x : Waiting) (old new : List Waiting) → b ≡ true
 gains_one true x old new is none g = subst (λ (k : List Waiting). IsPermutation (x ∷ k) new) none g
 gains_one false x old new is none g = absurd (false≢true is)
 
-gains_there : (b : Bool) (x : Waiting) (old new : List Waiting) → b ≡ true → Gains b x old new → Contains new x
+pub gains_there : (b : Bool) (x : Waiting) (old new : List Waiting) → b ≡ true → Gains b x old new → Contains new x
 gains_there true x old new is g = Contains-permutation (x ∷ old) new x g (in_front x old)
 gains_there false x old new is g = absurd (false≢true is)
 
@@ -87,7 +87,7 @@ record IsBetter (n : Net) (bound d : ℕ) (words : List ℕ) (e : ℕ) : Type 0 
 abbrev word_of : Net → ℕ → ℕ → ℕ
 word_of n d e = word_by (d + span n e) e
 
-edge_small : (n : Net) (e : ℕ) → IsLawful n → HasEdge n e → e < 2 ^ 32 - 1
+pub edge_small : (n : Net) (e : ℕ) → IsLawful n → HasEdge n e → e < 2 ^ 32 - 1
 edge_small n e lawful has = omega (arith, lawful.few_edges)
 
 -- it is not the label of the edge's own node
@@ -220,7 +220,7 @@ better_at n bound d u a old new step is =
     }
 
 -- no word is beyond that of no label
-no_word_beyond : (n : Net) (bound s : ℕ) (state : SearchState) (pending : ℕ → Type 0) → IsUnderway n bound s state pending → (v : ℕ) → word_at bound state.words v ≤ no_label bound
+pub no_word_beyond : (n : Net) (bound s : ℕ) (state : SearchState) (pending : ℕ → Type 0) → IsUnderway n bound s state pending → (v : ℕ) → word_at bound state.words v ≤ no_label bound
 no_word_beyond n bound s state pending under v =
     elim (cases_eq (word_at bound state.words v) (no_label bound)) [
       | inl none ↦ omega (arith, none)

@@ -1,8 +1,9 @@
 //! The search for the row of an origin. Serves `Searcher::row`; decided by `IsRow`.
-ghost use Rattle.std.specs.Prelude.{◌≡◌, ◌<◌, ◌≤◌, ◌/◌, ◌^◌, ◌++◌, ℕ, [], nat_lt, length, IfOk, OnOk, slice_set};
+ghost use Rattle.std.specs.Prelude.{◌≡◌, ◌<◌, ◌≤◌, ◌/◌, ◌^◌, ◌++◌, ◌∷◌, [], nat_lt, length, IfOk, OnOk, slice_set};
+ghost use Rattle.std.specs.List.{All};
 ghost use Rattle.road_network.specs.Net.{HasNode};
 ghost use Rattle.bounded_search.specs.Underway.{Gains, Tries, state_of};
-ghost use Rattle.bounded_search.specs.Searching.{EndsClean, IsLabelled, ListsLabels, TakesMarked, TriesLeaving};
+ghost use Rattle.bounded_search.specs.Searching.{EndsClean, IsLabelled, Leaves, ListsLabels, TakesMarked};
 ghost use Rattle.bounded_search.specs.LabelWords.{distance_at, no_label};
 ghost use Rattle.bounded_search.specs.Labels.{entry_of};
 ghost use Rattle.bounded_search.specs.Marked.{AreMarked, IsClean, IsSized, KeepsSizes, MarksToo, labels_of};
@@ -11,21 +12,20 @@ ghost use Rattle.bounded_search.specs.Table.{IsRow};
 use crate::label_words::{ORIGIN, distance_in, label_in, least_word, no_label, step_by};
 use crate::queue::{Queue, Waiting};
 use crate::table_row::Entry;
+use polyline_geometry::List;
 use road_network::{Arc, EdgeId, Network, NodeId};
 use std::alloc::{AllocError, Global};
 
 /// The labels of one search as words by node number, the nodes that have one, and the nodes that wait.
 ///
-/// Each labelled node is marked by one bit. So the entries come out by rising node number, and what has to
-/// be cleared is found, in a look at every 64 nodes.
+/// Each labelled node is marked by one bit when its edges are tried. So the entries come out by rising node
+/// number, and what has to be cleared is found, in a look at every 64 nodes.
 ///
 /// All words are made for one bound: that of a node without a label is just beyond it.
 pub struct Workspace {
     pub(crate) bound: u32,
     pub(crate) words: Vec<u64>,
     marks: Vec<u64>,
-    /// How many nodes are labelled: so much memory their entries take.
-    labelled: usize,
     queue: Queue,
 }
 
@@ -36,7 +36,6 @@ impl Drop for Workspace {
             bound: _,
             words: _,
             marks: _,
-            labelled: _,
             queue: _,
         } = self;
     }
@@ -68,7 +67,6 @@ impl Workspace {
             bound,
             words: vec![in alloc; no_label(bound); nodes]?,
             marks: vec![in alloc; 0; nodes / 64 + 1]?,
-            labelled: 0,
             queue: Queue::new(alloc, bound, bucket_shift(net, bound))?,
         })
     }
@@ -84,24 +82,18 @@ impl Workspace {
         self.marks[node.0 as usize / 64] |= 1 << (node.0 % 64);
     }
 
-    /// Gives a node the label of a word. Where the node becomes nearer, it is marked and waits.
-    ///
-    /// A node that does not become nearer had a label before, so it is marked already.
+    /// Gives a node the label of a word. Where the node becomes nearer, it waits.
     fn label(&mut self, node: NodeId, word: u64) -> Result<(), AllocError>
-        requires node { (node.0 < length self.old.words.items) × (node.0 / 64 < length self.old.marks.items) }
+        requires node { node.0 < length self.old.words.items }
         ensures words { OnOk result (self.new.words.items ≡ slice_set self.old.words.items node.0 word) }
         ensures queue { OnOk result (Gains (nat_lt (word / 2 ^ 32) (distance_at self.old.bound self.old.words.items node.0))
             (record { distance = word / 2 ^ 32; node = node.0 }) self.old.queue self.new.queue) }
         ensures sized { KeepsSizes self.old self.new }
-        ensures marked { (count : ℕ) → word / 2 ^ 32 ≤ self.old.bound
-            → AreMarked count self.old → OnOk result (AreMarked count self.new) }
+        ensures marks { self.new.marks.items ≡ self.old.marks.items }
     {
         let before = self.words[node.0 as usize];
         self.words[node.0 as usize] = word;
         if distance_in(word) < distance_in(before) {
-            self.mark(node);
-            let is_new = distance_in(before) > self.bound;
-            self.labelled = self.labelled.saturating_add(usize::from(is_new));
             self.queue.push(Waiting {
                 distance: distance_in(word),
                 node: node.0,
@@ -114,11 +106,11 @@ impl Workspace {
     ///
     /// One comparison is with both the bound and the label that is there, since no word is beyond that of no label.
     fn relax(&mut self, distance: u32, arc: Arc) -> Result<(), AllocError>
-        requires end { (arc.to.0 < length self.old.words.items) × (arc.to.0 / 64 < length self.old.marks.items) }
+        requires end { arc.to.0 < length self.old.words.items }
         requires fits { (arc.length ≤ 100_000_000) × (distance ≤ 10_000_000) }
         ensures tries { OnOk result (Tries self.old.bound distance arc (state_of self.old) (state_of self.new)) }
         ensures sized { KeepsSizes self.old self.new }
-        ensures marked { (count : ℕ) → AreMarked count self.old → OnOk result (AreMarked count self.new) }
+        ensures marks { self.new.marks.items ≡ self.old.marks.items }
     {
         let word = least_word(distance) + step_by(arc);
         if word >= self.words[arc.to.0 as usize] {
@@ -127,20 +119,33 @@ impl Workspace {
         self.label(arc.to, word)
     }
 
-    /// Tries every edge out of a node that waited, unless it has become nearer since.
-    fn relax_leaving(&mut self, net: &Network, next: Waiting) -> Result<(), AllocError>
+    /// Marks a node that waited and tries every edge out of it, unless it has become nearer since.
+    fn leave(&mut self, net: &Network, next: Waiting) -> Result<(), AllocError>
         requires next { HasNode net.now next.node × (next.distance ≤ 10_000_000) }
         requires sized { IsSized (length net.now.nodes) self.old }
-        ensures tries { OnOk result (TriesLeaving net.now self.old.bound next (state_of self.old) (state_of self.new)) }
+        ensures leaves { OnOk result (Leaves net.now (next ∷ []) self.old self.new) }
         ensures sized { KeepsSizes self.old self.new }
-        ensures marked { (count : ℕ) → AreMarked count self.old → OnOk result (AreMarked count self.new) }
     {
         net.known();
         if distance_in(self.words[next.node as usize]) != next.distance {
             return Ok(());
         }
+        self.mark(NodeId(next.node));
         for arc in net.arcs(NodeId(next.node)) {
             self.relax(next.distance, *arc)?;
+        }
+        Ok(())
+    }
+
+    /// Leaves each of the nodes that waited in a bucket.
+    fn leave_all(&mut self, net: &Network, taken: &[Waiting]) -> Result<(), AllocError>
+        requires inside { All (λ x. HasNode net.now x.node × (x.distance ≤ 10_000_000)) taken.now }
+        requires sized { IsSized (length net.now.nodes) self.old }
+        ensures leaves { OnOk result (Leaves net.now taken.now self.old self.new) }
+        ensures sized { KeepsSizes self.old self.new }
+    {
+        for next in taken {
+            self.leave(net, *next)?;
         }
         Ok(())
     }
@@ -148,8 +153,14 @@ impl Workspace {
     /// Labels every node within the bound (Dijkstra).
     ///
     /// A node waits again each time that it becomes nearer. When none waits, every edge within the bound has
-    /// been tried from its node's last distance. Taking the nearest first makes that rare.
-    fn label_all(&mut self, net: &Network, origin: NodeId) -> Result<(), AllocError>
+    /// been tried from its node's last distance. Taking the nearest first makes that rare. The nodes of a
+    /// bucket are taken at once, in the order in which they came, so that neighbours follow one another.
+    fn label_all(
+        &mut self,
+        net: &Network,
+        origin: NodeId,
+        taken: &mut List<Waiting>,
+    ) -> Result<(), AllocError>
         requires origin { HasNode net.now origin.0 }
         requires clean { IsClean (length net.now.nodes) self.old }
         ensures labelled { OnOk result (IsLabelled net.now origin.0 self.new) }
@@ -158,10 +169,19 @@ impl Workspace {
         net.known();
         self.label(origin, ORIGIN)?;
         let mut place = 0;
-        while let Some(next) = self.queue.pop_from(&mut place) {
-            self.relax_leaving(net, next)?;
+        while self.queue.take_bucket(&mut place, taken) {
+            self.leave_all(net, taken.as_slice())?;
         }
         Ok(())
+    }
+
+    /// How many nodes are marked.
+    fn marked(&self) -> usize {
+        let mut count: usize = 0;
+        for word in &self.marks {
+            count = count.saturating_add(word.count_ones() as usize);
+        }
+        count
     }
 
     /// Takes the label of a node out, and appends the entry that it gives.
@@ -211,20 +231,21 @@ impl Workspace {
         ensures entries { IfOk result (λ entries. ListsLabels (labels_of self.old) entries.items) }
         ensures clean { EndsClean result self.old self.new }
     {
-        let mut entries = Vec::with_capacity(alloc, self.labelled)?;
+        let mut entries = Vec::with_capacity(alloc, self.marked())?;
         for place in 0..self.marks.len() {
             self.take_marked(place, &mut entries)?;
         }
-        self.labelled = 0;
         Ok(entries)
     }
 
-    /// The entries of the row of an origin. After Err the arrays have to be cleared.
+    /// The entries of the row of an origin. The list is for the nodes of a bucket, and what is in it is dropped.
+    /// After Err the arrays have to be cleared.
     pub fn entries(
         &mut self,
         alloc: Global,
         net: &Network,
         origin: NodeId,
+        taken: &mut List<Waiting>,
     ) -> Result<Vec<Entry>, AllocError>
         requires origin { HasNode net.now origin.0 }
         requires clean { IsClean (length net.now.nodes) self.old }
@@ -233,7 +254,7 @@ impl Workspace {
         ensures clean { EndsClean result self.old self.new }
     {
         net.known();
-        self.label_all(net, origin)?;
+        self.label_all(net, origin, taken)?;
         self.take_entries(alloc)
     }
 
@@ -245,7 +266,6 @@ impl Workspace {
     {
         self.words.fill(no_label(self.bound));
         self.marks.fill(0);
-        self.labelled = 0;
         self.queue.clear();
     }
 }

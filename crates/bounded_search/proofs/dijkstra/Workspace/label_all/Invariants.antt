@@ -1,14 +1,14 @@
-use Rattle.std.proofs.Common.{length}
-use Rattle.bounded_search.specs.Marked.{AreMarked, KeepsSizes}
-use Rattle.bounded_search.specs.Underway.{IsUnderway, NonePending, effort, state_of}
+use Rattle.std.proofs.Common.{[]}
+use Rattle.bounded_search.specs.Marked.{KeepsSizes}
+use Rattle.bounded_search.specs.Searching.{IsSearching}
+use Rattle.bounded_search.specs.Underway.{effort, state_of}
 use Rattle.bounded_search.proofs.dijkstra.Workspace.label_all.Given as goal
 
-abbrev pub invariant-loop-next : goal.invariant-loop-next
-invariant-loop-next l = record {
+abbrev pub invariant-loop-self : goal.invariant-loop-self
+invariant-loop-self l = record {
   sized : KeepsSizes l.fn.self l.self;
-  marked : AreMarked (length l.net.nodes) l.self;
-  underway : IsUnderway l.net l.fn.self.bound l.fn.origin.0 (state_of l.self) NonePending;
+  searching : IsSearching l.net l.fn.origin.0 l.self [];
 }
 
-abbrev pub decreases-loop-next : goal.decreases-loop-next
-decreases-loop-next l = effort (state_of l.self)
+abbrev pub decreases-loop-self : goal.decreases-loop-self
+decreases-loop-self l = effort (state_of l.self)

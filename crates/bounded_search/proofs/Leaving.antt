@@ -1,0 +1,152 @@
+-- What leaving a node keeps, where others were taken with it: the search, and what is marked.
+use Rattle.std.proofs.Common.{◌≡◌, ◌≢◌, ℕ, ◌+◌, ◌/◌, ◌^◌, ◌<◌, ◌≤◌, ◌⊎◌, inl, inr, Bool, true, false, ltb, length, append-nil, slice_index_or, List, [], ◌∷◌, ◌++◌, set, refl, sym, ap, subst, ◌∙◌, arith}
+use Rattle.std.proofs.lemmas.Bool.{cases_eq, cases_Bool, ltb-true, ltb-false}
+use Rattle.std.proofs.lemmas.List.{get_or_append_left, length-append}
+use Rattle.std.proofs.lemmas.List.Sorted.{All-permutation, Contains-permutation, IsPermutation-append_right, IsPermutation-middle, IsPermutation-sym, IsPermutation-trans, length_permutation}
+use Rattle.std.specs.List.{All, Contains}
+use Rattle.std.specs.List.Sorted.{IsPermutation}
+use Rattle.road_network.specs.Net.{Net, HasNode}
+use Rattle.road_network.specs.declared.Arc.{Arc}
+use Rattle.bounded_search.specs.declared.dijkstra.Workspace.{Workspace}
+use Rattle.bounded_search.specs.declared.queue.Waiting.{Waiting}
+use Rattle.bounded_search.specs.LabelWords.{distance_at, no_label, origin_word, word_at, word_by}
+use Rattle.bounded_search.specs.Marked.{AreMarked, IsMarked, MarksToo}
+use Rattle.bounded_search.specs.QueueInside.{TakesBucket}
+use Rattle.bounded_search.specs.Searching.{AreMarkedOrWait, IsSearching}
+use Rattle.bounded_search.specs.Underway.{Gains, IsUnderway, NonePending, SearchState, Tries, Waits, is_better, is_nearer, state_of}
+use Rattle.bounded_search.proofs.LabelWords.{distance_by, not_farther, word_elsewhere, word_here}
+use Rattle.bounded_search.proofs.Underway.{front_or_rest, gains_keeps, gains_there, no_word_beyond, reordered}
+
+-- a search with other nodes that wait
+abbrev pub beside : List Waiting → SearchState → SearchState
+beside taken state = record { words = state.words; queue = taken ++ state.queue }
+
+-- a search from s with others taken, while the arcs of a node are tried
+pub record IsTrying (n : Net) (bound s : ℕ) (state : SearchState) (marks : List ℕ) (taken : List Waiting) (pending : ℕ → Type 0) : Type 0 where
+  pub underway : IsUnderway n bound s (beside taken state) pending
+  pub inside : (v : ℕ) → IsMarked marks v → v < length n.nodes
+  pub marked : AreMarkedOrWait bound state.words marks (taken ++ state.queue)
+
+gains_beside : (b : Bool) (x : Waiting) (taken old new : List Waiting) → Gains b x old new → Gains b x (taken ++ old) (taken ++ new)
+gains_beside true x taken old new g = IsPermutation-trans (x ∷ (taken ++ old)) (taken ++ x ∷ old) (taken ++ new) (IsPermutation-sym (taken ++ x ∷ old) (x ∷ (taken ++ old)) (IsPermutation-middle taken x old)) (IsPermutation-append_right taken (x ∷ old) new g)
+gains_beside false x taken old new g = ap (λ (k : List Waiting). taken ++ k) g
+
+-- an arc is tried beside them as without them
+pub tries_beside : (bound d : ℕ) (a : Arc) (taken : List Waiting) (old new : SearchState) → Tries bound d a old new → Tries bound d a (beside taken old) (beside taken new)
+tries_beside bound d a taken old new tries = record {
+  words = tries.words;
+  queue = gains_beside (is_nearer bound d a old.words) (record { distance = d + a.length; node = a.to.0 }) taken old.queue new.queue tries.queue;
+}
+
+-- a node that is taken is marked
+pub marked_taken : (bound : ℕ) (words before after : List ℕ) (x : Waiting) (queue : List Waiting) → MarksToo before x.node after → AreMarkedOrWait bound words before (x ∷ queue) → AreMarkedOrWait bound words after queue
+marked_taken bound words before after x queue more marked v there = elim (marked v there) [
+  | inl waits ↦ elim (front_or_rest x queue (record { distance = distance_at bound words v; node = v }) waits) [
+    | inl same ↦ inr ((more v).1 (inr (ap (λ (k : Waiting). k.node) same)))
+    | inr rest ↦ inl rest
+  ]
+  | inr is ↦ inr ((more v).1 (inl is))
+]
+
+-- and one that became nearer since it waited needs no mark by it
+pub marked_not_taken : (bound : ℕ) (words marks : List ℕ) (x : Waiting) (queue : List Waiting) → distance_at bound words x.node ≢ x.distance → AreMarkedOrWait bound words marks (x ∷ queue) → AreMarkedOrWait bound words marks queue
+marked_not_taken bound words marks x queue stale marked v there = elim (marked v there) [
+  | inl waits ↦ elim (front_or_rest x queue (record { distance = distance_at bound words v; node = v }) waits) [
+    | inl same ↦ absurd (stale (ap (λ (k : Waiting). distance_at bound words k.node) (sym same) ∙ ap (λ (k : Waiting). k.distance) same))
+    | inr rest ↦ inl rest
+  ]
+  | inr is ↦ inr is
+]
+
+-- a node whose distance stays is marked or waits as before
+waits_still : (bound : ℕ) (words after marks : List ℕ) (old new : List Waiting) (v : ℕ) → ((y : Waiting) → Contains old y → Contains new y) → distance_at bound after v ≡ distance_at bound words v → Waits old v (distance_at bound words v) ⊎ IsMarked marks v → Waits new v (distance_at bound after v) ⊎ IsMarked marks v
+waits_still bound words after marks old new v keeps same seen = elim seen [
+  | inl waits ↦ inl (subst (Waits new v) (sym same) (keeps (record { distance = distance_at bound words v; node = v }) waits))
+  | inr is ↦ inr is
+]
+
+-- what an arc that was tried leaves of it
+pub marked_tried : (bound d : ℕ) (a : Arc) (marks : List ℕ) (old new : SearchState) → a.to.0 < length old.words → a.edge.0 < 2 ^ 32 → Tries bound d a old new → AreMarkedOrWait bound old.words marks old.queue → AreMarkedOrWait bound new.words marks new.queue
+marked_tried bound d a marks old new inside small tries marked v there =
+    let u : ℕ = a.to.0 in
+    let x : Waiting = record { distance = d + a.length; node = u } in
+    let word : ℕ = word_by (d + a.length) a.edge.0 in
+    let keeps = gains_keeps (is_nearer bound d a old.words) x old.queue new.queue tries.queue in
+    elim (cases_Bool (is_better bound d a old.words)) [
+      | inr not ↦
+          let words : new.words ≡ old.words = rw not at tries.words in
+          waits_still bound old.words new.words marks old.queue new.queue v keeps (ap (λ (k : List ℕ). distance_at bound k v) words) (marked v (subst (λ (k : List ℕ). word_at bound k v ≢ no_label bound) words there))
+      | inl is ↦
+          let words : new.words ≡ set old.words u word = rw is at tries.words in
+          elim (cases_eq v u) [
+            | inr apart ↦
+                let same : word_at bound new.words v ≡ word_at bound old.words v = ap (λ (k : List ℕ). word_at bound k v) words ∙ word_elsewhere bound old.words u v word apart in
+                waits_still bound old.words new.words marks old.queue new.queue v keeps (ap (λ (k : ℕ). k / 2 ^ 32) same) (marked v (λ none. there (same ∙ none)))
+            | inl at ↦
+                let here : word_at bound new.words v ≡ word = ap (word_at bound new.words) at ∙ (ap (λ (k : List ℕ). word_at bound k u) words ∙ word_here bound old.words u word inside) in
+                let far : distance_at bound new.words v ≡ d + a.length = ap (λ (k : ℕ). k / 2 ^ 32) here ∙ distance_by (d + a.length) a.edge.0 small in
+                elim (cases_Bool (is_nearer bound d a old.words)) [
+                  | inl nearer ↦
+                      let waits : Contains new.queue x = gains_there (is_nearer bound d a old.words) x old.queue new.queue nearer tries.queue in
+                      inl (subst (λ (k : ℕ). Waits new.queue k (distance_at bound new.words v)) (sym at) (subst (Waits new.queue u) (sym far) waits))
+                  | inr as_far ↦
+                      let test : ltb (d + a.length) (distance_at bound old.words u) ≡ false = rw is at as_far in
+                      let no_nearer : distance_at bound old.words u ≤ d + a.length = ltb-false (d + a.length) (distance_at bound old.words u) test in
+                      let less : word < word_at bound old.words u = ltb-true word (word_at bound old.words u) is in
+                      let no_farther : word / 2 ^ 32 ≤ distance_at bound old.words u = not_farther word (word_at bound old.words u) (omega (arith, less)) in
+                      let same : distance_at bound new.words v ≡ distance_at bound old.words v = omega (arith, far, no_nearer, no_farther, distance_by (d + a.length) a.edge.0 small, ap (distance_at bound old.words) at) in
+                      let some : word_at bound old.words v ≢ no_label bound = λ none. absurd (omega (arith, less, no_nearer, none, ap (word_at bound old.words) at)) in
+                      waits_still bound old.words new.words marks old.queue new.queue v keeps same (marked v some)
+                ]
+          ]
+    ]
+
+-- at the start the origin waits, and no other node is labelled
+pub marked_begun : (bound s : ℕ) (words after marks : List ℕ) (queue : List Waiting) → s < length words → ((v : ℕ) → word_at bound words v ≡ no_label bound) → after ≡ set words s origin_word → IsPermutation (record { distance = 0; node = s } ∷ []) queue → AreMarkedOrWait bound after marks queue
+marked_begun bound s words after marks queue lt none is waits v there = elim (cases_eq v s) [
+  | inl same ↦
+      let here : word_at bound after v ≡ origin_word = ap (word_at bound after) same ∙ (ap (λ (k : List ℕ). word_at bound k s) is ∙ word_here bound words s origin_word lt) in
+      let far : distance_at bound after v ≡ 0 = omega (arith, here) in
+      let x : Contains queue (record { distance = 0; node = s }) = Contains-permutation (record { distance = 0; node = s } ∷ []) queue (record { distance = 0; node = s }) waits (0, omega arith, refl) in
+      inl (subst (λ (k : ℕ). Waits queue v k) (sym far) (subst (λ (k : ℕ). Waits queue k 0) (sym same) x))
+  | inr apart ↦ absurd (there (ap (λ (k : List ℕ). word_at bound k v) is ∙ (word_elsewhere bound words s v origin_word apart ∙ none v)))
+]
+
+-- a bucket is taken out of the queue
+pub bucket_taken : (n : Net) (s : ℕ) (w : Workspace) (taken new : List Waiting) → IsPermutation w.queue (taken ++ new) → IsSearching n s w [] → IsSearching n s (record { bound = w.bound; words = w.words; marks = w.marks; queue = new }) (taken ++ [])
+bucket_taken n s w taken new perm h =
+    let all : (taken ++ []) ++ new ≡ taken ++ new = ap (λ (k : List Waiting). k ++ new) (append-nil taken) in
+    record {
+      sized = h.sized;
+      underway = subst (λ (k : List Waiting). IsUnderway n w.bound s (record { words = w.words.items; queue = k }) NonePending) (sym all) (reordered n w.bound s w.words.items w.queue (taken ++ new) perm h.underway);
+      inside = h.inside;
+      marked = λ v there. elim (h.marked v there) [
+        | inl waits ↦ inl (subst (λ (k : List Waiting). Waits k v (distance_at w.bound w.words.items v)) (sym all) (Contains-permutation w.queue (taken ++ new) (record { distance = distance_at w.bound w.words.items v; node = v }) perm waits))
+        | inr is ↦ inr is
+      ];
+    }
+
+-- so fewer wait
+pub fewer_wait : (old taken new : List Waiting) → TakesBucket old taken new → length new < length old
+fewer_wait old [] new t = absurd (t.some refl)
+fewer_wait old (x ∷ taken) new t = omega (arith, length_permutation old (x ∷ (taken ++ new)) t.all, length-append taken new)
+
+-- and those that were taken have nodes of the network and distances within the bound
+pub taken_inside : (n : Net) (s : ℕ) (w : Workspace) (taken new : List Waiting) → IsPermutation w.queue (taken ++ new) → IsSearching n s w [] → All (λ x. HasNode n x.node × (x.distance ≤ 10_000_000)) taken
+taken_inside n s w taken new perm h k d lt =
+    let all = All-permutation (λ x. (x.node < length w.words.items) × (x.distance ≤ w.bound)) w.queue (taken ++ new) perm h.underway.inside in
+    let at : slice_index_or (taken ++ new) k d ≡ slice_index_or taken k d = get_or_append_left taken new d k lt in
+    let is = rw at at (all k d (omega (arith, lt, length-append taken new))) in
+    (omega (arith, is.0, h.sized.words_count), omega (arith, is.1, h.sized.low))
+
+-- at the end none waits, so all labelled nodes are marked
+pub all_marked : (n : Net) (s : ℕ) (w : Workspace) → w.queue ≡ [] → IsSearching n s w [] → AreMarked (length n.nodes) w
+all_marked n s w none h = record {
+  sized = h.sized;
+  inside = h.inside;
+  labelled = λ v there. elim (h.marked v there) [
+    | inl waits ↦ absurd (let at : Contains [] (record { distance = distance_at w.bound w.words.items v; node = v }) = subst (λ (k : List Waiting). Contains k (record { distance = distance_at w.bound w.words.items v; node = v })) none waits in let lt = at.1 in omega arith)
+    | inr is ↦ is
+  ];
+  most = no_word_beyond n w.bound s (state_of w) NonePending h.underway;
+}
