@@ -1,9 +1,10 @@
 -- The nearest segments of a line.
-use Rattle.std.specs.Prelude.{ℕ, ◌≡◌, suc, ◌+◌, ◌-◌, ◌<◌, ◌≤◌, List, length, take, nat_eq, if◌then◌else◌, Option, None, Some}
+use Rattle.std.specs.Prelude.{ℕ, ◌≡◌, suc, ◌+◌, ◌-◌, ◌<◌, ◌≤◌, List, length, take}
 use Rattle.polyline_geometry.specs.declared.line.NearSegment.{NearSegment}
 use Rattle.polyline_geometry.specs.declared.line.NearSegments.{NearSegments}
 use Rattle.polyline_geometry.specs.declared.plane.Point.{Point}
 use Rattle.polyline_geometry.specs.declared.plane.Snap.{Snap}
+use Rattle.polyline_geometry.specs.Offsets.{line_offsets}
 use Rattle.polyline_geometry.specs.Plane.{IsLine, after, line_length, point_at, snap_line, snap_segment}
 
 -- the snap of p to a segment of a line, by the segment's number from 0
@@ -30,19 +31,15 @@ pub record AreNearest (line : List Point) (p : Point) (first end : ℕ) (s : Nea
   pub as_near : s.d2 ≡ (segment_snap line p s.last).d2
   pub farther : AreFar line p (s.d2 + 1) (s.last + 1) end
 
--- the first of the nearest segments, where one more is as near as the earlier ones or nearer
-abbrev pub first_with : Option NearSegments → ℕ → ℕ → ℕ
-first_with None i d2 = i
-first_with (Some s) i d2 = if nat_eq s.d2 d2 then s.first else i
-
--- the nearest segments, where one more is as near as the earlier ones or nearer
-abbrev pub with_segment : Option NearSegments → ℕ → ℕ → NearSegments
-with_segment nearest i d2 = record { first = first_with nearest i d2; last = i; d2 = d2 }
-
 -- the line has this segment, and `before` is the length of the segments before it
 pub record IsLengthBefore (line : List Point) (segment before : ℕ) : Type 0 where
   pub within : segment + 1 < length line
   pub before_is : before ≡ line_length (take (suc segment) line)
+
+-- the line has this segment, and these are the offsets of its points
+pub record AreOffsetsFor (line : List Point) (segment : ℕ) (offsets : List ℕ) : Type 0 where
+  pub within : segment + 1 < length line
+  pub offsets_are : offsets ≡ line_offsets line
 
 -- the snap to a line is the one to its first nearest segment, with the lengths of the earlier
 -- segments added to its offset

@@ -20,6 +20,12 @@ pub record InRange (p : Point) : Type 0 where
   pub x_abs : unsigned_abs p.x ≤ 1_000_000_000
   pub y_abs : unsigned_abs p.y ≤ 1_000_000_000
 
+-- the ends of a segment: in range, and not the same point
+pub record AreEnds (a b : Point) : Type 0 where
+  pub a_in : InRange a
+  pub b_in : InRange b
+  pub differ : a ≡ b → ⊥
+
 abbrev pub square : ℤ → ℕ
 square z = unsigned_abs z * unsigned_abs z
 

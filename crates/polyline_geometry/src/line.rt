@@ -1,9 +1,8 @@
 //! Lines: their length, their segments that are nearest to a point, and the snap of a point to them.
 //! Decided by `line_length`, `IsNearest`, `AreNearest` and `snap_line`.
 ghost use Rattle.std.specs.Prelude.{◌≡◌, suc, ◌+◌, ◌^◌, ◌<◌, ◌≤◌, All, length, take, MatchOption};
-ghost use Rattle.polyline_geometry.specs.Plane.{InRange, IsLine, after, line_length, snap_line, snap_segment};
-ghost use Rattle.polyline_geometry.specs.Nearest.{AreFar, AreNearest, IsLengthBefore, IsNearest, segment_snap, with_segment};
-ghost use Rattle.polyline_geometry.specs.Offsets.{line_offsets};
+ghost use Rattle.polyline_geometry.specs.Plane.{AreEnds, InRange, IsLine, after, line_length, snap_line, snap_segment};
+ghost use Rattle.polyline_geometry.specs.Nearest.{AreFar, AreNearest, AreOffsetsFor, IsLengthBefore, IsNearest, segment_snap};
 
 use crate::nearest_place::nearest_in_box;
 use crate::plane::{Point, Snap, distance2, straight};
@@ -35,10 +34,8 @@ pub fn line_length(line: &[Point]) -> u64
 /// The squared distance of a point and the box of the segment from a to b: the snapped point
 /// is in it.
 fn box_distance2(a: Point, b: Point, p: Point) -> u64
-    requires a_in { InRange a }
-    requires b_in { InRange b }
+    requires ends { AreEnds a b }
     requires p_in { InRange p }
-    requires differ { a ≡ b → ⊥ }
     ensures { result ≤ (snap_segment a b p).d2 }
 {
     distance2(p, nearest_in_box(a, b, p))
@@ -47,10 +44,8 @@ fn box_distance2(a: Point, b: Point, p: Point) -> u64
 /// The squared distance of a point and the point of a segment that it snaps to, where that is
 /// below the limit. Most segments are told by their box alone.
 fn distance2_below(a: Point, b: Point, p: Point, limit: u64) -> Option<u64>
-    requires a_in { InRange a }
-    requires b_in { InRange b }
+    requires ends { AreEnds a b }
     requires p_in { InRange p }
-    requires differ { a ≡ b → ⊥ }
     ensures { MatchOption result (limit ≤ (snap_segment a b p).d2)
         (λ d2. (d2 ≡ (snap_segment a b p).d2) × (d2 < limit)) }
 {
@@ -107,21 +102,6 @@ pub struct NearSegments {
     pub d2: u64,
 }
 
-/// The nearest segments, where one more is as near as the earlier ones or nearer.
-fn with_segment(nearest: Option<NearSegments>, segment: usize, d2: u64) -> NearSegments
-    ensures { result ≡ with_segment nearest segment d2 }
-{
-    let first = match nearest {
-        Some(before) if before.d2 == d2 => before.first,
-        _ => segment,
-    };
-    NearSegments {
-        first,
-        last: segment,
-        d2,
-    }
-}
-
 /// The first and the last of the nearest among the segments from `first` up to before `end`, where
 /// one is nearer than the limit. One pass; most segments are told by their box alone.
 pub fn nearest_segments(
@@ -138,11 +118,19 @@ pub fn nearest_segments(
     ensures { MatchOption result (AreFar line.now p limit first end)
         (λ s. AreNearest line.now p first end s × (s.d2 < limit)) }
 {
-    let mut nearest = None;
+    let mut nearest: Option<NearSegments> = None;
     let mut below = limit;
     for i in first..end {
         if let Some(d2) = distance2_below(line[i], line[i + 1], p, below) {
-            nearest = Some(with_segment(nearest, i, d2));
+            let earliest = match nearest {
+                Some(before) if before.d2 == d2 => before.first,
+                _ => i,
+            };
+            nearest = Some(NearSegments {
+                first: earliest,
+                last: i,
+                d2,
+            });
             // A later segment that is as near is found too.
             below = d2 + 1;
         }
@@ -182,9 +170,8 @@ pub fn snap_on(line: &[Point], before: u32, p: Point, segment: usize) -> Snap
 pub fn offset_on(line: &[Point], offsets: &[u32], p: Point, segment: usize) -> u32
     requires line { IsLine line.now }
     requires length { line_length line.now ≤ 100_000_000 }
-    requires offsets { offsets.now ≡ line_offsets line.now }
     requires p_in { InRange p }
-    requires segment { segment + 1 < length line.now }
+    requires offsets { AreOffsetsFor line.now segment offsets.now }
     ensures { result ≡ line_length (take (suc segment) line.now)
         + (segment_snap line.now p segment).offset }
 {

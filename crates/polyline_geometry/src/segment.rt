@@ -3,7 +3,7 @@
 ghost use Rattle.std.specs.Prelude.{◌≡◌, ℕ, ◌*◌, ◌/◌, ◌-◌, ◌^◌, ◌<◌, ◌≤◌, pos, negsuc, ◌≤ℤ◌, ◌+ℤ◌, ◌-ℤ◌, ◌*ℤ◌};
 ghost use Rattle.std.specs.Int.{int_div_euclid};
 ghost use Rattle.std.specs.Int.RustNames.{unsigned_abs};
-ghost use Rattle.polyline_geometry.specs.Plane.{InRange, along, distance2, dot, share, snap_segment, snapped, straight};
+ghost use Rattle.polyline_geometry.specs.Plane.{AreEnds, InRange, along, distance2, dot, share, snap_segment, snapped, straight};
 ghost use Rattle.polyline_geometry.specs.Parts.{IsPartOf, IsShare};
 
 use crate::plane::{Point, Snap, distance2, straight};
@@ -188,10 +188,8 @@ fn snapped(a: Point, b: Point, t: u64, n: u64) -> Point
 /// The squared distance of a point and the point that it snaps to.
 #[tactic(auto, using(crate::proofs::Boxes::is_share))]
 pub(crate) fn snap_distance2(a: Point, b: Point, p: Point) -> u64
-    requires a_in { InRange a }
-    requires b_in { InRange b }
+    requires ends { AreEnds a b }
     requires p_in { InRange p }
-    requires differ { a ≡ b → ⊥ }
     ensures { result ≡ (snap_segment a b p).d2 }
 {
     distance2(p, snapped(a, b, share(a, b, p), distance2(b, a)))
@@ -214,10 +212,8 @@ fn part_of_length(length: u32, t: u64, n: u64) -> u32
 /// How far along the segment from a to b a point snaps to, in cm, by the length of the segment.
 #[tactic(auto, using(crate::proofs::Boxes::is_share))]
 pub(crate) fn offset_along(a: Point, b: Point, p: Point, length: u32) -> u32
-    requires a_in { InRange a }
-    requires b_in { InRange b }
+    requires ends { AreEnds a b }
     requires p_in { InRange p }
-    requires differ { a ≡ b → ⊥ }
     requires length { length ≡ straight a b }
     ensures { result ≡ (snap_segment a b p).offset }
 {
