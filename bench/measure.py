@@ -5,7 +5,8 @@ that make_inputs.py wrote to FOLDER.
 Each row is one job of one program: seconds and processor seconds (the least of R runs; the second is steadier on a busy
 machine), points a second and a processor second (edges for `load network`), peak memory in MB (the greatest of the runs), and
 the ratios of processor seconds and memory to the first program. `same` says that output, error output and exit status are
-those of the first program. The live program does the jobs of `follow` alone.
+those of the first program. The programs run in turn, so that a slow minute meets them all. The live program does the jobs of
+`follow` alone.
 """
 import argparse
 import hashlib
@@ -90,11 +91,13 @@ def is_live(binary):
     return os.path.basename(binary[-1]) in ("live_program", "fmm_live")
 
 
-def measure(binary, words, folder, repeat):
-    if is_live(binary):
-        words = words[1:]
-    runs = [run(binary + words, folder) for _ in range(repeat)]
-    return min(r[0] for r in runs), min(r[1] for r in runs), max(r[2] for r in runs), runs[0][3], runs[0][4]
+def measure(programs, words, folder, repeat):
+    """For each program the least of its runs' seconds and processor seconds, the greatest of their peaks, and the answer."""
+    runs = [[] for _ in programs]
+    for _ in range(repeat):
+        for binary, own in zip(programs, runs):
+            own.append(run(binary + (words[1:] if is_live(binary) else words), folder))
+    return [(min(r[0] for r in own), min(r[1] for r in own), max(r[2] for r in own), own[0][3], own[0][4]) for own in runs]
 
 
 def main():
@@ -119,11 +122,10 @@ def main():
         if wanted and name not in wanted:
             continue
         count = lines_of(os.path.join(folder, counted))
+        able = [(place, program) for place, program in enumerate(programs, 1) if not is_live(program) or words[0] == "follow"]
+        measured = measure([program for _, program in able], words, folder, args.repeat)
         first = None
-        for place, program in enumerate(programs, 1):
-            if is_live(program) and words[0] != "follow":
-                continue
-            seconds, cpu, peak, status, digest = measure(program, words, folder, args.repeat)
+        for (place, program), (seconds, cpu, peak, status, digest) in zip(able, measured):
             first = first or (cpu, peak, digest)
             answer = ("" if status == 0 else f"status {status} ") + ("same" if digest == first[2] else "another answer")
             label = f"{place} {os.path.basename(program[-1])[-16:]}"
