@@ -1,26 +1,26 @@
 -- Edges whose boxes are far from a box of points.
 use Rattle.std.specs.Prelude.{◌&&◌}
-use Rattle.std.proofs.Common.{◌≡◌, ℕ, ◌+◌, ◌*◌, ◌<◌, ◌≤◌, Bool, true, false, T, List, [], ◌∷◌, ◌++◌, get_or, map, All, refl, sym, ap, ◌∙◌, subst, arith, ℤ, pos, negsuc, ◌+ℤ◌, ◌-ℤ◌, ◌≤ℤ◌, ⊎_elim}
+use Rattle.std.proofs.Common.{◌≡◌, ℕ, ◌+◌, ◌*◌, ◌<◌, ◌≤◌, Bool, true, false, T, List, [], ◌∷◌, ◌++◌, map, All, refl, sym, ap, ◌∙◌, subst, arith, ℤ, pos, negsuc, ◌+ℤ◌, ◌-ℤ◌, ◌≤ℤ◌, ⊎_elim}
 use Rattle.std.specs.Int.Signed.{le_z}
 use Rattle.std.specs.Int.RustNames.{unsigned_abs}
 use Rattle.std.proofs.lemmas.Int.{ints}
 use Rattle.std.proofs.lemmas.Bool.{cases_lt, true≢false}
 use Rattle.polyline_geometry.specs.declared.plane.Point.{Point}
-use Rattle.polyline_geometry.specs.Boxes.{InBox, IsBetween}
-use Rattle.polyline_geometry.specs.Plane.{InRange, point_at}
+use Rattle.polyline_geometry.specs.Plane.{point_at}
 use Rattle.polyline_geometry.proofs.Nearest.{snap_line-meets}
 use Rattle.road_network.specs.Net.{Net, IsLawful, edge_line}
 use Rattle.road_network.specs.Near.{candidate_at}
-use Rattle.grid_index.specs.Runs.{IsBelow}
 use Rattle.std.proofs.lemmas.List.{map-append}
-use Rattle.std.proofs.lemmas.List.Elements.{All-push}
+use Rattle.std.proofs.lemmas.List.Elements.{All-nil, All-push, All-weaker}
 use Rattle.std.proofs.lemmas.List.FromFn.{map-range_with_len_more}
 use Rattle.std.specs.List.{range_with_len}
-use Rattle.grid_index.proofs.RunBoxes.{below_twice, ≤ℤ_twice}
-use Rattle.candidate_search.specs.declared.boxes.Corners.{Corners}
+use Rattle.grid_index.proofs.RunBoxes.{≤ℤ_twice}
+use Rattle.grid_index.specs.declared.extent.Extent.{Extent}
+use Rattle.grid_index.specs.Extent.{AreCorners, IsInside, Widens}
+use Rattle.grid_index.proofs.Extents.{box_inside}
 use Rattle.candidate_search.specs.declared.boxes.EdgeBox.{EdgeBox}
 use Rattle.candidate_search.specs.declared.placed.Placed.{Placed}
-use Rattle.candidate_search.specs.Boxes.{AreCorners, AreGrown, IsEdgeBox, IsInside, overlap, touches}
+use Rattle.candidate_search.specs.Boxes.{HoldsPoints, IsEdgeBox, IsGrown, overlap, touches}
 
 abbrev pub origin : Point
 origin = record { x = pos 0; y = pos 0 }
@@ -46,15 +46,15 @@ high_side (negsuc a) (pos u) (negsuc q) r h k = omega (arith, ints, h, k)
 high_side (negsuc a) (negsuc u) (pos q) r h k = omega (arith, ints, h, k)
 high_side (negsuc a) (negsuc u) (negsuc q) r h k = omega (arith, ints, h, k)
 
-pub grown_by : (c d : Corners) (r : ℕ) → d.low.x ≡ c.low.x -ℤ pos r → d.low.y ≡ c.low.y -ℤ pos r → d.high.x ≡ c.high.x +ℤ pos r → d.high.y ≡ c.high.y +ℤ pos r → AreGrown r c d
+pub grown_by : (c d : Extent) (r : ℕ) → d.low.x ≡ c.low.x -ℤ pos r → d.low.y ≡ c.low.y -ℤ pos r → d.high.x ≡ c.high.x +ℤ pos r → d.high.y ≡ c.high.y +ℤ pos r → IsGrown r c d
 grown_by c d r lx ly hx hy at q inside near = record {
-  above = record {
-    x = subst (λ z. z ≤ℤ q.x) (sym lx) (low_side c.low.x at.x q.x r inside.above.x near.x);
-    y = subst (λ z. z ≤ℤ q.y) (sym ly) (low_side c.low.y at.y q.y r inside.above.y near.y);
+  above_low = record {
+    x = subst (λ z. z ≤ℤ q.x) (sym lx) (low_side c.low.x at.x q.x r inside.above_low.x near.x);
+    y = subst (λ z. z ≤ℤ q.y) (sym ly) (low_side c.low.y at.y q.y r inside.above_low.y near.y);
   };
-  below = record {
-    x = subst (λ z. q.x ≤ℤ z) (sym hx) (high_side at.x c.high.x q.x r inside.below.x near.x);
-    y = subst (λ z. q.y ≤ℤ z) (sym hy) (high_side at.y c.high.y q.y r inside.below.y near.y);
+  below_high = record {
+    x = subst (λ z. q.x ≤ℤ z) (sym hx) (high_side at.x c.high.x q.x r inside.below_high.x near.x);
+    y = subst (λ z. q.y ≤ℤ z) (sym hy) (high_side at.y c.high.y q.y r inside.below_high.y near.y);
   };
 }
 
@@ -69,27 +69,14 @@ overlaps : (low high first last q : ℤ) → low ≤ℤ q → q ≤ℤ high → 
 overlaps low high first last q a b c d = ap (λ v. v && le_z first high) (through low q last a d) ∙ through first q high c b
 
 -- boxes with a place in common touch
-common : (c d : Corners) (q : Point) → IsInside c q → IsInside d q → touches c d ≡ true
+common : (c d : Extent) (q : Point) → IsInside c q → IsInside d q → touches c d ≡ true
 common c d q h k =
-    ap (λ v. v && overlap c.low.y c.high.y d.low.y d.high.y) (overlaps c.low.x c.high.x d.low.x d.high.x q.x h.above.x h.below.x k.above.x k.below.x)
-    ∙ overlaps c.low.y c.high.y d.low.y d.high.y q.y h.above.y h.below.y k.above.y k.below.y
-
-between : (low high a b z : ℤ) → low ≤ℤ a → a ≤ℤ high → low ≤ℤ b → b ≤ℤ high → IsBetween a b z → (low ≤ℤ z) × (z ≤ℤ high)
-between low high a b z la ah lb bh is =
-    ⊎_elim
-    (λ up. (≤ℤ_twice low a z la up.0, ≤ℤ_twice z b high up.1 bh))
-    (λ down. (≤ℤ_twice low b z lb down.0, ≤ℤ_twice z a high down.1 ah))
-    is
-
-inside_box : (c : Corners) (a b q : Point) → IsInside c a → IsInside c b → InBox a b q → IsInside c q
-inside_box c a b q h k inside =
-    let x = between c.low.x c.high.x a.x b.x q.x h.above.x h.below.x k.above.x k.below.x inside.x in
-    let y = between c.low.y c.high.y a.y b.y q.y h.above.y h.below.y k.above.y k.below.y inside.y in
-    record { above = record { x = x.0; y = y.0 }; below = record { x = x.1; y = y.1 } }
+    ap (λ v. v && overlap c.low.y c.high.y d.low.y d.high.y) (overlaps c.low.x c.high.x d.low.x d.high.x q.x h.above_low.x h.below_high.x k.above_low.x k.below_high.x)
+    ∙ overlaps c.low.y c.high.y d.low.y d.high.y q.y h.above_low.y h.below_high.y k.above_low.y k.below_high.y
 
 -- an edge whose box does not touch the grown box of a point is beyond the radius
-pub far_edge : (net : Net) (radius : ℕ) (c d : Corners) (at : Point) (b : EdgeBox) → IsLawful net → IsEdgeBox net b → AreGrown radius c d → IsInside c at
-    → touches d b.corners ≡ false → radius * radius < (candidate_at net at b.edge.0).d2
+pub far_edge : (net : Net) (radius : ℕ) (c d : Extent) (at : Point) (b : EdgeBox) → IsLawful net → IsEdgeBox net b → IsGrown radius c d → IsInside c at
+    → touches d b.extent ≡ false → radius * radius < (candidate_at net at b.edge.0).d2
 far_edge net radius c d at b lawful is grown inside apart =
     let line = edge_line net b.edge.0 in
     ⊎_elim
@@ -98,19 +85,18 @@ far_edge net radius c d at b lawful is grown inside apart =
     let meets = snap_line-meets line at radius (lawful.lines b.edge.0 is.has) near in
     let i : ℕ = meets.0 in
     let q : Point = meets.2.0 in
-    let in_edge = inside_box b.corners (point_at line i) (point_at line (i + 1)) q (is.line i origin (omega (arith, meets.1))) (is.line (i + 1) origin meets.1) meets.2.1 in
-    absurd (true≢false (sym (common d b.corners q (grown at q inside meets.2.2) in_edge) ∙ apart)))
+    let in_edge = box_inside b.extent (point_at line i) (point_at line (i + 1)) q (is.line i origin (omega (arith, meets.1))) (is.line (i + 1) origin meets.1) meets.2.1 in
+    absurd (true≢false (sym (common d b.extent q (grown at q inside meets.2.2) in_edge) ∙ apart)))
     (cases_lt (radius * radius) (candidate_at net at b.edge.0).d2)
 
--- the corners with one more place
-pub one_more_inside : (points : List Point) (p : Point) (c d : Corners) → AreCorners points c → InRange d.low → InRange d.high → IsBelow d.low c.low → IsBelow d.low p
-    → IsBelow c.high d.high → IsBelow p d.high → AreCorners (points ++ p ∷ []) d
-one_more_inside points p c d h low_in high_in low first high second = record {
-  low_in = low_in;
-  high_in = high_in;
-  each = All-push (IsInside d) points p
-      (λ k e under. let q = h.each k e under in record { above = below_twice d.low c.low (get_or points k e) low q.above; below = below_twice (get_or points k e) c.high d.high q.below high })
-      (record { above = first; below = second });
+pub holds_none : (x : Extent) → AreCorners x → HoldsPoints [] x
+holds_none x corners = record { corners = corners; each = All-nil (IsInside x) }
+
+-- one more place
+pub one_more_inside : (points : List Point) (p : Point) (x y : Extent) → HoldsPoints points x → Widens x y (p ∷ []) → HoldsPoints (points ++ p ∷ []) y
+one_more_inside points p x y h w = record {
+  corners = w.corners;
+  each = All-push (IsInside y) points p (All-weaker (IsInside x) (IsInside y) w.keeps points h.each) (w.has 0 origin (omega arith));
 }
 
 map_itself : (l : List ℕ) → map (λ x. x) l ≡ l

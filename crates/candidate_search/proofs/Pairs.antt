@@ -2,25 +2,11 @@
 use Rattle.std.proofs.Common.{◌≡◌, ℕ, ◌+◌, ◌<◌, ◌≤◌, ◌⊎◌, List, length, get_or, take, All, sym, ap, ◌∙◌, subst, inl, inr, arith, ⊎_elim, length-take}
 use Rattle.std.specs.List.{Contains, insert}
 use Rattle.std.proofs.lemmas.Bool.{cases_lt}
-use Rattle.std.proofs.lemmas.List.{get_or_default}
 use Rattle.std.proofs.lemmas.List.Edits.{get_or-insert_at, get_or-insert_below, length-insert}
 use Rattle.std.proofs.lemmas.List.Elements.{All-take}
 use Rattle.candidate_search.specs.declared.best.NearEdge.{NearEdge}
 use Rattle.candidate_search.specs.Best.{AreApart, ComesBefore, IsAccounted, IsBehind, IsNewPair, IsPlaceFor, IsWanted, Precedes, PutsPair, Takes, TakesPair}
-use Rattle.candidate_search.proofs.BestLists.{accounted_later, accounted_one, all_contained, apart_insert, apart_take, comes_other, from_insert, from_take, in_insert, no_edge, of_contained, precedes_twice}
-
--- what stands from a place on comes after it, where the first of these does
-pub place_first : (found : List NearEdge) (near : NearEdge) (place : ℕ) → AreApart found → All (λ c. c.edge.0 ≡ near.edge.0 → ⊥) found
-    → (place < length found → ComesBefore (get_or found place no_edge) near → ⊥) → (i : ℕ) (d : NearEdge) → place ≤ i → i < length found → ComesBefore near (get_or found i d)
-place_first found near place apart others not_before i d from lt =
-    let at : place < length found = omega (arith, from, lt) in
-    let x = get_or found place no_edge in
-    let here : get_or found place d ≡ x = get_or_default found place d no_edge at in
-    let first : ComesBefore near x = comes_other near x (not_before at) (λ e. others place no_edge at (sym e)) in
-    ⊎_elim
-    (λ above. let b = subst (λ c. ComesBefore c (get_or found i d)) here (apart place i d above lt).before in precedes_twice near.d2 near.edge.0 x.d2 x.edge.0 (get_or found i d).d2 (get_or found i d).edge.0 first b)
-    (λ same. let e : place ≡ i = omega (arith, from, same) in subst (ComesBefore near) (sym here ∙ ap (λ v. get_or found v d) e) first)
-    (cases_lt place i)
+use Rattle.candidate_search.proofs.BestLists.{accounted_later, accounted_one, all_contained, apart_insert, apart_take, from_insert, from_take, in_insert, of_contained, precedes_twice}
 
 -- one more edge at its place
 pub apart_placed : (found : List NearEdge) (near : NearEdge) (place : ℕ) → AreApart found → All (λ c. c.edge.0 ≡ near.edge.0 → ⊥) found → IsPlaceFor found near place

@@ -12,9 +12,10 @@ use Rattle.polyline_geometry.specs.declared.plane.Point.{Point}
 use Rattle.road_network.specs.declared.Candidate.{Candidate}
 use Rattle.road_network.specs.Net.{Net, IsLawful}
 use Rattle.road_network.specs.Near.{candidate_at, candidates, in_order, within}
-use Rattle.candidate_search.specs.declared.boxes.Corners.{Corners}
+use Rattle.grid_index.specs.declared.extent.Extent.{Extent}
+use Rattle.grid_index.specs.Extent.{IsInside}
 use Rattle.candidate_search.specs.declared.boxes.EdgeBox.{EdgeBox}
-use Rattle.candidate_search.specs.Boxes.{AreBoxes, AreBoxesFor, AreCorners, AreEnough, AreGrown, IsEdgeBox, IsInside, touches}
+use Rattle.candidate_search.specs.Boxes.{AreBoxes, AreBoxesFor, AreEnough, HoldsPoints, IsEdgeBox, IsGrown, touches}
 use Rattle.candidate_search.specs.Nearest.{IsFound, nearest, with_one}
 use Rattle.candidate_search.specs.declared.placed.Placed.{Placed}
 use Rattle.candidate_search.specs.Placed.{points_of}
@@ -23,7 +24,7 @@ use Rattle.candidate_search.proofs.Parts.{All-parts}
 use Rattle.candidate_search.proofs.Order.{nearest_push}
 
 abbrev pub no_box : EdgeBox
-no_box = record { edge = record { 0 = 0 }; corners = record { low = origin; high = origin } }
+no_box = record { edge = record { 0 = 0 }; extent = record { low = origin; high = origin } }
 
 -- the candidate of a box's edge
 abbrev pub of_box : Net → Point → EdgeBox → Candidate
@@ -47,10 +48,10 @@ same_within net radius at test (b ∷ boxes) h =
     in both (test b) refl
 
 -- the boxes that touch the grown box of a group are enough for it
-pub enough_near : (net : Net) (radius : ℕ) (c d : Corners) (boxes near : List EdgeBox) (group : List Placed) → IsLawful net → AreBoxesFor net radius boxes group
-    → AreCorners (points_of group) c → AreGrown radius c d → near ≡ filter (λ b. touches d b.corners) boxes → AreBoxesFor net radius near group
-enough_near net radius c d boxes near group lawful h corners grown is =
-    let test = λ (b : EdgeBox). touches d b.corners in
+pub enough_near : (net : Net) (radius : ℕ) (c d : Extent) (boxes near : List EdgeBox) (group : List Placed) → IsLawful net → AreBoxesFor net radius boxes group
+    → HoldsPoints (points_of group) c → IsGrown radius c d → near ≡ filter (λ b. touches d b.extent) boxes → AreBoxesFor net radius near group
+enough_near net radius c d boxes near group lawful h holds grown is =
+    let test = λ (b : EdgeBox). touches d b.extent in
     subst (λ l. AreBoxesFor net radius l group) (sym is) (record {
       are = record {
         rising = AllPairs-filter (λ a b. a.edge.0 < b.edge.0) test boxes h.are.rising;
@@ -58,7 +59,7 @@ enough_near net radius c d boxes near group lawful h corners grown is =
       };
       enough = λ i x lt.
           let p = (get_or group i x).at in
-          let inside : IsInside c p = subst (IsInside c) (get_or-map (λ (y : Placed). y.at) group i x origin lt) (corners.each i origin (omega (arith, lt, length-map group (λ (y : Placed). y.at)))) in
+          let inside : IsInside c p = subst (IsInside c) (get_or-map (λ (y : Placed). y.at) group i x origin lt) (holds.each i origin (omega (arith, lt, length-map group (λ (y : Placed). y.at)))) in
           same_within net radius p test boxes (λ j b under apart. far_edge net radius c d p (get_or boxes j b) lawful (h.are.each j b under) grown inside apart)
           ∙ h.enough i x lt;
     })

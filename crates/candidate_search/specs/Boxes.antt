@@ -4,42 +4,35 @@ use Rattle.std.specs.Int.Signed.{le_z}
 use Rattle.std.specs.List.{All, AllPairs}
 use Rattle.polyline_geometry.specs.declared.plane.Point.{Point}
 use Rattle.polyline_geometry.specs.Boxes.{InSquare}
-use Rattle.polyline_geometry.specs.Plane.{InRange}
 use Rattle.road_network.specs.Net.{Net, HasEdge, edge_line}
 use Rattle.road_network.specs.Near.{all_snaps, candidate_at, within}
-use Rattle.grid_index.specs.Runs.{IsBelow}
-use Rattle.candidate_search.specs.declared.boxes.Corners.{Corners}
+use Rattle.grid_index.specs.declared.extent.Extent.{Extent}
+use Rattle.grid_index.specs.Extent.{AreCorners, IsInside}
 use Rattle.candidate_search.specs.declared.boxes.EdgeBox.{EdgeBox}
 use Rattle.candidate_search.specs.declared.placed.Placed.{Placed}
 
--- the place lies between the corners
-pub record IsInside (c : Corners) (q : Point) : Type 0 where
-  pub above : IsBelow c.low q
-  pub below : IsBelow q c.high
+-- both corners are in range, and these places lie between them
+pub record HoldsPoints (points : List Point) (x : Extent) : Type 0 where
+  pub corners : AreCorners x
+  pub each : All (IsInside x) points
 
--- these places lie between the corners, which are in range
-pub record AreCorners (points : List Point) (c : Corners) : Type 0 where
-  pub low_in : InRange c.low
-  pub high_in : InRange c.high
-  pub each : All (IsInside c) points
-
--- the square of half side `reach` round each place between the first corners lies between the second
-abbrev pub AreGrown : ℕ → Corners → Corners → Type 0
-AreGrown reach c d = (at q : Point) → IsInside c at → InSquare at reach q → IsInside d q
+-- the square of half side `reach` round each place inside the first extent lies inside the second
+abbrev pub IsGrown : ℕ → Extent → Extent → Type 0
+IsGrown reach x y = (at q : Point) → IsInside x at → InSquare at reach q → IsInside y q
 
 -- the numbers from `low` up to `high` and those from `first` up to `last` overlap
 abbrev pub overlap : ℤ → ℤ → ℤ → ℤ → Bool
 overlap low high first last = le_z low last && le_z first high
 
 -- the two boxes have a place in common
-abbrev pub touches : Corners → Corners → Bool
-touches c d =
-    overlap c.low.x c.high.x d.low.x d.high.x && overlap c.low.y c.high.y d.low.y d.high.y
+abbrev pub touches : Extent → Extent → Bool
+touches x y =
+    overlap x.low.x x.high.x y.low.x y.high.x && overlap x.low.y x.high.y y.low.y y.high.y
 
 -- the box of an edge of the network
 pub record IsEdgeBox (net : Net) (b : EdgeBox) : Type 0 where
   pub has : HasEdge net b.edge.0
-  pub line : All (IsInside b.corners) (edge_line net b.edge.0)
+  pub line : All (IsInside b.extent) (edge_line net b.edge.0)
 
 -- boxes of edges, by rising number
 pub record AreBoxes (net : Net) (boxes : List EdgeBox) : Type 0 where

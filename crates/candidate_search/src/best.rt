@@ -1,8 +1,7 @@
 //! The nearest edges so far, while runs are visited in any order. Serves `candidates`; decided by
 //! `Takes` and `TakesPair`.
-ghost use Rattle.std.specs.Prelude.{◌≡◌, ℕ, ◌+◌, ◌*◌, ◌≤◌, ◌<◌, ◌↔◌, IsTrue, length, slice_index_or, OnOk};
+ghost use Rattle.std.specs.Prelude.{◌≡◌, ◌+◌, ◌*◌, ◌≤◌, ◌<◌, ◌↔◌, IsTrue, length, OnOk};
 ghost use Rattle.std.specs.List.{All, remove};
-ghost use Rattle.candidate_search.specs.declared.best.NearEdge.{NearEdge as NearEdgeOf};
 ghost use Rattle.candidate_search.specs.Best.{AreApart, ComesBefore, HasNeither, IsBehind, IsLimit, IsNewPair, IsNoLater, IsPlaceFor, IsPlaceOf, IsWanted, Puts, PutsPair, Takes, TakesPair};
 
 use crate::wanted::Search;
@@ -184,22 +183,6 @@ fn is_new_pair(found: &[NearEdge], search: Search, own: NearEdge, twin: NearEdge
     has_neither(found, own.edge, twin.edge)
 }
 
-/// The place of the first that comes after it, looked for from a place on.
-fn place_after(found: &[NearEdge], place: usize, near: NearEdge) -> usize
-    requires apart { AreApart found.now }
-    requires others { All (λ c. c.edge.0 ≡ near.edge.0 → ⊥) found.now }
-    requires within { place ≤ length found.now }
-    requires before { (i : ℕ) (d : NearEdgeOf) → i < place
-        → ComesBefore (slice_index_or found.now i d) near }
-    ensures { IsPlaceFor found.now near result }
-{
-    let mut next = place;
-    while next < found.len() && found[next].is_before(near) {
-        next += 1;
-    }
-    next
-}
-
 /// Puts two more edges at their places, and drops what is then beyond the first k.
 fn put_pair(
     found: &mut Vec<NearEdge>,
@@ -214,7 +197,7 @@ fn put_pair(
     make_room(found, k)?;
     let place = place_for(found.as_slice(), own);
     found.insert(place, own)?;
-    let next = place_after(found.as_slice(), place + 1, twin);
+    let next = place_for(found.as_slice(), twin);
     found.insert(next, twin)?;
     found.truncate(k);
     Ok(())

@@ -5,14 +5,15 @@ ghost use Rattle.polyline_geometry.specs.declared.plane.Point.{Point as PointOf}
 ghost use Rattle.polyline_geometry.specs.Plane.{InRange};
 ghost use Rattle.cost_model.specs.Options.{IsAccepted};
 ghost use Rattle.road_network.specs.Near.{candidates};
-ghost use Rattle.candidate_search.specs.Boxes.{AreBoxes, AreBoxesFor, AreCorners, AreEnough};
+ghost use Rattle.candidate_search.specs.Boxes.{AreBoxes, AreBoxesFor, AreEnough, HoldsPoints};
 ghost use Rattle.candidate_search.specs.Placed.{AreWritten, IsAsked, IsPlaced, points_of};
 
-use crate::boxes::{Corners, EdgeBox, boxes_near};
+use crate::boxes::{EdgeBox, boxes_near, extent_of, grown};
 use crate::nearest::consider;
 use crate::placed::{Placed, cut_in_two};
 use crate::search::search_for;
 use cost_model::Params;
+use grid_index::Extent;
 use polyline_geometry::{List, Point};
 use road_network::{Candidate, Network};
 use std::alloc::{AllocError, Global};
@@ -72,22 +73,22 @@ fn list_each(
     Ok(())
 }
 
-/// Those of the boxes that are near a group, with these corners.
+/// Those of the boxes that are near a group, with this extent.
 fn boxes_for(
     alloc: Global,
     net: &Network,
     p: &Params,
     boxes: &[EdgeBox],
     group: &[Placed],
-    corners: Corners,
+    extent: Extent,
 ) -> Result<Vec<EdgeBox>, AllocError>
     requires options { IsAccepted p.now }
-    requires corners { AreCorners (points_of group.now) corners }
+    requires extent { HoldsPoints (points_of group.now) extent }
     requires boxes { AreBoxesFor net.now p.now.radius boxes.now group.now }
     ensures { IfOk result (λ near. AreBoxesFor net.now p.now.radius near.items group.now) }
 {
     net.known();
-    let near = boxes_near(alloc, boxes, corners.grown(p.radius))?;
+    let near = boxes_near(alloc, boxes, grown(extent, p.radius))?;
     Ok(near)
 }
 
@@ -110,10 +111,10 @@ pub(crate) fn list_group(
     if group.is_empty() {
         return Ok(());
     }
-    let corners = Corners::around(group);
-    let near = boxes_for(alloc, net, p, boxes, group, corners)?;
+    let extent = extent_of(group);
+    let near = boxes_for(alloc, net, p, boxes, group, extent)?;
     let boxes = near.as_slice();
-    match cut_in_two(alloc, group, corners)? {
+    match cut_in_two(alloc, group, extent)? {
         None => list_each(alloc, net, p, boxes, group, lists),
         Some(halves) => {
             list_group(alloc, net, p, boxes, halves.below.as_slice(), lists)?;

@@ -2,10 +2,11 @@
 //! by `IsPlaced` and `AreHalves`.
 ghost use Rattle.std.specs.Prelude.{◌<◌, ◌^◌, ◌++◌, ◌∷◌, [], IfOk, IfSome, OnOk, length};
 ghost use Rattle.std.specs.List.Sorted.{IsPermutation};
-ghost use Rattle.polyline_geometry.specs.Plane.{InRange};
+ghost use Rattle.grid_index.specs.Extent.{AreCorners};
 ghost use Rattle.candidate_search.specs.Placed.{AreHalves, ArePlaced, both};
 
-use crate::boxes::{Corners, Cut};
+use crate::boxes::{Cut, middle};
+use grid_index::Extent;
 use polyline_geometry::Point;
 use std::alloc::{AllocError, Global};
 
@@ -56,21 +57,20 @@ impl Halves {
     }
 }
 
-/// The points of a group on each side of the middle of its corners; None where they are few, or all on
+/// The points of a group on each side of the middle of its extent; None where they are few, or all on
 /// one side.
 pub(crate) fn cut_in_two(
     alloc: Global,
     group: &[Placed],
-    corners: Corners,
+    extent: Extent,
 ) -> Result<Option<Halves>, AllocError>
-    requires low { InRange corners.low }
-    requires high { InRange corners.high }
+    requires { AreCorners extent }
     ensures { IfOk result (λ halves. IfSome halves (AreHalves group.now)) }
 {
     if group.len() <= FEW {
         return Ok(None);
     }
-    let cut = corners.middle();
+    let cut = middle(extent);
     let mut halves = Halves {
         below: Vec::new(alloc),
         above: Vec::new(alloc),

@@ -54,7 +54,7 @@ between_both low high a b z la lb ah bh is =
     is
 
 -- the box of two points inside is inside
-box_inside : (x : Extent) (a b q : Point) → IsInside x a → IsInside x b → InBox a b q → IsInside x q
+pub box_inside : (x : Extent) (a b q : Point) → IsInside x a → IsInside x b → InBox a b q → IsInside x q
 box_inside x a b q h k inside =
     let xs = between_both x.low.x x.high.x a.x b.x q.x h.above_low.x k.above_low.x h.below_high.x k.below_high.x inside.x in
     let ys = between_both x.low.y x.high.y a.y b.y q.y h.above_low.y k.above_low.y h.below_high.y k.below_high.y inside.y in

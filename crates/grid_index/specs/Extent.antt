@@ -1,4 +1,4 @@
--- The extent of a network: two corners between which all its lines lie.
+-- Extents: two corners of a box, and what lies between them.
 use Rattle.std.specs.Prelude.{ℕ, ◌<◌, List}
 use Rattle.std.specs.List.{All}
 use Rattle.polyline_geometry.specs.declared.plane.Point.{Point}

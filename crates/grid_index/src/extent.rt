@@ -1,5 +1,5 @@
-//! The box of a whole network, by which a place far from all of it is told without a look at a cell.
-//! Serves `Grid`; decided by `IsExtentOf`.
+//! The boxes of points, of lines and of a whole network, by which a place far from all of the network is
+//! told without a look at a cell. Serves `Grid` and scans of edges; decided by `Widens` and `IsExtentOf`.
 ghost use Rattle.std.specs.Prelude.{◌+◌, ◌<◌, ◌≤◌, ◌⊎◌, length, IsTrue, [], ◌∷◌};
 ghost use Rattle.polyline_geometry.specs.Plane.{InRange, IsLine};
 ghost use Rattle.grid_index.specs.Extent.{AreCorners, IsApart, IsExtentOf, Widens};
@@ -14,9 +14,9 @@ const MOST: i32 = 1_000_000_000;
 
 /// Two opposite corners of a box.
 #[derive(Clone, Copy)]
-pub(crate) struct Extent {
-    pub(crate) low: Point,
-    pub(crate) high: Point,
+pub struct Extent {
+    pub low: Point,
+    pub high: Point,
 }
 
 /// Whether a shifted coordinate differs by more than `reach` from each that lies between two others.
@@ -31,7 +31,7 @@ fn is_beside(low: u32, high: u32, z: u32, reach: u32) -> bool
 
 impl Extent {
     /// The extent with one more point.
-    fn with_point(self, point: Point) -> Extent
+    pub fn with_point(self, point: Point) -> Extent
         requires corners { AreCorners self }
         requires in_range { InRange point }
         ensures { Widens self result (point ∷ []) }
@@ -43,7 +43,7 @@ impl Extent {
     }
 
     /// The extent with the points of one more line.
-    fn with_line(self, line: &[Point]) -> Extent
+    pub fn with_line(self, line: &[Point]) -> Extent
         requires corners { AreCorners self }
         requires line { IsLine line.now }
         ensures { Widens self result line.now }

@@ -9,7 +9,8 @@
 //! [`Grid::near`] gives the edges near a point, and [`Grid::is_far`] tells that a point is far from
 //! the whole network. Those who visit the cells themselves take [`Grid::cells_near`],
 //! [`Grid::runs_at`] and [`Grid::wide_runs`]. [`Grid::distance2_in_cell`] tells at which one cell to
-//! look at a run, and how far its box is; by [`Grid::cell_distance2`] they leave out a cell.
+//! look at a run, and how far its box is; by [`Grid::cell_distance2`] they leave out a cell. [`Extent`] is
+//! the box of a line, for those who keep one of each edge.
 //!
 //! Cells lie side by side in a table of `width` by `width` slots, which repeats over the plane:
 //! cell (column, row) has the slot of the remainders of both. Two far cells may share a slot, so a
@@ -30,5 +31,6 @@ mod tests;
 mod twins;
 
 pub use cells::Cells;
+pub use extent::Extent;
 pub use grid::Grid;
-pub use runs::{Run, high_corner, low_corner};
+pub use runs::Run;

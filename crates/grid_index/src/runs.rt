@@ -50,7 +50,7 @@ fn greater(a: i32, b: i32) -> i32
 }
 
 /// The low corner of a box that holds two places.
-pub fn low_corner(a: Point, b: Point) -> Point
+pub(crate) fn low_corner(a: Point, b: Point) -> Point
     requires a_in { InRange a }
     requires b_in { InRange b }
     ensures in_range { InRange result }
@@ -64,7 +64,7 @@ pub fn low_corner(a: Point, b: Point) -> Point
 }
 
 /// The high corner of a box that holds two places.
-pub fn high_corner(a: Point, b: Point) -> Point
+pub(crate) fn high_corner(a: Point, b: Point) -> Point
     requires a_in { InRange a }
     requires b_in { InRange b }
     ensures in_range { InRange result }

@@ -5,8 +5,8 @@ use Rattle.candidate_search.specs.Best.{AreApart, IsPlaceFor}
 use Rattle.candidate_search.proofs.Pairs.{apart_placed, others_placed}
 use Rattle.candidate_search.proofs.best.put_pair.Goals as goal
 
-pub place_after-next-requires-clause-apart : goal.place_after-next-requires-clause-apart
-place_after-next-requires-clause-apart c =
+pub place_for-next-requires-clause-apart : goal.place_for-next-requires-clause-apart
+place_for-next-requires-clause-apart c =
     let found = c.args.found.now.items in
     let own = c.args.own in
     let place = c.place_for-place.result in
@@ -14,8 +14,8 @@ place_after-next-requires-clause-apart c =
     let is : c.insert.new.self.items ≡ insert found place own = c.in_ok-insert.ensures.items ∙ ap (λ l. insert l place own) c.make_room.ensures in
     subst AreApart (sym (c.as_slice-2.ensures.value ∙ is)) (apart_placed found own place c.requires.apart (λ i d lt. (c.requires.pair.neither i d lt).0) at)
 
-pub place_after-next-requires-clause-others : goal.place_after-next-requires-clause-others
-place_after-next-requires-clause-others c =
+pub place_for-next-requires-clause-others : goal.place_for-next-requires-clause-others
+place_for-next-requires-clause-others c =
     let found = c.args.found.now.items in
     let own = c.args.own in
     let twin = c.args.twin in

@@ -6,7 +6,7 @@ use Rattle.candidate_search.proofs.boxes.boxes_of.Goals as goal
 pub loop-number-preserved : goal.loop-number-preserved
 loop-number-preserved c =
     let s = c.loop-number in
-    let next = next_box c.args.net.now s.boxes.items c.push.new.self.items s.number c.box_of.result s.invariant.each s.invariant.all c.in_ok-push.ensures.items c.box_of.ensures.corners (ap (λ e. e.0) c.box_of.ensures.edge) in
+    let next = next_box c.args.net.now s.boxes.items c.push.new.self.items s.number c.box_of.result s.invariant.each s.invariant.all c.in_ok-push.ensures.items c.box_of.ensures.extent (ap (λ e. e.0) c.box_of.ensures.edge) in
     record { each = next.0; all = next.1 }
 
 pub returns-clause-boxes : goal.returns-clause-boxes

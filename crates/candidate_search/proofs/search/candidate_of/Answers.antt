@@ -10,10 +10,10 @@ use Rattle.road_network.specs.Near.{candidate}
 use Rattle.candidate_search.proofs.search.candidate_of.Goals as goal
 
 pub offset_on-requires-clause-offsets : goal.offset_on-requires-clause-offsets
-offset_on-requires-clause-offsets c = c.offsets.ensures ∙ ap line_offsets (sym c.line.ensures)
-
-pub offset_on-requires-clause-segment : goal.offset_on-requires-clause-segment
-offset_on-requires-clause-segment c = omega (arith, c.requires.1.before_end, ap length c.line.ensures)
+offset_on-requires-clause-offsets c = record {
+  within = omega (arith, c.requires.1.before_end, ap length c.line.ensures);
+  offsets_are = c.offsets.ensures ∙ ap line_offsets (sym c.line.ensures);
+}
 
 pub returns : goal.returns
 returns c =

@@ -2,11 +2,11 @@ use Rattle.std.specs.Prelude.{◌&&◌}
 use Rattle.std.proofs.Common.{rules, sym, ap, ◌∙◌, to_z, of_z, w32}
 use Rattle.candidate_search.specs.Boxes.{overlap}
 use Rattle.candidate_search.proofs.EdgeBoxes.{same_overlap}
-use Rattle.candidate_search.proofs.boxes.Corners.touches.Goals as goal
+use Rattle.candidate_search.proofs.boxes.touches.Goals as goal
 
 pub returns-then-overlap : goal.returns-then-overlap
 returns-then-overlap c =
-    let a = c.args.self in
+    let a = c.args.one in
     let b = c.args.other in
     let x = same_overlap
     (to_z w32 (of_z w32 a.low.x)) (to_z w32 (of_z w32 a.high.x)) (to_z w32 (of_z w32 b.low.x)) (to_z w32 (of_z w32 b.high.x))
