@@ -1,5 +1,5 @@
 -- A later point of a piece, and the first failure of a trace.
-use Rattle.std.proofs.Common.{◌≡◌, ◌<◌, ◌≤◌, ◌==◌, ℕ, zero, suc, ◌+◌, ◌-◌, Bool, true, false, true≢false, cond, List, [], ◌∷◌, length, Option, Some, None, IfOk, Result, Ok, Err, refl, sym, ◌∙◌, ap, arith, below_more}
+use Rattle.std.proofs.Common.{◌≡◌, ◌<◌, ◌≤◌, ◌==◌, ℕ, zero, suc, ◌+◌, ◌-◌, Bool, true, false, true≢false, cond, List, [], ◌∷◌, length, Option, Some, None, refl, sym, ◌∙◌, ap, arith, below_more}
 use Rattle.std.specs.Prelude.{◌&&◌, ◌||◌, not, nat_lt}
 use Rattle.std.specs.List.{list_any}
 use Rattle.std.proofs.lemmas.Bool.{and_left, and_parts, le-leb, ltb-true, ne_eqb}
@@ -111,7 +111,3 @@ break_at_first c rise has =
     fails_later (holds c 0) Candidates (Row ∷ Break ∷ FirstCost ∷ Relaxed ∷ Tight ∷ Pointer ∷ Chosen ∷ Route ∷ []) (Some Break) has
     (fails_later (holds c 0) Row (Break ∷ FirstCost ∷ Relaxed ∷ Tight ∷ Pointer ∷ Chosen ∷ Route ∷ []) (Some Break) refl
     (fails_here (holds c 0) Break (FirstCost ∷ Relaxed ∷ Tight ∷ Pointer ∷ Chosen ∷ Route ∷ []) (unordered (breaks_right c 0) (rise_from 0 c.proof.pieces) (not (is_last c 0) || not (list_any (λ q. nat_lt 0 q.last) c.proof.pieces)) rise)))
-
-pub ok_by : {A E : Type 0} {P Q : A → Type 0} (r : Result A E) → IfOk r P → ((x : A) → P x → Q x) → IfOk r Q
-ok_by (Ok x) h f = f x h
-ok_by (Err e) h f = tt

@@ -106,8 +106,7 @@ fn try_rows<'n, R: Threads + Sync>(
     rows: &[Row],
 ) -> Result<(Option<u64>, EdgeScan<'n>), AllocError>
     requires { bound ≤ 10_000_000 }
-    ensures bad { IfOk result (λ tried. tried.0 ≡ first_bad_row net.now bound rows.now) }
-    ensures scan { IfOk result (λ tried. tried.1 ≡ net.now) }
+    ensures { IfOk result (λ tried. tried ≡ (first_bad_row net.now bound rows.now, net.now)) }
 {
     let (bad, scan) = thread::join(
         rt,

@@ -62,9 +62,10 @@ block_ends shelf shelf' name from old new same within so_far is reads fed long f
     subst (λ (t : List ℕ). IsReadWhole shelf.holds name text_limit (fed ++ t)) (sym is) whole
 
 -- a block behind which the file does not go on
-pub last_block : (name : List ℕ) (shelf shelf' : ShelfState) (block : Block) → shelf' ≡ shelf → ((fed : List ℕ) → length fed ≡ block.from → IsReadSoFar shelf.holds name fed → IsReadWhole shelf.holds name text_limit (fed ++ block.bytes.items)) → ReadsBlock name shelf shelf' block false
-last_block name shelf shelf' block same whole = record {
+pub last_block : (name : List ℕ) (shelf shelf' : ShelfState) (from : ℕ) (block : Block) → shelf' ≡ shelf → block.from ≡ from → ((fed : List ℕ) → length fed ≡ block.from → IsReadSoFar shelf.holds name fed → IsReadWhole shelf.holds name text_limit (fed ++ block.bytes.items)) → ReadsBlock name shelf shelf' from block false
+last_block name shelf shelf' from block same place whole = record {
   same = same;
+  place = place;
   some = λ (on : false ≡ true). absurd (cc on);
   within = λ (on : false ≡ true). absurd (cc on);
   read = whole;
@@ -85,15 +86,16 @@ pub taken_in : (reader full bytes more : List ℕ) → more ≡ reader ++ full �
 taken_in reader full bytes more is same = is ∙ ap (λ (t : List ℕ). reader ++ t) same
 
 -- the file goes on behind a block
-pub read_on : (name : List ℕ) (shelf shelf' : ShelfState) (block : Block) (goes_on : Bool) (fed more : List ℕ) → ReadsBlock name shelf shelf' block goes_on → goes_on ≡ true → length fed ≡ block.from → IsReadSoFar shelf.holds name fed → more ≡ fed ++ block.bytes.items
+pub read_on : (name : List ℕ) (shelf shelf' : ShelfState) (block : Block) (goes_on : Bool) (fed more : List ℕ) → ReadsBlock name shelf shelf' block.from block goes_on → goes_on ≡ true → length fed ≡ block.from → IsReadSoFar shelf.holds name fed → more ≡ fed ++ block.bytes.items
     → IsReadSoFar shelf.holds name more
 read_on name shelf shelf' block goes_on fed more reads on long front is =
     subst (λ (t : List ℕ). IsReadSoFar shelf.holds name t) (sym is) (subst (λ (b : Bool). IsRead shelf.holds name (fed ++ block.bytes.items) b) on (reads.read fed long front))
 
--- a block of the same shelf
-pub same_block : (name : List ℕ) (first shelf shelf' : ShelfState) (block : Block) (goes_on : Bool) → shelf ≡ first → ReadsBlock name shelf shelf' block goes_on → ReadsBlock name first first block goes_on
-same_block name first shelf shelf' block goes_on same reads = record {
+-- a block of the same shelf, from its own place on
+pub same_block : (name : List ℕ) (first shelf shelf' : ShelfState) (from : ℕ) (block : Block) (goes_on : Bool) → shelf ≡ first → ReadsBlock name shelf shelf' from block goes_on → ReadsBlock name first first block.from block goes_on
+same_block name first shelf shelf' from block goes_on same reads = record {
   same = refl;
+  place = refl;
   some = reads.some;
   within = reads.within;
   read = subst (λ (s : ShelfState). (fed : List ℕ) → length fed ≡ block.from → IsReadSoFar s.holds name fed → IsRead s.holds name (fed ++ block.bytes.items) goes_on) same reads.read;

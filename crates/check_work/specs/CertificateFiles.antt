@@ -17,11 +17,12 @@ abbrev pub IsRead : Option (List ℕ → Option (List ℕ)) → List ℕ → Lis
 IsRead told name text true = IsReadSoFar told name text
 IsRead told name text false = IsReadWhole told name text_limit text
 
--- a block holds the bytes behind those that were read before it, whichever these are; where the file may go
--- on behind it, it is not empty and ends within the limit
-pub record ReadsBlock (name : List ℕ) (shelf shelf' : ShelfState) (block : Block) (goes_on : Bool)
+-- a block holds the bytes from this place on, behind those that were read before it, whichever these are; where
+-- the file may go on behind it, it is not empty and ends within the limit
+pub record ReadsBlock (name : List ℕ) (shelf shelf' : ShelfState) (from : ℕ) (block : Block) (goes_on : Bool)
     : Type 0 where
   pub same : shelf' ≡ shelf
+  pub place : block.from ≡ from
   pub some : goes_on ≡ true → 1 ≤ length block.bytes.items
   pub within : goes_on ≡ true → block.from + length block.bytes.items ≤ text_limit
   pub read : (fed : List ℕ) → length fed ≡ block.from → IsReadSoFar shelf.holds name fed

@@ -42,9 +42,8 @@ fn next_block(block: &Block, memory: Vec<u8>, most: u64) -> Block
 // above the limit was read.
 fn fill<S: Shelf>(shelf: &mut S, name: &str, block: &mut Block) -> Result<bool, Stop>
     requires { IsToBeRead block.old }
-    ensures place { block.new.from ≡ block.old.from }
     ensures ok { IfOk result (ReadsBlock name.now
-        (S.state shelf.old) (S.state shelf.new) block.new) }
+        (S.state shelf.old) (S.state shelf.new) block.old.from block.new) }
     ensures err { IfErr result (FailsToRead File.Certificate name.now
         (S.state shelf.old) (S.state shelf.new)) }
 {
@@ -88,9 +87,8 @@ fn take_and_fill<R: Threads + Sync, S: Shelf>(
 ) -> Result<(CertificateReader, Block, bool), Stop>
     requires { IsToBeRead next }
     ensures taken { IfOk result (λ left. left.0 ≡ reader ++ full.now) }
-    ensures place { IfOk result (λ left. left.1.from ≡ next.from) }
     ensures ok { IfOk result (λ left. ReadsBlock name.now
-        (S.state shelf.old) (S.state shelf.new) left.1 left.2) }
+        (S.state shelf.old) (S.state shelf.new) next.from left.1 left.2) }
     ensures err { IfErr result (FailsToRead File.Certificate name.now
         (S.state shelf.old) (S.state shelf.new)) }
 {
@@ -101,9 +99,8 @@ fn take_and_fill<R: Threads + Sync, S: Shelf>(
         { reader.push(rt, full) },
         move || -> (Block, Result<bool, Stop>, &mut S)
             requires { IsToBeRead next }
-            ensures place { result.0.from ≡ next.from }
             ensures ok { IfOk result.1 (ReadsBlock name.entry.now
-                (S.state shelf.entry.now) (S.state result.2.now) result.0) }
+                (S.state shelf.entry.now) (S.state result.2.now) next.from result.0) }
             ensures err { IfErr result.1 (FailsToRead File.Certificate name.entry.now
                 (S.state shelf.entry.now) (S.state result.2.now)) }
             ensures lent { result.2.ghost_name ≡ shelf.entry.ghost_name }

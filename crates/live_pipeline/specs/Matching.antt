@@ -19,6 +19,11 @@ use Rattle.trace_relay.specs.declared.part.Part.TheVariants as parts
 abbrev pub NeverRefuses : JobText → Type 0
 NeverRefuses job = (traces : List ATrace) → job.refusal traces ≡ None
 
+-- a job that refuses no traces, and has taken none yet
+pub record IsFresh (job : JobText) (has : List ATrace → Type 0) : Type 0 where
+  pub calm : NeverRefuses job
+  pub begun : has []
+
 -- these traces may be handed to the job, where nothing has stopped yet
 abbrev pub MayTake : (List ATrace → Type 0) → Result (Unit {0}) Stop → List ATrace → Type 0
 MayTake has (Ok done) traces = CanTake has traces

@@ -2,7 +2,7 @@
 ghost use Rattle.std.specs.Prelude.{◌≡◌, ◌∷◌, []};
 ghost use Rattle.program_frame.specs.Batches.{WritesWaiting};
 ghost use Rattle.program_frame.specs.Jobs.{CanTake};
-ghost use Rattle.live_pipeline.specs.Matching.{HasTakenAll, MayTake, NeverRefuses, WritesNext};
+ghost use Rattle.live_pipeline.specs.Matching.{HasTakenAll, IsFresh, MayTake, NeverRefuses, WritesNext};
 
 use edge_io::Sink;
 use polyline_geometry::List;
@@ -63,8 +63,7 @@ pub fn match_parts<R: Wait, J: Job, K: Sink>(
 ) -> (Part, Result<(), Stop>)
     requires own { pass.old.relay ≡ relay.now.name }
     requires first { pass.old.parts ≡ [] }
-    requires calm { NeverRefuses (J.text job.old) }
-    requires begun { J.has job.old [] }
+    requires fresh { IsFresh (J.text job.old) (J.has job.old) }
     ensures { HasTakenAll (J.text job.old) (J.text job.new) (J.has job.new)
         (K.state out.old) (K.state out.new) pass.old pass.new result.0 result.1 }
 {

@@ -1,9 +1,9 @@
 // Reader and matcher, in two threads or in turn. Serves the programs; decided by `works_traces`.
-ghost use Rattle.std.specs.Prelude.{◌≡◌, [], Ok, string_bytes};
+ghost use Rattle.std.specs.Prelude.{◌≡◌, Ok, string_bytes};
 ghost use Rattle.program_frame.specs.Stream.{works_traces};
 ghost use Rattle.trace_relay.specs.Order.{no_parts};
 ghost use Rattle.live_pipeline.specs.Living.{LivePerforms};
-ghost use Rattle.live_pipeline.specs.Matching.{MatchesBeside, NeverRefuses};
+ghost use Rattle.live_pipeline.specs.Matching.{IsFresh, MatchesBeside};
 ghost use Rattle.live_pipeline.specs.Reading.{Keeps};
 
 use crate::closing::close_whole;
@@ -37,8 +37,7 @@ fn run_both<R: Threads + Wait + Sync, J: Job + Drop, S: Shelf + Send + Drop, K: 
     out: &mut K,
 ) -> (ReadDone<S>, TakePass, J, Option<(Part, Result<(), Stop>)>)
     requires unused { (put ≡ no_parts relay.now.name) × (take ≡ no_parts relay.now.name) }
-    requires calm { NeverRefuses (J.text job) }
-    requires begun { J.has job [] }
+    requires fresh { IsFresh (J.text job) (J.has job) }
     ensures done { Keeps S.state (string_bytes name.now) shelf put result.0 }
     ensures matched { MatchesBeside J.text J.has job result.2
         (K.state out.old) (K.state out.new) take result.1 result.3 }
@@ -56,8 +55,7 @@ fn run_both<R: Threads + Wait + Sync, J: Job + Drop, S: Shelf + Send + Drop, K: 
             &mut K,
         )
             requires unused { (put ≡ no_parts relay.now.name) × (take ≡ no_parts relay.now.name) }
-            requires calm { NeverRefuses (J.text job) }
-            requires begun { J.has job [] }
+            requires fresh { IsFresh (J.text job) (J.has job) }
             ensures done { Keeps S.state (string_bytes name.entry.now) shelf put result.0 }
             ensures matched { MatchesBeside J.text J.has job result.2
                 (K.state out.entry.now) (K.state result.4.now) take result.1 result.3 }
@@ -109,8 +107,7 @@ pub fn live_traces<R: Threads + Wait + Sync, J: Job + Drop, S: Shelf + Send + Dr
     name: &String,
     out: &mut K,
 ) -> (Result<(), Stop>, S)
-    requires calm { NeverRefuses (J.text job) }
-    requires begun { J.has job [] }
+    requires { IsFresh (J.text job) (J.has job) }
     ensures { LivePerforms (Ok (works_traces (string_bytes name.now) (J.text job)))
         (S.state shelf) (S.state result.1) (K.state out.old) (K.state out.new) result.0 }
 {

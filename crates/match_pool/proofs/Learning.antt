@@ -1,5 +1,6 @@
 -- What some reader knows after all workers have worked, and the turns of all workers at each strip.
 use Rattle.std.proofs.Common.{◌≡◌, ◌⊎◌, inl, inr, ℕ, zero, suc, ◌<◌, true, List, [], ◌∷◌, map, length, All, Any, Contains, IsOk, sym, ap, ◌∙◌, subst, ⊎_elim, arith}
+use Rattle.std.proofs.lemmas.Bool.{or_cases, or_left, or_right}
 use Rattle.std.specs.Prelude.{slice_index_or}
 use Rattle.std.specs.List.{AllZip, range_with_len}
 use Rattle.std.proofs.lemmas.List.{ext_get_or, get_or_default, get_or-map, length-map}
@@ -23,7 +24,6 @@ use Rattle.match_pool.specs.declared.turn.Strip.{Strip}
 use Rattle.match_pool.specs.declared.turn.Turn.{Turn}
 use Rattle.match_pool.proofs.Lists.{default_same, of_ok, zip_at, zip_get}
 use Rattle.match_pool.proofs.Tours.{still_knows}
-use Rattle.match_pool.proofs.Turns.{first_of, one_of, second_of}
 
 -- each worker took its turns at all strips, and its reader stays
 pub record Did (j : Job) (strips : List Strip) (before after : Worker) : Type 0 where
@@ -46,9 +46,9 @@ after_known j strips v (x ∷ xs) [] did is = absurd did
 after_known j strips v (x ∷ xs) (y ∷ ys) did is =
     let before = is_known_to_any (map reader_of xs) v in
     ⊎_elim
-    (λ head. ⊎_elim (λ old. inl (first_of (knows x.reader v) before old)) (λ asked. inr asked) (did.0.toured.only v head))
-    (λ tail. ⊎_elim (λ old. inl (second_of (knows x.reader v) before old)) (λ asked. inr asked) (after_known j strips v xs ys did.1 tail))
-    (one_of (knows y.reader v) (is_known_to_any (map reader_of ys) v) is)
+    (λ head. ⊎_elim (λ old. inl (or_left (knows x.reader v) before old)) (λ asked. inr asked) (did.0.toured.only v head))
+    (λ tail. ⊎_elim (λ old. inl (or_right (knows x.reader v) before old)) (λ asked. inr asked) (after_known j strips v xs ys did.1 tail))
+    (or_cases (knows y.reader v) (is_known_to_any (map reader_of ys) v) is)
 
 before_known : (j : Job) (strips : List Strip) (v : ℕ) (before after : List Worker) → AllZip (Did j strips) before after → is_known_to_any (map reader_of before) v ≡ true → is_known_to_any (map reader_of after) v ≡ true
 before_known j strips v [] [] did is = is
@@ -57,9 +57,9 @@ before_known j strips v (x ∷ xs) [] did is = absurd did
 before_known j strips v (x ∷ xs) (y ∷ ys) did is =
     let after = is_known_to_any (map reader_of ys) v in
     ⊎_elim
-    (λ head. first_of (knows y.reader v) after (still_knows x.reader y.reader did.0.reader v head))
-    (λ tail. second_of (knows y.reader v) after (before_known j strips v xs ys did.1 tail))
-    (one_of (knows x.reader v) (is_known_to_any (map reader_of xs) v) is)
+    (λ head. or_left (knows y.reader v) after (still_knows x.reader y.reader did.0.reader v head))
+    (λ tail. or_right (knows y.reader v) after (before_known j strips v xs ys did.1 tail))
+    (or_cases (knows x.reader v) (is_known_to_any (map reader_of xs) v) is)
 
 -- a turn of each worker at one place
 abbrev turns_at : ℕ → Turn → List Worker → List Turn
@@ -72,10 +72,10 @@ asked_known j strips v place rank d e [] (y ∷ ys) did low inside asks any = ab
 asked_known j strips v place rank d e (x ∷ xs) [] did low inside asks any = absurd did
 asked_known j strips v place rank d e (x ∷ xs) (y ∷ ys) did low inside asks (zero, t, lt, same, c) =
     let taken = did.0.toured.each place d e low in
-    first_of (knows y.reader v) (is_known_to_any (map reader_of ys) v)
+    or_left (knows y.reader v) (is_known_to_any (map reader_of ys) v)
     (taken.learns rank v inside (subst (λ (u : Turn). Contains u.ticket.numbers rank) (sym same) c) asks)
 asked_known j strips v place rank d e (x ∷ xs) (y ∷ ys) did low inside asks (suc i, t, lt, same, c) =
-    second_of (knows y.reader v) (is_known_to_any (map reader_of ys) v)
+    or_right (knows y.reader v) (is_known_to_any (map reader_of ys) v)
     (asked_known j strips v place rank d e xs ys did.1 low inside asks (i, t, omega arith, same, c))
 
 pub all_learn : (j : Job) (strips : List Strip) (piles : List (List Turn)) (before after : List Worker) → AllZip (Did j strips) before after → CoverTraces j strips → AreColumnsOf (map turns_of after) (length strips) piles → AllZip AllDrawn strips piles

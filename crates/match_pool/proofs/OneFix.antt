@@ -35,7 +35,7 @@ use Rattle.trace_reader.specs.declared.trace.Fix.{Fix}
 use Rattle.trace_reader.specs.declared.trace.Trace.{Trace}
 use Rattle.trace_reader.specs.Trace.{IsLawfulTrace}
 use Rattle.match_pool.specs.OneFix.{nearest_edge, on_edge}
-use Rattle.match_pool.specs.Unmatched.{HasNoCandidate, unmatched}
+use Rattle.match_pool.specs.Unmatched.{LiesFar, unmatched}
 use Rattle.match_pool.proofs.Unmatched.{unmatched_is}
 
 -- a lesser distance costs no more
@@ -121,15 +121,15 @@ matched_one n p trace fixes d c accepted same one first =
     ∙ ap (λ (all : List Fix). match_of n p (record { id = trace.id; fixes = all })) is
 
 -- and of one that has none
-none_all : (n : Net) (p : Params) (fixes : List Fix) (d : Fix) → length fixes ≡ 1 → nearest_edge n p (get_or fixes 0 d) ≡ None → All (HasNoCandidate n p) fixes
+none_all : (n : Net) (p : Params) (fixes : List Fix) (d : Fix) → length fixes ≡ 1 → nearest_edge n p (get_or fixes 0 d) ≡ None → All (LiesFar n p) fixes
 none_all n p [] d one none = absurd (omega (arith, one))
-none_all n p (fix ∷ []) d one none = All-cons (HasNoCandidate n p) fix [] (first_none (candidates n p.k p.radius (place_of fix)) none) (All-nil (HasNoCandidate n p))
+none_all n p (fix ∷ []) d one none = All-cons (LiesFar n p) fix [] (first_none (candidates n p.k p.radius (place_of fix)) none) (All-nil (LiesFar n p))
 none_all n p (fix ∷ next ∷ fixes) d one none = absurd (omega (arith, one))
 
 pub missing_one : (n : Net) (p : Params) (trace : Trace) (fixes : List Fix) (d : Fix) → IsAccepted p → IsLawfulTrace trace → fixes ≡ trace.fixes → length trace.fixes ≡ 1
     → nearest_edge n p (get_or fixes 0 d) ≡ None → unmatched trace ≡ match_of n p trace
 missing_one n p trace fixes d accepted lawful same one none =
-    unmatched_is n p trace accepted lawful (subst (All (HasNoCandidate n p)) same (none_all n p fixes d (ap length same ∙ one) none))
+    unmatched_is n p trace accepted lawful (subst (All (LiesFar n p)) same (none_all n p fixes d (ap length same ∙ one) none))
 
 -- the first candidate is an edge within the radius
 pub nearest_within : (n : Net) (p : Params) (fixes : List Fix) (d : Fix) (c : Candidate) → nearest_edge n p (get_or fixes 0 d) ≡ Some c → IsWithin n p.radius (place_of (get_or fixes 0 d)) c

@@ -1,11 +1,12 @@
 -- Slots that answers fill, and the tickets that drew their numbers.
-use Rattle.std.proofs.Common.{◌≡◌, ◌≢◌, ◌⊎◌, inl, inr, ℕ, zero, suc, ◌+◌, ◌-◌, ◌<◌, ◌≤◌, cond, eqb, List, [], ◌∷◌, ◌++◌, map, length, set, ne_eqb, Option, Some, None, All, Any, Contains, IsSome, refl, sym, ap, ◌∙◌, subst, ⊎_elim, arith}
+use Rattle.std.proofs.Common.{◌≡◌, ◌⊎◌, inl, inr, ℕ, zero, suc, ◌+◌, ◌-◌, ◌<◌, ◌≤◌, cond, eqb, List, [], ◌∷◌, ◌++◌, map, length, set, ne_eqb, Option, Some, None, All, Any, Contains, IsSome, refl, sym, ap, ◌∙◌, subst, ⊎_elim, arith}
 use Rattle.std.specs.Prelude.{slice_get, slice_index_or}
 use Rattle.std.specs.List.{range_with_len, sum_by}
 use Rattle.std.proofs.lemmas.Bool.{cases_eq}
 use Rattle.std.proofs.lemmas.List.Elements.{All-map, All-nil, All-push, All-weaker, Contains-push_cases}
 use Rattle.std.proofs.lemmas.List.Sums.{sum_by-cons}
 use Rattle.match_text.specs.declared.matched.MatchedTrace.{MatchedTrace}
+use Rattle.row_store.proofs.Places.{get_set, get_set_else}
 use Rattle.tickets.specs.Tickets.{Drawn, times}
 use Rattle.match_pool.specs.declared.turn.Strip.{Strip}
 use Rattle.match_pool.specs.declared.turn.Turn.{Turn}
@@ -16,18 +17,6 @@ use Rattle.match_pool.specs.Turns.{AnswersFor}
 use Rattle.match_pool.specs.Working.{Job, done_by, matched_at}
 use Rattle.match_pool.proofs.Lists.{default_same}
 use Rattle.match_pool.proofs.Yields.{last_by}
-
-get_set : {A : Type 0} (l : List A) (i : ℕ) (x : A) → i < length l → slice_get (set l i x) i ≡ Some x
-get_set [] i x lt = absurd (omega arith)
-get_set (y ∷ l) zero x lt = refl
-get_set (y ∷ l) (suc i) x lt = get_set l i x (omega arith)
-
-get_set_else : {A : Type 0} (l : List A) (i j : ℕ) (x : A) → j ≢ i → slice_get (set l i x) j ≡ slice_get l j
-get_set_else [] i j x apart = refl
-get_set_else (y ∷ l) zero zero x apart = absurd (apart refl)
-get_set_else (y ∷ l) zero (suc j) x apart = refl
-get_set_else (y ∷ l) (suc i) zero x apart = refl
-get_set_else (y ∷ l) (suc i) (suc j) x apart = get_set_else l i j x (λ e. apart (ap suc e))
 
 -- before the first answer
 fills_none : (matched : ℕ → MatchedTrace) (slots : List (Option MatchedTrace)) → Fills matched [] slots slots

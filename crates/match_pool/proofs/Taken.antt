@@ -1,5 +1,6 @@
 -- What a worker has after a turn at a strip.
 use Rattle.std.proofs.Common.{◌≡◌, inl, inr, ℕ, suc, ◌<◌, ◌≤◌, true, List, [], ◌∷◌, ◌++◌, map, length, All, Any, Contains, true≢false, refl, sym, ap, ◌∙◌, subst, ⊎_elim, append_assoc, arith}
+use Rattle.std.proofs.lemmas.Bool.{or_cases}
 use Rattle.std.specs.List.{list_any}
 use Rattle.std.proofs.lemmas.List.{get_or-map, length-map}
 use Rattle.std.proofs.lemmas.List.Elements.{All-head, All-map, All-tail, All-weaker, Contains-push_cases}
@@ -14,7 +15,6 @@ use Rattle.match_pool.specs.declared.worker.Done.{Done}
 use Rattle.match_pool.specs.Drawing.{WorksAt, number_at}
 use Rattle.match_pool.specs.Turns.{IsOver, IsStripOf, Learns, LearnsOnly, asked_by}
 use Rattle.match_pool.specs.Working.{Job, asks_at, no_trace}
-use Rattle.match_pool.proofs.Turns.{one_of}
 
 -- what the traces of some numbers ask for
 asked_job : (j : Job) (v : ℕ) (numbers : List ℕ) → All (λ k. k < length j.traces) numbers → list_any (asks_at j v) numbers ≡ true → asked_by j v ≡ true
@@ -22,7 +22,7 @@ asked_job j v [] below is = absurd (true≢false (sym is))
 asked_job j v (n ∷ ns) below is = ⊎_elim
     (λ head. list_any_at (λ (t : Trace). asks j.network j.params t v) j.traces n no_trace (All-head (λ k. k < length j.traces) n ns below) head)
     (λ tail. asked_job j v ns (All-tail (λ k. k < length j.traces) n ns below) tail)
-    (one_of (asks_at j v n) (list_any (asks_at j v) ns) is)
+    (or_cases (asks_at j v n) (list_any (asks_at j v) ns) is)
 
 late_last : (n last : ℕ) (xs : List ℕ) → n ≤ last → Any (λ x. n ≤ x) (xs ++ last ∷ [])
 late_last n last [] late = (0, last, omega arith, refl, late)

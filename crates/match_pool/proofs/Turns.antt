@@ -1,5 +1,6 @@
 -- The turns of a worker's loop.
 use Rattle.std.proofs.Common.{◌≡◌, ◌⊎◌, ◌↔◌, ℕ, zero, suc, ◌+◌, ◌<◌, ◌≤◌, Bool, true, false, ◌||◌, List, [], ◌∷◌, ◌++◌, map, length, is_some, Option, Some, None, Contains, All, true≢false, refl, sym, ap, ◌∙◌, subst, inl, inr, ⊎_elim, arith, append-nil, append_assoc}
+use Rattle.std.proofs.lemmas.Bool.{or_cases, or_left, or_right}
 use Rattle.std.specs.Prelude.{slice_get, slice_index_or}
 use Rattle.std.proofs.lemmas.List.{map-append}
 use Rattle.std.proofs.lemmas.List.Elements.{All-head, All-nil, All-push, All-tail}
@@ -33,18 +34,6 @@ starts j strip reader drawn = record {
   answers = refl;
   learns = λ v. (λ h. inl h, λ h. ⊎_elim (λ old. old) (λ (is : false ≡ true). cc) h);
 }
-
-pub one_of : (a b : Bool) → (a || b) ≡ true → (a ≡ true) ⊎ (b ≡ true)
-one_of true b is = inl refl
-one_of false b is = inr is
-
-pub first_of : (a b : Bool) → a ≡ true → (a || b) ≡ true
-first_of true b is = refl
-first_of false b is = cc
-
-pub second_of : (a b : Bool) → b ≡ true → (a || b) ≡ true
-second_of true b is = refl
-second_of false b is = is
 
 last_of : (a : Bool) → (a || false) ≡ a
 last_of true = refl
@@ -86,12 +75,12 @@ learns_more j numbers k before mid after so_far asked v =
     let m = knows_node mid v in
     let a = knows_node after v in (
       λ has. ⊎_elim
-          (λ old. ⊎_elim (λ first. inl first) (λ is. inr (parts ∙ first_of some one is)) ((so_far v).0 (m.1 old)))
-          (λ new. inr (parts ∙ second_of some one new))
+          (λ old. ⊎_elim (λ first. inl first) (λ is. inr (parts ∙ or_left some one is)) ((so_far v).0 (m.1 old)))
+          (λ new. inr (parts ∙ or_right some one new))
           (asked.only.nothing_else v (a.0 has)),
       λ h. a.1 (⊎_elim
           (λ first. asked.only.keeps.known v (m.0 ((so_far v).1 (inl first))))
-          (λ is. ⊎_elim (λ old. asked.only.keeps.known v (m.0 ((so_far v).1 (inr old)))) (λ new. asked.all v new) (one_of some one (sym parts ∙ is)))
+          (λ is. ⊎_elim (λ old. asked.only.keeps.known v (m.0 ((so_far v).1 (inr old)))) (λ new. asked.all v new) (or_cases some one (sym parts ∙ is)))
           h),
     )
 

@@ -21,17 +21,17 @@ use Rattle.trace_reader.specs.declared.trace.Fix.{Fix}
 use Rattle.trace_reader.specs.declared.trace.Trace.{Trace}
 use Rattle.trace_reader.specs.Trace.{IsLawfulTrace}
 use Rattle.trellis.specs.declared.parts.Solved.{Solved}
-use Rattle.match_pool.specs.Unmatched.{HasNoCandidate, unmatched}
+use Rattle.match_pool.specs.Unmatched.{LiesFar, unmatched}
 use Rattle.match_pool.proofs.Found.{answered, asks_found}
 
 -- no rank, no piece and no cell
 abbrev nothing_for : Trace → Solved
 nothing_for trace = record { ranks = replicate (length trace.fixes) None; pieces = []; tables = replicate (length trace.fixes) [] }
 
-none_wide : (n : Net) (p : Params) (fixes : List Fix) → All (HasNoCandidate n p) fixes → All (λ (l : Layer). length l.candidates ≡ 0) (map (layer_of n p) fixes)
+none_wide : (n : Net) (p : Params) (fixes : List Fix) → All (LiesFar n p) fixes → All (λ (l : Layer). length l.candidates ≡ 0) (map (layer_of n p) fixes)
 none_wide n p fixes none = All-map (λ (l : Layer). length l.candidates ≡ 0) (layer_of n p) fixes (λ k d lt. ap length (none k d lt))
 
-nothing_matches : (n : Net) (p : Params) (trace : Trace) → All (HasNoCandidate n p) trace.fixes
+nothing_matches : (n : Net) (p : Params) (trace : Trace) → All (LiesFar n p) trace.fixes
     → IsMatch (trellis n p) (layers_of n p trace) (replicate (length trace.fixes) None) [] (replicate (length trace.fixes) [])
 nothing_matches n p trace none =
     let k = length trace.fixes in
@@ -48,14 +48,14 @@ nothing_matches n p trace none =
       );
     }
 
-pub nothing_solved : (n : Net) (p : Params) (trace : Trace) → IsAccepted p → IsLawfulTrace trace → All (HasNoCandidate n p) trace.fixes → IsSolved n p (layers_of n p trace) (nothing_for trace)
+pub nothing_solved : (n : Net) (p : Params) (trace : Trace) → IsAccepted p → IsLawfulTrace trace → All (LiesFar n p) trace.fixes → IsSolved n p (layers_of n p trace) (nothing_for trace)
 nothing_solved n p trace accepted lawful none = record { trace = matchable n p trace (layers_of n p trace) accepted lawful refl; matched = nothing_matches n p trace none }
 
 labels_missing : (n : Net) (p : Params) (fixes : List Fix) → labels_of n (map (layer_of n p) fixes) (replicate (length fixes) None) ≡ replicate (length fixes) Missing
 labels_missing n p [] = refl
 labels_missing n p (x ∷ fixes) = ap (λ (ls : List Label). Missing ∷ ls) (labels_missing n p fixes)
 
-pub unmatched_is : (n : Net) (p : Params) (trace : Trace) → IsAccepted p → IsLawfulTrace trace → All (HasNoCandidate n p) trace.fixes → unmatched trace ≡ match_of n p trace
+pub unmatched_is : (n : Net) (p : Params) (trace : Trace) → IsAccepted p → IsLawfulTrace trace → All (LiesFar n p) trace.fixes → unmatched trace ≡ match_of n p trace
 unmatched_is n p trace accepted lawful none =
     let written : unmatched trace ≡ matched_of n p trace.id (layers_of n p trace) (as_solution (nothing_for trace))
     = ap (λ (ls : List Label). record { id = trace.id; labels = ls; pieces = [] }) (sym (labels_missing n p trace.fixes)) in
@@ -64,7 +64,7 @@ unmatched_is n p trace accepted lawful none =
 none_asked : (n : Net) (p : Params) (layers : List Layer) (v : ℕ) → AsksTrace n p layers [] v → ⊥
 none_asked n p layers v h = omega (arith, h.1.1)
 
-pub unmatched_asks : (n : Net) (p : Params) (trace : Trace) (state : RowsState) → IsAccepted p → IsLawfulTrace trace → All (HasNoCandidate n p) trace.fixes
+pub unmatched_asks : (n : Net) (p : Params) (trace : Trace) (state : RowsState) → IsAccepted p → IsLawfulTrace trace → All (LiesFar n p) trace.fixes
     → AsksAll state state (λ v. asks n p trace v ≡ true)
 unmatched_asks n p trace state accepted lawful none =
     let layers = layers_of n p trace in

@@ -9,9 +9,10 @@ use Rattle.trace_match.specs.Match.{place_of}
 use Rattle.trace_reader.specs.declared.trace.Fix.{Fix}
 use Rattle.trace_reader.specs.declared.trace.Trace.{Trace}
 
--- the fix has no candidate
-abbrev pub HasNoCandidate : Net → Params → Fix → Type 0
-HasNoCandidate n p fix = candidates n p.k p.radius (place_of fix) ≡ []
+-- the fix lies so far from all edges that none is its candidate; `NoCandidates` of matching says so of layers,
+-- which hold the candidates that were found
+abbrev pub LiesFar : Net → Params → Fix → Type 0
+LiesFar n p fix = candidates n p.k p.radius (place_of fix) ≡ []
 
 -- a trace with nothing for each of its fixes
 abbrev pub unmatched : Trace → MatchedTrace

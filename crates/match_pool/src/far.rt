@@ -4,7 +4,7 @@ ghost use Rattle.std.specs.Prelude.{◌≡◌, All, IfOk, IsTrue};
 ghost use Rattle.polyline_geometry.specs.Plane.{InRange};
 ghost use Rattle.trace_match.specs.Match.{place_of};
 ghost use Rattle.trace_reader.specs.Trace.{IsLawfulTrace};
-ghost use Rattle.match_pool.specs.Unmatched.{HasNoCandidate, unmatched};
+ghost use Rattle.match_pool.specs.Unmatched.{LiesFar, unmatched};
 
 use crate::batch::Batch;
 use candidate_search::candidates;
@@ -17,7 +17,7 @@ use trace_reader::{Fix, Trace};
 fn fix_lies_far(batch: &Batch, fix: &Fix) -> Result<bool, AllocError>
     requires { InRange (place_of fix.now) }
     ensures { IfOk result (λ far. IsTrue far
-        → HasNoCandidate batch.now.net.now batch.now.params.now fix.now) }
+        → LiesFar batch.now.net.now batch.now.params.now fix.now) }
 {
     let at = Point { x: fix.x, y: fix.y };
     if !batch.grid.is_far(at, batch.params.radius) {
@@ -31,7 +31,7 @@ fn fix_lies_far(batch: &Batch, fix: &Fix) -> Result<bool, AllocError>
 pub(crate) fn lies_far(batch: &Batch, trace: &Trace) -> Result<bool, AllocError>
     requires { IsLawfulTrace trace.now }
     ensures { IfOk result (λ far. IsTrue far
-        → All (HasNoCandidate batch.now.net.now batch.now.params.now) trace.now.fixes) }
+        → All (LiesFar batch.now.net.now batch.now.params.now) trace.now.fixes) }
 {
     for fix in trace.fixes.as_slice() {
         if !fix_lies_far(batch, fix)? {

@@ -10,10 +10,11 @@ use crate::batch::Batch;
 use crate::far::unmatched;
 use candidate_search::candidates;
 use cost_model::{Params, emission};
-use match_text::{Label, MatchedTrace, Routed};
+use match_text::{MatchedTrace, Routed};
 use polyline_geometry::{List, Point};
 use road_network::Candidate;
 use std::alloc::AllocError;
+use trace_match::label_on;
 use trace_reader::{Fix, Trace};
 
 /// The edge that lies nearest to a fix, if one is within the radius.
@@ -38,17 +39,12 @@ fn on_edge(batch: &Batch, id: u32, nearest: Candidate) -> Result<MatchedTrace, A
     ensures { IfOk result (λ matched.
         matched ≡ on_edge batch.now.net.now batch.now.params.now id nearest) }
 {
-    let edge = batch.net.name(nearest.edge);
-    let label = Label::On {
-        edge,
-        offset: nearest.offset,
-        d2: nearest.d2,
-    };
+    let label = label_on(batch.net, &nearest);
     let piece = Routed {
         first: 0,
         last: 0,
         cost: emission(batch.params, nearest.d2),
-        route: List::from_vec(vec![in batch.alloc; edge]?),
+        route: List::from_vec(vec![in batch.alloc; batch.net.name(nearest.edge)]?),
     };
     Ok(MatchedTrace {
         id,

@@ -5,7 +5,8 @@
 //! trace asks for. Whoever matches, follows or checks a trace stands on these.
 //!
 //! - [`layers`] gives the fixes of a trace with their candidates, and [`layer`] one of them.
-//! - [`labels`] gives the labels of points by their ranks, and [`label`] one of them.
+//! - [`labels`] gives the labels of points by their ranks, [`label`] one of them, and [`label_on`] that of a
+//!   candidate.
 //! - [`routed`] gives a piece with its route in the ids of the file.
 //! - [`laws`] has what every match has, that labels agree exactly where ranks do, and that the labels
 //!   that are committed stay, whatever fixes follow.
@@ -18,4 +19,4 @@ mod ranked;
 
 pub use fixes::{layer, layers};
 pub use names::routed;
-pub use ranked::{label, labels};
+pub use ranked::{label, label_on, labels};

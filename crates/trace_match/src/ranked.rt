@@ -1,13 +1,26 @@
 //! The labels of the points of a trace. Serves `labels`; decided by `labels_of`.
 ghost use Rattle.std.specs.Prelude.{◌≡◌, IfOk};
-ghost use Rattle.trace_match.specs.Match.{label_of, labels_of};
+ghost use Rattle.road_network.specs.Net.{HasEdge};
+ghost use Rattle.trace_match.specs.Match.{label_of, label_on, labels_of};
 ghost use Rattle.trace_match.specs.Ranked.{AreRanked, IsRanked};
 
 use match_text::Label;
 use matching::Layer;
 use polyline_geometry::List;
-use road_network::Network;
+use road_network::{Candidate, Network};
 use std::alloc::{AllocError, Global};
+
+/// The label of a point that lies on a candidate, with the edge's id of the network file.
+pub fn label_on(net: &Network, candidate: &Candidate) -> Label
+    requires { HasEdge net.now candidate.now.edge.0 }
+    ensures { result ≡ label_on net.now candidate.now }
+{
+    Label::On {
+        edge: net.name(candidate.edge),
+        offset: candidate.offset,
+        d2: candidate.d2,
+    }
+}
 
 /// The label of a point: that of its ranked candidate, or none.
 pub fn label(net: &Network, layer: &Layer, rank: Option<u32>) -> Label
@@ -18,11 +31,7 @@ pub fn label(net: &Network, layer: &Layer, rank: Option<u32>) -> Label
         return Label::Missing;
     };
     let candidate = layer.candidates.as_slice()[rank as usize];
-    Label::On {
-        edge: net.name(candidate.edge),
-        offset: candidate.offset,
-        d2: candidate.d2,
-    }
+    label_on(net, &candidate)
 }
 
 /// The labels of the points of a trace, a rank or none for each layer.

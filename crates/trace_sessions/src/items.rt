@@ -1,17 +1,15 @@
 //! The lines of what is handed out. Serves those who follow traces; decided by `item_lines`.
 ghost use Rattle.std.specs.Prelude.{◌≡◌, ◌++◌, OnOk, OnErr};
 ghost use Rattle.std.specs.List.{concat};
-ghost use Rattle.road_network.specs.Net.{HasEdge};
-ghost use Rattle.trace_match.specs.Match.{label_on};
 ghost use Rattle.trace_sessions.specs.ItemText.{AreItemsOf, IsItemOf, Stays, item_line, item_lines, lead_of};
 
 use itoa::write_digits;
 use match_text::{Label, write_label, write_piece};
 use online_commit::Item;
 use polyline_geometry::List;
-use road_network::{Candidate, Network};
+use road_network::Network;
 use std::alloc::{AllocError, Global};
-use trace_match::routed;
+use trace_match::{label_on, routed};
 
 #[cfg(test)]
 mod tests;
@@ -91,17 +89,5 @@ fn write_item(
             let piece = routed(alloc, net, *piece, route.as_slice())?;
             write_piece(&piece, into)
         }
-    }
-}
-
-// The candidate in the names of the network file.
-fn label_on(net: &Network, candidate: &Candidate) -> Label
-    requires { HasEdge net.now candidate.now.edge.0 }
-    ensures { result ≡ label_on net.now candidate.now }
-{
-    Label::On {
-        edge: net.name(candidate.edge),
-        offset: candidate.offset,
-        d2: candidate.d2,
     }
 }

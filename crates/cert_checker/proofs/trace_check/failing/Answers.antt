@@ -1,10 +1,11 @@
 use Rattle.std.proofs.Common.{◌≡◌, ◌∷◌, [], None, Some, sym, ◌∙◌}
+use Rattle.std.proofs.lemmas.Result.{IfOk-weaker}
 use Rattle.cert_checker.specs.declared.verdict.Condition.TheVariants.{Break, Candidates, Chosen, FirstCost, Pointer, Relaxed, Route, Row, Tight}
 use Rattle.cert_checker.specs.CaseSeen.{case_seen}
 use Rattle.cert_checker.specs.Checked.{of_cells}
 use Rattle.cert_checker.specs.Verdicts.{first_failing, holds}
 use Rattle.cert_checker.proofs.FailingFirst.{fails_behind, fails_front, fails_later}
-use Rattle.cert_checker.proofs.LaterPoints.{cells_met, ok_by, points_to}
+use Rattle.cert_checker.proofs.LaterPoints.{cells_met, points_to}
 use Rattle.cert_checker.proofs.trace_check.failing.Goals as goal
 
 pub returns-in-Some-clause-found : goal.returns-in-Some-clause-found
@@ -38,7 +39,8 @@ returns-clause-found c =
     let candidates = sym c.has_candidates.ensures ∙ c.if-not-has_candidates.false in
     let rows = sym c.has_rows.ensures ∙ c.if-not-has_rows.false in
     let none : None ≡ first_failing (holds k i) of_cells = sym c.in_default.is ∙ c.failing_cells.ensures in
-    ok_by c.failing_end.result c.failing_end.ensures (λ found is.
+    IfOk-weaker c.failing_end.result _ _ (λ found is.
     fails_later (holds k i) Candidates (Row ∷ Break ∷ FirstCost ∷ Relaxed ∷ Tight ∷ Pointer ∷ Chosen ∷ Route ∷ []) found candidates
     (fails_later (holds k i) Row (Break ∷ FirstCost ∷ Relaxed ∷ Tight ∷ Pointer ∷ Chosen ∷ Route ∷ []) found rows
     (is ∙ fails_behind (holds k i) of_cells (Chosen ∷ Route ∷ []) none)))
+    c.failing_end.ensures

@@ -31,7 +31,7 @@ returns-in-End-clause-ok g c =
     let before : block.from + c.len.result < c.min-end.result = search (rules, c.loop-block-test.true) in
     let long : vec_len block.bytes ≡ length old = search rules in
     let reads = subst (λ (at : ℕ). Reads (g.S.Shelf.state c.loop-block.shelf).holds c.args.name.now (block.from + at) old new End) (c.len-in-loop-block.ensures ∙ long) c.in-End.ensures.bytes in
-    last_block c.args.name.now (g.S.Shelf.state c.args.shelf.now) (g.S.Shelf.state c.read.new.self) _ (c.in-End.ensures.state ∙ i.same)
+    last_block c.args.name.now (g.S.Shelf.state c.args.shelf.now) (g.S.Shelf.state c.read.new.self) c.args.block.now.from _ (c.in-End.ensures.state ∙ i.same) i.place
     (block_ends (g.S.Shelf.state c.args.shelf.now) (g.S.Shelf.state c.loop-block.shelf) c.args.name.now block.from old new i.same (omega (arith, before, c.len.ensures, long, c.min-end.ensures)) i.front c.in-End.ensures.grows reads)
 
 pub returns-clause-ok : goal.returns-clause-ok
@@ -44,6 +44,7 @@ returns-clause-ok g c =
     let some : block.from + 1 ≤ c.min-end.result = omega (arith, i.place, c.requires.from, c.requires.some, c.min-end.ensures) in
     record {
       same = i.same;
+      place = i.place;
       some = λ e. omega (arith, some, full);
       within = λ e. grind (arith, nat_tests, e, full);
       read = block_full (g.S.Shelf.state c.args.shelf.now) c.args.name.now block.from c.min-end.result block.bytes.items (nat_le c.min-end.result text_limit) refl (omega (arith, c.min-end.ensures)) full i.front;

@@ -12,7 +12,7 @@ loop-goes_on-preserved g c =
     let taken : left.more ≡ at.reader ++ at.block.bytes.items = taken_in at.reader c.deref.result.now at.block.bytes.items left.more left.ensures.taken c.deref.ensures.value in
     record {
       same = left.ensures.ok.same ∙ i.same;
-      place = omega (arith, ap (λ (t : List ℕ). length t) taken, length-append at.reader at.block.bytes.items, i.place, c.next_block-next.ensures.place, left.ensures.place);
+      place = omega (arith, ap (λ (t : List ℕ). length t) taken, length-append at.reader at.block.bytes.items, i.place, c.next_block-next.ensures.place, left.ensures.ok.place);
       front = read_on c.args.name.now first first at.block at.goes_on at.reader left.more i.read on i.place i.front taken;
-      read = same_block c.args.name.now first (g.S.Shelf.state at.shelf) (g.S.Shelf.state c.take_and_fill.new.shelf) left.filled left.on i.same left.ensures.ok;
+      read = same_block c.args.name.now first (g.S.Shelf.state at.shelf) (g.S.Shelf.state c.take_and_fill.new.shelf) c.next_block-next.result.from left.filled left.on i.same left.ensures.ok;
     }

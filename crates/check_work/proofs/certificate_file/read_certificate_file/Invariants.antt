@@ -9,7 +9,7 @@ invariant-loop-goes_on g l = record {
   same : g.S.Shelf.state l.shelf ≡ g.S.Shelf.state l.initial.shelf;
   place : length l.reader ≡ l.block.from;
   front : IsReadSoFar (g.S.Shelf.state l.initial.shelf).holds l.name l.reader;
-  read : ReadsBlock l.name (g.S.Shelf.state l.initial.shelf) (g.S.Shelf.state l.initial.shelf) l.block l.goes_on;
+  read : ReadsBlock l.name (g.S.Shelf.state l.initial.shelf) (g.S.Shelf.state l.initial.shelf) l.block.from l.block l.goes_on;
 }
 
 abbrev pub decreases-loop-goes_on : goal.decreases-loop-goes_on

@@ -10,7 +10,7 @@ loop-init g c = record {
   job = refl;
   traces = [];
   took = c.requires.first;
-  writes = none_written (g.J.Job.text c.args.job.now) (g.J.Job.has c.args.job.now) (g.K.Sink.state c.args.out.now) c.requires.begun;
+  writes = none_written (g.J.Job.text c.args.job.now) (g.J.Job.has c.args.job.now) (g.K.Sink.state c.args.out.now) c.requires.fresh.begun;
 }
 
 pub write_next-ended-requires-clause-may : goal.write_next-ended-requires-clause-may

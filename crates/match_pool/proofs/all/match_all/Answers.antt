@@ -1,4 +1,5 @@
-use Rattle.std.proofs.Common.{◌≡◌, ◌≤◌, ◌^◌, [], ◌∷◌, ℕ, List, All, OnOk, Result, Ok, Err, length, map, vec_capacity, refl, sym, ap, subst, ◌∙◌, arith}
+use Rattle.std.proofs.Common.{◌≡◌, ◌≤◌, ◌^◌, [], ◌∷◌, ℕ, List, All, length, map, vec_capacity, refl, sym, ap, subst, ◌∙◌, arith}
+use Rattle.std.proofs.lemmas.Result.{on_ok_weaker}
 use Rattle.std.specs.List.{AllZip}
 use Rattle.std.proofs.lemmas.List.{length-map}
 use Rattle.std.proofs.lemmas.List.Elements.{All-weaker}
@@ -19,10 +20,6 @@ use Rattle.match_pool.proofs.all.match_all.Goals as goal
 unmoved : (readers : List Reading) → AllZip StaysReader readers readers
 unmoved [] = tt
 unmoved (r ∷ rs) = (record { store = refl; held = λ k row e. e }, unmoved rs)
-
-on_ok : {A E : Type 0} {P Q : Type 0} (r : Result A E) → OnOk r P → (P → Q) → OnOk r Q
-on_ok (Ok x) h f = f h
-on_ok (Err e) h f = tt
 
 pub deal-requires-clause-cuts : goal.deal-requires-clause-cuts
 deal-requires-clause-cuts g c =
@@ -154,6 +151,7 @@ returns-clause-learns g c =
     let n = c.args.net.now in
     let p = c.args.p.now in
     let cover = strips_cover j c.in_ok-cuts.cuts.items _ strips c.in_ok-strips.hands.items c.in_ok-cuts.ensures.strips c.in_ok-strips.ensures in
-    on_ok c.gather.result c.gather.ensures.drawn (λ drawn.
+    on_ok_weaker c.gather.result (λ drawn.
     subst (λ (rs : List Reading). LearnAsked n p c.args.traces.now rs c.dismiss-turns.new.readers) c.in_ok-crew.ensures.crew.readers_are
     (subst (LearnAsked n p c.args.traces.now (map reader_of before)) (sym c.dismiss-turns.ensures.readers) (all_learn j strips piles before after did cover columns drawn)))
+    c.gather.ensures.drawn

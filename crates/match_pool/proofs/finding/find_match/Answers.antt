@@ -1,24 +1,16 @@
 use Rattle.std.proofs.Common.{sym, ◌∙◌}
-use Rattle.std.specs.Prelude.{Result, Ok, Err, IfOk}
+use Rattle.std.proofs.lemmas.Result.{IfOk-weaker}
 use Rattle.bounded_search.proofs.Asking.{keeps_itself}
 use Rattle.row_store.specs.Store.{rows_state}
 use Rattle.match_pool.proofs.OneFix.{one_asks}
 use Rattle.match_pool.proofs.Unmatched.{unmatched_asks, unmatched_is}
 use Rattle.match_pool.proofs.finding.find_match.Goals as goal
 
-ok_as : {A E : Type 0} (P Q : A → Type 0) (r : Result A E) → ((x : A) → P x → Q x) → IfOk r P → IfOk r Q
-ok_as P Q (Ok x) f h = f x h
-ok_as P Q (Err e) f h = tt
-
-ok_any : {A E : Type 0} (Q : A → Type 0) (r : Result A E) → ((x : A) → Q x) → IfOk r Q
-ok_any Q (Ok x) f = f x
-ok_any Q (Err e) f = tt
-
 pub returns-then-len-eq1-clause-asks : goal.returns-then-len-eq1-clause-asks
 returns-then-len-eq1-clause-asks c =
     let state = rows_state c.args.reader.now in
     let asked = one_asks c.args.batch.now.net.now c.args.batch.now.params.now c.args.trace.now state (sym c.len.ensures ∙ c.if-len-eq1.true) in
-    record { keeps = keeps_itself state; asks = ok_any _ c.match_fix.result (λ matched. asked) }
+    record { keeps = keeps_itself state; asks = IfOk-weaker c.match_fix.result _ _ (λ matched is. asked) c.match_fix.ensures }
 
 pub returns-then-branch-clause-matched : goal.returns-then-branch-clause-matched
 returns-then-branch-clause-matched c =
@@ -26,7 +18,7 @@ returns-then-branch-clause-matched c =
     let p = c.args.batch.now.params.now in
     let trace = c.args.trace.now in
     let same = unmatched_is n p trace c.args.batch.now.ground.options c.requires.trace (c.in_ok-lies_far.ensures c.if-branch.true) in
-    ok_as _ _ c.unmatched.result (λ matched is. is ∙ same) c.unmatched.ensures
+    IfOk-weaker c.unmatched.result _ _ (λ matched is. is ∙ same) c.unmatched.ensures
 
 pub returns-then-branch-clause-asks : goal.returns-then-branch-clause-asks
 returns-then-branch-clause-asks c =
@@ -35,4 +27,4 @@ returns-then-branch-clause-asks c =
     let trace = c.args.trace.now in
     let state = rows_state c.args.reader.now in
     let asked = unmatched_asks n p trace state c.args.batch.now.ground.options c.requires.trace (c.in_ok-lies_far.ensures c.if-branch.true) in
-    record { keeps = keeps_itself state; asks = ok_any _ c.unmatched.result (λ matched. asked) }
+    record { keeps = keeps_itself state; asks = IfOk-weaker c.unmatched.result _ _ (λ matched is. asked) c.unmatched.ensures }

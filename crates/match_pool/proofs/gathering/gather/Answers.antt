@@ -1,4 +1,5 @@
-use Rattle.std.proofs.Common.{◌≡◌, ◌∷◌, [], ◌++◌, ℕ, ◌+◌, ◌<◌, List, Any, Contains, IfOk, OnOk, Result, Ok, Err, Some, length, map, rules, refl, sym, ap, subst, ◌∙◌, arith}
+use Rattle.std.proofs.Common.{◌≡◌, ◌∷◌, [], ◌++◌, ℕ, ◌+◌, ◌<◌, List, Any, Contains, OnOk, Result, Ok, Err, Some, length, map, rules, refl, sym, ap, subst, ◌∙◌, arith}
+use Rattle.std.proofs.lemmas.Result.{IfOk-weaker}
 use Rattle.std.specs.List.{AllZip, range_with_len}
 use Rattle.std.specs.Prelude.{slice_get}
 use Rattle.std.specs.Vec.Iter.{into_iter_items}
@@ -16,10 +17,6 @@ use Rattle.match_pool.proofs.gathering.gather.Goals as goal
 on_each : {A E : Type 0} (P : Type 0) (r : Result A E) → P → OnOk r P
 on_each P (Ok x) h = h
 on_each P (Err e) h = tt
-
-if_ok : {A E : Type 0} {P Q : A → Type 0} (r : Result A E) → IfOk r P → ((x : A) → P x → Q x) → IfOk r Q
-if_ok (Ok x) h f = f x h
-if_ok (Err e) h f = tt
 
 pub loop-strip-init : goal.loop-strip-init
 loop-strip-init c =
@@ -83,10 +80,11 @@ returns-clause-matched c =
     let all = ends at.yielded _ _ i.whole (sym i.left ∙ c.in-None.ensures.steps.0) ∙ c.into_iter-strip-iterator.ensures.into_iter_gives.0 in
     let each : (k : ℕ) → k < length at.slots.items → slice_get at.slots.items k ≡ Some (Some (matched_at j k)) =
     (λ k low. let lt : k < length c.args.batch.now.traces.now = (let count = i.count in omega (arith, low, count)) in i.matched k lt (subst (Any (λ (s : Strip). Contains s.numbers k)) (sym all) (c.requires.whole k lt))) in
-    if_ok c.filled.result c.filled.ensures (λ xs e.
+    IfOk-weaker c.filled.result _ _ (λ xs e.
     all_from (matched_at j) 0 at.slots.items xs e (λ k low. let zero : 0 + k ≡ k = omega arith in rw zero (each k low))
     ∙ ap (λ (n : ℕ). map (matched_at j) (range_with_len 0 n)) i.count
     ∙ matches_are j)
+    c.filled.ensures
 
 pub returns-clause-drawn : goal.returns-clause-drawn
 returns-clause-drawn c =

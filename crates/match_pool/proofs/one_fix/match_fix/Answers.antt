@@ -1,11 +1,7 @@
 use Rattle.std.proofs.Common.{sym, ◌∙◌}
-use Rattle.std.specs.Prelude.{Result, Ok, Err, IfOk}
+use Rattle.std.proofs.lemmas.Result.{IfOk-weaker}
 use Rattle.match_pool.proofs.OneFix.{matched_one, missing_one, nearest_within}
 use Rattle.match_pool.proofs.one_fix.match_fix.Goals as goal
-
-ok_as : {A E : Type 0} (P Q : A → Type 0) (r : Result A E) → ((x : A) → P x → Q x) → IfOk r P → IfOk r Q
-ok_as P Q (Ok x) f h = f x h
-ok_as P Q (Err e) f h = tt
 
 pub on_edge-requires-clause-edge : goal.on_edge-requires-clause-edge
 on_edge-requires-clause-edge c =
@@ -21,7 +17,7 @@ returns-in-Some c =
     let p = c.args.batch.now.params.now in
     let trace = c.args.trace.now in
     let same = matched_one n p trace c.as_slice.result.now _ c.in-Some.nearest c.args.batch.now.ground.options c.as_slice.ensures c.requires.one (sym c.in_ok-nearest.ensures ∙ c.in-Some.is) in
-    ok_as _ _ c.on_edge.result (λ matched is. is ∙ same) c.on_edge.ensures
+    IfOk-weaker c.on_edge.result _ _ (λ matched is. is ∙ same) c.on_edge.ensures
 
 pub returns-in-None : goal.returns-in-None
 returns-in-None c =
@@ -29,4 +25,4 @@ returns-in-None c =
     let p = c.args.batch.now.params.now in
     let trace = c.args.trace.now in
     let same = missing_one n p trace c.as_slice.result.now _ c.args.batch.now.ground.options c.requires.trace c.as_slice.ensures c.requires.one (sym c.in_ok-nearest.ensures ∙ c.in-None.is) in
-    ok_as _ _ c.unmatched.result (λ matched is. is ∙ same) c.unmatched.ensures
+    IfOk-weaker c.unmatched.result _ _ (λ matched is. is ∙ same) c.unmatched.ensures

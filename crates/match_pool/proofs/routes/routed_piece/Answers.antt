@@ -1,4 +1,5 @@
-use Rattle.std.proofs.Common.{List, All, Result, Ok, Err, IfOk, sym, ap, ◌∙◌, subst}
+use Rattle.std.proofs.Common.{List, All, sym, ap, ◌∙◌, subst}
+use Rattle.std.proofs.lemmas.Result.{IfOk-weaker}
 use Rattle.bounded_search.proofs.Asking.{only_by}
 use Rattle.matching.specs.declared.parts.Piece.{Piece}
 use Rattle.road_network.specs.declared.EdgeId.{EdgeId}
@@ -21,20 +22,17 @@ routed-requires g c =
     subst (All (λ (e : EdgeId). HasEdge c.args.net.now e.0)) (sym c.as_slice-2.ensures)
     (route_edges c.args.net.now c.args.p.now c.args.layers.now s.ranks (piece_at s.pieces c.args.number) c.in_ok-edges.edges c.in_ok-edges.ensures.route)
 
-ok_by : {A E : Type 0} {P Q : A → Type 0} (r : Result A E) → IfOk r P → ((x : A) → P x → Q x) → IfOk r Q
-ok_by (Ok x) h f = f x h
-ok_by (Err e) h f = tt
-
 pub returns-clause-routed : goal.returns-clause-routed
 returns-clause-routed g c =
     let n = c.args.net.now in
     let s = c.args.solved.now in
     let piece = piece_at s.pieces c.args.number in
     let route = route_of-is n c.args.p.now c.args.layers.now s.ranks piece (numbers c.in_ok-edges.edges) c.known.ensures c.in_ok-edges.ensures.route.route in
-    ok_by c.routed.result c.routed.ensures (λ r is. is
+    IfOk-weaker c.routed.result _ _ (λ r is. is
     ∙ ap (λ (ps : List Piece). routed_over n (piece_at ps c.args.number) (numbers c.as_slice-2.result.now)) c.as_slice.ensures
     ∙ ap (λ (es : List EdgeId). routed_over n piece (numbers es)) c.as_slice-2.ensures
     ∙ ap (routed_over n piece) route)
+    c.routed.ensures
 
 pub returns-clause-asks : goal.returns-clause-asks
 returns-clause-asks g c =

@@ -1,4 +1,5 @@
-use Rattle.std.proofs.Common.{◌≡◌, ◌<◌, ◌+◌, ◌∷◌, ◌++◌, ◌∙◌, ℕ, List, [], Result, Ok, Err, IfOk, length, length-set, set, slice_index_or, sym, subst, ap, arith}
+use Rattle.std.proofs.Common.{◌≡◌, ◌<◌, ◌+◌, ◌∷◌, ◌++◌, ◌∙◌, ℕ, List, [], length, length-set, set, slice_index_or, sym, subst, ap, arith}
+use Rattle.std.proofs.lemmas.Result.{IfOk-weaker}
 use Rattle.std.proofs.lemmas.List.{get_or_read, length-replicate}
 use Rattle.match_pool.specs.Strips.{AreStripsOf}
 use Rattle.match_pool.specs.declared.strips.Spot.{Spot}
@@ -6,14 +7,10 @@ use Rattle.match_pool.proofs.Lists.{default_same}
 use Rattle.match_pool.proofs.Spots.{Cutting, cut_all, cut_more, cut_none, one_strip}
 use Rattle.match_pool.proofs.strips.cut.Goals as goal
 
-if_ok : {A E : Type 0} {P Q : A → Type 0} (r : Result A E) → IfOk r P → ((x : A) → P x → Q x) → IfOk r Q
-if_ok (Ok x) h f = f x h
-if_ok (Err e) h f = tt
-
 pub returns-then-count-eq1-clause-strips : goal.returns-then-count-eq1-clause-strips
 returns-then-count-eq1-clause-strips c =
     let n = length c.args.traces.now in
-    if_ok c.one_strip.result c.one_strip.ensures (λ strips is. subst (AreStripsOf n) (sym is) (one_strip n))
+    IfOk-weaker c.one_strip.result _ _ (λ strips is. subst (AreStripsOf n) (sym is) (one_strip n)) c.one_strip.ensures
 
 pub loop-rank-init : goal.loop-rank-init
 loop-rank-init c =

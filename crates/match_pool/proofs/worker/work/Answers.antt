@@ -1,13 +1,10 @@
-use Rattle.std.proofs.Common.{◌≡◌, ◌∙◌, ℕ, List, Result, Ok, Err, IfOk, length, sym, ap}
+use Rattle.std.proofs.Common.{◌≡◌, ◌∙◌, ℕ, List, length, sym, ap}
+use Rattle.std.proofs.lemmas.Result.{IfOk-weaker}
 use Rattle.std.proofs.lemmas.List.FromFn.{length-range_with_len}
 use Rattle.match_pool.specs.Working.{job}
 use Rattle.match_pool.proofs.Spots.{all_numbers}
 use Rattle.match_pool.proofs.Turns.{works_on_all}
 use Rattle.match_pool.proofs.worker.work.Goals as goal
-
-if_ok : {A E : Type 0} {P Q : A → Type 0} (r : Result A E) → IfOk r P → ((x : A) → P x → Q x) → IfOk r Q
-if_ok (Ok x) h f = f x h
-if_ok (Err e) h f = tt
 
 pub draw_from-requires-clause-numbers : goal.draw_from-requires-clause-numbers
 draw_from-requires-clause-numbers g c κs within = all_numbers (length c.args.traces.now) c.as_slice.result.now (c.as_slice.ensures ∙ c.in_ok-numbers.ensures)
@@ -21,5 +18,6 @@ draw_from-requires-clause-ticket g c κs within =
 pub returns-clause-works : goal.returns-clause-works
 returns-clause-works g c =
     let j = job c.args.net.now c.args.p.now c.args.first c.args.traces.now in
-    if_ok c.draw_from.result c.draw_from.ensures.works
+    IfOk-weaker c.draw_from.result _ _
     (λ done w. works_on_all j c.as_slice.result.now c.args.reader.now c.args.ticket.now done c.draw_from.new.reader c.draw_from.new.ticket (c.as_slice.ensures ∙ c.in_ok-numbers.ensures) w)
+    c.draw_from.ensures.works
