@@ -1,5 +1,6 @@
 -- A job of `follow`, before its first trace and after more, and what it makes known.
 use Rattle.std.proofs.Common.{◌≡◌, ℕ, ◌+◌, ◌<◌, Bool, true, false, ◌||◌, List, [], ◌∷◌, ◌++◌, length, take, get_or, refl, sym, ◌∙◌, ap, subst, inl, inr, ⊎_elim, arith, length-append}
+use Rattle.std.proofs.lemmas.Bool.{or_left}
 use Rattle.std.proofs.lemmas.List.{take_more}
 use Rattle.bounded_search.specs.Known.{IsKnownList}
 use Rattle.bounded_search.specs.Rows.{AreRowsOf, AsksAll, Keeps, RowsState, no_rows}
@@ -15,7 +16,7 @@ use Rattle.follow_work.specs.Setting.{Setting}
 use Rattle.follow_work.specs.FollowDone.{AsksTraces, HasFollowed, KnowsAsked, LearnsAsked}
 use Rattle.follow_work.specs.Totals.{is_asked_by, pieces_of, rows_of, total_of}
 use Rattle.follow_work.specs.Counts.{ArePieces}
-use Rattle.follow_work.proofs.Asking.{asked_parts, first_of}
+use Rattle.follow_work.proofs.Asking.{asked_parts}
 use Rattle.follow_work.proofs.Counting.{counts_more}
 
 -- one more trace of a list
@@ -63,7 +64,7 @@ only_first false is = is
 learns_one : (on : Setting) (trace : Trace) (old new : RowsState) → AsksAll old new (λ v. asks on.network on.params trace v ≡ true) → LearnsAsked on (trace ∷ []) old.known new.known
 learns_one on trace old new asked v =
     let one = asks on.network on.params trace v in (
-      λ has. ⊎_elim (λ known. inl known) (λ is. inr (first_of one false is)) (asked.only.nothing_else v has),
+      λ has. ⊎_elim (λ known. inl known) (λ is. inr (or_left one false is)) (asked.only.nothing_else v has),
       λ either. ⊎_elim (asked.only.keeps.known v) (λ is. asked.all v (only_first one is)) either,
     )
 

@@ -1,5 +1,6 @@
 -- What `prove` writes, `check` finds proved.
 use Rattle.std.proofs.Common.{◌≡◌, ℕ, zero, suc, ◌<◌, ◌≤◌, Bool, true, false, cond, List, [], ◌∷◌, length, map, get_or, Result, Ok, Err, refl, ◌∙◌, ap, subst, arith}
+use Rattle.std.proofs.lemmas.Bool.{or_left, or_right}
 use Rattle.std.specs.Prelude.{nat_lt}
 use Rattle.std.specs.Result.{result_map_both}
 use Rattle.std.proofs.lemmas.Bool.Decides.{nat_tests}
@@ -13,7 +14,6 @@ use Rattle.cert_checker.proofs.WholeVerdict.{matches_are_proved}
 use Rattle.command_line.specs.Options.{and_then}
 use Rattle.cost_model.specs.declared.params.Params.{Params}
 use Rattle.follow_work.specs.Totals.{is_asked_by}
-use Rattle.follow_work.proofs.Asking.{first_of, second_of}
 use Rattle.potential_certificate.specs.CertificateText.{text_limit}
 use Rattle.potential_certificate.specs.Reading.{certificate_of as certificate_read}
 use Rattle.potential_certificate.specs.declared.fault.CertFault.{CertFault}
@@ -48,8 +48,8 @@ proofs_are n p (trace ∷ traces) = (refl, record { ranks = refl; tables = refl;
 -- what one of the traces asks for, is asked for
 asked_at : (on : Setting) (traces : List Trace) (k : ℕ) (d : Trace) (v : ℕ) → k < length traces → asks on.network on.params (get_or traces k d) v ≡ true → is_asked_by on traces v ≡ true
 asked_at on [] k d v low is = absurd (omega (arith, low))
-asked_at on (trace ∷ traces) zero d v low is = first_of (asks on.network on.params trace v) (is_asked_by on traces v) is
-asked_at on (trace ∷ traces) (suc k) d v low is = second_of (asks on.network on.params trace v) (is_asked_by on traces v) (asked_at on traces k d v (omega (arith, low)) is)
+asked_at on (trace ∷ traces) zero d v low is = or_left (asks on.network on.params trace v) (is_asked_by on traces v) is
+asked_at on (trace ∷ traces) (suc k) d v low is = or_right (asks on.network on.params trace v) (is_asked_by on traces v) (asked_at on traces k d v (omega (arith, low)) is)
 
 -- ---- the verdict
 

@@ -1,5 +1,6 @@
 -- The total line of streams, and what their whole traces ask for.
 use Rattle.std.proofs.Common.{◌≡◌, ◌↔◌, ⊎_elim, ℕ, ◌+◌, ◌<◌, ◌^◌, Bool, true, false, cond, List, [], ◌∷◌, ◌++◌, Some, None, refl, sym, ap, ◌∙◌, subst, arith, length, map, nat_eq, unwrap_or}
+use Rattle.std.proofs.lemmas.Bool.{or_cases, or_left, or_right}
 use Rattle.std.specs.Prelude.{Contains}
 use Rattle.std.specs.List.{AllByRecursion, IsDistinct, concat, sum_by}
 use Rattle.std.specs.Map.{keys_of, lookup}
@@ -29,7 +30,6 @@ use Rattle.follow_work.specs.Setting.{Setting}
 use Rattle.follow_work.specs.Totals.{is_asked_by, pieces_of, rows_of, total_of}
 use Rattle.stream_work.specs.Streams.{pairs_of, stream_ending, whole_traces}
 use Rattle.stream_work.specs.StreamsDone.{HasStreamed, KnowsSome}
-use Rattle.follow_work.proofs.Asking.{first_of, one_of, second_of}
 use Rattle.stream_work.proofs.StreamTakes.{at-setting, nothing-asked, pairs-count}
 
 -- ---- sums over whole traces
@@ -75,8 +75,8 @@ some-asks on v (x ∷ pairs) id asked = step (nat_eq id x.0) asked (some-asks on
 
     step : (b : Bool) → Ask on v (unwrap_or (cond b (Some x.1) (lookup (nat_eq id) pairs)) []) → (Ask on v (fixes_of pairs id) → is_asked_by on (map trace_of pairs) v ≡ true)
         → is_asked_by on (map trace_of (x ∷ pairs)) v ≡ true
-    step true here rest = first_of own (is_asked_by on (map trace_of pairs) v) ((tells on (trace_of x) v).0 here)
-    step false here rest = second_of own (is_asked_by on (map trace_of pairs) v) (rest here)
+    step true here rest = or_left own (is_asked_by on (map trace_of pairs) v) ((tells on (trace_of x) v).0 here)
+    step false here rest = or_right own (is_asked_by on (map trace_of pairs) v) (rest here)
 
 asked-some : (on : Setting) (v : ℕ) (pairs : List Pair) → IsDistinct nat_eq (keys_of pairs) → is_asked_by on (map trace_of pairs) v ≡ true → (id : ℕ) × Ask on v (fixes_of pairs id)
 asked-some on v [] different is = absurd cc
@@ -86,7 +86,7 @@ asked-some on v (x ∷ pairs) different is =
     (λ rest.
     let later = asked-some on v pairs (IsDistinct-tail nat_eq x.0 (keys_of pairs) different) rest in
     (later.0, step later.0 (nat_eq later.0 x.0) refl later.1))
-    (one_of (asks on.network on.params (trace_of x) v) (is_asked_by on (map trace_of pairs) v) is)
+    (or_cases (asks on.network on.params (trace_of x) v) (is_asked_by on (map trace_of pairs) v) is)
   where
     here : fixes_of (x ∷ pairs) x.0 ≡ x.1
     here = let e : nat_eq x.0 x.0 ≡ true = grind (arith, nat_tests) in ap (λ b. unwrap_or (cond b (Some x.1) (lookup (nat_eq x.0) pairs)) []) e
