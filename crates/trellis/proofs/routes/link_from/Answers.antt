@@ -1,4 +1,4 @@
-use Rattle.std.proofs.Common.{◌≡◌, Some, refl, sym, ap, ◌∙◌, subst, arith}
+use Rattle.std.proofs.Common.{refl, sym, ap, ◌∙◌, subst, arith}
 use Rattle.matching.specs.Layers.{IsCandidate}
 use Rattle.matching.specs.Routes.{Direct, Over, IsRoute}
 use Rattle.matching.proofs.Growth.{candidate_is}

@@ -1,8 +1,8 @@
-use Rattle.std.proofs.Common.{◌≡◌, ◌<◌, ℕ, List, Option, Some, length, sym, ap, subst, rules, arith}
+use Rattle.std.proofs.Common.{sym, subst, arith}
 use Rattle.bounded_search.specs.Table.{BoundedTable, IsRow}
 use Rattle.trellis.specs.declared.pairs.Told.{Told}
 use Rattle.trellis.specs.Pairs.{TellsPair}
-use Rattle.trellis.specs.PairsInside.{ArePlaces, shown_pairs}
+use Rattle.trellis.specs.PairsInside.{shown_pairs}
 use Rattle.trellis.proofs.ToldPairs.{places_more, row_tells}
 use Rattle.trellis.proofs.pairs.PairMemory.distance.Goals as goal
 
