@@ -1,3 +1,4 @@
 pub mod Halves
 pub mod Rules
 pub mod Taken
+pub mod NoWords

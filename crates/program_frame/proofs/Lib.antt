@@ -1,3 +1,4 @@
+pub mod Asked
 pub mod BatchEnds
 pub mod Bounds
 pub mod ChunkEnds
@@ -6,6 +7,7 @@ pub mod Giving
 pub mod NetworkLoad
 pub mod PointCounts
 pub mod Reading
+pub mod RefusalLines
 pub mod RunEnds
 pub mod Stages
 pub mod Streaming
