@@ -14,7 +14,7 @@ ghost use Rattle.town_work.specs.TownsDone.{AreCosts, IsCost};
 
 use cost_model::Params;
 use edge_io::Sink;
-use follow_work::Matcher;
+use matcher::Matcher;
 use itoa::Buffer;
 use match_pool::Gate;
 use match_text::MatchedTrace;

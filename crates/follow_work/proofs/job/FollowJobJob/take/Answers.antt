@@ -1,5 +1,5 @@
 use Rattle.std.proofs.Common.{refl}
-use Rattle.follow_work.proofs.Counting.{fits_more}
+use Rattle.matcher.proofs.Counting.{fits_more}
 use Rattle.follow_work.proofs.Follows.{followed_grows}
 use Rattle.follow_work.proofs.FollowJobs.{bounded_back, followed_more}
 use Rattle.follow_work.proofs.job.FollowJobJob.take.Goals as goal
