@@ -6,12 +6,12 @@ use Rattle.program_frame.proofs.PointCounts.{points-append}
 use Rattle.trace_reader.specs.declared.trace.Trace.{Trace}
 use Rattle.trace_sessions.specs.FollowText.{follow_text}
 use Rattle.trace_sessions.specs.Following.{IsPieceCount}
-use Rattle.follow_work.specs.Setting.{Setting}
+use Rattle.matcher.specs.Setting.{Setting}
 use Rattle.follow_work.specs.Follow.{follow_job, followed_of}
-use Rattle.follow_work.specs.Totals.{pieces_of}
-use Rattle.follow_work.specs.Counts.{ArePieces}
-use Rattle.follow_work.proofs.Counting.{pieces-append}
-use Rattle.follow_work.proofs.FollowJobs.{next_trace}
+use Rattle.matcher.specs.Totals.{pieces_of}
+use Rattle.matcher.specs.Counts.{ArePieces}
+use Rattle.matcher.proofs.Counting.{pieces-append}
+use Rattle.matcher.proofs.Traces.{next_trace}
 
 followed-append : (on : Setting) (front back : List Trace) → followed_of on (front ++ back) ≡ followed_of on front ++ followed_of on back
 followed-append on front back = flat_map-append (follow_text on.network on.params) front back

@@ -1,4 +1,2 @@
-pub mod Asking
-pub mod Counting
 pub mod FollowJobs
 pub mod Follows

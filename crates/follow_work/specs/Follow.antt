@@ -11,8 +11,8 @@ use Rattle.program_frame.specs.Stream.{works_traces}
 use Rattle.program_frame.specs.declared.stop.File.TheVariants.{Network}
 use Rattle.trace_reader.specs.declared.trace.Trace.{Trace}
 use Rattle.trace_sessions.specs.FollowText.{follow_text}
-use Rattle.follow_work.specs.Setting.{Setting}
-use Rattle.follow_work.specs.Totals.{no_line, no_refusal, total_of}
+use Rattle.matcher.specs.Setting.{Setting}
+use Rattle.matcher.specs.Totals.{no_line, no_refusal, total_of}
 
 -- the follow texts of traces, in their order
 abbrev pub followed_of : Setting → List Trace → List ℕ

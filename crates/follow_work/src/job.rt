@@ -1,20 +1,25 @@
 // The job of `follow`. Serves the programs that follow traces; decided by `follow_job`.
-ghost use Rattle.std.specs.Prelude.{◌≡◌, ◌++◌, [], IfOk, OnOk};
-ghost use Rattle.bounded_search.specs.Rows.{AreRowsOf};
+ghost use Rattle.std.specs.Prelude.{◌≡◌, ◌++◌, [], true, IfOk, OnErr, OnOk};
+ghost use Rattle.bounded_search.specs.Rows.{AreRowsOf, AsksAs};
 ghost use Rattle.cost_model.specs.Options.{IsAccepted};
+ghost use Rattle.matcher.specs.Asked.{AsksTraces};
+ghost use Rattle.matcher.specs.Counts.{ArePieces};
 ghost use Rattle.program_frame.specs.Jobs.{IsBounded};
-ghost use Rattle.follow_work.specs.Counts.{ArePieces};
+ghost use Rattle.trace_match.specs.Match.{asks};
+ghost use Rattle.trace_reader.specs.Trace.{IsLawfulTrace};
+ghost use Rattle.trace_sessions.specs.Following.{IsFollowed};
 ghost use Rattle.follow_work.specs.Follow.{follow_job, followed_of};
-ghost use Rattle.follow_work.specs.FollowDone.{AsksTraces, HasFollowed};
+ghost use Rattle.follow_work.specs.FollowDone.{HasFollowed};
 
-use crate::matcher::Matcher;
 use bounded_search::OwnRows;
 use cost_model::Params;
+use matcher::Matcher;
 use polyline_geometry::List;
 use program_frame::{Job, Stop, Tally};
 use road_network::Network;
 use std::alloc::{AllocError, Global};
 use trace_reader::Trace;
+use trace_sessions::{Basis, follow_trace};
 
 /// Follows traces with own rows, one after the other, and counts them.
 pub struct FollowJob<'n> {
@@ -34,6 +39,31 @@ impl<'n> Drop for FollowJob<'n> {
     }
 }
 
+// Appends the follow text of a trace, and says how many pieces its match has. After Err `into` is as
+// before.
+fn follow_one<'n>(
+    alloc: Global,
+    matcher: &Matcher<'n>,
+    rows: &mut OwnRows<'n>,
+    trace: &Trace,
+    into: &mut List<u8>,
+) -> Result<u64, AllocError>
+    requires rows { AreRowsOf rows.old matcher.now.network matcher.now.params.bound }
+    requires trace { IsLawfulTrace trace.now }
+    ensures followed { IfOk result
+        (IsFollowed matcher.now.network matcher.now.params trace.now into.old into.new) }
+    ensures err { OnErr result (into.new ≡ into.old) }
+    ensures asks { AsksAs rows.old
+        (λ _ v. asks matcher.now.network matcher.now.params trace.now v ≡ true) result rows.new }
+{
+    let on = Basis {
+        net: matcher.network(),
+        grid: matcher.grid(),
+        params: matcher.params(),
+    };
+    follow_trace(alloc, &on, rows, trace, into)
+}
+
 // Follows traces, appends their texts, and says how many pieces their matches have.
 fn write_followed<'n>(
     alloc: Global,
@@ -50,7 +80,7 @@ fn write_followed<'n>(
 {
     let mut pieces = 0;
     for trace in traces {
-        let count = matcher.follow_trace(alloc, rows, trace, into)?;
+        let count = follow_one(alloc, matcher, rows, trace, into)?;
         pieces += count;
     }
     Ok(pieces)

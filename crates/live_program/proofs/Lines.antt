@@ -12,7 +12,7 @@ use Rattle.command_line.specs.declared.fault.WordsFault.{WordsFault}
 use Rattle.command_line.specs.declared.fault.WordsFault.TheVariants.{Usage}
 use Rattle.cost_model.specs.declared.params.Params.{Params}
 use Rattle.follow_work.specs.Follow.{follow_job}
-use Rattle.follow_work.specs.Setting.{Setting}
+use Rattle.matcher.specs.Setting.{Setting}
 use Rattle.live_program.specs.Words.{asked_by, asked_of, followed, with_follow}
 use Rattle.program_frame.specs.Jobs.{given_by}
 use Rattle.program_frame.specs.Plan.{Plan, IsLineOf, accepts, plan_of}

@@ -15,7 +15,7 @@ use Rattle.program_frame.proofs.RefusalLines.{asked_covered, network_end, traces
 use Rattle.road_network.specs.Net.{Net}
 use Rattle.table_work.specs.Preload.{preloads, table_file_said}
 use Rattle.trace_reader.specs.Reading.{file_fault}
-use Rattle.follow_work.specs.Setting.{Setting}
+use Rattle.matcher.specs.Setting.{Setting}
 
 has_refusals : (status : ℕ) (line : List ℕ) → refusal_lines status line → run_lines status line
 has_refusals status line is = inl is

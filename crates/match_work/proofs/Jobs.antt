@@ -12,14 +12,14 @@ use Rattle.program_frame.proofs.Bounds.{lawful_back}
 use Rattle.row_store.specs.Store.{Reading, Stored, count_known}
 use Rattle.trace_match.specs.Match.{match_of}
 use Rattle.trace_reader.specs.declared.trace.Trace.{Trace}
-use Rattle.follow_work.specs.Setting.{Setting}
+use Rattle.matcher.specs.Setting.{Setting}
 use Rattle.match_work.specs.Sharing.{ShareStore, fresh_readers}
-use Rattle.follow_work.specs.Totals.{pieces_of, total_of}
+use Rattle.matcher.specs.Totals.{pieces_of, total_of}
 use Rattle.match_work.specs.Matches.{match_text, texts_of}
-use Rattle.follow_work.specs.Counts.{ArePieces}
+use Rattle.matcher.specs.Counts.{ArePieces}
 use Rattle.match_work.specs.MatchesDone.{HasMatched, KnowAsked}
 use Rattle.match_work.proofs.Asking.{asked_more}
-use Rattle.follow_work.proofs.Counting.{counts_more}
+use Rattle.matcher.proofs.Counting.{counts_more}
 use Rattle.match_work.proofs.Sharing.{know_nothing, rows_counted, share_on}
 
 -- no trace was matched

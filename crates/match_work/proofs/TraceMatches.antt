@@ -13,10 +13,10 @@ use Rattle.trace_match.proofs.Lawful.{match_lawful}
 use Rattle.trace_reader.specs.Trace.{IsLawfulTrace}
 use Rattle.trace_reader.specs.declared.trace.Trace.{Trace}
 use Rattle.match_work.specs.Matched.{AreMatchesOf, pieces_in, text_of_matches}
-use Rattle.follow_work.specs.Setting.{Setting}
-use Rattle.follow_work.specs.Totals.{pieces_of}
+use Rattle.matcher.specs.Setting.{Setting}
+use Rattle.matcher.specs.Totals.{pieces_of}
 use Rattle.match_work.specs.Matches.{texts_of}
-use Rattle.follow_work.specs.Counts.{ArePieces}
+use Rattle.matcher.specs.Counts.{ArePieces}
 
 abbrev pub matches_of : Setting → List Trace → List MatchedTrace
 matches_of on traces = map (match_of on.network on.params) traces

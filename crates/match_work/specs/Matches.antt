@@ -6,7 +6,7 @@ use Rattle.std.proofs.Common.{refl}
 use Rattle.std.proofs.lemmas.List.Concat.{flat_map-append}
 use Rattle.cost_model.specs.declared.params.Params.{Params}
 use Rattle.match_text.specs.MatchText.{text_of}
-use Rattle.follow_work.specs.Totals.{no_line, no_refusal, total_of}
+use Rattle.matcher.specs.Totals.{no_line, no_refusal, total_of}
 use Rattle.program_frame.specs.Jobs.{JobText}
 use Rattle.program_frame.specs.Plan.{Plan, loads}
 use Rattle.program_frame.specs.Refusals.{network_limit, network_said}
@@ -14,7 +14,7 @@ use Rattle.program_frame.specs.Stream.{works_traces}
 use Rattle.program_frame.specs.declared.stop.File.TheVariants.{Network}
 use Rattle.trace_match.specs.Match.{match_of}
 use Rattle.trace_reader.specs.declared.trace.Trace.{Trace}
-use Rattle.follow_work.specs.Setting.{Setting}
+use Rattle.matcher.specs.Setting.{Setting}
 use Rattle.table_work.specs.Preload.{preloads}
 
 -- the texts of traces, in their order

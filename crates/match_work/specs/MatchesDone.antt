@@ -1,12 +1,12 @@
 -- What a job of `match` has done.
 use Rattle.std.specs.Prelude.{◌≡◌, ◌↔◌, ℕ, List, true}
-use Rattle.follow_work.specs.Counts.{Counts}
+use Rattle.matcher.specs.Counts.{Counts}
 use Rattle.program_frame.specs.declared.total.Tally.{Tally}
 use Rattle.row_store.specs.Store.{Reading, is_known_to_any}
 use Rattle.trace_reader.specs.declared.trace.Trace.{Trace}
-use Rattle.follow_work.specs.Setting.{Setting}
+use Rattle.matcher.specs.Setting.{Setting}
 use Rattle.match_work.specs.Sharing.{ShareStore}
-use Rattle.follow_work.specs.Totals.{is_asked_by}
+use Rattle.matcher.specs.Totals.{is_asked_by}
 
 -- some reader knows what these traces ask for, and nothing else
 abbrev pub KnowAsked : Setting → List Trace → List Reading → Type 0

@@ -5,9 +5,9 @@ ghost use Rattle.match_pool.specs.Learning.{AreReadersFor};
 ghost use Rattle.match_pool.specs.Working.{AreJobTraces};
 ghost use Rattle.match_work.specs.Sharing.{IsStoreFor, MatchesBatch, ShareStore, fresh_readers};
 
-use follow_work::Matcher;
 use match_pool::{Gate, match_all};
 use match_text::MatchedTrace;
+use matcher::Matcher;
 use polyline_geometry::List;
 use row_store::{Reader, RowStore};
 use std::alloc::{AllocError, Global};

@@ -10,7 +10,7 @@ ghost use Rattle.prove_work.specs.ProveDone.{WritesProofs};
 use crate::certifying::certify_traces;
 use cost_model::Params;
 use edge_io::{Shelf, Sink};
-use follow_work::Matcher;
+use matcher::Matcher;
 use polyline_geometry::List;
 use potential_certificate::{WriteFault, write_certificate};
 use program_frame::{Refusal, Stop, load_network, load_traces, put_text, refuse};

@@ -26,8 +26,8 @@ use Rattle.trace_sessions.specs.Sessions.{Keeps, Pair, SessionsState, fixes_of}
 use Rattle.trace_sessions.specs.StreamText.{closing_lines, trace_of}
 use Rattle.trace_sessions.specs.Streaming.{AsksSome, CanStream, EndsPairs, pieces_of_all, pieces_told}
 use Rattle.trace_sessions.proofs.StreamLines.{few-pieces}
-use Rattle.follow_work.specs.Setting.{Setting}
-use Rattle.follow_work.specs.Totals.{is_asked_by, pieces_of, rows_of, total_of}
+use Rattle.matcher.specs.Setting.{Setting}
+use Rattle.matcher.specs.Totals.{is_asked_by, pieces_of, rows_of, total_of}
 use Rattle.stream_work.specs.Streams.{pairs_of, stream_ending, whole_traces}
 use Rattle.stream_work.specs.StreamsDone.{HasStreamed, KnowsSome}
 use Rattle.stream_work.proofs.StreamTakes.{at-setting, nothing-asked, pairs-count}

@@ -13,8 +13,8 @@ use Rattle.program_frame.specs.declared.stop.File.TheVariants.{Network}
 use Rattle.trace_reader.specs.declared.trace.Trace.{Trace}
 use Rattle.trace_sessions.specs.Sessions.{Pair}
 use Rattle.trace_sessions.specs.StreamText.{closing_lines, full_id, points_in, stream_lines, trace_of, with_points}
-use Rattle.follow_work.specs.Setting.{Setting}
-use Rattle.follow_work.specs.Totals.{total_of}
+use Rattle.matcher.specs.Setting.{Setting}
+use Rattle.matcher.specs.Totals.{total_of}
 use Rattle.stream_work.specs.StreamTexts.{refusal-stays, texts-begin}
 
 -- the ids of these fragments with all their fixes, in order of first appearance

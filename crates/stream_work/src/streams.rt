@@ -13,7 +13,7 @@ use bounded_search::OwnRows;
 use cost_model::Params;
 use decimal_text::write_unsigned;
 use edge_io::{Shelf, Sink};
-use follow_work::Matcher;
+use matcher::Matcher;
 use polyline_geometry::List;
 use program_frame::{Job, Refusal, Stop, Tally, load_network, work_traces};
 use std::alloc::{AllocError, Global};
@@ -83,9 +83,10 @@ impl<'m> StreamJob<'m> {
             (λ job. HasStreamed job.matcher.now job.sessions job.rows job.tally []) }
     {
         let rows = matcher.rows(alloc)?;
+        let sessions = Sessions::open(alloc, matcher.network(), matcher.grid(), matcher.params());
         Ok(StreamJob {
             matcher,
-            sessions: matcher.sessions(alloc),
+            sessions,
             rows,
             tally: Tally::NONE,
         })

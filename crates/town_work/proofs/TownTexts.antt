@@ -26,13 +26,13 @@ use Rattle.trace_reader.specs.declared.reader.TraceReader.{TraceReader}
 use Rattle.trace_reader.specs.Trace.{IsLawfulTrace}
 use Rattle.trace_reader.specs.declared.trace.Trace.{Trace}
 use Rattle.match_work.specs.Matched.{AreMatchesOf}
-use Rattle.follow_work.specs.Setting.{Setting}
+use Rattle.matcher.specs.Setting.{Setting}
 use Rattle.match_work.specs.Sharing.{ShareStore, fresh_readers}
-use Rattle.follow_work.specs.Totals.{total_of}
+use Rattle.matcher.specs.Totals.{total_of}
 use Rattle.town_work.specs.Towns.{cost_line, cost_of, costs_of, network_in, town_text}
 use Rattle.town_work.specs.TownsDone.{AreCosts, IsCost}
 use Rattle.town_work.specs.declared.towns.Costs.{Costs}
-use Rattle.follow_work.proofs.Counting.{fits_more}
+use Rattle.matcher.proofs.Counting.{fits_more}
 use Rattle.match_work.proofs.Jobs.{begun, matched_more, total_is}
 use Rattle.match_work.proofs.TraceMatches.{matches_of, pieces_found, pieces_next}
 

@@ -15,8 +15,8 @@ use Rattle.town.specs.Traces.{traces_text}
 use Rattle.trace_match.specs.Match.{match_of}
 use Rattle.trace_reader.specs.Reading.{file_traces}
 use Rattle.trace_reader.specs.declared.trace.Trace.{Trace}
-use Rattle.follow_work.specs.Setting.{Setting}
-use Rattle.follow_work.specs.Totals.{total_of}
+use Rattle.matcher.specs.Setting.{Setting}
+use Rattle.matcher.specs.Totals.{total_of}
 
 -- the sum of the costs of the pieces of a match
 abbrev pub cost_of : MatchedTrace → ℕ

@@ -14,11 +14,11 @@ ghost use Rattle.town_work.specs.TownsDone.{AreCosts, IsCost};
 
 use cost_model::Params;
 use edge_io::Sink;
-use follow_work::Matcher;
 use itoa::Buffer;
 use match_pool::Gate;
 use match_text::MatchedTrace;
 use match_work::{match_batch, open_readers, open_store};
+use matcher::Matcher;
 use polyline_geometry::List;
 use program_frame::{Stop, Tally, put_text};
 use road_network::{Network, read_network};

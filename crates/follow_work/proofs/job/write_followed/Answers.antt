@@ -1,9 +1,9 @@
 use Rattle.std.proofs.Common.{◌≡◌, ◌++◌, refl, sym, subst, append-nil, arith}
 use Rattle.std.proofs.lemmas.List.{take_all}
 use Rattle.follow_work.specs.Follow.{followed_of}
-use Rattle.follow_work.specs.FollowDone.{AsksTraces}
-use Rattle.follow_work.specs.Counts.{ArePieces}
-use Rattle.follow_work.proofs.FollowJobs.{asks_next, asks_none}
+use Rattle.matcher.specs.Asked.{AsksTraces}
+use Rattle.matcher.specs.Counts.{ArePieces}
+use Rattle.matcher.proofs.AskedRows.{asks_next, asks_none}
 use Rattle.follow_work.proofs.Follows.{followed_next, pieces_followed}
 use Rattle.follow_work.proofs.job.write_followed.Goals as goal
 
@@ -18,9 +18,9 @@ pub loop-trace-preserved : goal.loop-trace-preserved
 loop-trace-preserved c =
     let inv = c.loop-trace.invariant in
     record {
-      text = followed_next c.args.matcher.now c.args.traces.now c.loop-trace.trace-index c.trace-item.result c.args.into.now c.loop-trace.into c.follow_trace.new.into c.loop-trace-test.true c.trace-item.is inv.text c.in_ok-count.ensures.followed.written;
+      text = followed_next c.args.matcher.now c.args.traces.now c.loop-trace.trace-index c.trace-item.result c.args.into.now c.loop-trace.into c.follow_one.new.into c.loop-trace-test.true c.trace-item.is inv.text c.in_ok-count.ensures.followed.written;
       pieces = pieces_followed c.args.matcher.now c.args.traces.now c.loop-trace.trace-index c.trace-item.result c.loop-trace.pieces c.in_ok-count.count c.loop-trace-test.true c.trace-item.is c.in_ok-count.ensures.followed.pieces inv.pieces;
-      asks = asks_next c.args.matcher.now c.args.traces.now c.loop-trace.trace-index c.trace-item.result c.args.rows.now c.loop-trace.rows c.follow_trace.new.rows c.loop-trace-test.true c.trace-item.is inv.asks c.in_ok-count.ensures.asks.asks;
+      asks = asks_next c.args.matcher.now c.args.traces.now c.loop-trace.trace-index c.trace-item.result c.args.rows.now c.loop-trace.rows c.follow_one.new.rows c.loop-trace-test.true c.trace-item.is inv.asks c.in_ok-count.ensures.asks.asks;
     }
 
 pub returns-clause-text : goal.returns-clause-text

@@ -1,7 +1,7 @@
 use Rattle.std.proofs.Common.{◌≡◌, ◌++◌, take}
 use Rattle.follow_work.specs.Follow.{followed_of}
-use Rattle.follow_work.specs.FollowDone.{AsksTraces}
-use Rattle.follow_work.specs.Counts.{ArePieces}
+use Rattle.matcher.specs.Asked.{AsksTraces}
+use Rattle.matcher.specs.Counts.{ArePieces}
 use Rattle.follow_work.proofs.job.write_followed.Given as goal
 
 abbrev pub invariant-loop-trace : goal.invariant-loop-trace

@@ -1,7 +1,8 @@
 use Rattle.std.proofs.Common.{refl}
-use Rattle.follow_work.proofs.Counting.{fits_more}
+use Rattle.matcher.proofs.Counting.{fits_more}
+use Rattle.matcher.proofs.Traces.{bounded_back}
 use Rattle.follow_work.proofs.Follows.{followed_grows}
-use Rattle.follow_work.proofs.FollowJobs.{bounded_back, followed_more}
+use Rattle.follow_work.proofs.FollowJobs.{followed_more}
 use Rattle.follow_work.proofs.job.FollowJobJob.take.Goals as goal
 
 pub write_followed-requires-clause-rows : goal.write_followed-requires-clause-rows

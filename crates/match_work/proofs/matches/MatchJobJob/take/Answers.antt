@@ -1,7 +1,7 @@
 use Rattle.std.proofs.Common.{◌++◌, ap, refl, ◌∙◌, arith}
 use Rattle.program_frame.proofs.PointCounts.{points-append}
 use Rattle.match_work.specs.Matched.{pieces_in, text_of_matches}
-use Rattle.follow_work.proofs.Counting.{fits_more}
+use Rattle.matcher.proofs.Counting.{fits_more}
 use Rattle.match_work.proofs.Jobs.{can_match, matched_more, text_grows}
 use Rattle.match_work.proofs.TraceMatches.{pieces_found, texts_written}
 use Rattle.match_work.proofs.matches.MatchJobJob.take.Goals as goal

@@ -3,8 +3,8 @@ use Rattle.std.specs.Prelude.{◌≡◌, ℕ, ◌≤◌, List, length}
 use Rattle.program_frame.specs.Jobs.{points_of}
 use Rattle.program_frame.specs.declared.total.Tally.{Tally}
 use Rattle.trace_reader.specs.declared.trace.Trace.{Trace}
-use Rattle.follow_work.specs.Setting.{Setting}
-use Rattle.follow_work.specs.Totals.{pieces_of}
+use Rattle.matcher.specs.Setting.{Setting}
+use Rattle.matcher.specs.Totals.{pieces_of}
 
 -- the number of pieces of these traces, which is no more than that of their points
 pub record ArePieces (on : Setting) (traces : List Trace) (pieces : ℕ) : Type 0 where

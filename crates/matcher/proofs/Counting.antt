@@ -7,9 +7,9 @@ use Rattle.program_frame.specs.declared.total.Tally.{Tally}
 use Rattle.program_frame.proofs.PointCounts.{points-append}
 use Rattle.trace_match.specs.Match.{match_of}
 use Rattle.trace_reader.specs.declared.trace.Trace.{Trace}
-use Rattle.follow_work.specs.Setting.{Setting}
-use Rattle.follow_work.specs.Totals.{pieces_of}
-use Rattle.follow_work.specs.Counts.{ArePieces, Counts}
+use Rattle.matcher.specs.Setting.{Setting}
+use Rattle.matcher.specs.Totals.{pieces_of}
+use Rattle.matcher.specs.Counts.{ArePieces, Counts}
 
 pub pieces-append : (on : Setting) (front back : List Trace) → pieces_of on (front ++ back) ≡ pieces_of on front + pieces_of on back
 pieces-append on front back = sum_by-append (λ trace. length (match_of on.network on.params trace).pieces) front back

@@ -6,7 +6,7 @@ use Rattle.program_frame.specs.Jobs.{points_of}
 use Rattle.program_frame.specs.Total.{total_line}
 use Rattle.trace_match.specs.Match.{asks, match_of}
 use Rattle.trace_reader.specs.declared.trace.Trace.{Trace}
-use Rattle.follow_work.specs.Setting.{Setting}
+use Rattle.matcher.specs.Setting.{Setting}
 
 abbrev pub pieces_of : Setting → List Trace → ℕ
 pieces_of on traces = sum_by (λ trace. length (match_of on.network on.params trace).pieces) traces

@@ -1,0 +1,4 @@
+pub mod AskedRows
+pub mod Asking
+pub mod Counting
+pub mod Traces

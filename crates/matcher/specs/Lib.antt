@@ -1,0 +1,5 @@
+pub mod Asked
+pub mod Counts
+pub mod MatcherInside
+pub mod Setting
+pub mod Totals
