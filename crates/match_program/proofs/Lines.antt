@@ -13,8 +13,9 @@ use Rattle.program_frame.specs.Jobs.{given_by}
 use Rattle.program_frame.specs.Plan.{Plan, IsLineOf, accepts, loads, plan_of}
 use Rattle.program_frame.specs.Plan.Plan.{ends}
 use Rattle.program_frame.specs.Promises.{Covers}
+use Rattle.program_frame.proofs.RefusalLines.{network_end, traces_end, words_end}
 use Rattle.program_frame.specs.Outcome.{done_with}
-use Rattle.program_frame.specs.Refusals.{network_said, trace_limit}
+use Rattle.program_frame.specs.Refusals.{network_said, refusal_lines, trace_limit}
 use Rattle.program_frame.specs.Stream.{works_traces}
 use Rattle.program_frame.specs.WholeTraces.{traces_or_line, traces_said}
 use Rattle.program_frame.specs.declared.stop.File.TheVariants.{Certificate, Traces}
@@ -37,28 +38,19 @@ use Rattle.prove_work.specs.Prove.{certificate_too_long, prove_said, text_of_pro
 use Rattle.stream_work.specs.Streams.{streams_job, too_long_line}
 use Rattle.table_work.specs.Table.{table_said, table_too_long, text_of_network}
 
-traces_end : (texts ending bytes : List ℕ) (fault : Option TraceFault) (status : ℕ) (line : List ℕ) → file_fault bytes ≡ fault → status ≢ 0 → IsLineOf (ends (given_by None fault texts ending)) status line → run_lines status line
-traces_end texts ending bytes (Some fault) status line known refused is = inl (inr (inr (sym is.0, (bytes, ap (λ f. line_in f) known ∙ ap (λ l. Some l) is.1))))
-  where
-    line_in : Option TraceFault → Option (List ℕ)
-    line_in None = None
-    line_in (Some f) = Some (fault_line f)
-traces_end texts ending bytes None status line known refused is = absurd (refused (sym is.0))
+has_refusals : (status : ℕ) (line : List ℕ) → refusal_lines status line → run_lines status line
+has_refusals status line is = inl is
 
 matches_end : (on : Setting) (name : List ℕ) (status : ℕ) (line : List ℕ) → status ≢ 0 → IsLineOf (works_traces name (match_text on)) status line → run_lines status line
-matches_end on name status line refused is = traces_end _ _ is.0 (file_fault is.0) status line refl refused is.1
+matches_end on name status line refused is = inl (traces_end _ _ is.0 (file_fault is.0) status line refl refused is.1)
 
 follows_end : (on : Setting) (name : List ℕ) (status : ℕ) (line : List ℕ) → status ≢ 0 → IsLineOf (works_traces name (follow_job on)) status line → run_lines status line
-follows_end on name status line refused is = traces_end _ _ is.0 (file_fault is.0) status line refl refused is.1
+follows_end on name status line refused is = inl (traces_end _ _ is.0 (file_fault is.0) status line refl refused is.1)
 
 streams_end : (on : Setting) (texts ending bytes : List ℕ) (full : Option ℕ) (status : ℕ) (line : List ℕ) → status ≢ 0
     → IsLineOf (ends (given_by (option_map too_long_line full) (file_fault bytes) texts ending)) status line → run_lines status line
-streams_end on texts ending bytes None status line refused is = traces_end texts ending bytes (file_fault bytes) status line refl refused is
+streams_end on texts ending bytes None status line refused is = inl (traces_end texts ending bytes (file_fault bytes) status line refl refused is)
 streams_end on texts ending bytes (Some id) status line refused is = inr (inl (sym is.0, (id, sym is.1)))
-
-network_end : (bytes : List ℕ) (said : Result Net (List ℕ)) (next : Net → Plan) (status : ℕ) (line : List ℕ) → network_said bytes ≡ said → ((net : Net) → IsLineOf (next net) status line → run_lines status line) → IsLineOf (accepts 5 said next) status line → run_lines status line
-network_end bytes (Ok net) next status line known rest is = rest net is
-network_end bytes (Err fault) next status line known rest is = inl (inr (inl (sym is.0, (bytes, known ∙ ap (λ l. Err l) is.1))))
 
 table_end : (network : List ℕ) (options : Params) (said : Result (List ℕ) (List ℕ)) (net : Net) (status : ℕ) (line : List ℕ) → table_said net options.bound ≡ said → status ≢ 0
     → IsLineOf (accepts 8 said (λ text. ends (done_with text))) status line → run_lines status line
@@ -99,29 +91,29 @@ preloads_end (Some name) net bound next status line rest is = table_file_end net
 
 work_end : (work : PlainWork) (options : Params) (status : ℕ) (line : List ℕ) → status ≢ 0 → IsLineOf (work_plan work options) status line → run_lines status line
 work_end (match_files network traces table) options status line refused is =
-    network_end is.0 (network_said is.0) (λ net. preloads table net options.bound (works_traces traces (match_text (record { network = net; params = options })))) status line refl
+    network_end run_lines has_refusals is.0 (network_said is.0) (λ net. preloads table net options.bound (works_traces traces (match_text (record { network = net; params = options })))) status line refl
     (λ net. preloads_end table net options.bound (works_traces traces (match_text (record { network = net; params = options }))) status line (matches_end (record { network = net; params = options }) traces status line refused)) is.1
 work_end (follow_files network traces) options status line refused is =
-    network_end is.0 (network_said is.0) (λ net. works_traces traces (follow_job (record { network = net; params = options }))) status line refl (λ net. follows_end (record { network = net; params = options }) traces status line refused) is.1
+    network_end run_lines has_refusals is.0 (network_said is.0) (λ net. works_traces traces (follow_job (record { network = net; params = options }))) status line refl (λ net. follows_end (record { network = net; params = options }) traces status line refused) is.1
 work_end (table_of_network network) options status line refused is =
-    network_end is.0 (network_said is.0) (λ net. accepts 8 (table_said net options.bound) (λ text. ends (done_with text))) status line refl
+    network_end run_lines has_refusals is.0 (network_said is.0) (λ net. accepts 8 (table_said net options.bound) (λ text. ends (done_with text))) status line refl
     (λ net. table_end network options (table_said net options.bound) net status line refl refused) is.1
 work_end (stream_files network traces) options status line refused is =
-    network_end is.0 (network_said is.0) (λ net. works_traces traces (streams_job (record { network = net; params = options }))) status line refl
+    network_end run_lines has_refusals is.0 (network_said is.0) (λ net. works_traces traces (streams_job (record { network = net; params = options }))) status line refl
     (λ net more. streams_end (record { network = net; params = options }) _ _ more.0 (full_id [] (points_in (file_traces more.0))) status line refused more.1) is.1
 work_end (prove_files network traces) options status line refused is =
-    network_end is.0 (network_said is.0) (λ net. loads Traces traces trace_limit 6 traces_said (λ taken. accepts 8 (prove_said (record { network = net; params = options }) taken) (λ text. ends (done_with text)))) status line refl
+    network_end run_lines has_refusals is.0 (network_said is.0) (λ net. loads Traces traces trace_limit 6 traces_said (λ taken. accepts 8 (prove_said (record { network = net; params = options }) taken) (λ text. ends (done_with text)))) status line refl
     (λ net more. loaded_end more.0 (file_fault more.0) (λ taken. accepts 8 (prove_said (record { network = net; params = options }) taken) (λ text. ends (done_with text))) status line refl
     (λ taken. proofs_end (record { network = net; params = options }) taken (prove_said (record { network = net; params = options }) taken) status line refl refused) more.1) is.1
 work_end (check_files network traces certificate) options status line refused is =
-    network_end is.0 (network_said is.0) (λ net. loads Traces traces trace_limit 6 traces_said (λ taken. loads Certificate certificate certificate_limit 7 (check_said (record { network = net; params = options }) taken) (λ text. ends (done_with text)))) status line refl
+    network_end run_lines has_refusals is.0 (network_said is.0) (λ net. loads Traces traces trace_limit 6 traces_said (λ taken. loads Certificate certificate certificate_limit 7 (check_said (record { network = net; params = options }) taken) (λ text. ends (done_with text)))) status line refl
     (λ net more. loaded_end more.0 (file_fault more.0) (λ taken. loads Certificate certificate certificate_limit 7 (check_said (record { network = net; params = options }) taken) (λ text. ends (done_with text))) status line refl
     (λ taken last. check_end (record { network = net; params = options }) taken last.0 (check_said (record { network = net; params = options }) taken last.0) status line refl refused last.1) more.1) is.1
 work_end (match_town side traces seed) options status line refused is = absurd (refused (sym is.0))
 
 asked_end : (words : List (List ℕ)) (command : Result PlainCommand WordsFault) (status : ℕ) (line : List ℕ) → command_of words ≡ command → status ≢ 0 → IsLineOf (plan_of (result_map_both command_plan words_fault_line command)) status line → run_lines status line
 asked_end words (Ok command) status line known refused is = work_end command.work command.options status line refused is
-asked_end words (Err fault) status line known refused is = inl (inl (sym is.0, (words, ap (result_map_both (λ command. command) words_fault_line) known ∙ ap (λ l. Err l) is.1)))
+asked_end words (Err fault) status line known refused is = inl (words_end words fault status line known is)
 
 pub lines_covered : (words : List (List ℕ)) → Covers run_lines (asked_by words)
 lines_covered words status line refused is = asked_end words (command_of words) status line refl refused is
