@@ -1,5 +1,5 @@
 -- The plan of the words is that of `match`.
-use Rattle.std.proofs.Common.{◌≡◌, ◌≢◌, ℕ, List, None, Result, Ok, Err, refl, sym, ◌∙◌, ap, subst}
+use Rattle.std.proofs.Common.{◌≡◌, ◌≢◌, ℕ, List, None, Ok, Err, refl}
 use Rattle.command_line.specs.Work.{plain, plain_work}
 use Rattle.command_line.specs.Words.{command_of}
 use Rattle.command_line.specs.declared.fault.WordsFault.TheVariants.{Usage}
@@ -9,7 +9,6 @@ use Rattle.command_line.specs.declared.work.Work.TheVariants.{Match, Follow, Str
 use Rattle.edge_io.specs.State.{ShelfState, SinkState}
 use Rattle.match_only.specs.Words.{asked_by, match_alone, matched}
 use Rattle.program_frame.specs.Performs.{Performs}
-use Rattle.program_frame.specs.Plan.{Plan}
 use Rattle.program_frame.specs.Refusals.{RefusesWords}
 use Rattle.program_frame.specs.declared.stop.Stop.{Stop}
 use Rattle.program_frame.proofs.Asked.{others_refuse}

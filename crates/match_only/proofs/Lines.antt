@@ -1,7 +1,7 @@
 -- The table of lines has every line with which a plan of words may end.
 use Rattle.std.proofs.Common.{◌≡◌, ◌≢◌, ℕ, List, Some, None, Result, Ok, Err, refl, sym, ◌∙◌, ap, subst, inl, inr}
 use Rattle.std.specs.declared.option.Option.{Option}
-use Rattle.command_line.specs.Work.{PlainCommand, PlainWork}
+use Rattle.command_line.specs.Work.{PlainWork}
 use Rattle.command_line.specs.Work.PlainWork.{check_files, follow_files, match_files, match_town, prove_files, stream_files, table_of_network}
 use Rattle.cost_model.specs.declared.params.Params.{Params}
 use Rattle.match_only.specs.RunLines.{run_lines}
