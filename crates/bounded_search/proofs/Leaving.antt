@@ -1,8 +1,8 @@
 -- What leaving a node keeps, where others were taken with it: the search, and what is marked.
-use Rattle.std.proofs.Common.{◌≡◌, ◌≢◌, ℕ, ◌+◌, ◌/◌, ◌^◌, ◌<◌, ◌≤◌, ◌⊎◌, inl, inr, Bool, true, false, ltb, length, append-nil, slice_index_or, List, [], ◌∷◌, ◌++◌, set, refl, sym, ap, subst, ◌∙◌, arith}
+use Rattle.std.proofs.Common.{◌≡◌, ◌≢◌, ℕ, ◌+◌, ◌/◌, ◌^◌, ◌<◌, ◌≤◌, ◌⊎◌, inl, inr, false, ltb, length, append-nil, slice_index_or, List, [], ◌∷◌, ◌++◌, set, refl, sym, ap, subst, ◌∙◌, arith}
 use Rattle.std.proofs.lemmas.Bool.{cases_eq, cases_Bool, ltb-true, ltb-false}
 use Rattle.std.proofs.lemmas.List.{get_or_append_left, length-append}
-use Rattle.std.proofs.lemmas.List.Sorted.{All-permutation, Contains-permutation, IsPermutation-append_right, IsPermutation-middle, IsPermutation-sym, IsPermutation-trans, length_permutation}
+use Rattle.std.proofs.lemmas.List.Sorted.{All-permutation, Contains-permutation, length_permutation}
 use Rattle.std.specs.List.{All, Contains}
 use Rattle.std.specs.List.Sorted.{IsPermutation}
 use Rattle.road_network.specs.Net.{Net, HasNode}
@@ -11,11 +11,12 @@ use Rattle.bounded_search.specs.declared.dijkstra.Workspace.{Workspace}
 use Rattle.bounded_search.specs.declared.queue.Waiting.{Waiting}
 use Rattle.bounded_search.specs.LabelWords.{distance_at, no_label, origin_word, word_at, word_by}
 use Rattle.bounded_search.specs.Marked.{AreMarked, IsMarked, MarksToo}
-use Rattle.bounded_search.specs.QueueInside.{TakesBucket}
+use Rattle.bounded_search.specs.QueueInside.{TakesSome}
 use Rattle.bounded_search.specs.Searching.{AreMarkedOrWait, IsSearching}
-use Rattle.bounded_search.specs.Underway.{Gains, IsUnderway, NonePending, SearchState, Tries, Waits, is_better, is_nearer, state_of}
+use Rattle.bounded_search.specs.Underway.{IsUnderway, NonePending, SearchState, Tries, Waits, is_better, is_nearer}
+use Rattle.bounded_search.proofs.Gaining.{front_or_rest, gains_beside, gains_keeps, gains_there}
 use Rattle.bounded_search.proofs.LabelWords.{distance_by, not_farther, word_elsewhere, word_here}
-use Rattle.bounded_search.proofs.Underway.{front_or_rest, gains_keeps, gains_there, no_word_beyond, reordered}
+use Rattle.bounded_search.proofs.Underway.{reordered}
 
 -- a search with other nodes that wait
 abbrev pub beside : List Waiting → SearchState → SearchState
@@ -26,10 +27,6 @@ pub record IsTrying (n : Net) (bound s : ℕ) (state : SearchState) (marks : Lis
   pub underway : IsUnderway n bound s (beside taken state) pending
   pub inside : (v : ℕ) → IsMarked marks v → v < length n.nodes
   pub marked : AreMarkedOrWait bound state.words marks (taken ++ state.queue)
-
-gains_beside : (b : Bool) (x : Waiting) (taken old new : List Waiting) → Gains b x old new → Gains b x (taken ++ old) (taken ++ new)
-gains_beside true x taken old new g = IsPermutation-trans (x ∷ (taken ++ old)) (taken ++ x ∷ old) (taken ++ new) (IsPermutation-sym (taken ++ x ∷ old) (x ∷ (taken ++ old)) (IsPermutation-middle taken x old)) (IsPermutation-append_right taken (x ∷ old) new g)
-gains_beside false x taken old new g = ap (λ (k : List Waiting). taken ++ k) g
 
 -- an arc is tried beside them as without them
 pub tries_beside : (bound d : ℕ) (a : Arc) (taken : List Waiting) (old new : SearchState) → Tries bound d a old new → Tries bound d a (beside taken old) (beside taken new)
@@ -127,7 +124,7 @@ bucket_taken n s w taken new perm h =
     }
 
 -- so fewer wait
-pub fewer_wait : (old taken new : List Waiting) → TakesBucket old taken new → length new < length old
+pub fewer_wait : (old taken new : List Waiting) → TakesSome old taken new → length new < length old
 fewer_wait old [] new t = absurd (t.some refl)
 fewer_wait old (x ∷ taken) new t = omega (arith, length_permutation old (x ∷ (taken ++ new)) t.all, length-append taken new)
 
@@ -148,5 +145,4 @@ all_marked n s w none h = record {
     | inl waits ↦ absurd (let at : Contains [] (record { distance = distance_at w.bound w.words.items v; node = v }) = subst (λ (k : List Waiting). Contains k (record { distance = distance_at w.bound w.words.items v; node = v })) none waits in let lt = at.1 in omega arith)
     | inr is ↦ is
   ];
-  most = no_word_beyond n w.bound s (state_of w) NonePending h.underway;
 }

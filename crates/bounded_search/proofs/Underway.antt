@@ -1,10 +1,10 @@
 -- Each step of a search keeps what it is underway with, and at its end the labels are a closed table.
-use Rattle.std.proofs.Common.{◌≡◌, ◌≢◌, ℕ, zero, suc, ◌+◌, ◌-◌, ◌/◌, ◌%◌, ◌^◌, ◌<◌, ◌≤◌, ◌⊎◌, inl, inr, Bool, true, false, ltb, length, List, [], ◌∷◌, map, sum, set, length-set, slice_index_or, Some, refl, sym, ap, subst, ◌∙◌, arith}
+use Rattle.std.proofs.Common.{◌≡◌, ◌≢◌, ℕ, suc, ◌+◌, ◌-◌, ◌/◌, ◌%◌, ◌^◌, ◌<◌, ◌≤◌, ◌⊎◌, inl, inr, true, false, ltb, length, List, [], ◌∷◌, map, sum, set, length-set, Some, refl, sym, ap, subst, ◌∙◌, arith}
 use Rattle.std.proofs.Math.ListN.{get_or-map}
 use Rattle.std.proofs.lemmas.List.{length-map}
-use Rattle.std.proofs.lemmas.Bool.{cases_eq, cases_lt, cases_Bool, lt-ltb, ltb-true, ltb-false, false≢true}
-use Rattle.std.proofs.lemmas.List.Elements.{All-cons, All-nil, Contains-append_right}
-use Rattle.std.proofs.lemmas.List.Sorted.{All-permutation, Contains-permutation, length_permutation}
+use Rattle.std.proofs.lemmas.Bool.{cases_eq, cases_lt, cases_Bool, lt-ltb, ltb-true, ltb-false}
+use Rattle.std.proofs.lemmas.List.Elements.{All-cons, All-nil}
+use Rattle.std.proofs.lemmas.List.Sorted.{All-permutation, Contains-permutation}
 use Rattle.std.proofs.lemmas.List.Sums.{sum_by-set}
 use Rattle.std.proofs.lemmas.Option.{same_Some}
 use Rattle.std.specs.List.{All, Contains}
@@ -18,46 +18,12 @@ use Rattle.bounded_search.specs.Closed.{IsClosed, IsClosedAt}
 use Rattle.bounded_search.specs.Underway.{Gains, IsHeld, IsTried, IsUnderway, NonePending, SearchState, Tries, Waits, effort, is_better, is_nearer}
 use Rattle.bounded_search.specs.LabelWords.{distance_at, label_at, label_in_word, last_in, no_label, origin_word, word_at, word_by}
 use Rattle.bounded_search.proofs.Arcs.{IsLeaving}
+use Rattle.bounded_search.proofs.Gaining.{front_or_rest, gains_inside, gains_keeps, gains_length, gains_there, in_front}
 use Rattle.bounded_search.proofs.LabelWords.{distance_by, label_there, last_by, last_there, not_farther, word_elsewhere, word_here, word_there}
 
 -- the edges of these arcs are pending
 abbrev pub IsPending : Net → List Arc → ℕ → Type 0
 IsPending n arcs e = Contains arcs (arc_of n (record { 0 = e }))
-
-front_or_rest_at : {X : Type 0} (x : X) (xs : List X) (y : X) (k : ℕ) → k < length (x ∷ xs) → slice_index_or (x ∷ xs) k y ≡ y → (y ≡ x) ⊎ Contains xs y
-front_or_rest_at x xs y zero lt e = inl (sym e)
-front_or_rest_at x xs y (suc k) lt e = inr (k, omega arith, e)
-
--- what is listed is at the front or behind it
-pub front_or_rest : {X : Type 0} (x : X) (xs : List X) (y : X) → Contains (x ∷ xs) y → (y ≡ x) ⊎ Contains xs y
-front_or_rest x xs y h = front_or_rest_at x xs y h.0 h.1 h.2
-
-in_front : {X : Type 0} (x : X) (xs : List X) → Contains (x ∷ xs) x
-in_front x xs = (0, omega arith, refl)
-
-behind : {X : Type 0} (x : X) (xs : List X) (y : X) → Contains xs y → Contains (x ∷ xs) y
-behind x xs y h = Contains-append_right (x ∷ []) xs y h
-
--- a queue that gains a node keeps all others
-pub gains_keeps : (b : Bool) (x : Waiting) (old new : List Waiting) → Gains b x old new → (y : Waiting) → Contains old y → Contains new y
-gains_keeps true x old new g y h = Contains-permutation (x ∷ old) new y g (behind x old y h)
-gains_keeps false x old new g y h = subst (λ (k : List Waiting). Contains k y) (sym g) h
-
-pub gains_one : (b : Bool) (x : Waiting) (old new : List Waiting) → b ≡ true → old ≡ [] → Gains b x old new → IsPermutation (x ∷ []) new
-gains_one true x old new is none g = subst (λ (k : List Waiting). IsPermutation (x ∷ k) new) none g
-gains_one false x old new is none g = absurd (false≢true is)
-
-pub gains_there : (b : Bool) (x : Waiting) (old new : List Waiting) → b ≡ true → Gains b x old new → Contains new x
-gains_there true x old new is g = Contains-permutation (x ∷ old) new x g (in_front x old)
-gains_there false x old new is g = absurd (false≢true is)
-
-gains_inside : (P : Waiting → Type 0) (b : Bool) (x : Waiting) (old new : List Waiting) → Gains b x old new → (b ≡ true → P x) → All P old → All P new
-gains_inside P true x old new g here all = All-permutation P (x ∷ old) new g (All-cons P x old (here refl) all)
-gains_inside P false x old new g here all = subst (All P) (sym g) all
-
-gains_length : (b : Bool) (x : Waiting) (old new : List Waiting) → Gains b x old new → length new ≤ length old + 1
-gains_length true x old new g = omega (arith, length_permutation (x ∷ old) new g)
-gains_length false x old new g = omega (arith, ap length g)
 
 -- an array in which v has a smaller word
 record IsLowered (bound : ℕ) (v word : ℕ) (words after : List ℕ) : Type 0 where
@@ -220,7 +186,7 @@ better_at n bound d u a old new step is =
     }
 
 -- no word is beyond that of no label
-pub no_word_beyond : (n : Net) (bound s : ℕ) (state : SearchState) (pending : ℕ → Type 0) → IsUnderway n bound s state pending → (v : ℕ) → word_at bound state.words v ≤ no_label bound
+no_word_beyond : (n : Net) (bound s : ℕ) (state : SearchState) (pending : ℕ → Type 0) → IsUnderway n bound s state pending → (v : ℕ) → word_at bound state.words v ≤ no_label bound
 no_word_beyond n bound s state pending under v =
     elim (cases_eq (word_at bound state.words v) (no_label bound)) [
       | inl none ↦ omega (arith, none)

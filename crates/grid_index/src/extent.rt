@@ -15,7 +15,9 @@ const MOST: i32 = 1_000_000_000;
 /// Two opposite corners of a box.
 #[derive(Clone, Copy)]
 pub struct Extent {
+    /// The least x and the least y, in cm.
     pub low: Point,
+    /// The greatest x and the greatest y, in cm.
     pub high: Point,
 }
 

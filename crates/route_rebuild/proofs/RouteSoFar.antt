@@ -1,9 +1,9 @@
 -- The route over the first points of a piece, and how it goes on.
-use Rattle.std.proofs.Common.{◌≡◌, ℕ, suc, ◌+◌, ◌-◌, ◌<◌, ◌≤◌, ◌++◌, List, [], ◌∷◌, reverse, refl, sym, ap, subst, ◌∙◌, inl, inr, arith, append_assoc}
+use Rattle.std.proofs.Common.{◌≡◌, ℕ, suc, ◌+◌, ◌-◌, ◌^◌, ◌<◌, ◌≤◌, ◌++◌, List, [], ◌∷◌, reverse, refl, sym, ap, subst, ◌∙◌, inl, inr, arith, append_assoc}
 use Rattle.std.proofs.lemmas.List.{append-nil, reverse-reverse}
 use Rattle.road_network.specs.declared.Candidate.{Candidate}
 use Rattle.road_network.specs.declared.EdgeId.{EdgeId}
-use Rattle.road_network.specs.Net.{Net, IsLawful, source, target}
+use Rattle.road_network.specs.Net.{Net, HasEdge, IsLawful, source, target}
 use Rattle.road_network.specs.Walk.{IsLeastWalk, walk_length}
 use Rattle.matching.specs.Routes.{Route, Direct, Over, IsRoute, IsTheRoute}
 use Rattle.matching.proofs.Routes.{direct_route, over_route}
@@ -84,6 +84,16 @@ direct_leg run i es is = record {
   is = direct_route run.net.now run.params.now.bound run.params.now.back (chosen_in run i) (chosen_in run (i + 1)) is;
   added = sym (append-nil es);
 }
+
+-- the two ends of a leg have edges of the network
+pub leg_edges : (run : Run) (i : ℕ) → run.piece.first ≤ i → i < run.piece.last → HasEdge run.net.now (chosen_in run i).edge.0 × HasEdge run.net.now (chosen_in run (i + 1)).edge.0
+leg_edges run i ge lt = ((run.is.candidates i ge (omega (arith, lt))).edge, (run.is.candidates (i + 1) (omega (arith, ge)) (omega (arith, lt))).edge)
+
+-- and what is added to the offset of its second one fits 32 bits
+pub offset_fits : (run : Run) (i : ℕ) → IsLawful run.net.now → run.piece.first ≤ i → i < run.piece.last → (chosen_in run (i + 1)).offset + run.params.now.back < 2 ^ 32
+offset_fits run i lawful ge lt =
+    let b = run.is.candidates (i + 1) (omega (arith, ge)) (omega (arith, lt)) in
+    omega (arith, b.offset, lawful.not_long (chosen_in run (i + 1)).edge.0 b.edge, run.is.options.back)
 
 -- where there is none, there is a walk from point i to the next
 pub leg_walk : (run : Run) (i : ℕ) → IsLawful run.net.now → run.piece.first ≤ i → i < run.piece.last → (IsDirect run i → ⊥) → HasWalk run.net.now run.params.now.bound (chosen_in run i).edge.0 (chosen_in run (i + 1)).edge.0

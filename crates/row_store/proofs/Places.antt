@@ -1,5 +1,5 @@
 -- Places of a reader, one for each node.
-use Rattle.std.proofs.Common.{◌≡◌, ◌≢◌, ◌↔◌, ℕ, zero, suc, ◌+◌, ◌<◌, List, [], ◌∷◌, ◌++◌, map, length, get_or, set, Option, Some, None, Result, Ok, Err, IfSome, IfOk, OnOk, OnErr, IsOk, IsErr, IsSome, get_or-set_same, Bool, Bor, is_some, true, true≢false, replicate, length-set, refl, sym, ap, ◌∙◌, subst, inl, inr, ⊎_elim, arith}
+use Rattle.std.proofs.Common.{◌≡◌, ◌≢◌, ◌↔◌, ℕ, zero, suc, ◌+◌, ◌<◌, List, [], ◌∷◌, ◌++◌, map, length, get_or, set, Option, Some, None, Result, Ok, Err, IfSome, OnOk, OnErr, IsOk, IsSome, get_or-set_same, Bool, Bor, is_some, true, replicate, length-set, refl, sym, ap, ◌∙◌, subst, inl, inr, ⊎_elim, arith}
 use Rattle.std.specs.Prelude.{slice_get, slice_index, slice_index_or}
 use native.Mathlib.Decide.{ℕ_discrete}
 use mathlib.Core.Logic.{dite}
@@ -8,7 +8,7 @@ use Rattle.once_cell.specs.Once.{cell_name, Agrees}
 use Rattle.bounded_search.specs.Table.{TableRow, IsRow}
 use Rattle.bounded_search.specs.Known.{Extends, Adds, known_nodes}
 use Rattle.bounded_search.specs.Rows.{AsksAll}
-use Rattle.bounded_search.proofs.KnownNodes.{adds, inside}
+use Rattle.bounded_search.proofs.KnownNodes.{adds, get_set, get_set_else, inside}
 use Rattle.row_store.specs.declared.place.Place.{Place}
 use Rattle.row_store.specs.Places.{Fits, KeepsSight, StaysBlind, now_of}
 use Rattle.row_store.specs.ReaderInside.{AllFit, reading}
@@ -23,18 +23,6 @@ pub get_at : {A : Type 0} (l : List A) (i : ℕ) (d : A) → i < length l → sl
 get_at [] i d h = absurd (omega arith)
 get_at (x ∷ xs) zero d h = refl
 get_at (x ∷ xs) (suc i) d h = get_at xs i d (omega arith)
-
-pub get_set : {A : Type 0} (l : List A) (i : ℕ) (a : A) → i < length l → slice_get (set l i a) i ≡ Some a
-get_set [] i a h = absurd (omega arith)
-get_set (x ∷ xs) zero a h = refl
-get_set (x ∷ xs) (suc i) a h = get_set xs i a (omega arith)
-
-pub get_set_else : {A : Type 0} (l : List A) (i j : ℕ) (a : A) → j ≢ i → slice_get (set l i a) j ≡ slice_get l j
-get_set_else [] i j a n = refl
-get_set_else (x ∷ xs) zero zero a n = absurd (n refl)
-get_set_else (x ∷ xs) zero (suc j) a n = refl
-get_set_else (x ∷ xs) (suc i) zero a n = refl
-get_set_else (x ∷ xs) (suc i) (suc j) a n = get_set_else xs i j a (λ e. n (ap suc e))
 
 abbrev pub known_of : Place → Option TableRow
 known_of p = p.note.known
@@ -213,10 +201,6 @@ one_row (Some x) (Some y) h k l = ap Some h
 
 pub known_here : (o : Option TableRow) (ps : List (Option TableRow)) (n : ℕ) → slice_get ps n ≡ Some o → (row : TableRow) × (slice_get ps n ≡ Some (Some row)) → (r : TableRow) × (o ≡ Some r)
 known_here o ps n e k = let a : Some o ≡ Some (Some k.0) = sym e ∙ k.1 in (k.0, cc)
-
-pub if_err : {A E : Type 0} (P : A → Type 0) (r : Result A E) → IsErr r → IfOk r P
-if_err P (Ok a) h = absurd (true≢false (sym h))
-if_err P (Err e) h = tt
 
 pub some_is : (o : Option TableRow) (r : TableRow) → o ≡ Some r → IsSome o
 some_is None r e = absurd (cc)

@@ -1,24 +1,13 @@
 -- A memory of pairs, with one pair more.
-use Rattle.std.proofs.Common.{◌≡◌, ◌≢◌, ℕ, zero, suc, ◌<◌, List, [], ◌∷◌, length, set, Option, Some, refl, sym, ap, ◌∙◌, subst, arith, inl, inr}
+use Rattle.std.proofs.Common.{◌≡◌, ℕ, ◌<◌, List, length, set, Option, Some, sym, ap, ◌∙◌, subst, inl, inr}
 use Rattle.std.specs.Prelude.{slice_get}
 use Rattle.std.proofs.lemmas.Bool.{cases_eq}
 use Rattle.bounded_search.specs.Table.{BoundedTable, TableRow, IsRow}
+use Rattle.bounded_search.proofs.KnownNodes.{get_set, get_set_else}
 use Rattle.bounded_search.proofs.OneRow.{one_row}
 use Rattle.trellis.specs.declared.pairs.Told.{Told}
 use Rattle.trellis.specs.Pairs.{TellsPair, distance_in}
 use Rattle.trellis.specs.PairsInside.{ArePlaces}
-
-get_set : {A : Type 0} (l : List A) (i : ℕ) (x : A) → i < length l → slice_get (set l i x) i ≡ Some x
-get_set [] i x lt = absurd (omega arith)
-get_set (y ∷ l) zero x lt = refl
-get_set (y ∷ l) (suc i) x lt = get_set l i x (omega arith)
-
-get_set_else : {A : Type 0} (l : List A) (i j : ℕ) (x : A) → j ≢ i → slice_get (set l i x) j ≡ slice_get l j
-get_set_else [] i j x apart = refl
-get_set_else (y ∷ l) zero zero x apart = absurd (apart refl)
-get_set_else (y ∷ l) zero (suc j) x apart = refl
-get_set_else (y ∷ l) (suc i) zero x apart = refl
-get_set_else (y ∷ l) (suc i) (suc j) x apart = get_set_else l i j x (λ e. apart (ap suc e))
 
 pub places_more : (table : BoundedTable) (places : List (Option Told)) (i : ℕ) (told : Told) → ArePlaces table places → i < length places
     → TellsPair table told.origin told.node told.distance → ArePlaces table (set places i (Some told))

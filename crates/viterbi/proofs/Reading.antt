@@ -1,16 +1,38 @@
 -- What a step of a piece reads from its lists. In this file layers and tables stand in the order of the points.
-use Rattle.std.proofs.Common.{◌≡◌, ℕ, ◌-◌, ◌<◌, ◌^◌, ◌≤◌, List, Option, Some, None, sym, subst, arith, MatchOption, length, get_or}
+use Rattle.std.proofs.Common.{◌≡◌, ℕ, ◌+◌, ◌-◌, ◌<◌, ◌^◌, ◌≤◌, List, Option, Some, None, drop, sym, ap, ◌∙◌, subst, arith, MatchOption, length, get_or}
+use Rattle.std.proofs.lemmas.List.{get_or-drop, length-drop}
+use Rattle.std.proofs.lemmas.List.Elements.{All-drop}
 use Rattle.cost_model.specs.declared.params.Params.{Params}
 use Rattle.road_network.specs.Net.{Net}
 use Rattle.matching.specs.declared.parts.Cell.{Cell}
 use Rattle.matching.specs.declared.parts.Layer.{Layer}
-use Rattle.matching.specs.Layers.{AreNeighbours, IsLayer, trellis}
+use Rattle.matching.specs.Layers.{AreNeighbours, HasCandidateAt, IsLayer, IsMatchable, trellis}
 use Rattle.matching.specs.SoFar.{IsMatchBefore}
 use Rattle.matching.proofs.Lists.{all-at}
 use Rattle.trellis.specs.declared.parts.Solved.{Solved}
 use Rattle.trellis.specs.Offers.{AreCosts}
 use Rattle.matching.proofs.PieceSoFar.{IsGround, IsPieceSoFar, IsStepAt, so_far_count, so_far_small}
 use Rattle.viterbi.specs.Growing.{IsSolvedFurther}
+
+-- the layers from a point on are layers of a trace too
+pub matchable_from : (n : Net) (p : Params) (layers : List Layer) (first : ℕ) → IsMatchable n p layers → IsMatchable n p (drop first layers)
+matchable_from n p layers first h = record {
+  options = h.options;
+  are = record {
+    few = omega (arith, h.are.few, length-drop first layers);
+    each = All-drop (IsLayer n p) first layers h.are.each;
+    narrow = All-drop (λ l. length l.candidates ≤ 2 ^ 32) first layers h.are.narrow;
+  };
+}
+
+-- and a candidate of that point is one of their first
+pub candidate_from : (layers : List Layer) (first : ℕ) → HasCandidateAt layers first → HasCandidateAt (drop first layers) 0
+candidate_from layers first h =
+    let same : first + 0 ≡ first = omega arith in
+    record {
+      below = omega (arith, h.below, length-drop first layers);
+      some = λ l is. h.some l (is ∙ (get_or-drop first layers 0 l ∙ ap (λ (k : ℕ). get_or layers k l) same));
+    }
 
 -- what is read at place i: the layers there and before, and the cells before
 pub record IsRead (layers : List Layer) (tables read : List (List Cell)) (i : ℕ) (m l : Layer) (costs : List Cell) : Type 0 where

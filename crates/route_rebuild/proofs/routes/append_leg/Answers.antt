@@ -1,13 +1,37 @@
-use Rattle.std.proofs.Common.{◌++◌, ◌∷◌, [], List, Result, Ok, Err, OnOk, ap, ◌∙◌, arith}
+use Rattle.std.proofs.Common.{◌≡◌, ◌+◌, ◌++◌, ◌∷◌, [], List, Result, Ok, Err, OnOk, ap, sym, ◌∙◌, arith}
+use Rattle.std.proofs.lemmas.Bool.{eqb-true}
 use Rattle.std.proofs.lemmas.Bool.Decides.{nat_tests}
-use Rattle.bounded_search.proofs.Asking.{only_by}
+use Rattle.bounded_search.proofs.Asking.{asks_nothing, only_by}
 use Rattle.matching.specs.Routes.{Direct, IsRoute}
 use Rattle.road_network.specs.Net.{target}
 use Rattle.road_network.specs.declared.Candidate.{Candidate}
 use Rattle.road_network.specs.declared.EdgeId.{EdgeId}
-use Rattle.route_rebuild.proofs.RouteSoFar.{IsDirect, leg_walk, walk_leg}
+use Rattle.route_rebuild.specs.Numbers.{numbers}
+use Rattle.route_rebuild.specs.Runs.{chosen_in}
+use Rattle.route_rebuild.proofs.RouteSoFar.{IsDirect, direct_leg, leg_edges, leg_walk, offset_fits, walk_leg}
 use Rattle.route_rebuild.proofs.routes.append_leg.Goals as goal
 use Rattle.route_rebuild.proofs.routes.append_leg.Goals.{else-eq-via-then-eq+else-a-b, else-eq-via-else-eq}
+
+pub chosen-a-requires : goal.chosen-a-requires
+chosen-a-requires g c = c.args.run.now.is.points c.args.i c.requires.point.0 (omega (arith, c.requires.point.1))
+
+pub chosen-b-requires : goal.chosen-b-requires
+chosen-b-requires g c = c.args.run.now.is.points (c.args.i + 1) (omega (arith, c.requires.point.0)) (omega (arith, c.requires.point.1))
+
+pub overflow_add-b : goal.overflow_add-b
+overflow_add-b g c = rw c.chosen-b.ensures (omega (arith, offset_fits c.args.run.now c.args.i c.known.ensures c.requires.point.0 c.requires.point.1))
+
+pub returns-then-a-b-clause-leg : goal.returns-then-a-b-clause-leg
+returns-then-a-b-clause-leg g c =
+    let run = c.args.run.now in
+    let is : IsRoute run.net.now run.params.now.bound run.params.now.back c.chosen-a.result c.chosen-b.result Direct = (eqb-true c.chosen-a.result.edge.0 c.chosen-b.result.edge.0 (sym c.if-eq.ensures), c.if-a-b.true) in
+    direct_leg run c.args.i (numbers c.args.edges.now) (rw (c.chosen-a.ensures, c.chosen-b.ensures) at is)
+
+pub returns-then-a-b-clause-asks : goal.returns-then-a-b-clause-asks
+returns-then-a-b-clause-asks g c = asks_nothing (g.R.Rows.state c.args.rows.now) (λ v. v ≡ target c.args.run.now.net.now (chosen_in c.args.run.now c.args.i).edge.0)
+
+pub walk_between-requires-clause-edges : goal.walk_between-requires-clause-edges
+walk_between-requires-clause-edges g c = rw (c.chosen-a.ensures, c.chosen-b.ensures) (leg_edges c.args.run.now c.args.i c.requires.point.0 c.requires.point.1)
 
 pub walk_between-requires-clause-walk : goal.walk_between-requires-clause-walk
 walk_between-requires-clause-walk g c =

@@ -1,6 +1,7 @@
 use Rattle.std.proofs.Common.{◌<◌, arith, ⊎_elim}
-use Rattle.bounded_search.proofs.Asking.{only_then}
+use Rattle.bounded_search.proofs.Asking.{asks_nothing, only_then}
 use Rattle.route_rebuild.specs.Numbers.{numbers}
+use Rattle.route_rebuild.specs.Runs.{EndsLeg}
 use Rattle.route_rebuild.proofs.RouteSoFar.{so_far_end, so_far_more}
 use Rattle.route_rebuild.proofs.routes.follow.Goals as goal
 
@@ -24,3 +25,6 @@ returns-clause-route g c =
 pub returns-in_err-append_leg-clause-asks : goal.returns-in_err-append_leg-clause-asks
 returns-in_err-append_leg-clause-asks g c =
     only_then c.loop-i.invariant.asks c.append_leg.ensures.asks (λ v h. ⊎_elim (λ before. before) (λ same. (c.loop-i.i, omega arith, omega arith, same)) h)
+
+pub returns-in_err-push-clause-asks : goal.returns-in_err-push-clause-asks
+returns-in_err-push-clause-asks g c = asks_nothing (g.R.Rows.state c.args.rows.now) (EndsLeg c.args.run.now)

@@ -1,4 +1,4 @@
-use Rattle.std.proofs.Common.{Result, Ok, Err, IfOk}
+use Rattle.std.proofs.lemmas.Result.{IfOk-weaker}
 use Rattle.bounded_search.proofs.Asking.{only_by}
 use Rattle.route_rebuild.specs.Numbers.{numbers}
 use Rattle.route_rebuild.specs.Routes.{piece_at}
@@ -10,10 +10,6 @@ pub route_over-requires-clause-run : goal.route_over-requires-clause-run
 route_over-requires-clause-run g c =
     rw (c.as_slice.ensures, c.as_slice-2.ensures) (chosen_run c.args.net.now c.args.p.now c.args.layers.now c.args.solved.now c.args.piece c.known.ensures c.requires.solved c.requires.piece)
 
-ok_by : {A E : Type 0} {P Q : A → Type 0} (r : Result A E) → IfOk r P → ((x : A) → P x → Q x) → IfOk r Q
-ok_by (Ok x) h f = f x h
-ok_by (Err e) h f = tt
-
 pub returns-clause-route : goal.returns-clause-route
 returns-clause-route g c =
     let s = c.args.solved.now in
@@ -21,8 +17,8 @@ returns-clause-route g c =
     let p = c.args.p.now in
     let layers = c.args.layers.now in
     let run = chosen_run n p layers s c.args.piece c.known.ensures c.requires.solved c.requires.piece in
-    ok_by c.route_over.result c.route_over.ensures.route (λ es is.
-    joined_route n p layers s.ranks (piece_at s.pieces c.args.piece) (numbers es) run (rw (c.as_slice.ensures, c.as_slice-2.ensures) at is))
+    IfOk-weaker c.route_over.result _ _ (λ es is.
+    joined_route n p layers s.ranks (piece_at s.pieces c.args.piece) (numbers es) run (rw (c.as_slice.ensures, c.as_slice-2.ensures) at is)) c.route_over.ensures.route
 
 pub returns-clause-asks : goal.returns-clause-asks
 returns-clause-asks g c = only_by c.route_over.ensures.asks (λ v end. rw (c.as_slice.ensures, c.as_slice-2.ensures) at end)

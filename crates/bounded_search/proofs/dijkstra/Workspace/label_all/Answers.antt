@@ -6,12 +6,13 @@ use Rattle.road_network.specs.Net.{HasNode}
 use Rattle.bounded_search.specs.declared.queue.Waiting.{Waiting}
 use Rattle.bounded_search.specs.LabelWords.{distance_at}
 use Rattle.bounded_search.specs.Marked.{IsMarked}
-use Rattle.bounded_search.specs.QueueInside.{TakesBucket}
+use Rattle.bounded_search.specs.QueueInside.{TakesSome}
 use Rattle.bounded_search.specs.Searching.{AreMarkedOrWait}
 use Rattle.bounded_search.specs.Underway.{IsUnderway, NonePending, state_of}
+use Rattle.bounded_search.proofs.Gaining.{gains_one}
 use Rattle.bounded_search.proofs.Leaving.{all_marked, bucket_taken, fewer_wait, marked_begun, taken_inside}
 use Rattle.bounded_search.proofs.MarkedNodes.{keeps_both, sized_still}
-use Rattle.bounded_search.proofs.Underway.{begun, closed_at_end, gains_one}
+use Rattle.bounded_search.proofs.Underway.{begun, closed_at_end}
 use Rattle.bounded_search.proofs.dijkstra.Workspace.label_all.Goals as goal
 
 pub label-requires : goal.label-requires
@@ -42,7 +43,7 @@ loop-self-init c =
 pub leave_all-requires-clause-inside : goal.leave_all-requires-clause-inside
 leave_all-requires-clause-inside c =
     let taken : List Waiting = c.take_bucket.new.taken in
-    let takes : TakesBucket c.loop-self.self.queue taken c.take_bucket.new.self = c.loop-self-test.ensures.taken refl in
+    let takes : TakesSome c.loop-self.self.queue taken c.take_bucket.new.self = c.loop-self-test.ensures.taken refl in
     subst (All (λ x. HasNode c.args.net.now x.node × (x.distance ≤ 10_000_000))) (sym c.as_slice.ensures)
     (taken_inside c.args.net.now c.args.origin.0 c.loop-self.self taken c.take_bucket.new.self takes.all c.loop-self.invariant.searching)
 
@@ -51,7 +52,7 @@ leave_all-requires-clause-sized c = c.loop-self.invariant.searching.sized
 
 pub loop-self-smaller : goal.loop-self-smaller
 loop-self-smaller c =
-    let takes : TakesBucket c.loop-self.self.queue c.take_bucket.new.taken c.take_bucket.new.self = c.loop-self-test.ensures.taken refl in
+    let takes : TakesSome c.loop-self.self.queue c.take_bucket.new.taken c.take_bucket.new.self = c.loop-self-test.ensures.taken refl in
     omega (arith, c.in_ok-leave_all.ensures.leaves.less, fewer_wait c.loop-self.self.queue c.take_bucket.new.taken c.take_bucket.new.self takes)
 
 pub loop-self-preserved : goal.loop-self-preserved
@@ -61,7 +62,7 @@ loop-self-preserved c =
     let taken : List Waiting = c.take_bucket.new.taken in
     let inv = c.loop-self.invariant in
     let e = c.in_ok-leave_all.ensures in
-    let takes : TakesBucket w.queue taken c.take_bucket.new.self = c.loop-self-test.ensures.taken refl in
+    let takes : TakesSome w.queue taken c.take_bucket.new.self = c.loop-self-test.ensures.taken refl in
     let searching = rw (← c.as_slice.ensures) at (bucket_taken c.args.net.now s w taken c.take_bucket.new.self takes.all inv.searching) in
     record {
       sized = keeps_both c.args.self.now w c.leave_all.new.self inv.sized (record { bound = e.sized.bound; words_count = e.sized.words_count; marks_count = e.sized.marks_count });
@@ -78,6 +79,6 @@ returns-clause-labelled c =
     let marked = all_marked n s w none.0 inv.searching in
     record {
       closed = closed_at_end n w.bound s w.words.items w.queue c.known.ensures none.0 inv.searching.underway;
-      marked = record { sized = marked.sized; inside = marked.inside; labelled = marked.labelled; most = marked.most };
+      marked = record { sized = marked.sized; inside = marked.inside; labelled = marked.labelled };
       none_waiting = none.1;
     }

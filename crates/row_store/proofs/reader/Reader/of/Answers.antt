@@ -1,4 +1,7 @@
-use Rattle.std.proofs.Common.{◌≡◌, ◌<◌, ◌∙◌, ◌∷◌, [], ℕ, List, length, get_or, sym, ap, subst, length-append, arith}
+use Rattle.std.proofs.Common.{◌≡◌, ◌<◌, ◌∙◌, ◌∷◌, [], ℕ, List, Option, None, length, get_or, replicate, refl, sym, ap, subst, length-append, arith}
+use Rattle.std.proofs.lemmas.List.{length-map}
+use Rattle.once_cell.specs.Once.{cell_name}
+use Rattle.bounded_search.specs.Table.{BoundedTable, TableRow}
 use Rattle.std.specs.Prelude.{slice_index}
 use Rattle.std.specs.declared.alloc.Global.{Global as Heap}
 use Rattle.row_store.specs.declared.place.Place.{Place}
@@ -22,3 +25,26 @@ loop-cell-preserved c =
       none = rw e (none_more _ _ _ i.none m.note.1);
       fit = rw e (fits_more c.args.store.now _ _ i.fit (empty_fits c.args.store.now _ _ _ name m.note.1 m.rows.0 m.rows.1));
     }
+
+pub loop-cell-init : goal.loop-cell-init
+loop-cell-init c = rw c.in_ok-places.ensures.items (record { count = refl; none = refl; fit = λ k p e. absurd cc })
+
+pub invariant_of-result : goal.invariant_of-result
+invariant_of-result c =
+    let cells = c.store.inside.cells.items in
+    let all : length c.deref-cell-items.result.now ≡ length cells = ap (λ (l : List (Heap × ℕ)). length l) c.deref-cell-items.ensures.value in
+    let nodes = ap (λ (s : Stored). length s.network.nodes) c.store.view_is in
+    let seen = ap (λ (s : Stored). length s.cells) c.store.view_is in
+    record {
+      cells_count = omega (arith, c.store.invariant.0, nodes, seen, length-map cells cell_name);
+      places_count = omega (arith, c.loop-cell.invariant.count, c.store.invariant.0, nodes, all);
+      fit = c.loop-cell.invariant.fit;
+      searcher = c.in_ok-searcher.ensures ∙ ap (λ (s : Stored). let t : BoundedTable = record { network = s.network; bound = s.bound } in t) c.store.view_is;
+    }
+
+pub returns : goal.returns
+returns c =
+    let all : length c.deref-cell-items.result.now ≡ length c.store.inside.cells.items = ap (λ (l : List (Heap × ℕ)). length l) c.deref-cell-items.ensures.value in
+    let nodes = ap (λ (s : Stored). length s.network.nodes) c.store.view_is in
+    let count : c.loop-cell.cell-index ≡ length c.args.store.now.network.nodes = omega (arith, c.store.invariant.0, nodes, all) in
+    (refl, c.loop-cell.invariant.none ∙ ap (λ (k : ℕ). replicate k (let none : Option TableRow = None in none)) count)

@@ -4,7 +4,8 @@ use Rattle.bounded_search.specs.Table.{IsRow}
 use Rattle.bounded_search.proofs.Asking.{asks_done, asks_err}
 use Rattle.row_store.specs.Store.{Stored, Reading, rows_state}
 use Rattle.row_store.specs.declared.place.Place.{Place}
-use Rattle.row_store.proofs.Places.{if_err, sees_asks, some_is, read_back, within, all_fit, fits_at, same_reading, known_there, known_here}
+use Rattle.std.proofs.lemmas.Result.{IfOk-from_err}
+use Rattle.row_store.proofs.Places.{sees_asks, some_is, read_back, within, all_fit, fits_at, same_reading, known_there, known_here}
 use Rattle.row_store.proofs.reader.ReaderRows.row.Goals as goal
 
 pub make_own-requires : goal.make_own-requires
@@ -50,7 +51,7 @@ returns-in_err-make_own c =
     let same = same_reading c.settle.new.self _ _ n _ _ c.self.view_is (within _ _ _ n c.self.view_is i.places_count here) c.index_mut.ensures.value c.make_own.ensures.same in
     let asks = subst (λ (y : Reading). AsksAll (rows_state c.args.self.now) (rows_state y) (λ v. v ≡ n)) (sym same) (sees_asks c.args.self.now n s.0 c.settle.new.self s.1) in (
       (refl, λ _. tt, asks_err asks.only c.from_residual-in_err-make_own.ensures.0),
-      record { value = if_err _ _ c.from_residual-in_err-make_own.ensures.0; after = tt },
+      record { value = IfOk-from_err _ _ c.from_residual-in_err-make_own.ensures.0; after = tt },
     )
 
 pub lend-requires-clause-known : goal.lend-requires-clause-known
