@@ -21,15 +21,7 @@ use Rattle.program_frame.specs.declared.stop.File.TheVariants.{Traces}
 use Rattle.program_frame.specs.declared.stop.Stop.{Stop}
 use Rattle.program_frame.proofs.BatchEnds.{Has}
 use Rattle.program_frame.proofs.ChunkEnds.{held_rest}
-use Rattle.program_frame.proofs.Streaming.{read_end, read_full, read_more, stream_ends, stream_stops}
-
-front_of : (file : Option (List ℕ)) → IsFront [] file
-front_of None = refl
-front_of (Some bytes) = refl
-
-front_begun : (told : Option (List ℕ → Option (List ℕ))) (name : List ℕ) → IsReadSoFar told name []
-front_begun None name = tt
-front_begun (Some files) name = front_of (files name)
+use Rattle.program_frame.proofs.Streaming.{front_begun, read_end, read_full, read_more, stream_ends, stream_stops}
 
 -- before the first read
 pub nothing_read : (job : JobText) (has : Has) (name : List ℕ) (shelf : ShelfState) (base : SinkState) (reader : TraceReader) (waiting : List Trace) → IsBetween job has base base [] reader waiting → IsReading job has name shelf base base 0 reader waiting
