@@ -1,5 +1,5 @@
 -- A trace file that is read chunk by chunk.
-use Rattle.std.proofs.Common.{◌≡◌, ◌≢◌, ℕ, ◌+◌, ◌≤◌, List, [], ◌∷◌, ◌++◌, length, Some, None, Result, Ok, Err, refl, sym, ◌∙◌, ap, subst, arith, length-append}
+use Rattle.std.proofs.Common.{◌≡◌, ◌≢◌, ℕ, ◌+◌, ◌≤◌, List, [], ◌∷◌, ◌++◌, length, Result, Ok, Err, refl, sym, ◌∙◌, ap, subst, arith, length-append}
 use Rattle.std.specs.declared.option.Option.{Option}
 use Rattle.std.specs.Io.KnownBytes.{Appends}
 use Rattle.edge_io.specs.Shelf.{Reads}
@@ -13,7 +13,6 @@ use Rattle.trace_reader.proofs.Laws.{closed-none}
 use Rattle.program_frame.specs.Batches.{Holds, IsBetween}
 use Rattle.program_frame.specs.Jobs.{JobText, bytes_give}
 use Rattle.program_frame.specs.Performs.{Performs}
-use Rattle.program_frame.specs.Read.{IsFront, IsReadSoFar}
 use Rattle.program_frame.specs.Refusals.{trace_limit}
 use Rattle.program_frame.specs.Stream.{IsReading, IsTaken, works_traces}
 use Rattle.program_frame.specs.Streams.{EndsWith, IsStreaming, StopsAt}

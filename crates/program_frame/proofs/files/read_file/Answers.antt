@@ -1,4 +1,4 @@
-use Rattle.std.proofs.Common.{◌+◌, ◌≤◌, ℕ, List, length, refl, sym, ap, ◌∙◌, subst, arith}
+use Rattle.std.proofs.Common.{ℕ, List, length, refl, sym, ap, ◌∙◌, subst, arith}
 use Rattle.edge_io.specs.State.{ShelfState}
 use Rattle.edge_io.specs.Shelf.{Reads}
 use Rattle.edge_io.specs.declared.shelf.Taken.TheVariants.{Got}
