@@ -8,7 +8,7 @@ use Rattle.std.proofs.lemmas.List.FromFn.{get_or-range_with_len, length-range_wi
 use Rattle.std.proofs.lemmas.List.Folds.{list_any-append}
 use Rattle.std.specs.List.{list_any, range_with_len}
 use Rattle.bounded_search.specs.Known.{known_nodes}
-use Rattle.bounded_search.specs.Rows.{AsksAll}
+use Rattle.bounded_search.specs.Rows.{AsksAll, Keeps}
 use Rattle.bounded_search.specs.Table.{TableRow}
 use Rattle.bounded_search.proofs.KnownNodes.{known_inside, knows_by}
 use Rattle.match_text.specs.declared.matched.MatchedTrace.{MatchedTrace}
@@ -16,7 +16,7 @@ use Rattle.row_store.specs.Store.{Reading, knows, rows_state}
 use Rattle.tickets.specs.Tickets.{Drawn}
 use Rattle.match_pool.specs.declared.worker.Done.{Done}
 use Rattle.match_pool.specs.Drawing.{WorksAt, number_at}
-use Rattle.match_pool.specs.Working.{Job, Works, LearnsAsked, asks_at, done_by, matched_at}
+use Rattle.match_pool.specs.Working.{Job, Stays, Works, LearnsAsked, asks_at, done_by, matched_at}
 
 -- what holds at each draw
 pub record Working (j : Job) (strip : List ℕ) (reader : Reading) (drawn : List ℕ) (done : List Done) (reader' : Reading) (drawn' : List ℕ) : Type 0 where
@@ -126,3 +126,20 @@ works_on_all j strip reader ticket done reader' ticket' whole w =
       answers = w.answers ∙ ap (map (done_by j.first (matched_at j))) same;
       learns = subst (λ (l : List ℕ). LearnsAsked j l reader reader') same w.learns;
     }
+
+-- a number that was drawn is below the count
+pub drawn_below : {k x n m : ℕ} → n ≡ m → (k ≡ x) × (x < n) → k < m
+drawn_below same at =
+    let is = at.0 in
+    let low = at.1 in
+    omega (arith, same, is, low)
+
+-- one more draw, and rows that became known
+pub stays_more : {reader mid after : Reading} {ticket drawn drawn' : Drawn} → Stays reader ticket mid drawn → Keeps (rows_state mid) (rows_state after) → drawn'.claims ≡ drawn.claims → Stays reader ticket after drawn'
+stays_more stays keeps same = record {
+  reader = record {
+    store = (λ i. record { network = keeps.network i; bound = keeps.bound i; cells = keeps.source i }) ∙ stays.reader.store;
+    held = λ k row e. keeps.held k row (stays.reader.held k row e);
+  };
+  claims = same ∙ stays.claims;
+}

@@ -1,5 +1,5 @@
 //! Traces of one fix, which are matched to their nearest edge. Serves `find_match`; decided by `match_of`.
-ghost use Rattle.std.specs.Prelude.{◌≡◌, ◌*◌, ◌≤◌, IfOk, length};
+ghost use Rattle.std.specs.Prelude.{◌≡◌, ◌*◌, ◌≤◌, [], ◌∷◌, IfOk, length};
 ghost use Rattle.polyline_geometry.specs.Plane.{InRange};
 ghost use Rattle.road_network.specs.Net.{HasEdge};
 ghost use Rattle.trace_match.specs.Match.{match_of, place_of};
@@ -13,7 +13,7 @@ use cost_model::{Params, emission};
 use match_text::{MatchedTrace, Routed};
 use polyline_geometry::{List, Point};
 use road_network::Candidate;
-use std::alloc::AllocError;
+use std::alloc::{AllocError, Global};
 use trace_match::label_on;
 use trace_reader::{Fix, Trace};
 
@@ -32,6 +32,17 @@ fn nearest_edge(batch: &Batch, fix: &Fix) -> Result<Option<Candidate>, AllocErro
     Ok(found.get(0).copied())
 }
 
+/// The list of this item alone.
+fn one_item<T>(alloc: Global, item: T) -> Result<List<T>, AllocError>
+where
+    T: Drop,
+    ensures { IfOk result (λ list. list ≡ item ∷ []) }
+{
+    let mut list = List::new(alloc);
+    list.push(item)?;
+    Ok(list)
+}
+
 /// The match of a trace of this id whose one fix lies on this edge.
 fn on_edge(batch: &Batch, id: u32, nearest: Candidate) -> Result<MatchedTrace, AllocError>
     requires edge { HasEdge batch.now.net.now nearest.edge.0 }
@@ -44,12 +55,12 @@ fn on_edge(batch: &Batch, id: u32, nearest: Candidate) -> Result<MatchedTrace, A
         first: 0,
         last: 0,
         cost: emission(batch.params, nearest.d2),
-        route: List::from_vec(vec![in batch.alloc; batch.net.name(nearest.edge)]?),
+        route: one_item(batch.alloc, batch.net.name(nearest.edge))?,
     };
     Ok(MatchedTrace {
         id,
-        labels: List::from_vec(vec![in batch.alloc; label]?),
-        pieces: List::from_vec(vec![in batch.alloc; piece]?),
+        labels: one_item(batch.alloc, label)?,
+        pieces: one_item(batch.alloc, piece)?,
     })
 }
 

@@ -1,5 +1,5 @@
 -- What a chunk of a trace file leaves.
-use Rattle.std.proofs.Common.{◌≡◌, ◌≢◌, ℕ, ◌+◌, ◌<◌, ◌≤◌, ◌^◌, ◌⊎◌, zero, suc, IsSome, ◌==◌, Bool, true, List, [], ◌∷◌, ◌++◌, length, take, drop, Some, None, Ok, refl, sym, ◌∙◌, ap, subst, inl, inr, arith, append_assoc, append-nil, length-append}
+use Rattle.std.proofs.Common.{◌≡◌, ◌≢◌, ℕ, ◌+◌, ◌<◌, ◌≤◌, ◌^◌, ◌⊎◌, zero, suc, IsSome, ◌==◌, Bool, true, false, List, [], ◌∷◌, ◌++◌, length, take, drop, Some, None, Ok, refl, sym, ◌∙◌, ap, subst, inl, inr, arith, append_assoc, append-nil, length-append}
 use Rattle.std.specs.declared.option.Option.{Option}
 use Rattle.std.specs.Io.KnownBytes.{Appends}
 use Rattle.std.proofs.lemmas.Bool.Decides.{nat_tests}
@@ -167,6 +167,10 @@ none_left [] empty is test = refl
 none_left (byte ∷ rest) empty is test =
     let none : length (byte ∷ rest) ≡ 0 = tested_zero (length (byte ∷ rest)) empty is test in
     absurd (omega arith)
+
+pub some_left : (rest : List ℕ) → false ≡ (length rest == 0) → 1 ≤ length rest
+some_left [] is = absurd (cc)
+some_left (byte ∷ rest) is = omega arith
 
 -- nothing was read of a job that has taken nothing
 pub begun : (job : JobText) (has : Has) (base : SinkState) (reader : TraceReader) (waiting : List Trace) → has [] → StandsFor reader [] → waiting ≡ [] → IsBetween job has base base [] reader waiting

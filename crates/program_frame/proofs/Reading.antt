@@ -1,5 +1,5 @@
 -- A trace file that is read chunk by chunk.
-use Rattle.std.proofs.Common.{◌≡◌, ◌≢◌, ℕ, ◌+◌, ◌≤◌, List, [], ◌∷◌, ◌++◌, length, Some, None, Result, Ok, Err, refl, sym, ◌∙◌, ap, subst, arith, length-append}
+use Rattle.std.proofs.Common.{◌≡◌, ◌≢◌, ℕ, ◌+◌, ◌≤◌, List, [], ◌∷◌, ◌++◌, length, Result, Ok, Err, refl, sym, ◌∙◌, ap, subst, arith, length-append}
 use Rattle.std.specs.declared.option.Option.{Option}
 use Rattle.std.specs.Io.KnownBytes.{Appends}
 use Rattle.edge_io.specs.Shelf.{Reads}
@@ -13,7 +13,6 @@ use Rattle.trace_reader.proofs.Laws.{closed-none}
 use Rattle.program_frame.specs.Batches.{Holds, IsBetween}
 use Rattle.program_frame.specs.Jobs.{JobText, bytes_give}
 use Rattle.program_frame.specs.Performs.{Performs}
-use Rattle.program_frame.specs.Read.{IsFront, IsReadSoFar}
 use Rattle.program_frame.specs.Refusals.{trace_limit}
 use Rattle.program_frame.specs.Stream.{IsReading, IsTaken, works_traces}
 use Rattle.program_frame.specs.Streams.{EndsWith, IsStreaming, StopsAt}
@@ -21,15 +20,7 @@ use Rattle.program_frame.specs.declared.stop.File.TheVariants.{Traces}
 use Rattle.program_frame.specs.declared.stop.Stop.{Stop}
 use Rattle.program_frame.proofs.BatchEnds.{Has}
 use Rattle.program_frame.proofs.ChunkEnds.{held_rest}
-use Rattle.program_frame.proofs.Streaming.{read_end, read_full, read_more, stream_ends, stream_stops}
-
-front_of : (file : Option (List ℕ)) → IsFront [] file
-front_of None = refl
-front_of (Some bytes) = refl
-
-front_begun : (told : Option (List ℕ → Option (List ℕ))) (name : List ℕ) → IsReadSoFar told name []
-front_begun None name = tt
-front_begun (Some files) name = front_of (files name)
+use Rattle.program_frame.proofs.Streaming.{front_begun, read_end, read_full, read_more, stream_ends, stream_stops}
 
 -- before the first read
 pub nothing_read : (job : JobText) (has : Has) (name : List ℕ) (shelf : ShelfState) (base : SinkState) (reader : TraceReader) (waiting : List Trace) → IsBetween job has base base [] reader waiting → IsReading job has name shelf base base 0 reader waiting

@@ -149,6 +149,25 @@ read_front : (fed piece : List ℕ) (n : ℕ) (file : Option (List ℕ)) → IsF
 read_front fed piece n None front reads = absurd reads
 read_front fed piece n (Some file) front reads = front_more fed piece file n front reads.0 reads.1
 
+front_of : (file : Option (List ℕ)) → IsFront [] file
+front_of None = refl
+front_of (Some bytes) = refl
+
+-- before the first read
+pub front_begun : (told : Option Files) (name : List ℕ) → IsReadSoFar told name []
+front_begun None name = tt
+front_begun (Some files) name = front_of (files name)
+
+into_front : (old new : List ℕ) (n : ℕ) (file : Option (List ℕ)) → IsFront old file → MatchOption file ⊥ (λ f. ReadsFile f (length old) old new (Got n)) → IsFront new file
+into_front old new n None front reads = absurd reads
+into_front old new n (Some file) front reads = reads.1 ∙ front_more old (take n (drop (length old) file)) file n front reads.0 refl ∙ ap (λ (l : List ℕ). take (length l) file) (sym reads.1)
+
+-- a read behind what was read so far
+pub read_into : (told : Option Files) (name old new : List ℕ) (at n : ℕ) → at ≡ length old → IsReadSoFar told name old → Reads told name at old new (Got n) → IsReadSoFar told name new
+read_into None name old new at n same front reads = tt
+read_into (Some files) name old new at n same front reads =
+    into_front old new n (files name) front (subst (λ a. MatchOption (files name) ⊥ (λ f. ReadsFile f a old new (Got n))) same reads)
+
 pub read_more : (told : Option Files) (name fed piece : List ℕ) (n : ℕ) → IsReadSoFar told name fed → Reads told name (length fed) [] piece (Got n) → IsReadSoFar told name (fed ++ piece)
 read_more None name fed piece n front reads = tt
 read_more (Some files) name fed piece n front reads = read_front fed piece n (files name) front reads

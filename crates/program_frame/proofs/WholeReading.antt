@@ -21,20 +21,12 @@ use Rattle.program_frame.specs.declared.stop.File.TheVariants.{Traces}
 use Rattle.program_frame.specs.declared.stop.Refusal.TheVariants.{Traces as OfTraces}
 use Rattle.program_frame.specs.declared.stop.Stop.{Stop}
 use Rattle.program_frame.specs.declared.stop.Stop.TheVariants.{Refused, NoMemory, Unread, Unwritten}
-use Rattle.program_frame.proofs.Streaming.{read_end, read_full, read_more}
-
-front_none : (told : Option (List ℕ → Option (List ℕ))) (name : List ℕ) → IsReadSoFar told name []
-front_none None name = tt
-front_none (Some files) name = by_file (files name)
-  where
-    by_file : (file : Option (List ℕ)) → IsFront [] file
-    by_file None = refl
-    by_file (Some bytes) = refl
+use Rattle.program_frame.proofs.Streaming.{front_begun, read_end, read_full, read_more}
 
 -- before the first read
 pub holds_nothing : (name : List ℕ) (shelf : ShelfState) (reader : TraceReader) (traces : List Trace) → StandsFor reader [] → traces ≡ [] → IsHolding name shelf 0 reader traces
 holds_nothing name shelf reader traces stands none =
-    record { fed = []; place = refl; front = front_none shelf.holds name; stands = stands; are = none ∙ sym closed-none }
+    record { fed = []; place = refl; front = front_begun shelf.holds name; stands = stands; are = none ∙ sym closed-none }
 
 -- one more chunk was fed
 pub holds_more : (name : List ℕ) (shelf : ShelfState) (at n : ℕ) (reader reader' : TraceReader) (traces traces' : List Trace) (chunk : List ℕ) → (holds : IsHolding name shelf at reader traces) → length chunk ≡ n

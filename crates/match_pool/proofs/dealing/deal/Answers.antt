@@ -1,8 +1,8 @@
-use Rattle.std.proofs.Common.{◌≡◌, ◌≤◌, ◌^◌, ◌++◌, ◌∷◌, [], ◌∙◌, ℕ, List, All, length, map, sym, ap, subst, arith}
+use Rattle.std.proofs.Common.{◌≡◌, ◌≤◌, ◌^◌, ◌++◌, ◌∷◌, [], ◌∙◌, ℕ, List, All, length, map, refl, rules, sym, ap, subst, arith}
 use Rattle.std.specs.List.{AllZip}
 use Rattle.std.specs.Vec.Iter.{into_iter_items}
 use Rattle.std.proofs.lemmas.List.{map-append}
-use Rattle.std.proofs.lemmas.List.Elements.{All-push, All-tail}
+use Rattle.std.proofs.lemmas.List.Elements.{All-head, All-nil, All-push, All-tail}
 use Rattle.match_pool.specs.Dealing.{HasClaims, numbers_of}
 use Rattle.match_pool.specs.declared.turn.Strip.{Strip}
 use Rattle.match_pool.proofs.Hired.{AreFreshAt, all_wide, fresh_at, hands_fresh}
@@ -50,3 +50,24 @@ returns c =
       count = c.in_ok-hands.ensures.count;
       fresh = hands_fresh c.args.workers at.strips.items at.turns.items c.in_ok-hands.hands.items i.turns c.in_ok-hands.ensures;
     }
+
+pub loop-numbers-init : goal.loop-numbers-init
+loop-numbers-init c =
+    let few : List ℕ → Type 0 = λ l. length l ≤ 2 ^ 32 in
+    let no_strips = c.in_ok-strips.ensures.items in
+    let no_turns = c.in_ok-turns.ensures.items in
+    record {
+      whole = refl;
+      left = search rules;
+      few = subst (All few) (sym c.into_iter-numbers-iterator.ensures.into_iter_gives.0) c.requires.cuts;
+      cuts = ap (map numbers_of) no_strips;
+      claims = subst (All (HasClaims c.args.workers)) (sym no_strips) (All-nil (HasClaims c.args.workers));
+      turns = rw (no_strips, no_turns) tt;
+    }
+
+pub open-requires-clause-count : goal.open-requires-clause-count
+open-requires-clause-count c =
+    let few : List ℕ → Type 0 = λ l. length l ≤ 2 ^ 32 in
+    let short = All-head few c.in-Some.numbers (into_iter_items c.next.new.self) (subst (All few) c.in-Some.ensures.steps.0 c.loop-numbers.invariant.few) in
+    let long = c.len-in-loop-numbers.ensures in
+    omega (arith, short, long)

@@ -1,12 +1,12 @@
 use Rattle.std.proofs.Common.{◌≡◌, ◌∷◌, [], ◌++◌, List, All, Contains, length, length-append, map, rules, refl, sym, ap, subst, ◌∙◌, arith}
-use Rattle.std.proofs.lemmas.List.{map-append}
+use Rattle.std.proofs.lemmas.List.{length-map, map-append}
 use Rattle.std.proofs.lemmas.List.Elements.{All-contains_itself, All-nil, All-push}
 use Rattle.tickets.proofs.Moves.{all_front, all_last}
 use Rattle.row_store.specs.Store.{Reading}
 use Rattle.match_pool.specs.Crew.{reader_of}
 use Rattle.match_pool.specs.declared.crew.Worker.{Worker}
 use Rattle.match_pool.specs.declared.turn.Turn.{Turn}
-use Rattle.match_pool.proofs.Yields.{goes_on}
+use Rattle.match_pool.proofs.Yields.{ends, goes_on}
 use Rattle.match_pool.proofs.crew.Crew.hire.Goals as goal
 
 pub loop-reader-init : goal.loop-reader-init
@@ -44,4 +44,22 @@ loop-reader-preserved c =
       unused = all_front P left (hand ∷ []) unused;
       count = (let count = i.count in omega arith);
       room = (let room = i.room in let longer = c.in-Ok.ensures.len in let wide = c.in-Ok.ensures.capacity in omega arith);
+    }
+
+pub returns-clause-crew : goal.returns-clause-crew
+returns-clause-crew c =
+    let at = c.loop-reader in
+    let i = at.invariant in
+    let taken = c.into_iter-reader-iterator.ensures.into_iter_gives.0 ∙ c.into_vec-taken.ensures ∙ c.replace.ensures.value in
+    let readers = i.readers ∙ ends at.yielded _ _ i.whole (sym i.left ∙ c.in-None.ensures.steps.0) ∙ taken in
+    let many = sym (length-map at.workers.items reader_of) ∙ ap (λ (l : List Reading). length l) readers ∙ sym c.len-count.ensures in
+    record {
+      readers_are = readers;
+      turns_are = i.turns;
+      room = record {
+        no_readers = c.in_ok-home.ensures.items;
+        no_turns = c.in_ok-turns.ensures.items;
+        readers = (let exact = c.in_ok-home.ensures.exact in omega (arith, many, exact));
+        turns = (let exact = c.in_ok-turns.ensures.exact in omega (arith, many, exact));
+      };
     }

@@ -1,9 +1,9 @@
-use Rattle.std.proofs.Common.{◌++◌, ◌∙◌, sym, subst, take, refl}
+use Rattle.std.proofs.Common.{◌++◌, ◌∙◌, ℕ, List, length, length-append, length-drop, sym, subst, ap, take, refl, arith}
 use Rattle.std.proofs.lemmas.Result.{err_from_is_err_and}
 use Rattle.program_frame.specs.Batches.{IsBetween}
 use Rattle.program_frame.specs.Jobs.{bytes_give}
 use Rattle.program_frame.specs.Streams.{StopsAt}
-use Rattle.program_frame.proofs.ChunkEnds.{all_in, none_left, not_begun, some_more, stops_chunk}
+use Rattle.program_frame.proofs.ChunkEnds.{all_in, none_left, not_begun, some_left, some_more, stops_chunk}
 use Rattle.program_frame.proofs.batches.Batches.take_chunk.Goals as goal
 
 pub take_some-requires-clause-ready : goal.take_some-requires-clause-ready
@@ -35,3 +35,26 @@ returns-clause-takes g c base fed between =
 
 pub loop-rest-init : goal.loop-rest-init
 loop-rest-init g c = record { text = refl; underway = not_begun }
+
+pub returns-in_err-taken-clause-text : goal.returns-in_err-taken-clause-text
+returns-in_err-taken-clause-text g c = c.take_some.ensures.text ∙ c.loop-rest.invariant.text
+
+pub returns-clause-text : goal.returns-clause-text
+returns-clause-text g c = c.loop-rest.invariant.text
+
+pub take_some-requires-clause-sizes : goal.take_some-requires-clause-sizes
+take_some-requires-clause-sizes g c =
+    let underway = c.loop-rest.invariant.underway in
+    let rest = c.loop-rest.rest.now in
+    let short = c.requires.short in
+    let long = ap (λ (l : List ℕ). length l) underway.whole ∙ length-append underway.front rest in
+    (some_left rest c.loop-rest-test.ensures, omega (arith, long, short))
+
+pub behind-rest-requires : goal.behind-rest-requires
+behind-rest-requires g c = c.in_ok-taken.ensures.some.1
+
+pub loop-rest-smaller : goal.loop-rest-smaller
+loop-rest-smaller g c =
+    let some = c.in_ok-taken.ensures.some in
+    let left = ap (λ (l : List ℕ). length l) c.behind-rest.ensures ∙ length-drop c.in_ok-taken.taken c.loop-rest.rest.now in
+    omega (arith, some.0, some.1, left)
