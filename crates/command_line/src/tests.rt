@@ -60,7 +60,10 @@ fn refused_words(rt: HostRuntime) -> Result<(), Fail> {
     ];
     for (line, fault) in rows {
         let words = words(rt.alloc(), line)?;
-        assert_eq!(rt; read_command(rt.alloc(), words.as_slice()), Err(fault));
+        assert_eq!(rt;
+            read_command(rt.alloc(), words.as_slice()).err(),
+            Some(fault)
+        );
     }
     Ok(())
 }
@@ -71,67 +74,109 @@ fn accepted_words(rt: HostRuntime) -> Result<(), Fail> {
         rt.alloc(),
         "match a --k=3 --table t --gap 60 --bound 0 -- -b",
     )?;
-    let command = Command {
-        work: Work::Match {
-            network: "a",
-            traces: "-b",
-            table: Some("t"),
-        },
-        options: Params {
-            k: 3,
-            bound: 0,
-            gap: 60,
-            ..Params::DEFAULT
-        },
+    let options = Params {
+        k: 3,
+        bound: 0,
+        gap: 60,
+        ..Params::DEFAULT
     };
-    assert_eq!(rt; read_command(rt.alloc(), words.as_slice()), Ok(command));
+    assert!(rt;
+        matches!(
+        read_command(rt.alloc(), words.as_slice()),
+        Ok(Command {
+            work: Work::Match {
+                network: "a",
+                traces: "-b",
+                table: Some("t"),
+            },
+            options: read,
+        }) if read == options
+    )
+    );
     Ok(())
 }
 
 #[test]
 fn words_of_files(rt: HostRuntime) -> Result<(), Fail> {
-    let network = "a";
-    let traces = "b";
-    let certificate = "c";
-    let rows = [
-        ("follow --back=500 a b", Work::Follow { network, traces }),
-        ("streams a b --back 500", Work::Streams { network, traces }),
-        ("prove a --back 500 b", Work::Prove { network, traces }),
-        (
-            "check a --back 500 b c",
-            Work::Check {
-                network,
-                traces,
-                certificate,
-            },
-        ),
-    ];
     let options = Params {
         back: 500,
         ..Params::DEFAULT
     };
-    for (line, work) in rows {
-        let words = words(rt.alloc(), line)?;
-        let command = Command { work, options };
-        assert_eq!(rt; read_command(rt.alloc(), words.as_slice()), Ok(command));
-    }
+    let follow = words(rt.alloc(), "follow --back=500 a b")?;
+    let streams = words(rt.alloc(), "streams a b --back 500")?;
+    let prove = words(rt.alloc(), "prove a --back 500 b")?;
+    let check = words(rt.alloc(), "check a --back 500 b c")?;
+    assert!(rt;
+        matches!(
+        read_command(rt.alloc(), follow.as_slice()),
+        Ok(Command {
+            work: Work::Follow {
+                network: "a",
+                traces: "b",
+            },
+            options: read,
+        }) if read == options
+    )
+    );
+    assert!(rt;
+        matches!(
+        read_command(rt.alloc(), streams.as_slice()),
+        Ok(Command {
+            work: Work::Streams {
+                network: "a",
+                traces: "b",
+            },
+            options: read,
+        }) if read == options
+    )
+    );
+    assert!(rt;
+        matches!(
+        read_command(rt.alloc(), prove.as_slice()),
+        Ok(Command {
+            work: Work::Prove {
+                network: "a",
+                traces: "b",
+            },
+            options: read,
+        }) if read == options
+    )
+    );
+    assert!(rt;
+        matches!(
+        read_command(rt.alloc(), check.as_slice()),
+        Ok(Command {
+            work: Work::Check {
+                network: "a",
+                traces: "b",
+                certificate: "c",
+            },
+            options: read,
+        }) if read == options
+    )
+    );
     Ok(())
 }
 
 #[test]
 fn words_of_a_town(rt: HostRuntime) -> Result<(), Fail> {
     let words = words(rt.alloc(), "town 20 --workers 7 200 01")?;
-    let command = Command {
-        work: Work::Town {
-            side: 20,
-            traces: 200,
-            seed: 1,
-        },
-        options: Params {
-            workers: 7,
-            ..Params::DEFAULT
-        },
+    let options = Params {
+        workers: 7,
+        ..Params::DEFAULT
     };
-    assert_eq!(rt; read_command(rt.alloc(), words.as_slice()), Ok(command));
+    assert!(rt;
+        matches!(
+        read_command(rt.alloc(), words.as_slice()),
+        Ok(Command {
+            work: Work::Town {
+                side: 20,
+                traces: 200,
+                seed: 1,
+            },
+            options: read,
+        }) if read == options
+    )
+    );
     Ok(())
 }

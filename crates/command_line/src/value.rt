@@ -24,7 +24,7 @@ pub enum ValueName {
 }
 
 /// The numbers that a value may be.
-#[derive(Clone, Copy, PartialEq, Eq, Debug)]
+#[derive(Clone, Copy)]
 pub struct ValueRange {
     /// The least number.
     pub least: u32,
