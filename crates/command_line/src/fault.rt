@@ -6,7 +6,7 @@ use crate::value::ValueName;
 use std::alloc::AllocError;
 
 /// Why the words give no command.
-#[derive(Clone, Copy, PartialEq, Eq, Debug)]
+#[derive(Clone, Copy, Debug)]
 pub enum WordsFault {
     /// The words are not those of a command.
     Usage,

@@ -48,7 +48,8 @@ pub fn program<'a>(alloc: Global) -> Result<Command<'a>, AllocError>
 {
     let mut program = bare_program(alloc);
     for form in &FORMS {
-        program = with_command(alloc, program, form)?;
+        let command = command(alloc, form)?;
+        program = program.subcommand(command)?;
     }
     Ok(program)
 }
@@ -60,17 +61,6 @@ fn bare_program<'a>(alloc: Global) -> Command<'a>
     Command::new(alloc, "fmm")
         .no_binary_name(true)
         .subcommand_required(true)
-}
-
-fn with_command<'a>(
-    alloc: Global,
-    program: Command<'a>,
-    form: &Form,
-) -> Result<Command<'a>, AllocError>
-    ensures { IfOk result
-        (λ c. app_of c ≡ with_subcommand (app_of program.entry) (form_shape form.now)) }
-{
-    program.subcommand(command(alloc, form)?)
 }
 
 // A command that takes the options of every command, then its own, and then its arguments.

@@ -1,4 +1,4 @@
-use crate::{Command, ValueName, WordsFault, Work, read_command};
+use crate::{Command, Work, read_command};
 use cost_model::Params;
 use std::alloc::Global;
 use std::test::Fail;
@@ -12,55 +12,53 @@ fn words(alloc: Global, line: &str) -> Result<Vec<String>, Fail> {
     Ok(words)
 }
 
+// The line of a fault of usage.
+const USAGE: &str = "fmm: bad command line\n";
+
 #[test]
 fn refused_words(rt: HostRuntime) -> Result<(), Fail> {
     let rows = [
-        ("", WordsFault::Usage),
-        ("match a", WordsFault::Usage),
-        ("match a b c", WordsFault::Usage),
-        ("follows a b", WordsFault::Usage),
-        ("match a b --k 3 --k 4", WordsFault::Usage),
-        ("match a b --table c --table c", WordsFault::Usage),
-        ("match a b --k", WordsFault::Usage),
-        ("match a b --size 3", WordsFault::Usage),
-        ("match a -b", WordsFault::Usage),
-        ("match a b --help", WordsFault::Usage),
-        ("help", WordsFault::Usage),
-        ("follow a", WordsFault::Usage),
-        ("streams a", WordsFault::Usage),
-        (
-            "follow a b --workers 65",
-            WordsFault::BadValue(ValueName::Workers),
-        ),
-        ("prove a", WordsFault::Usage),
-        ("check a b", WordsFault::Usage),
-        ("check a b c d", WordsFault::Usage),
-        ("prove a b --table c", WordsFault::Usage),
-        (
-            "check a b c --back 100001",
-            WordsFault::BadValue(ValueName::Back),
-        ),
-        ("table", WordsFault::Usage),
-        ("table a b", WordsFault::Usage),
-        ("table a --table b", WordsFault::Usage),
-        ("match a b --k 0", WordsFault::BadValue(ValueName::K)),
-        ("match a b --k 33", WordsFault::BadValue(ValueName::K)),
-        ("match a b --k x", WordsFault::BadValue(ValueName::K)),
-        ("match a b --k=+3", WordsFault::BadValue(ValueName::K)),
-        ("town 20 200", WordsFault::Usage),
-        ("town 1 1 1", WordsFault::BadValue(ValueName::N)),
-        ("town 101 0 1", WordsFault::BadValue(ValueName::N)),
-        ("town 2 2001 x", WordsFault::BadValue(ValueName::T)),
-        ("town 2 1 4294967296", WordsFault::BadValue(ValueName::Seed)),
-        ("town 1 1 1 --k 0", WordsFault::BadValue(ValueName::K)),
+        ("", USAGE),
+        ("match a", USAGE),
+        ("match a b c", USAGE),
+        ("follows a b", USAGE),
+        ("match a b --k 3 --k 4", USAGE),
+        ("match a b --table c --table c", USAGE),
+        ("match a b --k", USAGE),
+        ("match a b --size 3", USAGE),
+        ("match a -b", USAGE),
+        ("match a b --help", USAGE),
+        ("help", USAGE),
+        ("follow a", USAGE),
+        ("streams a", USAGE),
+        ("follow a b --workers 65", "fmm: bad value workers\n"),
+        ("prove a", USAGE),
+        ("check a b", USAGE),
+        ("check a b c d", USAGE),
+        ("prove a b --table c", USAGE),
+        ("check a b c --back 100001", "fmm: bad value back\n"),
+        ("table", USAGE),
+        ("table a b", USAGE),
+        ("table a --table b", USAGE),
+        ("match a b --k 0", "fmm: bad value k\n"),
+        ("match a b --k 33", "fmm: bad value k\n"),
+        ("match a b --k x", "fmm: bad value k\n"),
+        ("match a b --k=+3", "fmm: bad value k\n"),
+        ("town 20 200", USAGE),
+        ("town 1 1 1", "fmm: bad value N\n"),
+        ("town 101 0 1", "fmm: bad value N\n"),
+        ("town 2 2001 x", "fmm: bad value T\n"),
+        ("town 2 1 4294967296", "fmm: bad value SEED\n"),
+        ("town 1 1 1 --k 0", "fmm: bad value k\n"),
         (
             "match --gap 4294967296 a b --radius 0",
-            WordsFault::BadValue(ValueName::Radius),
+            "fmm: bad value radius\n",
         ),
     ];
-    for (line, fault) in rows {
+    for (line, refusal) in rows {
         let words = words(rt.alloc(), line)?;
-        assert_eq!(rt; read_command(rt.alloc(), words.as_slice()), Err(fault));
+        let read = read_command(rt.alloc(), words.as_slice());
+        assert_eq!(rt; read.err().map(|fault| fault.line()), Some(refusal));
     }
     Ok(())
 }
@@ -71,67 +69,109 @@ fn accepted_words(rt: HostRuntime) -> Result<(), Fail> {
         rt.alloc(),
         "match a --k=3 --table t --gap 60 --bound 0 -- -b",
     )?;
-    let command = Command {
-        work: Work::Match {
-            network: "a",
-            traces: "-b",
-            table: Some("t"),
-        },
-        options: Params {
-            k: 3,
-            bound: 0,
-            gap: 60,
-            ..Params::DEFAULT
-        },
+    let options = Params {
+        k: 3,
+        bound: 0,
+        gap: 60,
+        ..Params::DEFAULT
     };
-    assert_eq!(rt; read_command(rt.alloc(), words.as_slice()), Ok(command));
+    assert!(rt;
+        matches!(
+        read_command(rt.alloc(), words.as_slice()),
+        Ok(Command {
+            work: Work::Match {
+                network: "a",
+                traces: "-b",
+                table: Some("t"),
+            },
+            options: read,
+        }) if read == options
+    )
+    );
     Ok(())
 }
 
 #[test]
 fn words_of_files(rt: HostRuntime) -> Result<(), Fail> {
-    let network = "a";
-    let traces = "b";
-    let certificate = "c";
-    let rows = [
-        ("follow --back=500 a b", Work::Follow { network, traces }),
-        ("streams a b --back 500", Work::Streams { network, traces }),
-        ("prove a --back 500 b", Work::Prove { network, traces }),
-        (
-            "check a --back 500 b c",
-            Work::Check {
-                network,
-                traces,
-                certificate,
-            },
-        ),
-    ];
     let options = Params {
         back: 500,
         ..Params::DEFAULT
     };
-    for (line, work) in rows {
-        let words = words(rt.alloc(), line)?;
-        let command = Command { work, options };
-        assert_eq!(rt; read_command(rt.alloc(), words.as_slice()), Ok(command));
-    }
+    let follow = words(rt.alloc(), "follow --back=500 a b")?;
+    let streams = words(rt.alloc(), "streams a b --back 500")?;
+    let prove = words(rt.alloc(), "prove a --back 500 b")?;
+    let check = words(rt.alloc(), "check a --back 500 b c")?;
+    assert!(rt;
+        matches!(
+        read_command(rt.alloc(), follow.as_slice()),
+        Ok(Command {
+            work: Work::Follow {
+                network: "a",
+                traces: "b",
+            },
+            options: read,
+        }) if read == options
+    )
+    );
+    assert!(rt;
+        matches!(
+        read_command(rt.alloc(), streams.as_slice()),
+        Ok(Command {
+            work: Work::Streams {
+                network: "a",
+                traces: "b",
+            },
+            options: read,
+        }) if read == options
+    )
+    );
+    assert!(rt;
+        matches!(
+        read_command(rt.alloc(), prove.as_slice()),
+        Ok(Command {
+            work: Work::Prove {
+                network: "a",
+                traces: "b",
+            },
+            options: read,
+        }) if read == options
+    )
+    );
+    assert!(rt;
+        matches!(
+        read_command(rt.alloc(), check.as_slice()),
+        Ok(Command {
+            work: Work::Check {
+                network: "a",
+                traces: "b",
+                certificate: "c",
+            },
+            options: read,
+        }) if read == options
+    )
+    );
     Ok(())
 }
 
 #[test]
 fn words_of_a_town(rt: HostRuntime) -> Result<(), Fail> {
     let words = words(rt.alloc(), "town 20 --workers 7 200 01")?;
-    let command = Command {
-        work: Work::Town {
-            side: 20,
-            traces: 200,
-            seed: 1,
-        },
-        options: Params {
-            workers: 7,
-            ..Params::DEFAULT
-        },
+    let options = Params {
+        workers: 7,
+        ..Params::DEFAULT
     };
-    assert_eq!(rt; read_command(rt.alloc(), words.as_slice()), Ok(command));
+    assert!(rt;
+        matches!(
+        read_command(rt.alloc(), words.as_slice()),
+        Ok(Command {
+            work: Work::Town {
+                side: 20,
+                traces: 200,
+                seed: 1,
+            },
+            options: read,
+        }) if read == options
+    )
+    );
     Ok(())
 }

@@ -5,7 +5,7 @@ ghost use Rattle.command_line.specs.Values.{name_of, range_of};
 
 /// A value that words give as a number. An option is named as the field of `Params` that has its
 /// value, and an argument as the words name it.
-#[derive(Clone, Copy, PartialEq, Eq, Debug)]
+#[derive(Clone, Copy, Debug)]
 pub enum ValueName {
     K,
     Radius,
@@ -24,7 +24,7 @@ pub enum ValueName {
 }
 
 /// The numbers that a value may be.
-#[derive(Clone, Copy, PartialEq, Eq, Debug)]
+#[derive(Clone, Copy)]
 pub struct ValueRange {
     /// The least number.
     pub least: u32,

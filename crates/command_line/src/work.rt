@@ -3,14 +3,14 @@
 use cost_model::Params;
 
 /// A command: its work, and the options that every command takes, each in its range.
-#[derive(Clone, Copy, PartialEq, Eq, Debug)]
+#[derive(Clone, Copy)]
 pub struct Command<'a> {
     pub work: Work<'a>,
     pub options: Params,
 }
 
 /// The work of a command.
-#[derive(Clone, Copy, PartialEq, Eq, Debug)]
+#[derive(Clone, Copy)]
 pub enum Work<'a> {
     /// Match the traces of a file on the network of a file.
     Match {

@@ -4,7 +4,7 @@ ghost use Rattle.edge_io.specs.Shelf.{Grows, Reads, shelf_after};
 ghost use Rattle.edge_io.specs.State.{ShelfState};
 
 /// What a read answers.
-#[derive(Clone, Copy, Debug, PartialEq, Eq)]
+#[derive(Clone, Copy)]
 pub enum Taken {
     /// So many bytes were appended, at least one.
     Got(u32),

@@ -3,7 +3,7 @@ ghost use Rattle.edge_io.specs.Sink.{Puts};
 ghost use Rattle.edge_io.specs.State.{SinkState};
 
 /// What a put answers.
-#[derive(Clone, Copy, Debug, PartialEq, Eq)]
+#[derive(Clone, Copy)]
 pub enum Put {
     /// The whole text was written.
     All,

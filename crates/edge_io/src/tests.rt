@@ -33,17 +33,12 @@ fn a_shelf_in_memory_brings_a_file_in_parts(rt: HostRuntime) -> Result<(), Fail>
     let alloc = rt.alloc();
     let mut shelf = MemoryShelf::new(alloc, files(alloc)?, list(alloc, &[5])?);
     let mut into = Vec::new(alloc);
-    let answers = [
-        ("a", 0, Taken::Got(2)),
-        ("a", 2, Taken::Got(1)),
-        ("a", 3, Taken::End),
-        ("b", 0, Taken::Failed),
-        ("a", 0, Taken::Failed),
-        ("a", 1, Taken::Got(2)),
-    ];
-    for (name, at, answer) in answers {
-        assert_eq!(rt; read(&mut shelf, name, at, &mut into), answer);
-    }
+    assert!(rt; matches!(read(&mut shelf, "a", 0, &mut into), Taken::Got(2)));
+    assert!(rt; matches!(read(&mut shelf, "a", 2, &mut into), Taken::Got(1)));
+    assert!(rt; matches!(read(&mut shelf, "a", 3, &mut into), Taken::End));
+    assert!(rt; matches!(read(&mut shelf, "b", 0, &mut into), Taken::Failed));
+    assert!(rt; matches!(read(&mut shelf, "a", 0, &mut into), Taken::Failed));
+    assert!(rt; matches!(read(&mut shelf, "a", 1, &mut into), Taken::Got(2)));
     assert_eq!(rt; into.as_slice(), b"xyzyz".as_slice());
     assert_eq!(rt; shelf.failed.len(), 2);
     for (noted, name) in shelf.failed.as_slice().iter().zip([b"b", b"a"]) {
@@ -57,10 +52,9 @@ fn a_dripping_shelf_gives_no_more_than_its_most(rt: HostRuntime) -> Result<(), F
     let alloc = rt.alloc();
     let mut shelf = MemoryShelf::drip(alloc, files(alloc)?, List::new(alloc), 1);
     let mut into = Vec::new(alloc);
-    let answers = [(0, Taken::Got(1)), (2, Taken::Got(1)), (3, Taken::End)];
-    for (at, answer) in answers {
-        assert_eq!(rt; read(&mut shelf, "a", at, &mut into), answer);
-    }
+    assert!(rt; matches!(read(&mut shelf, "a", 0, &mut into), Taken::Got(1)));
+    assert!(rt; matches!(read(&mut shelf, "a", 2, &mut into), Taken::Got(1)));
+    assert!(rt; matches!(read(&mut shelf, "a", 3, &mut into), Taken::End));
     assert_eq!(rt; into.as_slice(), b"xz".as_slice());
     Ok(())
 }
@@ -69,9 +63,9 @@ fn a_dripping_shelf_gives_no_more_than_its_most(rt: HostRuntime) -> Result<(), F
 fn a_put_that_fails_writes_half_and_is_counted(rt: HostRuntime) -> Result<(), Fail> {
     let alloc = rt.alloc();
     let mut sink = MemorySink::new(alloc, list(alloc, &[1])?);
-    assert_eq!(rt; put(&mut sink, b"abcd"), Put::Failed);
+    assert!(rt; matches!(put(&mut sink, b"abcd"), Put::Failed));
     assert_eq!(rt; sink.bytes(), b"ab".as_slice());
-    assert_eq!(rt; put(&mut sink, b"wxyz"), Put::All);
+    assert!(rt; matches!(put(&mut sink, b"wxyz"), Put::All));
     assert_eq!(rt; sink.bytes(), b"abwxyz".as_slice());
     assert_eq!(rt; sink.faults, 1);
     Ok(())
@@ -85,18 +79,13 @@ fn a_real_file_is_read_on_where_it_is_open(rt: HostRuntime) -> Result<(), Fail> 
     fs::write(&rt, "other", "uvw")?;
     let mut shelf = FileShelf::new(alloc, rt);
     let mut into = Vec::new(alloc);
-    assert_eq!(rt; read(&mut shelf, "here", 0, &mut into), Taken::Got(2));
+    assert!(rt; matches!(read(&mut shelf, "here", 0, &mut into), Taken::Got(2)));
     fs::rename(&rt, "other", "here")?;
-    let answers = [
-        ("here", 2, Taken::Got(1)),
-        ("here", 3, Taken::End),
-        ("here", 1, Taken::Got(2)),
-        ("gone", 0, Taken::Failed),
-        ("gone", 3, Taken::Failed),
-    ];
-    for (name, at, answer) in answers {
-        assert_eq!(rt; read(&mut shelf, name, at, &mut into), answer);
-    }
+    assert!(rt; matches!(read(&mut shelf, "here", 2, &mut into), Taken::Got(1)));
+    assert!(rt; matches!(read(&mut shelf, "here", 3, &mut into), Taken::End));
+    assert!(rt; matches!(read(&mut shelf, "here", 1, &mut into), Taken::Got(2)));
+    assert!(rt; matches!(read(&mut shelf, "gone", 0, &mut into), Taken::Failed));
+    assert!(rt; matches!(read(&mut shelf, "gone", 3, &mut into), Taken::Failed));
     assert_eq!(rt; into.as_slice(), b"xyzvw".as_slice());
     Ok(())
 }
@@ -130,7 +119,7 @@ fn a_stream_is_flushed_after_each_text(rt: HostRuntime) -> Result<(), Fail> {
     let stream = BufWriter::new(rt.alloc(), fs::create(&rt, "there")?)?;
     let mut sink = StreamSink::new(stream);
     for (text, whole) in [(b"ab".as_slice(), "ab"), (b"c".as_slice(), "abc")] {
-        assert_eq!(rt; put(&mut sink, text), Put::All);
+        assert!(rt; matches!(put(&mut sink, text), Put::All));
         let written = fs::read_to_string(&rt, "there")?;
         assert_eq!(rt; written.as_str(), whole);
     }

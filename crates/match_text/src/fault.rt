@@ -5,7 +5,7 @@ ghost use Rattle.match_text.specs.declared.fault.TextFault.TheVariants.{Memory};
 use std::alloc::AllocError;
 
 /// Why a text was not read.
-#[derive(Clone, Copy, Debug, PartialEq, Eq)]
+#[derive(Clone, Copy, Debug)]
 pub enum TextFault {
     /// The number, from 1, of the first line that is not allowed in its place or is missing.
     BadLine(u64),

@@ -2,7 +2,7 @@
 use polyline_geometry::List;
 
 /// What a point of a trace was matched to.
-#[derive(Clone, Copy, Debug, PartialEq, Eq)]
+#[derive(Clone, Copy, PartialEq, Eq)]
 pub enum Label {
     /// The point has no candidate.
     Missing,

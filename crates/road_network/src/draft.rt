@@ -13,7 +13,7 @@ use crate::limits::{EDGE_LIMIT, LENGTH_LIMIT, NODE_LIMIT, POINT_LIMIT};
 use crate::{EdgeId, Network, NodeId, StoredEdge};
 use indexmap::IndexSet;
 use polyline_geometry::{List, Point, extend_offsets};
-use std::alloc::{AllocError, Global};
+use std::alloc::Global;
 
 /// The first three fields of a record: an edge's id, and those of the nodes that it joins.
 #[derive(Clone, Copy)]
@@ -172,9 +172,10 @@ impl Draft {
     }
 
     /// The network of all edges that were added.
-    pub fn finish(self, alloc: Global) -> Result<Network, AllocError>
+    pub fn finish(self, alloc: Global) -> Result<Network, NetworkFault>
         requires { IsDraft self }
-        ensures { IfOk result (λ n. n ≡ drafted self) }
+        ensures network { IfOk result (λ n. n ≡ drafted self) }
+        ensures memory { IfErr result (λ e. e ≡ NetworkFault.Memory) }
     {
         let adjacency = adjacency_of(alloc, self.nodes.len(), self.edges.as_slice())?;
         let nodes = self.nodes.as_slice().to_vec(alloc)?;

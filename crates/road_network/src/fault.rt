@@ -11,7 +11,7 @@ use thiserror::Error;
 
 /// The first fault of a network file. A record, a field and a place are numbered from 1, and the
 /// header is no record.
-#[derive(Clone, Copy, Debug, PartialEq, Eq, Error)]
+#[derive(Clone, Copy, Debug, Error)]
 pub enum NetworkFault {
     /// The first record is missing or is not the four names.
     BadHeader,

@@ -65,7 +65,7 @@ fn read_edges(
     while read_next(reader, row)? {
         add_record(&mut draft, row, &mut line)?;
     }
-    Ok(draft.finish(alloc)?)
+    draft.finish(alloc)
 }
 
 /// Whether a record is the header of a network file.

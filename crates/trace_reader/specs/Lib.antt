@@ -1,5 +1,6 @@
 pub mod Content
 pub mod Fault
+pub mod FaultParts
 pub mod FirstField
 pub mod Parts
 pub mod Reader

@@ -87,17 +87,12 @@ impl ContentReader {
         ensures same { OnErr result (into.new ≡ into.old) }
         ensures one { length into.new ≤ length into.old + 1 }
     {
-        match self.open.take() {
-            None => {
-                self.open = Some(begin_trace(self.alloc, row)?);
-                Ok(())
-            }
-            Some(trace) => {
-                if trace.id == row.id {
-                    self.open = Some(extend_trace(trace, number, row.fix)?);
-                } else {
-                    self.open = Some(begin_trace(self.alloc, row)?);
-                    into.push(trace)?;
+        match &mut self.open {
+            Some(trace) if trace.id == row.id => extend_trace(trace, number, row.fix),
+            _ => {
+                let next = begin_trace(self.alloc, row)?;
+                if let Some(closed) = self.open.replace(next) {
+                    into.push(closed)?;
                 }
                 Ok(())
             }
@@ -135,18 +130,18 @@ fn begin_trace(alloc: Global, row: Row) -> Result<Trace, TraceFault>
     Ok(Trace { id: row.id, fixes })
 }
 
-// The trace with one fix more, in the line of this number.
-fn extend_trace(mut trace: Trace, number: u64, fix: Fix) -> Result<Trace, TraceFault>
-    ensures ok { IfOk result (λ longer. (length trace.fixes < point_limit)
-        × (longer ≡ record { id = trace.id; fixes = trace.fixes ++ fix ∷ [] })) }
+// Adds a fix to the trace, in the line of this number.
+fn extend_trace(trace: &mut Trace, number: u64, fix: Fix) -> Result<(), TraceFault>
+    ensures ok { OnOk result ((length trace.old.fixes < point_limit)
+        × (trace.new ≡ record { id = trace.old.id; fixes = trace.old.fixes ++ fix ∷ [] })) }
     ensures err { IfErr result (λ fault. fault ≢ TraceFault.Memory
-        → (point_limit ≤ length trace.fixes) × (fault ≡ TraceFault.TraceTooLong number)) }
+        → (point_limit ≤ length trace.old.fixes) × (fault ≡ TraceFault.TraceTooLong number)) }
 {
     if trace.fixes.len() >= POINT_LIMIT {
         return Err(TraceFault::TraceTooLong(number));
     }
     trace.fixes.push(fix)?;
-    Ok(trace)
+    Ok(())
 }
 
 // Whether the line has no byte but spaces and tabs.

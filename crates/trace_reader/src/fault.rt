@@ -4,28 +4,32 @@ ghost use Rattle.std.specs.String.{string_bytes};
 
 use polyline_geometry::List;
 use std::alloc::{AllocError, Global};
+use std::fmt::{self, Display, Formatter, Write};
 use thiserror::Error;
 
 /// The first fault of a trace file. The first number is the line and the second the field, both
 /// numbered from 1; `Memory` says that memory ran out.
-#[derive(Clone, Copy, Debug, PartialEq, Eq, Error)]
+#[derive(Clone, Copy, Debug, Error)]
 pub enum TraceFault {
-    #[error("bad header")]
     BadHeader,
-    #[error("line {0}: wrong number of fields")]
     FieldCount(u64),
-    #[error("line {0} field {1}: bad number")]
     BadNumber(u64, u32),
-    #[error("line {0} field {1}: out of range")]
     OutOfRange(u64, u32),
-    #[error("line {0}: trace too long")]
     TraceTooLong(u64),
-    #[error("line {0}: line too long")]
     LineTooLong(u64),
-    #[error("file too long")]
     FileTooLong,
-    #[error("out of memory")]
     Memory,
+}
+
+impl Display for TraceFault {
+    fn fmt<W: Write>(&self, f: &mut Formatter<W>) -> fmt::Result {
+        let what = self.what();
+        match self.place() {
+            Place::File => f.write_str(what),
+            Place::Line(line) => write!(f, "line {line}: {what}"),
+            Place::Field(line, field) => write!(f, "line {line} field {field}: {what}"),
+        }
+    }
 }
 
 impl From<AllocError> for TraceFault {
@@ -40,6 +44,7 @@ impl From<AllocError> for TraceFault {
 
 impl TraceFault {
     ghost use Rattle.trace_reader.specs.Fault.{fault_line};
+    ghost use Rattle.trace_reader.specs.FaultParts.{place_of, what_of};
 
     /// Appends the line that the program writes of the fault, with its LF.
     pub fn write_line(&self, alloc: Global, into: &mut List<u8>) -> Result<(), AllocError>
@@ -51,29 +56,57 @@ impl TraceFault {
         into.extend_from_slice(line.as_bytes())
     }
 
+    // The line of the fault, with its LF.
     fn line(&self, alloc: Global) -> Result<String, AllocError>
         requires { self.now ≢ TraceFault.Memory }
         ensures { IfOk result (λ line. string_bytes line ≡ fault_line self.now) }
     {
-        match self {
-            TraceFault::BadHeader => format!(in alloc; "traces: bad header\n"),
-            TraceFault::FieldCount(line) => {
-                format!(in alloc; "traces line {line}: wrong number of fields\n")
+        let what = self.what();
+        match self.place() {
+            Place::File => format!(in alloc; "traces: {what}\n"),
+            Place::Line(line) => format!(in alloc; "traces line {line}: {what}\n"),
+            Place::Field(line, field) => {
+                format!(in alloc; "traces line {line} field {field}: {what}\n")
             }
-            TraceFault::BadNumber(line, field) => {
-                format!(in alloc; "traces line {line} field {field}: bad number\n")
-            }
-            TraceFault::OutOfRange(line, field) => {
-                format!(in alloc; "traces line {line} field {field}: out of range\n")
-            }
-            TraceFault::TraceTooLong(line) => {
-                format!(in alloc; "traces line {line}: trace too long\n")
-            }
-            TraceFault::LineTooLong(line) => {
-                format!(in alloc; "traces line {line}: line too long\n")
-            }
-            TraceFault::FileTooLong => format!(in alloc; "traces: file too long\n"),
-            TraceFault::Memory => unreachable!(),
         }
     }
+
+    // What is wrong there.
+    fn what(&self) -> &'static str
+        ensures { result.now ≡ what_of self.now }
+    {
+        match self {
+            TraceFault::BadHeader => "bad header",
+            TraceFault::FieldCount(_) => "wrong number of fields",
+            TraceFault::BadNumber(_, _) => "bad number",
+            TraceFault::OutOfRange(_, _) => "out of range",
+            TraceFault::TraceTooLong(_) => "trace too long",
+            TraceFault::LineTooLong(_) => "line too long",
+            TraceFault::FileTooLong => "file too long",
+            TraceFault::Memory => "out of memory",
+        }
+    }
+
+    // Where it is.
+    fn place(&self) -> Place
+        ensures { result ≡ place_of self.now }
+    {
+        match *self {
+            TraceFault::BadHeader | TraceFault::FileTooLong | TraceFault::Memory => Place::File,
+            TraceFault::FieldCount(line)
+            | TraceFault::TraceTooLong(line)
+            | TraceFault::LineTooLong(line) => Place::Line(line),
+            TraceFault::BadNumber(line, field) | TraceFault::OutOfRange(line, field) => {
+                Place::Field(line, field)
+            }
+        }
+    }
+}
+
+// Where a fault is: in no line, in a line, or in a field of a line.
+#[derive(Clone, Copy)]
+enum Place {
+    File,
+    Line(u64),
+    Field(u64, u32),
 }

@@ -1,5 +1,5 @@
 use Rattle.std.proofs.Common.{◌∙◌, ap, map, take_all, rules}
-use Rattle.clap.specs.Words.{app_of}
+use Rattle.clap.specs.Words.{app_of, with_subcommand}
 use Rattle.command_line.specs.Building.{form_shape, with_commands}
 use Rattle.command_line.specs.Syntax.{all_kinds, kind_shape, program}
 use Rattle.command_line.proofs.Rules.{one_more_command}
@@ -7,7 +7,8 @@ use Rattle.command_line.proofs.syntax.program.Goals as goal
 
 pub loop-form-preserved : goal.loop-form-preserved
 loop-form-preserved c =
-    c.in_ok-program.ensures
+    c.in_ok-program.ensures.shape c.in_ok-command.ensures.local
+    ∙ ap (with_subcommand (app_of c.loop-form.program)) c.in_ok-command.ensures.shape
     ∙ one_more_command form_shape _ _ _ c.loop-form.form-index _ (search rules) c.loop-form.invariant
 
 pub returns : goal.returns

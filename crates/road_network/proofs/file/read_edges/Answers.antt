@@ -1,5 +1,5 @@
 use Rattle.std.proofs.Common.{◌∙◌, Ok, sym, ap, arith}
-use Rattle.std.proofs.lemmas.Result.{err_from_is_err_and}
+use Rattle.std.proofs.lemmas.Result.{IfOk-weaker, err_from_is_err_and}
 use Rattle.csv.specs.Records.{fields_of}
 use Rattle.road_network.specs.Between.{records_left}
 use Rattle.road_network.specs.Drafted.{drafted}
@@ -37,4 +37,6 @@ returns-clause-network c =
     let inv = c.loop-line.invariant in
     let n = drafted c.loop-line.draft in
     let end = c.in_ok-read_next.ensures.end c.if-branch.false in
-    sym inv.rest ∙ ap (add_records n) end ∙ records-end n ∙ ap (λ k. Ok k) (sym c.in_ok-finish.ensures)
+    IfOk-weaker c.finish.result _ _
+    (λ net is. sym inv.rest ∙ ap (add_records n) end ∙ records-end n ∙ ap (λ k. Ok k) (sym is))
+    c.finish.ensures.network

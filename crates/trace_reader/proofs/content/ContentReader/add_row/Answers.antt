@@ -1,27 +1,45 @@
-use Rattle.std.proofs.Common.{◌∙◌, ap, sym, Err}
-use Rattle.std.proofs.lemmas.Result.{err_from_is_err_and}
+use Rattle.std.proofs.Common.{◌≡◌, ◌∙◌, ap, sym, Some, None, Err}
+use Rattle.std.proofs.lemmas.Result.{on_ok_weaker, IfErr-weaker}
 use Rattle.trace_reader.specs.Reader.{content_of}
+use Rattle.trace_reader.specs.declared.trace.Trace.{Trace}
 use Rattle.trace_reader.proofs.Lines.{add_first, add_longer, add_too_long, add_next}
 use Rattle.trace_reader.proofs.content.ContentReader.add_row.Goals as goal
+use Rattle.trace_reader.proofs.content.ContentReader.add_row.Goals.{in_default-via-in-Some+else-trace-row, in_default-via-in_default}
 
-pub returns-in_err-extend_trace-in-Some-clause-err : goal.returns-in_err-extend_trace-in-Some-clause-err
-returns-in_err-extend_trace-in-Some-clause-err c =
-    let r = c.from_residual-in_err-extend_trace-in-Some in
-    let p = err_from_is_err_and r.result r.ensures.1 in
-    rw (p.1, p.2) (λ known.
-    let told = c.in_err-extend_trace-in-Some.ensures.err known in
-    add_too_long c.args.number (content_of c.args.self.now c.args.into.now) c.args.row c.in-Some.trace (sym c.in-Some.ensures.value) c.if-trace-row.true told.0 ∙ ap Err (sym told.1))
+same : (trace other : Trace) → Some trace ≡ Some other → trace ≡ other
+same trace other e = cc e
 
-pub returns-in_ok-begin_trace-in-None-clause-ok : goal.returns-in_ok-begin_trace-in-None-clause-ok
-returns-in_ok-begin_trace-in-None-clause-ok c =
-    rw c.in_ok-begin_trace-in-None.ensures.ok (add_first c.args.number (content_of c.args.self.now c.args.into.now) c.args.row (sym c.in-None.ensures.value))
+apart : (trace : Trace) → Some trace ≡ None → ⊥
+apart trace e = absurd (cc e)
 
-pub returns-in_ok-extend_trace-in-Some-clause-ok : goal.returns-in_ok-extend_trace-in-Some-clause-ok
-returns-in_ok-extend_trace-in-Some-clause-ok c =
-    let told = c.in_ok-extend_trace-in-Some.ensures.ok in
-    rw told.1 (add_longer c.args.number (content_of c.args.self.now c.args.into.now) c.args.row c.in-Some.trace (sym c.in-Some.ensures.value) c.if-trace-row.true told.0)
+pub returns-in-Some-clause-ok : goal.returns-in-Some-clause-ok
+returns-in-Some-clause-ok c =
+    on_ok_weaker c.extend_trace.result
+    (λ told. rw told.1 (add_longer c.args.number (content_of c.args.self.now c.args.into.now) c.args.row c.in-Some.trace c.in-Some.is c.if-trace-row.true told.0))
+    c.extend_trace.ensures.ok
 
-pub returns-in_ok-push-in-Some-clause-ok : goal.returns-in_ok-push-in-Some-clause-ok
-returns-in_ok-push-in-Some-clause-ok c =
-    rw (c.in_ok-begin_trace-in-Some.ensures.ok, c.in_ok-push-in-Some.ensures.ok)
-    (add_next c.args.number (content_of c.args.self.now c.args.into.now) c.args.row c.in-Some.trace (sym c.in-Some.ensures.value) c.if-trace-row.false)
+pub returns-in-Some-clause-err : goal.returns-in-Some-clause-err
+returns-in-Some-clause-err c =
+    IfErr-weaker c.extend_trace.result _ _
+    (λ fault given known. let told = given known in
+    add_too_long c.args.number (content_of c.args.self.now c.args.into.now) c.args.row c.in-Some.trace c.in-Some.is c.if-trace-row.true told.0 ∙ ap Err (sym told.1))
+    c.extend_trace.ensures.err
+
+pub returns-in_ok-push-in_default-clause-ok : goal.returns-in_ok-push-in_default-clause-ok
+returns-in_ok-push-in_default-clause-ok c =
+    elim c.in_default.branch [
+      | in_default-via-in-Some+else-trace-row w ↦
+          (let closed : c.in-Some-replace.closed ≡ w.in-Some.trace = same c.in-Some-replace.closed w.in-Some.trace (c.in-Some-replace.ensures.value ∙ ap (λ s. s.open) w.self-is) in
+          rw (w.self-is, c.replace.ensures.after, c.in_ok-next-in_default.ensures.ok, c.in_ok-push-in_default.ensures.ok, closed)
+          (add_next c.args.number (content_of c.args.self.now c.args.into.now) c.args.row w.in-Some.trace w.in-Some.is w.if-trace-row.false))
+      | in_default-via-in_default w ↦ absurd (apart c.in-Some-replace.closed (c.in-Some-replace.ensures.value ∙ ap (λ s. s.open) w.self-is ∙ w.in_default.is))
+    ]
+
+pub returns-in_default-replace-clause-ok : goal.returns-in_default-replace-clause-ok
+returns-in_default-replace-clause-ok c =
+    elim c.in_default.branch [
+      | in_default-via-in-Some+else-trace-row w ↦ absurd (apart w.in-Some.trace (sym (c.in_default-replace.ensures.value ∙ ap (λ s. s.open) w.self-is)))
+      | in_default-via-in_default w ↦
+          rw (w.self-is, c.replace.ensures.after, c.in_ok-next-in_default.ensures.ok)
+          (add_first c.args.number (content_of c.args.self.now c.args.into.now) c.args.row w.in_default.is)
+    ]
