@@ -91,65 +91,47 @@ fn accepted_words(rt: HostRuntime) -> Result<(), Fail> {
     Ok(())
 }
 
+// The name of a work's command, and those of its files.
+fn names_of<'a>(work: &Work<'a>) -> [&'a str; 4] {
+    match *work {
+        Work::Match {
+            network,
+            traces,
+            table,
+        } => ["match", network, traces, table.unwrap_or("")],
+        Work::Follow { network, traces } => ["follow", network, traces, ""],
+        Work::Streams { network, traces } => ["streams", network, traces, ""],
+        Work::Prove { network, traces } => ["prove", network, traces, ""],
+        Work::Check {
+            network,
+            traces,
+            certificate,
+        } => ["check", network, traces, certificate],
+        Work::Table { network } => ["table", network, "", ""],
+        Work::Town { .. } => ["town", "", "", ""],
+    }
+}
+
 #[test]
 fn words_of_files(rt: HostRuntime) -> Result<(), Fail> {
+    let rows = [
+        ("follow --back=500 a b", ["follow", "a", "b", ""]),
+        ("streams a b --back 500", ["streams", "a", "b", ""]),
+        ("prove a --back 500 b", ["prove", "a", "b", ""]),
+        ("check a --back 500 b c", ["check", "a", "b", "c"]),
+        ("table --back=500 a", ["table", "a", "", ""]),
+    ];
     let options = Params {
         back: 500,
         ..Params::DEFAULT
     };
-    let follow = words(rt.alloc(), "follow --back=500 a b")?;
-    let streams = words(rt.alloc(), "streams a b --back 500")?;
-    let prove = words(rt.alloc(), "prove a --back 500 b")?;
-    let check = words(rt.alloc(), "check a --back 500 b c")?;
-    assert!(rt;
-        matches!(
-        read_command(rt.alloc(), follow.as_slice()),
-        Ok(Command {
-            work: Work::Follow {
-                network: "a",
-                traces: "b",
-            },
-            options: read,
-        }) if read == options
-    )
-    );
-    assert!(rt;
-        matches!(
-        read_command(rt.alloc(), streams.as_slice()),
-        Ok(Command {
-            work: Work::Streams {
-                network: "a",
-                traces: "b",
-            },
-            options: read,
-        }) if read == options
-    )
-    );
-    assert!(rt;
-        matches!(
-        read_command(rt.alloc(), prove.as_slice()),
-        Ok(Command {
-            work: Work::Prove {
-                network: "a",
-                traces: "b",
-            },
-            options: read,
-        }) if read == options
-    )
-    );
-    assert!(rt;
-        matches!(
-        read_command(rt.alloc(), check.as_slice()),
-        Ok(Command {
-            work: Work::Check {
-                network: "a",
-                traces: "b",
-                certificate: "c",
-            },
-            options: read,
-        }) if read == options
-    )
-    );
+    for (line, names) in rows {
+        let words = words(rt.alloc(), line)?;
+        let read = read_command(rt.alloc(), words.as_slice());
+        assert!(rt;
+            matches!(read, Ok(command) if names_of(&command.work) == names && command.options == options)
+        );
+    }
     Ok(())
 }
 
