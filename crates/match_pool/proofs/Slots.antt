@@ -6,7 +6,7 @@ use Rattle.std.proofs.lemmas.Bool.{cases_eq}
 use Rattle.std.proofs.lemmas.List.Elements.{All-map, All-nil, All-push, All-weaker, Contains-push_cases}
 use Rattle.std.proofs.lemmas.List.Sums.{sum_by-cons}
 use Rattle.match_text.specs.declared.matched.MatchedTrace.{MatchedTrace}
-use Rattle.row_store.proofs.Places.{get_set, get_set_else}
+use Rattle.bounded_search.proofs.KnownNodes.{get_set, get_set_else}
 use Rattle.tickets.specs.Tickets.{Drawn, times}
 use Rattle.match_pool.specs.declared.turn.Strip.{Strip}
 use Rattle.match_pool.specs.declared.turn.Turn.{Turn}
