@@ -1,2 +1,1 @@
-pub mod RunLines
 pub mod Words

@@ -1,4 +1,4 @@
--- The plan that words ask for: that of `match`, and no other.
+-- The plan that words ask for: that of `match` without a table file, and no other.
 use Rattle.std.specs.Prelude.{ℕ, List, map, Some, None, Result, String, string_bytes}
 use Rattle.std.specs.declared.option.Option.{Option}
 use Rattle.command_line.specs.Work.{PlainCommand, PlainWork}
@@ -10,7 +10,8 @@ use Rattle.program_frame.specs.Asked.{asked_of}
 use Rattle.program_frame.specs.Plan.{Plan}
 
 abbrev pub matched : PlainWork → Params → Option Plan
-matched (match_files network traces table) options = Some (match_plan network traces table options)
+matched (match_files network traces None) options = Some (match_plan network traces options)
+matched (match_files network traces (Some table)) options = None
 matched (follow_files network traces) options = None
 matched (stream_files network traces) options = None
 matched (prove_files network traces) options = None

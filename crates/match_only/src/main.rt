@@ -1,5 +1,6 @@
-//! The program `fmm` with the command `match` alone, from fewer crates: a first match does not wait for the
-//! others. It writes what `match_program` writes, and takes any other command for a faulty command line.
+//! The program `fmm` with the command `match` alone, without a table file, from fewer crates: a first match
+//! does not wait for the others. It writes what `match_program` writes, and takes any other command for a
+//! faulty command line.
 //!
 //! `run` is the whole program over a shelf of files and two sinks, and carries the promise: what it
 //! writes is a function of the words and the files. `main` hands it the real files and streams. The crate

@@ -2,7 +2,7 @@
 // by `Promises`.
 ghost use Rattle.program_frame.specs.Performs.{Performs};
 ghost use Rattle.program_frame.specs.Promises.{Promises};
-ghost use Rattle.match_only.specs.RunLines.{run_lines};
+ghost use Rattle.program_frame.specs.Refusals.{refusal_lines};
 ghost use Rattle.match_only.specs.Words.{asked_plan};
 
 use command_line::{WordsFault, Work, read_command};
@@ -33,13 +33,12 @@ fn perform<R: Threads + Sync, G: Gate, S: Shelf, K: Sink>(
         Work::Match {
             network,
             traces,
-            table,
+            table: None,
         } => match_traces(
             rt,
             alloc,
             network,
             traces,
-            table,
             command.options,
             shelf,
             out,
@@ -49,10 +48,9 @@ fn perform<R: Threads + Sync, G: Gate, S: Shelf, K: Sink>(
     }
 }
 
-/// Runs `match` where the words spell it, and says on err why it ended early. The status says how
-/// it ended: 0 done, 1 want of memory, 2 words refused, 3 a file was not read, 4 a write failed,
-/// 5 network refused, 6 traces refused, 9 table file refused. The gate is told of each trace that is
-/// matched.
+/// Runs `match` where the words spell it, without a table file, and says on err why it ended early. The
+/// status says how it ended: 0 done, 1 want of memory, 2 words refused, 3 a file was not read, 4 a write
+/// failed, 5 network refused, 6 traces refused. The gate is told of each trace that is matched.
 pub fn run<R: Threads + Sync, G: Gate, S: Shelf, K: Sink, E: Sink>(
     rt: &R,
     alloc: Global,
@@ -62,7 +60,7 @@ pub fn run<R: Threads + Sync, G: Gate, S: Shelf, K: Sink, E: Sink>(
     err: &mut E,
     gate: &G,
 ) -> u8
-    ensures { Promises run_lines (asked_plan words.now) (S.state shelf.old) (S.state shelf.new)
+    ensures { Promises refusal_lines (asked_plan words.now) (S.state shelf.old) (S.state shelf.new)
         (K.state out.old) (K.state out.new) (E.state err.old) (E.state err.new) result }
 {
     let ended = perform(rt, alloc, words, shelf, out, gate);

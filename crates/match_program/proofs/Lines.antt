@@ -32,10 +32,11 @@ use Rattle.matcher.specs.Setting.{Setting}
 use Rattle.match_program.specs.Words.{asked_by, command_plan, work_plan}
 use Rattle.follow_work.specs.Follow.{follow_job}
 use Rattle.check_work.specs.Check.{check_said}
-use Rattle.match_work.specs.Matches.{match_text}
+use Rattle.match_work.specs.Matches.{match_plan, match_text}
 use Rattle.table_work.specs.Preload.{preloads, table_file_said}
 use Rattle.prove_work.specs.Prove.{certificate_too_long, prove_said, text_of_proofs}
 use Rattle.stream_work.specs.Streams.{streams_job, too_long_line}
+use Rattle.table_match.specs.TableMatch.{table_match_plan}
 use Rattle.table_work.specs.Table.{table_said, table_too_long, text_of_network}
 
 has_refusals : (status : ℕ) (line : List ℕ) → refusal_lines status line → run_lines status line
@@ -85,14 +86,18 @@ table_file_end : (net : Net) (bound : ℕ) (bytes : List ℕ) (said : Result (Un
 table_file_end net bound bytes (Ok done) next status line known rest is = rest is
 table_file_end net bound bytes (Err said) next status line known rest is = inr (inr (inr (inl (sym is.0, (net, bound, bytes, known ∙ ap (λ l. Err l) is.1)))))
 
-preloads_end : (table : Option (List ℕ)) (net : Net) (bound : ℕ) (next : Plan) (status : ℕ) (line : List ℕ) → (IsLineOf next status line → run_lines status line) → IsLineOf (preloads table net bound next) status line → run_lines status line
-preloads_end None net bound next status line rest is = rest is
-preloads_end (Some name) net bound next status line rest is = table_file_end net bound is.0 (table_file_said net bound is.0) next status line refl rest is.1
+table_match_end : (network table traces : List ℕ) (options : Params) (status : ℕ) (line : List ℕ) → status ≢ 0 → IsLineOf (table_match_plan network table traces options) status line → run_lines status line
+table_match_end network table traces options status line refused is =
+    network_end run_lines has_refusals is.0 (network_said is.0) (λ net. preloads table net options.bound (works_traces traces (match_text (record { network = net; params = options })))) status line refl
+    (λ net more. table_file_end net options.bound more.0 (table_file_said net options.bound more.0) (works_traces traces (match_text (record { network = net; params = options }))) status line refl (matches_end (record { network = net; params = options }) traces status line refused) more.1) is.1
+
+match_end : (network traces : List ℕ) (options : Params) (status : ℕ) (line : List ℕ) → status ≢ 0 → IsLineOf (match_plan network traces options) status line → run_lines status line
+match_end network traces options status line refused is =
+    network_end run_lines has_refusals is.0 (network_said is.0) (λ net. works_traces traces (match_text (record { network = net; params = options }))) status line refl (λ net. matches_end (record { network = net; params = options }) traces status line refused) is.1
 
 work_end : (work : PlainWork) (options : Params) (status : ℕ) (line : List ℕ) → status ≢ 0 → IsLineOf (work_plan work options) status line → run_lines status line
-work_end (match_files network traces table) options status line refused is =
-    network_end run_lines has_refusals is.0 (network_said is.0) (λ net. preloads table net options.bound (works_traces traces (match_text (record { network = net; params = options })))) status line refl
-    (λ net. preloads_end table net options.bound (works_traces traces (match_text (record { network = net; params = options }))) status line (matches_end (record { network = net; params = options }) traces status line refused)) is.1
+work_end (match_files network traces None) options status line refused is = match_end network traces options status line refused is
+work_end (match_files network traces (Some table)) options status line refused is = table_match_end network table traces options status line refused is
 work_end (follow_files network traces) options status line refused is =
     network_end run_lines has_refusals is.0 (network_said is.0) (λ net. works_traces traces (follow_job (record { network = net; params = options }))) status line refl (λ net. follows_end (record { network = net; params = options }) traces status line refused) is.1
 work_end (table_of_network network) options status line refused is =

@@ -19,12 +19,12 @@ module _ (files : List ℕ → Option (List ℕ)) (o : Outcome) (other : o.statu
   by_table next net bound None e = absurd cc
   by_table next net bound (Some bytes) e = by_said next (table_file_said net bound bytes) e
 
-  by_net : (table : List ℕ) (bound : ℕ) (next : Net → Plan) (said : Result Net (List ℕ)) → outcome_of (accepts 5 said (λ net. preloads (Some table) net bound (next net))) files ≡ Some o → outcome_of (accepts 5 said (λ net. preloads None net bound (next net))) files ≡ Some o
+  by_net : (table : List ℕ) (bound : ℕ) (next : Net → Plan) (said : Result Net (List ℕ)) → outcome_of (accepts 5 said (λ net. preloads table net bound (next net))) files ≡ Some o → outcome_of (accepts 5 said (λ net. next net)) files ≡ Some o
   by_net table bound next (Ok net) e = by_table (next net) net bound (seen text_limit (files table)) e
   by_net table bound next (Err line) e = e
 
-  pub by_network : (table : List ℕ) (bound : ℕ) (next : Net → Plan) (read : Option (List ℕ)) → and_then read (λ bytes. outcome_of (accepts 5 (network_said bytes) (λ net. preloads (Some table) net bound (next net))) files) ≡ Some o
-      → and_then read (λ bytes. outcome_of (accepts 5 (network_said bytes) (λ net. preloads None net bound (next net))) files) ≡ Some o
+  pub by_network : (table : List ℕ) (bound : ℕ) (next : Net → Plan) (read : Option (List ℕ)) → and_then read (λ bytes. outcome_of (accepts 5 (network_said bytes) (λ net. preloads table net bound (next net))) files) ≡ Some o
+      → and_then read (λ bytes. outcome_of (accepts 5 (network_said bytes) (λ net. next net)) files) ≡ Some o
   by_network table bound next None e = e
   by_network table bound next (Some bytes) e = by_net table bound next (network_said bytes) e
 

@@ -1,5 +1,5 @@
 -- The plan that words ask for.
-use Rattle.std.specs.Prelude.{ℕ, List, map, Result, String, string_bytes}
+use Rattle.std.specs.Prelude.{ℕ, List, map, Option, Some, None, Result, String, string_bytes}
 use Rattle.std.specs.Result.{result_map_both}
 use Rattle.command_line.specs.FaultLine.{fault_line}
 use Rattle.command_line.specs.Work.{PlainCommand, PlainWork}
@@ -12,12 +12,18 @@ use Rattle.check_work.specs.Check.{check_plan}
 use Rattle.match_work.specs.Matches.{match_plan}
 use Rattle.prove_work.specs.Prove.{prove_plan}
 use Rattle.stream_work.specs.Streams.{streams_plan}
+use Rattle.table_match.specs.TableMatch.{table_match_plan}
 use Rattle.table_work.specs.Table.{table_plan}
 use Rattle.town_work.specs.Towns.{town_plan}
 
+-- `match` with a table file, or without one
+abbrev pub match_files_plan : (network traces : List ℕ) → Option (List ℕ) → Params → Plan
+match_files_plan network traces None options = match_plan network traces options
+match_files_plan network traces (Some table) options = table_match_plan network table traces options
+
 -- the plan of a work with these options: a row for each command
 abbrev pub work_plan : PlainWork → Params → Plan
-work_plan (match_files network traces table) options = match_plan network traces table options
+work_plan (match_files network traces table) options = match_files_plan network traces table options
 work_plan (follow_files network traces) options = follow_plan network traces options
 work_plan (table_of_network network) options = table_plan network options
 work_plan (match_town side traces seed) options = town_plan side traces seed options

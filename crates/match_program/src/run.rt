@@ -16,6 +16,7 @@ use prove_work::prove_traces;
 use std::alloc::Global;
 use std::thread::Threads;
 use stream_work::stream_traces;
+use table_match::match_with_table;
 use table_work::write_table;
 use town_work::match_town;
 
@@ -39,13 +40,27 @@ fn perform<R: Threads + Sync, G: Gate, S: Shelf, K: Sink>(
         Work::Match {
             network,
             traces,
-            table,
+            table: None,
         } => match_traces(
             rt,
             alloc,
             network,
             traces,
+            command.options,
+            shelf,
+            out,
+            gate,
+        ),
+        Work::Match {
+            network,
+            traces,
+            table: Some(table),
+        } => match_with_table(
+            rt,
+            alloc,
+            network,
             table,
+            traces,
             command.options,
             shelf,
             out,

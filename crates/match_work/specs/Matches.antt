@@ -1,6 +1,5 @@
--- `match NET TRACES [--table FILE]`: what the bytes of a trace file give, matched on a network.
+-- `match NET TRACES`: what the bytes of a trace file give, matched on a network.
 use Rattle.std.specs.Prelude.{ℕ, List}
-use Rattle.std.specs.declared.option.Option.{Option}
 use Rattle.std.specs.List.{flat_map}
 use Rattle.std.proofs.Common.{refl}
 use Rattle.std.proofs.lemmas.List.Concat.{flat_map-append}
@@ -15,7 +14,6 @@ use Rattle.program_frame.specs.declared.stop.File.TheVariants.{Network}
 use Rattle.trace_match.specs.Match.{match_of}
 use Rattle.trace_reader.specs.declared.trace.Trace.{Trace}
 use Rattle.matcher.specs.Setting.{Setting}
-use Rattle.table_work.specs.Preload.{preloads}
 
 -- the texts of traces, in their order
 abbrev pub texts_of : Setting → List Trace → List ℕ
@@ -33,10 +31,8 @@ match_text on = record {
   stays = λ front back line is. absurd (no_line line is);
 }
 
--- the network is read and accepted, then the table file where there is one, and then the traces are
--- read and matched
-abbrev pub match_plan : (network traces : List ℕ) (table : Option (List ℕ)) (options : Params) → Plan
-match_plan network traces table options =
+-- the network is read and accepted, and then the traces are read and matched
+abbrev pub match_plan : (network traces : List ℕ) (options : Params) → Plan
+match_plan network traces options =
     loads Network network network_limit 5 network_said
-    (λ net. preloads table net options.bound
-    (works_traces traces (match_text (record { network = net; params = options }))))
+    (λ net. works_traces traces (match_text (record { network = net; params = options })))

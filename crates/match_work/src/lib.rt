@@ -2,6 +2,7 @@
 //! one store, and the total line is written.
 //!
 //! - [`match_traces`] does it. Its plan is `match_plan` in `specs/Matches.antt`, which is to be read first.
+//!   [`match_file`] is its part behind the network, for whoever has a store already.
 //! - [`open_store`], [`open_readers`] and [`match_batch`] are for whoever matches traces by workers: the
 //!   store, a reader of it for each worker, and the matches of some traces. What these leave is
 //!   `MatchesBatch` in `specs/Sharing.antt`.
@@ -11,4 +12,4 @@ mod batches;
 mod matches;
 
 pub use batches::{match_batch, open_readers, open_store};
-pub use matches::match_traces;
+pub use matches::{match_file, match_traces};

@@ -1,6 +1,5 @@
-// `match NET TRACES [--table FILE]`. Serves the program; decided by `match_plan`.
+// `match NET TRACES`. Serves the programs; decided by `match_plan`.
 ghost use Rattle.std.specs.Prelude.{◌≡◌, ◌≤◌, ◌^◌, ◌++◌, [], All, Ok, IfOk, OnOk};
-ghost use Rattle.std.specs.Option.{option_copied};
 ghost use Rattle.cost_model.specs.Options.{IsAccepted};
 ghost use Rattle.match_pool.specs.Learning.{AreReadersFor};
 ghost use Rattle.match_pool.specs.Working.{AreJobTraces};
@@ -23,7 +22,6 @@ use program_frame::{Job, Stop, Tally, load_network, work_traces};
 use row_store::{Reader, RowStore, known_count};
 use std::alloc::{AllocError, Global};
 use std::thread::Threads;
-use table_work::preload;
 use trace_reader::Trace;
 
 // Matches traces batch by batch, and counts them. The readers are those of the workers, over all
@@ -101,8 +99,8 @@ where
     }
 }
 
-// Matches the traces of a file by workers over one store.
-fn match_file<'s, R: Threads + Sync, G: Gate, S: Shelf, K: Sink>(
+/// Matches the traces of a file by workers over one store, and writes their texts and the total line.
+pub fn match_file<'s, R: Threads + Sync, G: Gate, S: Shelf, K: Sink>(
     rt: &R,
     alloc: Global,
     matcher: &'s Matcher<'s>,
@@ -134,21 +132,19 @@ fn match_file<'s, R: Threads + Sync, G: Gate, S: Shelf, K: Sink>(
     work_traces(alloc, job, shelf, traces, out)
 }
 
-/// Reads the network, then the table file where there is one, and then the traces, which it matches
-/// batch by batch.
+/// Reads the network, and then the traces, which it matches batch by batch.
 pub fn match_traces<R: Threads + Sync, G: Gate, S: Shelf, K: Sink>(
     rt: &R,
     alloc: Global,
     network: &str,
     traces: &str,
-    table: Option<&str>,
     options: Params,
     shelf: &mut S,
     out: &mut K,
     gate: &G,
 ) -> Result<(), Stop>
     requires { IsAccepted options }
-    ensures { Performs (Ok (match_plan network.now traces.now (option_copied table.entry) options))
+    ensures { Performs (Ok (match_plan network.now traces.now options))
         (S.state shelf.old) (S.state shelf.new) (K.state out.old) (K.state out.new) result }
 {
     let roads = load_network(alloc, shelf, network)?;
@@ -158,6 +154,5 @@ pub fn match_traces<R: Threads + Sync, G: Gate, S: Shelf, K: Sink>(
     let Ok(store) = open_store(alloc, &matcher) else {
         return Err(Stop::NoMemory);
     };
-    preload(alloc, shelf, table, &roads, options.bound, &store)?;
     match_file(rt, alloc, &matcher, &store, traces, shelf, out, gate)
 }

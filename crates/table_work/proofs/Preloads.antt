@@ -1,20 +1,15 @@
 -- A table file that is read and accepted, or refused.
-use Rattle.std.proofs.Common.{◌≡◌, ℕ, List, ◌∷◌, length, Option, Some, None, Result, Ok, Err, sym, ◌∙◌, ap, subst}
+use Rattle.std.proofs.Common.{◌≡◌, ℕ, List, ◌∷◌, length, Result, Ok, sym, ◌∙◌, ap, subst}
 use Rattle.bounded_search.specs.Table.{TableRow}
 use Rattle.command_line.specs.Options.{and_then}
-use Rattle.edge_io.specs.State.{ShelfState, SinkState}
 use Rattle.program_frame.specs.Loads.{Refuses}
-use Rattle.program_frame.specs.Performs.{Performs}
-use Rattle.program_frame.specs.Plan.{Plan}
 use Rattle.program_frame.specs.declared.stop.Refusal.{Refusal}
 use Rattle.program_frame.specs.declared.stop.Refusal.TheVariants.{Table}
 use Rattle.program_frame.specs.declared.stop.Stop.{Stop}
 use Rattle.program_frame.specs.declared.stop.Stop.TheVariants.{Refused, NoMemory, Unread, Unwritten}
-use Rattle.program_frame.proofs.Stages.{loads_fails, loads_performs}
 use Rattle.road_network.specs.Net.{Net}
 use Rattle.table_file.specs.Reading.{table_of}
-use Rattle.table_work.specs.Preload.{preloads, row_said, rows_said}
-use Rattle.table_work.specs.PreloadDone.{Preloads}
+use Rattle.table_work.specs.Preload.{row_said, rows_said}
 
 -- ---- the text
 
@@ -50,16 +45,3 @@ rows_left net bound row all left rest next is before =
 pub rows_refused : (net : Net) (bound : ℕ) (row : TableRow) (all left rest : List TableRow) (stop : Stop) → left ≡ row ∷ rest → rows_said net bound left ≡ rows_said net bound all → Refuses Table (row_said net bound row) stop → Refuses Table (rows_said net bound all) stop
 rows_refused net bound row all left rest stop next before refuses =
     subst (λ (s : Result (Unit {0}) (List ℕ)). Refuses Table s stop) (sym (ap (rows_said net bound) next) ∙ before) (first_refuses Table (row_said net bound row) (λ _. rows_said net bound rest) stop refuses)
-
--- ---- the plan
-
-pub preloads_performs : {shelf shelf' shelf'' : ShelfState} {out out' : SinkState} {ended : Result (Unit {0}) Stop} (table : Option (List ℕ)) (net : Net) (bound : ℕ) (next : Plan)
-    → Preloads table net bound shelf shelf' (Ok tt) → Performs (Ok next) shelf' shelf'' out out' ended → Performs (Ok (preloads table net bound next)) shelf shelf'' out out' ended
-preloads_performs {shelf} {shelf'} {shelf''} {out} {out'} {ended} None net bound next same performs =
-    subst (λ (s : ShelfState). Performs (Ok next) s shelf'' out out' ended) same performs
-preloads_performs (Some name) net bound next loaded performs = loads_performs 9 (λ _. next) loaded performs
-
-pub preloads_fails : {shelf shelf' : ShelfState} {out : SinkState} {stop : Stop} (table : Option (List ℕ)) (net : Net) (bound : ℕ) (next : Plan)
-    → Preloads table net bound shelf shelf' (Err stop) → Performs (Ok (preloads table net bound next)) shelf shelf' out out (Err stop)
-preloads_fails None net bound next fails = absurd fails
-preloads_fails (Some name) net bound next fails = loads_fails (λ _. next) (λ e. cc) fails

@@ -1,5 +1,5 @@
 -- `--table FILE` of `match`: a table that was computed beforehand, read and tried row by row.
-use Rattle.std.specs.Prelude.{ℕ, List, [], ◌∷◌, ◌++◌, Option, Some, None, Result, Ok, Err, codes, if◌then◌else◌, length}
+use Rattle.std.specs.Prelude.{ℕ, List, [], ◌∷◌, ◌++◌, Result, Ok, Err, codes, if◌then◌else◌, length}
 use Rattle.std.specs.Result.{result_map_both}
 use Rattle.bounded_search.specs.RightRow.{is_right_row}
 use Rattle.bounded_search.specs.Table.{TableRow}
@@ -48,9 +48,7 @@ table_file_said net bound bytes = and_then (rows_in net bound bytes) (rows_said 
 
 -- ---- the plan
 
--- where there is a table file it is read and accepted before what follows, which is then the same as
--- without it
-abbrev pub preloads : Option (List ℕ) → Net → ℕ → Plan → Plan
-preloads None net bound next = next
-preloads (Some name) net bound next =
+-- the table file is read and accepted before what follows, which is the same as without it
+abbrev pub preloads : List ℕ → Net → ℕ → Plan → Plan
+preloads name net bound next =
     loads Table name text_limit 9 (table_file_said net bound) (λ _. next)

@@ -1,12 +1,12 @@
 // `--table FILE` of `match`: a table that was computed beforehand, whose rows are tried one by one
 // and offered to a store. Serves the program; decided by `table_file_said`.
-ghost use Rattle.std.specs.Prelude.{◌≡◌, ◌≤◌, ◌++◌, All, IfOk, OnOk, option_map};
+ghost use Rattle.std.specs.Prelude.{◌≡◌, ◌≤◌, ◌++◌, All, IfOk, OnOk};
 ghost use Rattle.program_frame.specs.Loads.{Accepts, Loads};
 ghost use Rattle.program_frame.specs.Stops.{IsRefusalOr};
 ghost use Rattle.road_network.specs.Net.{HasNode};
 ghost use Rattle.table_file.specs.TableText.{text_limit};
 ghost use Rattle.table_work.specs.Preload.{row_said, rows_in, rows_said, table_fault_line, table_file_said, wrong_row_line};
-ghost use Rattle.table_work.specs.PreloadDone.{Preloads, RefusesText};
+ghost use Rattle.table_work.specs.PreloadDone.{RefusesText};
 
 use bounded_search::{Row, Searcher};
 use decimal_text::write_unsigned;
@@ -145,42 +145,22 @@ fn accept_table(
     offer_rows(alloc, roads, &mut searcher, &mut reader, rows)
 }
 
-fn load_table<S: Shelf>(
-    alloc: Global,
-    shelf: &mut S,
-    name: &str,
-    roads: &Network,
-    bound: u32,
-    store: &RowStore<'_>,
-) -> Result<(), Stop>
-    requires bound { bound ≤ 10_000_000 }
-    requires store { (store.now.network ≡ roads.now) × (store.now.bound ≡ bound) }
-    ensures { Loads Refusal.Table File.Table name.now text_limit (table_file_said roads.now bound)
-        (S.state shelf.old) (S.state shelf.new) result }
-{
-    let text = read_file(alloc, shelf, File::Table, name, TEXT_LIMIT)?;
-    accept_table(alloc, roads, bound, text, store)
-}
-
-/// Reads the table file, where there is one, and accepts or refuses it. Of an accepted file all rows
-/// are offered to the store.
+/// Reads a table file, and accepts or refuses it. Of an accepted file all rows are offered to the store.
 ///
 /// The text is held whole, and dropped once its rows are read. A row is moved into the store.
 pub fn preload<S: Shelf>(
     alloc: Global,
     shelf: &mut S,
-    table: Option<&str>,
+    table: &str,
     roads: &Network,
     bound: u32,
     store: &RowStore<'_>,
 ) -> Result<(), Stop>
     requires bound { bound ≤ 10_000_000 }
     requires store { (store.now.network ≡ roads.now) × (store.now.bound ≡ bound) }
-    ensures { Preloads (option_map (λ name. name.now) table.entry) roads.now bound
+    ensures { Loads Refusal.Table File.Table table.now text_limit (table_file_said roads.now bound)
         (S.state shelf.old) (S.state shelf.new) result }
 {
-    match table {
-        Some(name) => load_table(alloc, shelf, name, roads, bound, store),
-        None => Ok(()),
-    }
+    let text = read_file(alloc, shelf, File::Table, table, TEXT_LIMIT)?;
+    accept_table(alloc, roads, bound, text, store)
 }
