@@ -37,14 +37,20 @@ pub(crate) struct Draft {
 impl Drop for Draft {
     fn drop(self) {
         let Draft {
-            nodes: _,
-            names: _,
+            nodes,
+            names,
             edges: _,
             points: _,
             offsets: _,
             alloc: _,
         } = self;
+        leave_sets(nodes, names);
     }
+}
+
+/// Ends two sets, so that the functions that end a draft call this.
+fn leave_sets(nodes: IndexSet<u64>, names: Option<IndexSet<u32>>) {
+    let _ = (nodes, names);
 }
 
 /// The place, from 1, of the first point that equals the one before it.
@@ -180,13 +186,14 @@ impl Draft {
         let adjacency = adjacency_of(alloc, self.nodes.len(), self.edges.as_slice())?;
         let nodes = self.nodes.as_slice().to_vec(alloc)?;
         let Draft {
-            nodes: _,
-            names: _,
+            nodes: node_set,
+            names,
             edges,
             points,
             offsets,
             alloc: _,
         } = self;
+        leave_sets(node_set, names);
         Ok(Network {
             nodes,
             edges: edges.into_vec(),

@@ -9,3 +9,6 @@ slice_bounds-result-start c = (edge-part c.self.inside c.args.self.now c.args.e.
 
 pub returns : goal.returns
 returns c = rw c.deref.ensures.value (edge-part c.self.inside c.args.self.now c.args.e.0 c.index-edge.result.now c.self.invariant c.self.view_is c.requires c.index-edge.ensures).2
+
+pub slice_bounds-result-end : goal.slice_bounds-result-end
+slice_bounds-result-end c = rw c.deref.ensures.value (edge-part c.self.inside c.args.self.now c.args.e.0 c.index-edge.result.now c.self.invariant c.self.view_is c.requires c.index-edge.ensures).1

@@ -24,3 +24,6 @@ pub returns-clause-every : goal.returns-clause-every
 returns-clause-every c =
     let list : take (c.index-2.result.now - c.index.result.now) (drop c.index.result.now c.deref.result.now) ≡ leaving c.args.self.now c.args.n.0 = returns-clause-list c in
     subst (ContainsLeaving c.args.self.now c.args.n.0) (sym list) (leaving_every c.args.self.now c.args.n.0)
+
+pub slice_bounds-result-end : goal.slice_bounds-result-end
+slice_bounds-result-end c = rw c.deref.ensures.value (node-part c.self.inside c.args.self.now c.args.n.0 c.index.result.now c.index-2.result.now c.self.invariant c.self.view_is c.requires (c.index.ensures, c.index-2.ensures)).1

@@ -26,3 +26,24 @@ returns-then-text-count-eq59-clause-line c =
 
 pub returns-then-text-count-eq59-clause-within : goal.returns-then-text-count-eq59-clause-within
 returns-then-text-count-eq59-clause-within c = plain-within _ c.in_ok-point.point c.in_ok-point.ensures.value
+
+pub returns-in_err-point-clause-line : goal.returns-in_err-point-clause-line
+returns-in_err-point-clause-line c = rw c.from_residual.ensures tt
+
+pub returns-in_err-point-clause-within : goal.returns-in_err-point-clause-within
+returns-in_err-point-clause-within c = rw c.from_residual.ensures tt
+
+pub returns-in_err-point-clause-shorter : goal.returns-in_err-point-clause-shorter
+returns-in_err-point-clause-shorter c = rw c.from_residual.ensures tt
+
+pub returns-clause-line : goal.returns-clause-line
+returns-clause-line c = tt
+
+pub returns-clause-within : goal.returns-clause-within
+returns-clause-within c = tt
+
+pub returns-clause-shorter : goal.returns-clause-shorter
+returns-clause-shorter c = tt
+
+pub bounds-text-count : goal.bounds-text-count
+bounds-text-count c = omega (arith, c.in_ok-point.ensures.few, c.if-count-text.false)

@@ -1,4 +1,4 @@
-use Rattle.std.proofs.Common.{◌≡◌, ◌∙◌, None, ap}
+use Rattle.std.proofs.Common.{◌≡◌, ◌∙◌, None, ap, refl}
 use Rattle.std.proofs.lemmas.Result.{err_from_is_err_and}
 use Rattle.decimal_text.specs.Number.{unsigned_within}
 use Rattle.road_network.specs.NetworkFile.{field_faults, first_fault}
@@ -39,3 +39,24 @@ returns-clause-row c =
     rw (c.err.ensures.value, c.err-2.ensures.value, c.err-3.ensures.value) at c.in_ok-check_fields.ensures.ok in
     rw (c.unwrap_or.ensures, c.unwrap_or-2.ensures, c.unwrap_or-3.ensures)
     (row-read a.rec a.name.now a.from.now a.to.now a.points.now x y z c.in_ok-fault.fault c.read_line.new.line all first)
+
+pub returns-in_err-fault-clause-row : goal.returns-in_err-fault-clause-row
+returns-in_err-fault-clause-row c = let p = err_from_is_err_and c.from_residual.result c.from_residual.ensures.1 in rw p.1 tt
+
+pub returns-in_err-fault-clause-within : goal.returns-in_err-fault-clause-within
+returns-in_err-fault-clause-within c = let p = err_from_is_err_and c.from_residual.result c.from_residual.ensures.1 in rw p.1 tt
+
+pub returns-in_err-fault-clause-few : goal.returns-in_err-fault-clause-few
+returns-in_err-fault-clause-few c = let p = err_from_is_err_and c.from_residual.result c.from_residual.ensures.1 in rw p.1 tt
+
+pub returns-in_err-check_fields-clause-row : goal.returns-in_err-check_fields-clause-row
+returns-in_err-check_fields-clause-row c = let p = err_from_is_err_and c.from_residual-in_err-check_fields.result c.from_residual-in_err-check_fields.ensures.1 in rw p.1 tt
+
+pub returns-in_err-check_fields-clause-within : goal.returns-in_err-check_fields-clause-within
+returns-in_err-check_fields-clause-within c = let p = err_from_is_err_and c.from_residual-in_err-check_fields.result c.from_residual-in_err-check_fields.ensures.1 in rw p.1 tt
+
+pub returns-in_err-check_fields-clause-few : goal.returns-in_err-check_fields-clause-few
+returns-in_err-check_fields-clause-few c = let p = err_from_is_err_and c.from_residual-in_err-check_fields.result c.from_residual-in_err-check_fields.ensures.1 in rw p.1 tt
+
+pub returns-in_err-fault-clause-fault : goal.returns-in_err-fault-clause-fault
+returns-in_err-fault-clause-fault c = let p = err_from_is_err_and c.from_residual.result c.from_residual.ensures.1 in rw (p.1, p.2) (λ known. absurd (known refl))

@@ -40,3 +40,12 @@ returns-clause-network c =
     IfOk-weaker c.finish.result _ _
     (λ net is. sym inv.rest ∙ ap (add_records n) end ∙ records-end n ∙ ap (λ k. Ok k) (sym is))
     c.finish.ensures.network
+
+pub returns-in_err-read_next-clause-network : goal.returns-in_err-read_next-clause-network
+returns-in_err-read_next-clause-network c = let p = err_from_is_err_and c.from_residual.result c.from_residual.ensures.1 in rw p.1 tt
+
+pub returns-in_err-read_next-clause-fault : goal.returns-in_err-read_next-clause-fault
+returns-in_err-read_next-clause-fault c = let p = err_from_is_err_and c.from_residual.result c.from_residual.ensures.1 in rw (p.1, p.2) (λ known. absurd (known c.in_err-read_next.ensures.memory))
+
+pub returns-in_err-add_record-clause-network : goal.returns-in_err-add_record-clause-network
+returns-in_err-add_record-clause-network c = let p = err_from_is_err_and c.from_residual-in_err-add_record.result c.from_residual-in_err-add_record.ensures.1 in rw p.1 tt

@@ -1,3 +1,4 @@
+use Rattle.std.proofs.lemmas.Result.{err_from_is_err_and}
 use Rattle.std.proofs.Common.{◌∙◌, sym, arith}
 use Rattle.csv.specs.Records.{fields_of}
 use Rattle.road_network.specs.Between.{records_left}
@@ -28,3 +29,9 @@ pub returns-then-not-is_header-clause-fault : goal.returns-then-not-is_header-cl
 returns-then-not-is_header-clause-fault c =
     let next = c.in_ok-read_next.ensures.next c.if-not-branch.false in
     λ _. network-headless (records_left c.args.reader.now) (fields_of c.read_next.new.row) (records_left c.read_next.new.reader) next.first (sym c.is_header.ensures ∙ c.if-not-is_header.true)
+
+pub returns-in_err-read_next-clause-network : goal.returns-in_err-read_next-clause-network
+returns-in_err-read_next-clause-network c = let p = err_from_is_err_and c.from_residual.result c.from_residual.ensures.1 in rw p.1 tt
+
+pub returns-in_err-read_next-clause-fault : goal.returns-in_err-read_next-clause-fault
+returns-in_err-read_next-clause-fault c = let p = err_from_is_err_and c.from_residual.result c.from_residual.ensures.1 in rw (p.1, p.2) (λ known. absurd (known c.in_err-read_next.ensures.memory))

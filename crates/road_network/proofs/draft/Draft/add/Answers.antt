@@ -82,3 +82,39 @@ returns-clause-ok c =
             (offsets-grown d.nodes.keys d.points d.edges d.offsets r e c.requires.draft.parts.stored c.requires.draft.offsets stored);
       };
     }
+
+pub returns-in_err-is_new-clause-ok : goal.returns-in_err-is_new-clause-ok
+returns-in_err-is_new-clause-ok c = let p = err_from_is_err_and c.from_residual.result c.from_residual.ensures.1 in rw p.1 tt
+
+pub returns-in_err-is_new-clause-fault : goal.returns-in_err-is_new-clause-fault
+returns-in_err-is_new-clause-fault c = let p = err_from_is_err_and c.from_residual.result c.from_residual.ensures.1 in rw (p.1, p.2) (λ known. absurd (known c.in_err-is_new.ensures.memory))
+
+pub returns-in_err-length-clause-ok : goal.returns-in_err-length-clause-ok
+returns-in_err-length-clause-ok c = let p = err_from_is_err_and c.from_residual-in_err-length.result c.from_residual-in_err-length.ensures.1 in rw p.1 tt
+
+pub returns-in_err-from-clause-ok : goal.returns-in_err-from-clause-ok
+returns-in_err-from-clause-ok c = let p = err_from_is_err_and c.from_residual-in_err-from.result c.from_residual-in_err-from.ensures.1 in rw p.1 tt
+
+pub returns-in_err-from-clause-fault : goal.returns-in_err-from-clause-fault
+returns-in_err-from-clause-fault c = let p = err_from_is_err_and c.from_residual-in_err-from.result c.from_residual-in_err-from.ensures.1 in rw (p.1, p.2) (λ known. absurd (known c.in_err-from.ensures.memory))
+
+pub returns-in_err-to-clause-ok : goal.returns-in_err-to-clause-ok
+returns-in_err-to-clause-ok c = let p = err_from_is_err_and c.from_residual-in_err-to.result c.from_residual-in_err-to.ensures.1 in rw p.1 tt
+
+pub returns-in_err-to-clause-fault : goal.returns-in_err-to-clause-fault
+returns-in_err-to-clause-fault c = let p = err_from_is_err_and c.from_residual-in_err-to.result c.from_residual-in_err-to.ensures.1 in rw (p.1, p.2) (λ known. absurd (known c.in_err-to.ensures.memory))
+
+pub returns-in_err-check_limits-clause-ok : goal.returns-in_err-check_limits-clause-ok
+returns-in_err-check_limits-clause-ok c = let p = err_from_is_err_and c.from_residual-in_err-check_limits.result c.from_residual-in_err-check_limits.ensures.1 in rw p.1 tt
+
+pub returns-in_err-extend_from_slice-clause-ok : goal.returns-in_err-extend_from_slice-clause-ok
+returns-in_err-extend_from_slice-clause-ok c = let p = err_from_is_err_and c.from_residual-in_err-extend_from_slice.result c.from_residual-in_err-extend_from_slice.ensures.1 in rw p.1 tt
+
+pub returns-in_err-extend_from_slice-clause-fault : goal.returns-in_err-extend_from_slice-clause-fault
+returns-in_err-extend_from_slice-clause-fault c = let p = err_from_is_err_and c.from_residual-in_err-extend_from_slice.result c.from_residual-in_err-extend_from_slice.ensures.1 in rw (p.1, p.2) (λ known. absurd (known refl))
+
+pub returns-in_err-push-clause-ok : goal.returns-in_err-push-clause-ok
+returns-in_err-push-clause-ok c = let p = err_from_is_err_and c.from_residual-in_err-push.result c.from_residual-in_err-push.ensures.1 in rw p.1 tt
+
+pub returns-in_err-push-clause-fault : goal.returns-in_err-push-clause-fault
+returns-in_err-push-clause-fault c = let p = err_from_is_err_and c.from_residual-in_err-push.result c.from_residual-in_err-push.ensures.1 in rw (p.1, p.2) (λ known. absurd (known refl))

@@ -1,4 +1,5 @@
-use Rattle.std.proofs.Common.{◌≡◌, rules}
+use Rattle.std.proofs.lemmas.Result.{err_from_is_err_and}
+use Rattle.std.proofs.Common.{◌≡◌, rules, refl}
 use Rattle.road_network.proofs.Finished.{begin-below, finished}
 use Rattle.road_network.proofs.draft.Draft.finish.Goals as goal
 
@@ -24,3 +25,15 @@ invariant_of-result c =
       lists = rw (nodes, edges, points) (finished d.nodes.keys d.edges d.points kept.starts.items kept.leaving.items a.starts a.placed);
       arcs = rw (nodes, edges, points) (a.arcs d.points c.requires.parts.stored);
     }
+
+pub returns-in_err-adjacency-clause-network : goal.returns-in_err-adjacency-clause-network
+returns-in_err-adjacency-clause-network c = let p = err_from_is_err_and c.from_residual.result c.from_residual.ensures.1 in rw p.1 tt
+
+pub returns-in_err-adjacency-clause-memory : goal.returns-in_err-adjacency-clause-memory
+returns-in_err-adjacency-clause-memory c = let p = err_from_is_err_and c.from_residual.result c.from_residual.ensures.1 in rw (p.1, p.2) refl
+
+pub returns-in_err-nodes-clause-network : goal.returns-in_err-nodes-clause-network
+returns-in_err-nodes-clause-network c = let p = err_from_is_err_and c.from_residual-in_err-nodes.result c.from_residual-in_err-nodes.ensures.1 in rw p.1 tt
+
+pub returns-in_err-nodes-clause-memory : goal.returns-in_err-nodes-clause-memory
+returns-in_err-nodes-clause-memory c = let p = err_from_is_err_and c.from_residual-in_err-nodes.result c.from_residual-in_err-nodes.ensures.1 in rw (p.1, p.2) refl
