@@ -1,7 +1,6 @@
-use Rattle.std.proofs.Common.{◌≡◌, ◌<◌, ℕ, Bool, List, length, get_or, sym, ◌∙◌, rules, arith}
+use Rattle.std.proofs.Common.{◌≡◌, ◌<◌, ℕ, Bool, List, length, get_or, sym, ◌∙◌, arith, refl, true≢false}
 use Rattle.std.proofs.lemmas.List.{take_all}
 use Rattle.std.proofs.lemmas.List.Elements.{All-more}
-use Rattle.std.proofs.lemmas.Grind.{common_steps}
 use Rattle.std.proofs.lemmas.List.Sums.{count_by_more_no, count_by_more_yes}
 use Rattle.std.specs.List.{All}
 use Rattle.road_network.specs.declared.Arc.{Arc}
@@ -21,7 +20,7 @@ loop-arc-preserved c =
     let p : Arc → Bool = arc_gives c.args.bound table c.args.before distance in
     let is : c.in_ok-try_arc.field-0 ≡ p (get_or arcs i nothing) = c.in_ok-try_arc.ensures.given in
     record {
-      relaxed = All-more (IsRelaxedOrBack c.args.bound table c.args.before distance) arcs i nothing lt c.loop-arc.invariant.relaxed (c.in_ok-try_arc.ensures.some.0 (search rules));
+      relaxed = All-more (IsRelaxedOrBack c.args.bound table c.args.before distance) arcs i nothing lt c.loop-arc.invariant.relaxed (c.in_ok-try_arc.ensures.some.0 refl);
       counted = elim c.if-branch.branch [
         | then-branch w ↦
             let more = count_by_more_yes p arcs i nothing lt (sym is ∙ w.if-branch.true) in
@@ -38,8 +37,8 @@ returns-in_err-try_arc-clause-some c =
     let table = label_in c.args.entries.now in
     let P : Arc → Type 0 = IsRelaxedOrBack c.args.bound table c.args.before c.args.x.now.distance in
     let are = arcs_are n c.args.x.now.node.0 P in
-    let none : P (get_or c.arcs-arc-items.result.now c.loop-arc.arc-index nothing) → ⊥ = λ at. let some = c.in_err-try_arc.ensures.some.1 at in search (rules, common_steps) in (
-      λ some. absurd (search (rules, common_steps)),
+    let none : P (get_or c.arcs-arc-items.result.now c.loop-arc.arc-index nothing) → ⊥ = λ at. true≢false (sym (c.in_err-try_arc.ensures.some.1 at)) in (
+      λ some. absurd (true≢false (sym (rw c.from_residual.ensures at some))),
       λ relaxed.
           let all : All P c.arcs-arc-items.result.now = rw c.arcs-arc-items.ensures (are.1 relaxed) in
           absurd (none (all c.loop-arc.arc-index nothing c.loop-arc-test.true)),
@@ -54,5 +53,8 @@ returns-clause-some c =
     let arcs : List Arc = c.arcs-arc-items.result.now in
     let all : All P arcs = rw (take_all c.loop-arc.arc-index arcs (omega arith)) at c.loop-arc.invariant.relaxed in (
       λ some. are.0 (rw c.arcs-arc-items.ensures at all),
-      λ relaxed. search rules,
+      λ relaxed. refl,
     )
+
+pub returns-in_err-try_arc-clause-count : goal.returns-in_err-try_arc-clause-count
+returns-in_err-try_arc-clause-count c = rw c.from_residual.ensures tt

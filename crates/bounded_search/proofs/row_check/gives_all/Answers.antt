@@ -1,4 +1,4 @@
-use Rattle.std.proofs.Common.{◌≡◌, ◌<◌, ◌+◌, ◌≤◌, ℕ, List, None, length, get_or, take, rules, arith}
+use Rattle.std.proofs.Common.{◌≡◌, ◌<◌, ◌+◌, ◌≤◌, ℕ, List, None, length, get_or, take, rules, arith, refl}
 use Rattle.std.proofs.lemmas.List.Elements.{All-more}
 use Rattle.std.proofs.lemmas.List.Sums.{sum_by-take-le, sum_by_more, sum_by_more_le}
 use Rattle.std.specs.List.{sum_by}
@@ -33,7 +33,7 @@ loop-place-preserved c =
     let place : ℕ = c.loop-place.place in
     let lt : place < length entries = omega arith in
     record {
-      each = All-more (IsRelaxedAt n bound (start_of n) (label_in entries)) entries place nothing lt c.loop-place.invariant.each (c.in-Some.ensures.some.0 (search rules));
+      each = All-more (IsRelaxedAt n bound (start_of n) (label_in entries)) entries place nothing lt c.loop-place.invariant.each (c.in-Some.ensures.some.0 refl);
       counted =
           let count : c.in-Some.count ≡ f (get_or entries place nothing) = c.in-Some.ensures.count in
           omega (arith, c.loop-place.invariant.counted, sum_by_more f entries place nothing lt, count);

@@ -1,4 +1,4 @@
-use Rattle.std.proofs.Common.{◌≡◌, ◌<◌, ◌+◌, ◌≤◌, ℕ, List, Option, None, sym, subst, length, get_or, take, rules, arith}
+use Rattle.std.proofs.Common.{◌≡◌, ◌<◌, ◌+◌, ◌≤◌, ℕ, List, Option, None, sym, subst, length, get_or, take, rules, arith, refl}
 use Rattle.std.proofs.lemmas.List.Elements.{All-more}
 use Rattle.std.proofs.lemmas.List.Sums.{sum_by-take-le, sum_by_more, sum_by_more_le}
 use Rattle.std.specs.List.{count_by, sum_by}
@@ -52,7 +52,7 @@ loop-place-preserved c =
     let place : ℕ = c.loop-place.place in
     let lt : place < length entries = omega arith in
     record {
-      each = All-more (IsRelaxedAt n bound none_skipped (label_in entries)) entries place nothing lt c.loop-place.invariant.each (relaxed_there n bound c.args.self.now.words.items entries (get_or entries place nothing) c.requires.words.1 (c.requires.fits place nothing lt) (c.in-Some.ensures.some.0 (search rules)));
+      each = All-more (IsRelaxedAt n bound none_skipped (label_in entries)) entries place nothing lt c.loop-place.invariant.each (relaxed_there n bound c.args.self.now.words.items entries (get_or entries place nothing) c.requires.words.1 (c.requires.fits place nothing lt) (c.in-Some.ensures.some.0 refl));
       counted =
           let count : c.in-Some.count ≡ f (get_or entries place nothing) = given_there c.args.net.now c.args.self.now.bound c.args.self.now.words.items entries (get_or entries place nothing) c.in-Some.count c.requires.words.1 c.in-Some.ensures.count in
           omega (arith, c.loop-place.invariant.counted, sum_by_more f entries place nothing lt, count);

@@ -1,3 +1,4 @@
+use Rattle.std.proofs.lemmas.Result.{err_from_is_err_and}
 use Rattle.std.proofs.Common.{◌≡◌, ℕ, Result, Ok, Err, IfOk, sym, subst, rules, arith}
 use Rattle.std.specs.Prelude.{OnOk}
 use Rattle.bounded_search.specs.LabelWords.{label_at}
@@ -39,3 +40,6 @@ returns-clause-clean c =
 
 pub returns-in_err-label_all-clause-clean : goal.returns-in_err-label_all-clause-clean
 returns-in_err-label_all-clause-clean c = record { sized = c.in_err-label_all.ensures.sized; clean = search rules }
+
+pub returns-in_err-label_all-clause-row : goal.returns-in_err-label_all-clause-row
+returns-in_err-label_all-clause-row c = let p = err_from_is_err_and c.from_residual.result c.from_residual.ensures.1 in rw p.1 tt

@@ -1,3 +1,4 @@
+use Rattle.std.proofs.lemmas.Result.{err_from_is_err_and}
 use Rattle.std.proofs.Common.{◌≡◌, ◌∷◌, ◌≤◌, ℕ, List, [], true, inl, inr, refl, subst, sym, arith, length, ltb}
 use Rattle.std.proofs.lemmas.Bool.{false≢true, lt-ltb}
 use Rattle.std.specs.List.{All}
@@ -82,3 +83,9 @@ returns-clause-labelled c =
       marked = record { sized = marked.sized; inside = marked.inside; labelled = marked.labelled };
       none_waiting = none.1;
     }
+
+pub returns-in_err-label-clause-labelled : goal.returns-in_err-label-clause-labelled
+returns-in_err-label-clause-labelled c = let p = err_from_is_err_and c.from_residual.result c.from_residual.ensures.1 in rw p.1 tt
+
+pub returns-in_err-leave_all-clause-labelled : goal.returns-in_err-leave_all-clause-labelled
+returns-in_err-leave_all-clause-labelled c = let p = err_from_is_err_and c.from_residual-in_err-leave_all.result c.from_residual-in_err-leave_all.ensures.1 in rw p.1 tt

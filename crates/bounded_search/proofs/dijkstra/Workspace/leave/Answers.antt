@@ -1,3 +1,4 @@
+use Rattle.std.proofs.lemmas.Result.{err_from_is_err_and}
 use Rattle.std.proofs.Common.{◌≡◌, ◌≢◌, ◌∷◌, ◌++◌, ◌<◌, ◌+◌, ◌/◌, ◌^◌, List, [], ℕ, inl, inr, subst, arith, drop, map, sym, length, slice_index_or, ◌∙◌, ap}
 use Rattle.std.proofs.lemmas.Bool.Decides.{nat_tests}
 use Rattle.std.proofs.lemmas.Grind.{common_steps}
@@ -133,3 +134,6 @@ returns-clause-leaves c =
           };
       less = inv.less;
     }
+
+pub returns-in_err-relax-clause-leaves : goal.returns-in_err-relax-clause-leaves
+returns-in_err-relax-clause-leaves c = let p = err_from_is_err_and c.from_residual.result c.from_residual.ensures.1 in rw p.1 tt

@@ -1,3 +1,4 @@
+use Rattle.std.proofs.lemmas.Result.{err_from_is_err_and}
 use Rattle.std.proofs.Common.{◌≡◌, ◌∷◌, ◌++◌, ◌<◌, ◌+◌, List, [], ℕ, subst, refl, arith, drop, length, slice_index_or}
 use Rattle.std.proofs.lemmas.Grind.{common_steps}
 use Rattle.bounded_search.specs.declared.queue.Waiting.{Waiting}
@@ -50,3 +51,6 @@ returns-clause-leaves c =
       searching = λ s others h. subst (λ (k : List Waiting). IsSearching n s c.loop-next.self (k ++ others)) none (inv.searching s others h);
       less = inv.less;
     }
+
+pub returns-in_err-leave-clause-leaves : goal.returns-in_err-leave-clause-leaves
+returns-in_err-leave-clause-leaves c = let p = err_from_is_err_and c.from_residual.result c.from_residual.ensures.1 in rw p.1 tt

@@ -1,4 +1,5 @@
-use Rattle.std.proofs.Common.{◌*◌, ℕ, length, refl, sym, subst, rules, arith}
+use Rattle.std.proofs.lemmas.Result.{err_from_is_err_and}
+use Rattle.std.proofs.Common.{◌*◌, ℕ, length, refl, sym, subst, arith}
 use Rattle.std.proofs.Math.Nat.{lt-div-mul-add}
 use Rattle.bounded_search.specs.Marked.{AreMarked}
 use Rattle.bounded_search.proofs.MarkedNodes.{all_taken, keeps_both, none_taken}
@@ -21,12 +22,12 @@ pub take_marked-requires-clause-marked : goal.take_marked-requires-clause-marked
 take_marked-requires-clause-marked c = subst (λ (k : ℕ). AreMarked k c.loop-place.self) (sym c.loop-place.invariant.marked.sized.words_count) c.loop-place.invariant.marked
 
 pub returns-in_err-entries-clause-clean : goal.returns-in_err-entries-clause-clean
-returns-in_err-entries-clause-clean c = record { sized = record { bound = refl; words_count = refl; marks_count = refl }; clean = search rules }
+returns-in_err-entries-clause-clean c = record { sized = record { bound = refl; words_count = refl; marks_count = refl }; clean = (let p = err_from_is_err_and c.from_residual.result c.from_residual.ensures.1 in rw p.1 tt) }
 
 pub returns-in_err-take_marked-clause-clean : goal.returns-in_err-take_marked-clause-clean
 returns-in_err-take_marked-clause-clean c = record {
   sized = keeps_both c.args.self.now c.loop-place.self c.take_marked.new.self c.loop-place.invariant.sized c.in_err-take_marked.ensures.sized;
-  clean = search rules;
+  clean = (let p = err_from_is_err_and c.from_residual-in_err-take_marked.result c.from_residual-in_err-take_marked.ensures.1 in rw p.1 tt);
 }
 
 pub loop-place-preserved : goal.loop-place-preserved
@@ -63,3 +64,9 @@ returns-clause-clean c =
         none_waiting = inv.queue;
       };
     }
+
+pub returns-in_err-entries-clause-entries : goal.returns-in_err-entries-clause-entries
+returns-in_err-entries-clause-entries c = let p = err_from_is_err_and c.from_residual.result c.from_residual.ensures.1 in rw p.1 tt
+
+pub returns-in_err-take_marked-clause-entries : goal.returns-in_err-take_marked-clause-entries
+returns-in_err-take_marked-clause-entries c = let p = err_from_is_err_and c.from_residual-in_err-take_marked.result c.from_residual-in_err-take_marked.ensures.1 in rw p.1 tt

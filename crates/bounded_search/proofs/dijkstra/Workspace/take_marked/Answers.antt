@@ -1,3 +1,4 @@
+use Rattle.std.proofs.lemmas.Result.{err_from_is_err_and}
 use Rattle.std.proofs.Common.{◌≡◌, ◌-◌, ◌*◌, ◌+◌, ◌^◌, ◌<◌, ℕ, List, length, length-set, set, get_or-set_same, ap, refl, subst, sym, ◌∙◌, arith, w64}
 use Rattle.std.proofs.lemmas.List.{get_or_read, set-get_or, set-set}
 use Rattle.std.proofs.lemmas.Nat.{and_le_r}
@@ -85,3 +86,6 @@ returns-clause-takes c =
           subst (λ (k : ℕ). AllTaken k before ((place + 1) * 64) words (set marks place 0) c.loop-rest.entries.items) (sym inv.sized.bound) (word_taken c.args.self.now.bound before old.0 place words (set marks place 0) c.loop-rest.entries.items all old.1 old.2 (get_or-set_same marks place 0 0 inside));
       marked = subst (λ (k : ℕ). AllMarked k (length c.args.self.now.words.items) words (set marks place 0)) (sym inv.sized.bound) (subst (AllMarked c.args.self.now.bound (length c.args.self.now.words.items) words) done inv.marked);
     }
+
+pub returns-in_err-take_entry-clause-takes : goal.returns-in_err-take_entry-clause-takes
+returns-in_err-take_entry-clause-takes c = let p = err_from_is_err_and c.from_residual.result c.from_residual.ensures.1 in rw p.1 tt

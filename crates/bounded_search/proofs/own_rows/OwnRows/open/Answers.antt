@@ -1,3 +1,4 @@
+use Rattle.std.proofs.lemmas.Result.{err_from_is_err_and}
 use Rattle.std.proofs.Common.{◌≡◌, [], ◌∷◌, None, length, length-append, sym, ap, refl, arith}
 use Rattle.bounded_search.specs.Known.{known_nodes}
 use Rattle.bounded_search.proofs.KnownNodes.{known_none, none_more}
@@ -26,3 +27,12 @@ invariant_of-result c =
 
 pub returns : goal.returns
 returns c = rw (known_none 0 c.loop.rows.items c.loop.invariant.none, c.in_ok-searcher.ensures) refl
+
+pub returns-in_err-rows : goal.returns-in_err-rows
+returns-in_err-rows c = let p = err_from_is_err_and c.from_residual.result c.from_residual.ensures.1 in rw p.1 tt
+
+pub returns-in_err-push : goal.returns-in_err-push
+returns-in_err-push c = let p = err_from_is_err_and c.from_residual-in_err-push.result c.from_residual-in_err-push.ensures.1 in rw p.1 tt
+
+pub returns-in_err-searcher : goal.returns-in_err-searcher
+returns-in_err-searcher c = let p = err_from_is_err_and c.from_residual-in_err-searcher.result c.from_residual-in_err-searcher.ensures.1 in rw p.1 tt

@@ -1,3 +1,4 @@
+use Rattle.std.proofs.lemmas.Result.{err_from_is_err_and}
 use Rattle.std.proofs.Common.{◌≡◌, ◌∙◌, ◌++◌, ◌∷◌, [], List, ap}
 use Rattle.bounded_search.specs.declared.queue.Waiting.{Waiting}
 use Rattle.bounded_search.specs.QueueInside.{joined}
@@ -13,3 +14,9 @@ loop-preserved c = still_none c.loop.buckets.items c.push.new.self.items c.new.r
 
 pub returns : goal.returns
 returns c = still_none c.loop.buckets.items c.push-2.new.self.items c.new-2.result c.in_ok-push-2.ensures.items c.new-2.ensures c.loop.invariant
+
+pub returns-in_err-push : goal.returns-in_err-push
+returns-in_err-push c = let p = err_from_is_err_and c.from_residual.result c.from_residual.ensures.1 in rw p.1 tt
+
+pub returns-in_err-push-2 : goal.returns-in_err-push-2
+returns-in_err-push-2 c = let p = err_from_is_err_and c.from_residual-in_err-push-2.result c.from_residual-in_err-push-2.ensures.1 in rw p.1 tt
