@@ -9,3 +9,4 @@ pub mod Rising
 pub mod Gathering
 pub mod NearestCells
 pub mod Extents
+pub mod Coordinates

@@ -10,6 +10,10 @@ use Rattle.grid_index.specs.declared.runs.Run.{Run}
 use Rattle.grid_index.specs.GridOf.{GridOf, StandsFor}
 use Rattle.grid_index.specs.Runs.{HasSegment, IsBelow, IsReverse, IsRun, IsRunOf, IsTwin}
 
+-- the point that stands for none
+abbrev pub origin : Point
+origin = record { x = pos 0; y = pos 0 }
+
 pub ≤ℤ_twice : (a b c : ℤ) → a ≤ℤ b → b ≤ℤ c → a ≤ℤ c
 ≤ℤ_twice (pos a) (pos b) (pos c) h k = omega (arith, ints, h, k)
 ≤ℤ_twice (pos a) (pos b) (negsuc c) h k = absurd (omega (arith, ints, k))

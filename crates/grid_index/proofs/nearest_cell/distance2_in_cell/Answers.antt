@@ -1,8 +1,9 @@
-use Rattle.std.proofs.Common.{◌≡◌, ◌+◌, ◌/◌, ◌∙◌, ap, rules, sym}
+use Rattle.std.proofs.Common.{◌≡◌, ◌+◌, ◌/◌, ◌∙◌, ap, sym, arith}
 use Rattle.std.proofs.lemmas.Bool.{true≢false}
 use Rattle.grid_index.specs.Cells.{shifted}
 use Rattle.grid_index.specs.NearestCell.{apart2, nearest_between}
 use Rattle.grid_index.proofs.NearestCells.{box_distance}
+use Rattle.grid_index.proofs.Coordinates.{nearest_back, shifted_back, small_back}
 use Rattle.grid_index.proofs.nearest_cell.distance2_in_cell.Goals as goal
 use Rattle.grid_index.proofs.nearest_cell.distance2_in_cell.Goals.{else-is_within-via-then-is_within+else-is_within-2, else-is_within-via-else-is_within}
 
@@ -12,10 +13,10 @@ returns-then-is_within-2 c =
     let r = c.args.run.now in
     let x = c.nearest_between-x.result in
     let y = c.nearest_between-y.result in
-    let xs : x ≡ nearest_between r.low.x r.high.x p.x = search rules in
-    let ys : y ≡ nearest_between r.low.y r.high.y p.y = search rules in
-    let px : c.shifted.result ≡ shifted p.x = search rules in
-    let py : c.shifted-then-is_within-2.result ≡ shifted p.y = search rules in
+    let xs : x ≡ nearest_between r.low.x r.high.x p.x = c.nearest_between-x.ensures.value ∙ nearest_back r.low.x r.high.x p.x c.requires.corners.0.low_in.x_abs c.requires.corners.0.high_in.x_abs c.requires.p_in.x_abs in
+    let ys : y ≡ nearest_between r.low.y r.high.y p.y = c.nearest_between-y.ensures.value ∙ nearest_back r.low.y r.high.y p.y c.requires.corners.0.low_in.y_abs c.requires.corners.0.high_in.y_abs c.requires.p_in.y_abs in
+    let px : c.shifted.result ≡ shifted p.x = c.shifted.ensures.value ∙ shifted_back p.x c.requires.p_in.x_abs in
+    let py : c.shifted-then-is_within-2.result ≡ shifted p.y = c.shifted-then-is_within-2.ensures.value ∙ shifted_back p.y c.requires.p_in.y_abs in
     let across = c.apart2.ensures.value ∙ ap (apart2 x) px in
     let up = c.apart2-then-is_within-2.ensures.value ∙ ap (apart2 y) py in
     let value = ap (λ v. v + c.apart2-then-is_within-2.result) across ∙ ap (λ v. apart2 x (shifted p.x) + v) up in (
@@ -30,11 +31,62 @@ pub returns-else-is_within : goal.returns-else-is_within
 returns-else-is_within c = λ cell.
     let p = c.args.p in
     let r = c.args.run.now in
-    let xs : c.nearest_between-x.result ≡ nearest_between r.low.x r.high.x p.x = search rules in
-    let ys : c.nearest_between-y.result ≡ nearest_between r.low.y r.high.y p.y = search rules in
+    let xs : c.nearest_between-x.result ≡ nearest_between r.low.x r.high.x p.x = c.nearest_between-x.ensures.value ∙ nearest_back r.low.x r.high.x p.x c.requires.corners.0.low_in.x_abs c.requires.corners.0.high_in.x_abs c.requires.p_in.x_abs in
+    let ys : c.nearest_between-y.result ≡ nearest_between r.low.y r.high.y p.y = c.nearest_between-y.ensures.value ∙ nearest_back r.low.y r.high.y p.y c.requires.corners.0.low_in.y_abs c.requires.corners.0.high_in.y_abs c.requires.p_in.y_abs in
     elim c.else-is_within.branch [
       | else-is_within-via-then-is_within+else-is_within-2 w ↦
           absurd (true≢false (sym (w.is_within-then-is_within.ensures.1 (ap (λ v. v / c.args.side) ys ∙ cell.row_is)) ∙ w.if-is_within-2.false))
       | else-is_within-via-else-is_within w ↦
           absurd (true≢false (sym (c.is_within.ensures.1 (ap (λ v. v / c.args.side) xs ∙ cell.column_is)) ∙ w.if-is_within.false))
     ]
+
+pub is_within-requires-clause-some : goal.is_within-requires-clause-some
+is_within-requires-clause-some c = c.requires.some
+
+pub is_within-requires-clause-few : goal.is_within-requires-clause-few
+is_within-requires-clause-few c = c.requires.few
+
+pub is_within-requires-then-is_within-clause-some : goal.is_within-requires-then-is_within-clause-some
+is_within-requires-then-is_within-clause-some c = c.requires.some
+
+pub is_within-requires-then-is_within-clause-few : goal.is_within-requires-then-is_within-clause-few
+is_within-requires-then-is_within-clause-few c = c.requires.few
+
+pub apart2-requires-clause-a_small : goal.apart2-requires-clause-a_small
+apart2-requires-clause-a_small c = c.nearest_between-x.ensures.small
+
+pub apart2-requires-clause-b_small : goal.apart2-requires-clause-b_small
+apart2-requires-clause-b_small c = c.shifted.ensures.high
+
+pub apart2-requires-then-is_within-2-clause-a_small : goal.apart2-requires-then-is_within-2-clause-a_small
+apart2-requires-then-is_within-2-clause-a_small c = c.nearest_between-y.ensures.small
+
+pub apart2-requires-then-is_within-2-clause-b_small : goal.apart2-requires-then-is_within-2-clause-b_small
+apart2-requires-then-is_within-2-clause-b_small c = c.shifted-then-is_within-2.ensures.high
+
+pub overflow_add-result : goal.overflow_add-result
+overflow_add-result c = omega (arith, c.apart2.ensures.small, c.apart2-then-is_within-2.ensures.small)
+
+pub nearest_between-x-requires-clause-low_in : goal.nearest_between-x-requires-clause-low_in
+nearest_between-x-requires-clause-low_in c = small_back c.args.run.now.low.x c.requires.corners.0.low_in.x_abs
+
+pub nearest_between-x-requires-clause-high_in : goal.nearest_between-x-requires-clause-high_in
+nearest_between-x-requires-clause-high_in c = small_back c.args.run.now.high.x c.requires.corners.0.high_in.x_abs
+
+pub nearest_between-x-requires-clause-z_in : goal.nearest_between-x-requires-clause-z_in
+nearest_between-x-requires-clause-z_in c = small_back c.args.p.x c.requires.p_in.x_abs
+
+pub nearest_between-y-requires-clause-low_in : goal.nearest_between-y-requires-clause-low_in
+nearest_between-y-requires-clause-low_in c = small_back c.args.run.now.low.y c.requires.corners.0.low_in.y_abs
+
+pub nearest_between-y-requires-clause-high_in : goal.nearest_between-y-requires-clause-high_in
+nearest_between-y-requires-clause-high_in c = small_back c.args.run.now.high.y c.requires.corners.0.high_in.y_abs
+
+pub nearest_between-y-requires-clause-z_in : goal.nearest_between-y-requires-clause-z_in
+nearest_between-y-requires-clause-z_in c = small_back c.args.p.y c.requires.p_in.y_abs
+
+pub shifted-requires : goal.shifted-requires
+shifted-requires c = small_back c.args.p.x c.requires.p_in.x_abs
+
+pub shifted-requires-then-is_within-2 : goal.shifted-requires-then-is_within-2
+shifted-requires-then-is_within-2 c = small_back c.args.p.y c.requires.p_in.y_abs

@@ -16,3 +16,15 @@ pub loop-arc-init : goal.loop-arc-init
 loop-arc-init c =
     let P = λ (a : Arc). HasEdge c.args.net.now a.edge.0 in
     All-take P c.min.result c.arcs-arcs.result.now (subst (All P) (sym c.arcs-arcs.ensures) (arcs_have c.args.net.now c.to.result.0))
+
+pub from-start-requires : goal.from-start-requires
+from-start-requires c = c.requires
+
+pub line-line-requires : goal.line-line-requires
+line-line-requires c = c.requires
+
+pub to-requires : goal.to-requires
+to-requires c = c.requires
+
+pub loop-arc-preserved : goal.loop-arc-preserved
+loop-arc-preserved c = c.loop-arc.invariant

@@ -22,3 +22,9 @@ returns-clause-complete c = λ e has meets.
     let there = hits_edge c.args.self.now c.args.p c.args.reach e c.in_ok-runs.runs.items hits has meets in
     let found = subst (λ xs. Contains xs (record { 0 = e })) (sym is) there in
     subst (λ xs. Contains xs (record { 0 = e })) (sym c.from_vec.ensures) (c.in_order.ensures.keeps (record { 0 = e }) found)
+
+pub hits-requires-clause-p_in : goal.hits-requires-clause-p_in
+hits-requires-clause-p_in c = c.requires.p_in
+
+pub hits-requires-clause-reach : goal.hits-requires-clause-reach
+hits-requires-clause-reach c = c.requires.reach

@@ -1,7 +1,7 @@
-use Rattle.std.proofs.Common.{refl, arith}
+use Rattle.std.proofs.Common.{refl, arith, ◌+◌}
 use Rattle.polyline_geometry.specs.Plane.{point_at}
 use Rattle.grid_index.specs.Runs.{IsBelow}
-use Rattle.grid_index.proofs.RunBoxes.{below_twice, of_more}
+use Rattle.grid_index.proofs.RunBoxes.{below_twice, of_more, origin}
 use Rattle.grid_index.proofs.runs.Run.with.Goals as goal
 
 pub returns : goal.returns
@@ -24,3 +24,27 @@ returns c =
       },
       refl,
     )
+
+pub overflow_cast-next : goal.overflow_cast-next
+overflow_cast-next c = omega (arith, c.requires.next, c.requires.few)
+
+pub overflow_add-next : goal.overflow_add-next
+overflow_add-next c = omega (arith, c.requires.next, c.requires.few)
+
+pub bounds-line-self : goal.bounds-line-self
+bounds-line-self c = c.requires.next
+
+pub overflow_add-result : goal.overflow_add-result
+overflow_add-result c = omega (arith, c.requires.next, c.requires.few)
+
+pub low_corner-requires-clause-a_in : goal.low_corner-requires-clause-a_in
+low_corner-requires-clause-a_in c = c.requires.run.corners.low_in
+
+pub low_corner-requires-clause-b_in : goal.low_corner-requires-clause-b_in
+low_corner-requires-clause-b_in c = c.requires.line.in_range (c.args.self.end + 1) origin c.requires.next
+
+pub high_corner-requires-clause-a_in : goal.high_corner-requires-clause-a_in
+high_corner-requires-clause-a_in c = c.requires.run.corners.high_in
+
+pub high_corner-requires-clause-b_in : goal.high_corner-requires-clause-b_in
+high_corner-requires-clause-b_in c = c.requires.line.in_range (c.args.self.end + 1) origin c.requires.next

@@ -1,8 +1,9 @@
-use Rattle.std.proofs.Common.{◌+◌, ◌*◌, map, ◌∙◌, ap, subst, sym}
+use Rattle.std.proofs.Common.{◌+◌, ◌*◌, map, ◌∙◌, ap, subst, sym, refl}
 use Rattle.grid_index.specs.declared.entries.Entry.{Entry}
 use Rattle.grid_index.specs.GridOf.{IsGrid}
 use Rattle.grid_index.specs.Starts.{AreStarts}
 use Rattle.grid_index.proofs.LaidOut.{table_of}
+use Rattle.std.specs.List.Sorted.{IsNonDecreasingBy}
 use Rattle.grid_index.proofs.table.Table.of.Goals as goal
 
 pub returns-clause-table : goal.returns-clause-table
@@ -19,3 +20,9 @@ returns-clause-table c =
       parts = is.0;
       grid = subst (λ wide. IsGrid (record { net = net; side = l.side; width = l.width; starts = starts; members = members; wide = wide })) (sym c.sort_by_slot.ensures.wide) is.1;
     }
+
+pub starts_of-requires : goal.starts_of-requires
+starts_of-requires c = subst (IsNonDecreasingBy (λ (x : Entry). x.slot)) (sym c.as_slice.ensures.value) c.sort_by_slot.ensures.sorted
+
+pub returns-clause-layout : goal.returns-clause-layout
+returns-clause-layout c = refl

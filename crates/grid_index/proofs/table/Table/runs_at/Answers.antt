@@ -1,6 +1,7 @@
 use Rattle.std.proofs.Common.{◌∙◌, ap, ap₂, take, drop, ◌-◌, length, arith}
 use Rattle.grid_index.specs.GridOf.{members_at}
 use Rattle.grid_index.proofs.Parts.{is_part}
+use Rattle.std.proofs.lemmas.List.{get_or_default}
 use Rattle.grid_index.proofs.table.Table.runs_at.Goals as goal
 
 pub index-requires : goal.index-requires
@@ -32,3 +33,20 @@ returns c = λ net.
     ap₂ (λ low high. take (high - low) (drop low c.deref.result.now)) part.low_is part.high_is
     ∙ (ap (λ members. members_at t.starts.items members c.slot-slot.result) c.deref.ensures.value
     ∙ ap (members_at t.starts.items t.members.items) c.slot-slot.ensures.value)
+
+pub overflow_cast-slot : goal.overflow_cast-slot
+overflow_cast-slot c = omega (arith, c.slot-slot.type_inv)
+
+pub overflow_add-slot : goal.overflow_add-slot
+overflow_add-slot c = omega (arith, c.slot-slot.type_inv)
+
+pub offset_bounds-deref-index : goal.offset_bounds-deref-index
+offset_bounds-deref-index c =
+    let t = c.args.self.now in
+    let s = c.slot-slot.result in
+    let low = c.slot-slot.ensures.within in
+    let order = c.requires.order s low in
+    let within = c.requires.within s low in
+    let is = c.index.ensures ∙ get_or_default t.starts.items s c.index.result.now 0 (omega (arith, low, c.requires.count)) in
+    let small = t.members.small in
+    omega (arith, order, within, is, small)
