@@ -1,4 +1,4 @@
-use Rattle.std.proofs.Common.{◌∙◌, sym}
+use Rattle.std.proofs.Common.{◌∙◌, sym, arith}
 use Rattle.std.proofs.lemmas.Bool.{true≢false}
 use Rattle.candidate_search.proofs.BestLists.{place_last}
 use Rattle.candidate_search.proofs.best.place_for.Goals as goal
@@ -12,3 +12,6 @@ returns-else-is_before c =
           (λ b. true≢false (sym (c.is_before.ensures.1 b) ∙ c.if-is_before.false));
       after = s.invariant.after;
     }
+
+pub loop-place-init : goal.loop-place-init
+loop-place-init c = record { within = omega arith; after = λ i d from lt. absurd (omega (arith, from, lt)) }

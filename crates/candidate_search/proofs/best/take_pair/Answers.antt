@@ -1,7 +1,8 @@
-use Rattle.std.proofs.Common.{subst}
+use Rattle.std.proofs.Common.{subst, ◌≤◌, List, length, sym}
 use Rattle.std.proofs.lemmas.Result.{on_ok_weaker}
-use Rattle.candidate_search.specs.Best.{IsNewPair}
+use Rattle.candidate_search.specs.Best.{IsNewPair, AreApart}
 use Rattle.candidate_search.proofs.Pairs.{takes_put_pair, takes_two}
+use Rattle.candidate_search.specs.declared.best.NearEdge.{NearEdge}
 use Rattle.candidate_search.proofs.best.take_pair.Goals as goal
 
 pub returns-then-is_new_pair : goal.returns-then-is_new_pair
@@ -18,3 +19,27 @@ returns-then-is_new_pair c =
 pub returns : goal.returns
 returns c =
     takes_two c.args.search.k c.args.found.now.items c.take_near.new.found.items c.take_near-2.new.found.items c.args.own c.args.twin c.in_ok-take_near.ensures c.in_ok-take_near-2.ensures
+
+pub is_new_pair-requires-clause-few : goal.is_new_pair-requires-clause-few
+is_new_pair-requires-clause-few c = subst (λ (l : List NearEdge). length l ≤ c.args.search.k) (sym c.as_slice.ensures.value) c.requires.few
+
+pub is_new_pair-requires-clause-apart : goal.is_new_pair-requires-clause-apart
+is_new_pair-requires-clause-apart c = subst AreApart (sym c.as_slice.ensures.value) c.requires.apart
+
+pub put_pair-requires-clause-apart : goal.put_pair-requires-clause-apart
+put_pair-requires-clause-apart c = c.requires.apart
+
+pub put_pair-requires-clause-pair : goal.put_pair-requires-clause-pair
+put_pair-requires-clause-pair c = subst (λ l. IsNewPair c.args.search.k l c.args.own c.args.twin) c.as_slice.ensures.value (c.is_new_pair.ensures.0 c.if-is_new_pair.true)
+
+pub take_near-requires-clause-few : goal.take_near-requires-clause-few
+take_near-requires-clause-few c = c.requires.few
+
+pub take_near-requires-clause-apart : goal.take_near-requires-clause-apart
+take_near-requires-clause-apart c = c.requires.apart
+
+pub take_near-requires-2-clause-few : goal.take_near-requires-2-clause-few
+take_near-requires-2-clause-few c = c.in_ok-take_near.ensures.few
+
+pub take_near-requires-2-clause-apart : goal.take_near-requires-2-clause-apart
+take_near-requires-2-clause-apart c = c.in_ok-take_near.ensures.apart

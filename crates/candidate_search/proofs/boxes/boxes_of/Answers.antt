@@ -1,6 +1,9 @@
-use Rattle.std.proofs.Common.{ap}
+use Rattle.std.proofs.Common.{ap, ◌≡◌, ◌∙◌, All, List, arith, length, map, subst, sym}
 use Rattle.candidate_search.proofs.EdgeBoxes.{next_box}
 use Rattle.candidate_search.proofs.Shared.{boxes_rise}
+use Rattle.std.specs.List.{range_with_len}
+use Rattle.candidate_search.specs.declared.boxes.EdgeBox.{EdgeBox}
+use Rattle.candidate_search.specs.Boxes.{IsEdgeBox}
 use Rattle.candidate_search.proofs.boxes.boxes_of.Goals as goal
 
 pub loop-number-preserved : goal.loop-number-preserved
@@ -11,3 +14,20 @@ loop-number-preserved c =
 
 pub returns-clause-boxes : goal.returns-clause-boxes
 returns-clause-boxes c = boxes_rise c.args.net.now c.loop-number.boxes.items c.loop-number.number c.loop-number.invariant.each c.loop-number.invariant.all
+
+pub loop-number-init : goal.loop-number-init
+loop-number-init c =
+    let none = c.in_ok-boxes.ensures.items in
+    record {
+      each = subst (All (IsEdgeBox c.args.net.now)) (sym none) (λ i d lt. absurd (omega (arith, lt)));
+      all = ap (λ (l : List EdgeBox). map (λ b. b.edge.0) l) none;
+    }
+
+pub box_of-requires : goal.box_of-requires
+box_of-requires c = omega (arith, c.loop-number-test.true, c.edge_count-number-end.ensures)
+
+pub returns-clause-all : goal.returns-clause-all
+returns-clause-all c =
+    let s = c.loop-number in
+    let all : s.number ≡ length c.args.net.now.edges = omega (arith, c.loop-number-test.false, c.edge_count-number-end.ensures) in
+    s.invariant.all ∙ ap (range_with_len 0) all

@@ -1,8 +1,8 @@
-use Rattle.std.proofs.Common.{◌≡◌, ◌+◌, ◌*◌, ◌<◌, suc, length, take, get_or, Option, ap, ◌∙◌, subst, sym, arith}
+use Rattle.std.proofs.Common.{◌≡◌, ◌+◌, ◌*◌, ◌<◌, suc, length, take, get_or, Option, ap, ◌∙◌, subst, sym, arith, ◌≤◌}
 use Rattle.std.proofs.lemmas.Result.{on_ok_weaker}
 use Rattle.polyline_geometry.specs.declared.line.NearSegment.{NearSegment}
 use Rattle.polyline_geometry.specs.declared.plane.Snap.{Snap}
-use Rattle.polyline_geometry.specs.Plane.{after, line_length, snap_line}
+use Rattle.polyline_geometry.specs.Plane.{after, line_length, snap_line, IsLine}
 use Rattle.polyline_geometry.specs.Nearest.{segment_snap}
 use Rattle.polyline_geometry.specs.Offsets.{line_offsets}
 use Rattle.polyline_geometry.proofs.Nearest.{whole_near}
@@ -12,6 +12,7 @@ use Rattle.road_network.specs.Near.{candidate, candidate_at}
 use Rattle.road_network.specs.declared.Candidate.{Candidate}
 use Rattle.candidate_search.specs.Nearest.{IsNearestOf, with_one}
 use Rattle.candidate_search.proofs.Found.{far_same, near_one}
+use Rattle.candidate_search.proofs.Shared.{found_below}
 use Rattle.candidate_search.proofs.nearest.take_segment.Goals as goal
 
 pub bounds-offsets-near : goal.bounds-offsets-near
@@ -54,3 +55,29 @@ returns-in-Some-clause-list c =
     on_ok_weaker c.insert.result
     (λ list. list ∙ near_one c.args.search.k c.args.search.radius c.args.found.now.items x d2 ∙ ap (with_one c.args.search.k c.args.search.radius c.args.found.now.items) same)
     c.insert.ensures.list
+
+pub offsets-requires : goal.offsets-requires
+offsets-requires c = c.requires.edge
+
+pub line-requires : goal.line-requires
+line-requires c = c.requires.edge
+
+pub snap_on-snap-requires-clause-line : goal.snap_on-snap-requires-clause-line
+snap_on-snap-requires-clause-line c = subst IsLine (sym c.line.ensures) (c.known.ensures.lines c.args.edge.0 c.requires.edge)
+
+pub snap_on-snap-requires-clause-length : goal.snap_on-snap-requires-clause-length
+snap_on-snap-requires-clause-length c = subst (λ l. line_length l ≤ 100000000) (sym c.line.ensures) (c.known.ensures.not_long c.args.edge.0 c.requires.edge)
+
+pub snap_on-snap-requires-clause-p_in : goal.snap_on-snap-requires-clause-p_in
+snap_on-snap-requires-clause-p_in c = c.args.search.at_in
+
+pub insert-requires : goal.insert-requires
+insert-requires c = c.requires.found
+
+pub returns-in-None-clause-found : goal.returns-in-None-clause-found
+returns-in-None-clause-found c =
+    let e = c.args.edge.0 in
+    found_below c.args.search.k e (e + 1) c.args.found.now.items (omega arith) c.requires.found
+
+pub returns-in-Some-clause-found : goal.returns-in-Some-clause-found
+returns-in-Some-clause-found c = c.insert.ensures.found

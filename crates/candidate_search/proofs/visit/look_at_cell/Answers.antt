@@ -1,8 +1,9 @@
-use Rattle.std.proofs.Common.{get_or, arith, subst, sym}
+use Rattle.std.proofs.Common.{get_or, arith, subst, sym, ◌≤◌, List, length}
 use Rattle.std.proofs.lemmas.List.{get_or_default}
 use Rattle.grid_index.specs.declared.runs.Run.{Run}
 use Rattle.candidate_search.specs.Best.{AreApart, IsLimit}
 use Rattle.candidate_search.proofs.Visiting.{far_cell, goes_on, nothing, seen_cell, seen_one_more, stays}
+use Rattle.candidate_search.specs.declared.best.NearEdge.{NearEdge}
 use Rattle.candidate_search.proofs.visit.look_at_cell.Goals as goal
 
 pub limit_for-requires-clause-apart : goal.limit_for-requires-clause-apart
@@ -41,3 +42,24 @@ pub returns-clause-seen : goal.returns-clause-seen
 returns-clause-seen c =
     let s = c.loop-run in
     seen_cell c.args.net.now c.args.grid.now c.args.search s.found.items c.runs_at-runs.result.now c.args.column c.args.row s.run-index c.runs_at-runs.ensures (omega (arith, c.loop-run-test.false)) s.invariant.seen
+
+pub returns-then-is_empty-clause-steps : goal.returns-then-is_empty-clause-steps
+returns-then-is_empty-clause-steps c = stays c.args.net.now c.args.search c.args.found.now.items c.requires.best
+
+pub cell_distance2-requires : goal.cell_distance2-requires
+cell_distance2-requires c = record { p_in = c.args.search.at_in }
+
+pub limit_for-requires-clause-few : goal.limit_for-requires-clause-few
+limit_for-requires-clause-few c = subst (λ (l : List NearEdge). length l ≤ c.args.search.k) (sym c.as_slice.ensures.value) c.requires.best.few
+
+pub returns-then-cell_distance2-limit_for-clause-steps : goal.returns-then-cell_distance2-limit_for-clause-steps
+returns-then-cell_distance2-limit_for-clause-steps c = stays c.args.net.now c.args.search c.args.found.now.items c.requires.best
+
+pub look_at_run_once-requires-clause-network : goal.look_at_run_once-requires-clause-network
+look_at_run_once-requires-clause-network c = c.requires.network
+
+pub look_at_run_once-requires-clause-best : goal.look_at_run_once-requires-clause-best
+look_at_run_once-requires-clause-best c = c.loop-run.invariant.steps.best
+
+pub returns-clause-steps : goal.returns-clause-steps
+returns-clause-steps c = c.loop-run.invariant.steps
