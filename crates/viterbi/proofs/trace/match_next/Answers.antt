@@ -1,4 +1,4 @@
-use Rattle.std.proofs.Common.{◌≡◌, ◌+◌, ◌-◌, [], ◌∷◌, ◌++◌, Some, None, length, map, get_or, sym, ap, ◌∙◌, subst, arith}
+use Rattle.std.proofs.Common.{◌≡◌, ◌+◌, ◌-◌, [], ◌∷◌, ◌++◌, Some, None, length, map, get_or, sym, ap, ◌∙◌, subst, arith, ◌<◌, ℕ, zero, suc, refl}
 use Rattle.matching.specs.Layers.{trellis}
 use Rattle.matching.specs.Match.{IsPieceFrom}
 use Rattle.matching.specs.Places.{IsAt}
@@ -8,7 +8,13 @@ use Rattle.matching.proofs.Matches.{match_missing, match_piece, match_same, solv
 use Rattle.bounded_search.specs.Rows.{AsksAll}
 use Rattle.viterbi.proofs.Asking.{asked_more}
 use Rattle.viterbi.proofs.Reading.{solved_further}
+use Rattle.std.proofs.lemmas.List.{get_or_default}
+use Rattle.bounded_search.proofs.Asking.{keeps_itself}
 use Rattle.viterbi.proofs.trace.match_next.Goals as goal
+
+positive : (n : ℕ) → (n ≡ 0 → ⊥) → 0 < n
+positive zero not = absurd (not refl)
+positive (suc n) not = omega arith
 
 pub returns-then-len-eq0-clause-solved : goal.returns-then-len-eq0-clause-solved
 returns-then-len-eq0-clause-solved g c =
@@ -58,4 +64,40 @@ returns-clause-asks g c =
       since = λ start asked.
           subst (λ ps. AsksAll start (g.R.Rows.state c.match_piece.new.rows) (AsksTrace n p layers ps)) (sym c.in_ok-add_piece.ensures.pieces)
           (asked_more n p layers c.args.solved.now.pieces one.piece asked c.in_ok-one.ensures.asks.asks);
+    }
+
+pub bounds-layers-at : goal.bounds-layers-at
+bounds-layers-at g c = (let at = c.len-at.ensures in let left = c.requires.unfinished.left in omega (arith, at, left))
+
+pub overflow_cast-at : goal.overflow_cast-at
+overflow_cast-at g c = (let at = c.len-at.ensures in let left = c.requires.unfinished.left in let few = c.requires.layers.are.few in omega (arith, at, left, few))
+
+pub match_piece-requires-clause-layers : goal.match_piece-requires-clause-layers
+match_piece-requires-clause-layers g c = c.requires.layers
+
+pub match_piece-requires-clause-rows : goal.match_piece-requires-clause-rows
+match_piece-requires-clause-rows g c = c.requires.rows
+
+pub match_piece-requires-clause-first : goal.match_piece-requires-clause-first
+match_piece-requires-clause-first g c =
+    let layers = c.args.layers.now in
+    let at = c.len-at.result in
+    let here = c.index-layers-at.result in
+    let inside : at < length layers = (let same = c.len-at.ensures in let left = c.requires.unfinished.left in omega (arith, same, left)) in
+    record {
+      below = inside;
+      some = λ l is.
+          let same = is ∙ get_or_default layers at l here inside in
+          subst (λ (k : ℕ). 0 < k) (c.len.ensures ∙ sym (ap (λ x. length x.candidates) same)) (positive c.len.result c.if-len-eq0.false);
+    }
+
+pub returns-then-len-eq0-clause-asks : goal.returns-then-len-eq0-clause-asks
+returns-then-len-eq0-clause-asks g c =
+    let n = c.args.net.now in
+    let p = c.args.p.now in
+    let layers = c.args.layers.now in
+    record {
+      keeps = keeps_itself (g.R.Rows.state c.args.rows.now);
+      since = λ start asked.
+          subst (λ ps. AsksAll start (g.R.Rows.state c.args.rows.now) (AsksTrace n p layers ps)) (sym c.in_ok-add_missing.ensures.pieces) asked;
     }
