@@ -155,3 +155,22 @@ returns-clause-learns g c =
     subst (λ (rs : List Reading). LearnAsked n p c.args.traces.now rs c.dismiss-turns.new.readers) c.in_ok-crew.ensures.crew.readers_are
     (subst (LearnAsked n p c.args.traces.now (map reader_of before)) (sym c.dismiss-turns.ensures.readers) (all_learn j strips piles before after did cover columns drawn)))
     c.gather.ensures.drawn
+
+pub cut-requires : goal.cut-requires
+cut-requires g c = record { count = (let some = c.requires.readers.some in let many = c.len-workers.ensures in omega (arith, some, many)) }
+
+pub overflow_cast-workers : goal.overflow_cast-workers
+overflow_cast-workers g c = (let few = c.requires.readers.few in let many = c.len-workers.ensures in omega (arith, few, many))
+
+pub deal-requires-clause-workers : goal.deal-requires-clause-workers
+deal-requires-clause-workers g c =
+    let some = c.requires.readers.some in
+    let few = c.requires.readers.few in
+    let many = c.len-workers.ensures in
+    (omega (arith, some, many), omega (arith, few, many))
+
+pub invariant_of-batch : goal.invariant_of-batch
+invariant_of-batch g c = record { ground = c.requires.can.ground; lawful = c.requires.can.traces }
+
+pub returns-clause-matched : goal.returns-clause-matched
+returns-clause-matched g c = c.gather.ensures.matched

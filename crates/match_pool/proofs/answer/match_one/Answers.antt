@@ -1,13 +1,15 @@
-use Rattle.std.proofs.Common.{sym, ap, ◌∙◌, subst, map}
+use Rattle.std.proofs.Common.{sym, ap, ◌∙◌, subst, map, All}
 use Rattle.bounded_search.specs.Rows.{AsksAll, AsksOnly}
-use Rattle.bounded_search.proofs.Asking.{keeps_err, keeps_then}
+use Rattle.bounded_search.proofs.Asking.{keeps_err, keeps_then, still_of}
 use Rattle.matching.specs.Layers.{IsMatchable, trellis}
 use Rattle.matching.specs.Match.{IsMatch}
 use Rattle.matching.specs.PieceSteps.{AsksTrace}
 use Rattle.route_rebuild.specs.Chosen.{IsSolved}
-use Rattle.trace_match.specs.Match.{as_solution, layer_of, matched_of}
+use Rattle.trace_match.specs.Match.{as_solution, layer_of, matched_of, place_of}
 use Rattle.trace_match.proofs.TraceLayers.{matchable}
 use Rattle.match_pool.proofs.Found.{answered, asks_found, asks_value}
+use Rattle.polyline_geometry.specs.Plane.{InRange}
+use Rattle.trace_reader.specs.declared.trace.Fix.{Fix}
 use Rattle.match_pool.proofs.answer.match_one.Goals as goal
 
 pub match_trace-requires-clause-layers : goal.match_trace-requires-clause-layers
@@ -66,3 +68,15 @@ returns-in_err-matched-clause-asks g c = keeps_err (keeps_then c.match_trace.ens
 
 pub returns-in_err-solved-clause-asks : goal.returns-in_err-solved-clause-asks
 returns-in_err-solved-clause-asks g c = keeps_err c.match_trace.ensures.asks.keeps c.from_residual-in_err-solved.ensures.0
+
+pub layers-requires-clause-ground : goal.layers-requires-clause-ground
+layers-requires-clause-ground g c = c.requires.ground
+
+pub layers-requires-clause-places : goal.layers-requires-clause-places
+layers-requires-clause-places g c = subst (All (λ (f : Fix). InRange (place_of f))) (sym c.as_slice.ensures) c.requires.trace.in_range
+
+pub match_trace-requires-clause-rows : goal.match_trace-requires-clause-rows
+match_trace-requires-clause-rows g c = c.requires.rows
+
+pub in_ids-requires-clause-rows : goal.in_ids-requires-clause-rows
+in_ids-requires-clause-rows g c = still_of c.match_trace.ensures.asks.keeps c.requires.rows

@@ -71,3 +71,12 @@ open-requires-clause-count c =
     let short = All-head few c.in-Some.numbers (into_iter_items c.next.new.self) (subst (All few) c.in-Some.ensures.steps.0 c.loop-numbers.invariant.few) in
     let long = c.len-in-loop-numbers.ensures in
     omega (arith, short, long)
+
+pub open-requires-clause-seats : goal.open-requires-clause-seats
+open-requires-clause-seats c = c.requires.workers
+
+pub loop-numbers-smaller : goal.loop-numbers-smaller
+loop-numbers-smaller c = (let gone = c.in-Some.ensures.steps.1 in omega arith)
+
+pub overflow_cast-workers : goal.overflow_cast-workers
+overflow_cast-workers c = (let few = c.requires.workers.1 in omega (arith, few))

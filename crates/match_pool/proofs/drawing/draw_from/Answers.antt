@@ -1,4 +1,4 @@
-use Rattle.std.proofs.Common.{◌<◌, ◌∙◌, ◌++◌, ◌∷◌, [], ℕ, length, refl, sym, ap, arith}
+use Rattle.std.proofs.Common.{◌<◌, ◌∙◌, ◌++◌, ◌∷◌, [], ℕ, length, refl, sym, ap, arith, append_assoc, List}
 use Rattle.std.proofs.lemmas.List.{get_or_default}
 use Rattle.tickets.specs.Tickets.{Drawn}
 use Rattle.match_pool.specs.Drawing.{job_of, number_at}
@@ -85,3 +85,17 @@ pub returns-clause-stays : goal.returns-clause-stays
 returns-clause-stays g c =
     let stays = c.loop-rank.invariant.stays in
     record { reader = stays.reader; claims = c.draw.ensures.claims ∙ stays.claims }
+
+pub returns-clause-works : goal.returns-clause-works
+returns-clause-works g c =
+    let i = c.loop-rank.invariant.working in
+    let last = c.in_default.ensures.number in
+    record {
+      ranks = i.ranks;
+      last = last.0;
+      drawn = ap (λ (t : Drawn). t.numbers) last.2 ∙ ap (λ (l : List ℕ). l ++ last.0 ∷ []) i.drawn_are ∙ append_assoc c.args.ticket.now.numbers i.ranks (last.0 ∷ []);
+      below = i.below;
+      above = (let late = last.3 in let all = c.requires.ticket.all in omega (arith, late, all));
+      answers = i.answers;
+      learns = i.learns;
+    }

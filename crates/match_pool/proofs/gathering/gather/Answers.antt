@@ -95,3 +95,9 @@ returns-clause-drawn c =
     let long = zip_long (IsPile (job_of c.args.batch.now)) (into_iter_items at.strip-iterator) (into_iter_items at.rest) i.piles in
     let piles = ends i.past.0 (into_iter_items at.rest) _ i.past.1 (long ∙ none) ∙ c.into_iter-rest.ensures.rest in
     on_each _ c.filled.result (subst (λ (l : List Strip). AllZip AllDrawn l c.args.piles.items) strips (subst (AllZip AllDrawn at.yielded) piles i.past.2))
+
+pub loop-strip-smaller : goal.loop-strip-smaller
+loop-strip-smaller c = (let gone = c.in-Some.ensures.steps.1 in omega arith)
+
+pub gather_strip-requires-clause-slots : goal.gather_strip-requires-clause-slots
+gather_strip-requires-clause-slots c = c.loop-strip.invariant.count

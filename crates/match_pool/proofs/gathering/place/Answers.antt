@@ -39,3 +39,27 @@ loop-answer-preserved c =
       count = length-set _ _ _ ∙ i.count;
       filled = λ matched numbers e. fills_more c.args.first matched at.yielded answer c.args.slots.now.items at.slots.items (i.filled matched) (let low = here.1 in let count = i.count in omega arith) numbers e;
     }
+
+pub overflow_sub-place : goal.overflow_sub-place
+overflow_sub-place c =
+    let P : Done → Type 0 = λ d. (c.args.first ≤ d.place) × (d.place < c.args.first + length c.args.slots.now.items) in
+    (All-head P c.in-Some.answer (into_iter_items c.next.new.self) (subst (All P) c.in-Some.ensures.steps.0 c.loop-answer.invariant.inside)).0
+
+pub index_mut-requires : goal.index_mut-requires
+index_mut-requires c =
+    let P : Done → Type 0 = λ d. (c.args.first ≤ d.place) × (d.place < c.args.first + length c.args.slots.now.items) in
+    let here = All-head P c.in-Some.answer (into_iter_items c.next.new.self) (subst (All P) c.in-Some.ensures.steps.0 c.loop-answer.invariant.inside) in
+    let low = here.0 in
+    let high = here.1 in
+    let count = c.loop-answer.invariant.count in
+    let whole = c.loop-answer.slots.ok.0 in
+    omega (arith, low, high, count, whole)
+
+pub loop-answer-smaller : goal.loop-answer-smaller
+loop-answer-smaller c = (let gone = c.in-Some.ensures.steps.1 in omega arith)
+
+pub loop-answer-smaller-in-Some : goal.loop-answer-smaller-in-Some
+loop-answer-smaller-in-Some c = (let gone = c.in-Some.ensures.steps.1 in omega arith)
+
+pub returns-clause-count : goal.returns-clause-count
+returns-clause-count c = c.loop-answer.invariant.count

@@ -46,3 +46,20 @@ returns-clause-strips c =
     let spots = c.in_ok-spots.spots.items in
     let all : at.rank ≡ length spots = (let test = c.loop-rank-test.false in let most = at.auto.rank-end in let end = c.len-rank-end.ensures in let whole = c.in_ok-spots.spots.ok.0 in omega (arith, test, most, end, whole)) in
     cut_all n spots at.strips.items c.in_ok-spots.ensures (subst (λ (r : ℕ). Cutting n spots r at.strips.items) all at.invariant.cutting)
+
+pub index_mut-requires : goal.index_mut-requires
+index_mut-requires c =
+    let least = c.min.ensures in
+    let count = c.loop-rank.invariant.count in
+    let some = c.requires.count in
+    let whole = c.loop-rank.strips.ok.0 in
+    omega (arith, least, count, some, whole)
+
+pub index-requires : goal.index-requires
+index-requires c = (let test = c.loop-rank-test.true in let end = c.len-rank-end.ensures in omega (arith, test, end))
+
+pub returns-clause-count : goal.returns-clause-count
+returns-clause-count c = c.loop-rank.invariant.count
+
+pub returns-then-count-eq1-clause-count : goal.returns-then-count-eq1-clause-count
+returns-then-count-eq1-clause-count c = IfOk-weaker c.one_strip.result _ _ (λ strips is. ap (λ (l : List (List ℕ)). length l) is ∙ sym c.if-count-eq1.true) c.one_strip.ensures

@@ -63,3 +63,14 @@ returns-clause-crew c =
         turns = (let exact = c.in_ok-turns.ensures.exact in omega (arith, many, exact));
       };
     }
+
+pub loop-reader-smaller : goal.loop-reader-smaller
+loop-reader-smaller c = (let gone = c.in-Some.ensures.steps.1 in omega arith)
+
+pub unreachable-requires : goal.unreachable-requires
+unreachable-requires c =
+    let none = c.in_default.ensures.cases.0 in
+    let whole = c.loop-reader.hands.ok.0 in
+    let count = c.loop-reader.invariant.count in
+    let short = ap (λ (l : List Reading). length l) c.in-Some.ensures.steps.0 in
+    omega (arith, none, whole, count, short)

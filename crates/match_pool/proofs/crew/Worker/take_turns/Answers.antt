@@ -32,3 +32,20 @@ returns-clause-toured g c =
     let at = c.loop-place in
     let all : at.place ≡ c.args.past = (let test = c.loop-place-test.false in let most = at.auto.place-end c.requires.past.0 in omega (arith, test, most)) in
     subst (λ (p : ℕ). Tours (job_of c.args.batch.now) c.args.strips.now c.args.from p c.args.self.now at.self) all at.invariant.tours
+
+pub bounds-strips-place : goal.bounds-strips-place
+bounds-strips-place g c = (let test = c.loop-place-test.true in let past = c.requires.past.1 in omega (arith, test, past))
+
+pub index_mut-requires : goal.index_mut-requires
+index_mut-requires g c =
+    let test = c.loop-place-test.true in
+    let past = c.requires.past.1 in
+    let count = c.loop-place.invariant.tours.count ∙ c.requires.can.count in
+    let whole = c.loop-place.self.turns.ok.0 in
+    omega (arith, test, past, count, whole)
+
+pub returns-clause-reader : goal.returns-clause-reader
+returns-clause-reader g c = c.loop-place.invariant.reader
+
+pub returns-in_err-take-clause-reader : goal.returns-in_err-take-clause-reader
+returns-in_err-take-clause-reader g c = stays_then c.args.self.now.reader c.loop-place.self.reader c.take.new.reader c.loop-place.invariant.reader c.take.ensures.reader
