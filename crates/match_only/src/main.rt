@@ -21,11 +21,7 @@ use std::process::ExitCode;
 
 // The words after the program's name.
 fn arguments(rt: &HostRuntime, alloc: Global) -> io::Result<Vec<String>> {
-    let mut words = Vec::new(alloc);
-    for word in env::args(rt)?.skip(1) {
-        words.push(word)?;
-    }
-    Ok(words)
+    Ok(env::args(rt)?.skip(1).collect(alloc)?)
 }
 
 fn main(rt: HostRuntime) -> ExitCode {

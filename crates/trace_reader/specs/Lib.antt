@@ -1,6 +1,5 @@
 pub mod Content
 pub mod Fault
-pub mod FaultParts
 pub mod FirstField
 pub mod Parts
 pub mod Reader

@@ -8,16 +8,24 @@ use std::fmt::{self, Display, Formatter, Write};
 use thiserror::Error;
 
 /// The first fault of a trace file. The first number is the line and the second the field, both
-/// numbered from 1; `Memory` says that memory ran out.
+/// numbered from 1.
 #[derive(Clone, Copy, Debug, Error)]
 pub enum TraceFault {
+    /// The first line is not the header.
     BadHeader,
+    /// A row has another number of fields than the header.
     FieldCount(u64),
+    /// A field is no decimal number.
     BadNumber(u64, u32),
+    /// A number is beyond what its field takes.
     OutOfRange(u64, u32),
+    /// A trace has more points than a trace may have.
     TraceTooLong(u64),
+    /// A line has more bytes than a line may have.
     LineTooLong(u64),
+    /// The file has more bytes than a file may have.
     FileTooLong,
+    /// Memory ran out.
     Memory,
 }
 
@@ -43,8 +51,7 @@ impl From<AllocError> for TraceFault {
 }
 
 impl TraceFault {
-    ghost use Rattle.trace_reader.specs.Fault.{fault_line};
-    ghost use Rattle.trace_reader.specs.FaultParts.{place_of, what_of};
+    ghost use Rattle.trace_reader.specs.Fault.{fault_line, place_of, what_of};
 
     /// Appends the line that the program writes of the fault, with its LF.
     pub fn write_line(&self, alloc: Global, into: &mut List<u8>) -> Result<(), AllocError>
