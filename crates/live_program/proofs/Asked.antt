@@ -8,9 +8,10 @@ use Rattle.command_line.specs.declared.work.Command.{Command}
 use Rattle.command_line.specs.declared.work.Work.{Work}
 use Rattle.command_line.specs.declared.work.Work.TheVariants.{Match, Follow, Streams, Prove, Check, Table, Town}
 use Rattle.edge_io.specs.State.{ShelfState, SinkState}
+use Rattle.follow_work.specs.Alone.{follow_alone, followed}
 use Rattle.follow_work.specs.Follow.{follow_plan}
 use Rattle.live_pipeline.specs.Living.{LivePerforms}
-use Rattle.live_program.specs.Words.{asked_by, follow_alone, followed, with_follow}
+use Rattle.live_program.specs.Words.{asked_by, with_follow}
 use Rattle.program_frame.specs.Plan.{Plan}
 use Rattle.program_frame.specs.Refusals.{RefusesWords}
 use Rattle.program_frame.specs.declared.stop.Stop.{Stop}

@@ -4,8 +4,9 @@ use Rattle.std.specs.declared.option.Option.{Option}
 use Rattle.command_line.specs.Work.{PlainWork}
 use Rattle.command_line.specs.Work.PlainWork.{check_files, follow_files, match_files, match_town, prove_files, stream_files, table_of_network}
 use Rattle.cost_model.specs.declared.params.Params.{Params}
+use Rattle.follow_work.specs.Alone.{follow_alone, followed}
 use Rattle.follow_work.specs.Follow.{follow_job, follow_plan}
-use Rattle.live_program.specs.Words.{asked_by, follow_alone, followed, with_follow}
+use Rattle.live_program.specs.Words.{asked_by, with_follow}
 use Rattle.program_frame.specs.Plan.{Plan, IsLineOf}
 use Rattle.program_frame.specs.Promises.{Covers}
 use Rattle.program_frame.specs.Refusals.{network_said, refusal_lines}

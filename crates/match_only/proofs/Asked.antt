@@ -7,7 +7,8 @@ use Rattle.command_line.specs.declared.work.Command.{Command}
 use Rattle.command_line.specs.declared.work.Work.{Work}
 use Rattle.command_line.specs.declared.work.Work.TheVariants.{Match, Follow, Streams, Prove, Check, Table, Town}
 use Rattle.edge_io.specs.State.{ShelfState, SinkState}
-use Rattle.match_only.specs.Words.{asked_by, match_alone, matched}
+use Rattle.match_only.specs.Words.{asked_by}
+use Rattle.match_work.specs.Alone.{match_alone, matched}
 use Rattle.program_frame.specs.Performs.{Performs}
 use Rattle.program_frame.specs.Refusals.{RefusesWords}
 use Rattle.program_frame.specs.declared.stop.Stop.{Stop}

@@ -4,7 +4,8 @@ use Rattle.std.specs.declared.option.Option.{Option}
 use Rattle.command_line.specs.Work.{PlainWork}
 use Rattle.command_line.specs.Work.PlainWork.{check_files, follow_files, match_files, match_town, prove_files, stream_files, table_of_network}
 use Rattle.cost_model.specs.declared.params.Params.{Params}
-use Rattle.match_only.specs.Words.{asked_by, match_alone, matched}
+use Rattle.match_only.specs.Words.{asked_by}
+use Rattle.match_work.specs.Alone.{match_alone, matched}
 use Rattle.match_work.specs.Matches.{match_plan, match_text}
 use Rattle.program_frame.specs.Plan.{Plan, IsLineOf}
 use Rattle.program_frame.specs.Promises.{Covers}

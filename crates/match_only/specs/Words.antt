@@ -1,26 +1,9 @@
 -- The plan that words ask for: that of `match` without a table file, and no other.
-use Rattle.std.specs.Prelude.{ℕ, List, map, Some, None, Result, String, string_bytes}
-use Rattle.std.specs.declared.option.Option.{Option}
-use Rattle.command_line.specs.Work.{PlainCommand, PlainWork}
-use Rattle.command_line.specs.Work.PlainWork.{check_files, follow_files, match_files, match_town, prove_files, stream_files, table_of_network}
+use Rattle.std.specs.Prelude.{ℕ, List, map, Result, String, string_bytes}
 use Rattle.command_line.specs.Words.{command_of}
-use Rattle.cost_model.specs.declared.params.Params.{Params}
-use Rattle.match_work.specs.Matches.{match_plan}
+use Rattle.match_work.specs.Alone.{match_alone}
 use Rattle.program_frame.specs.Asked.{asked_of}
 use Rattle.program_frame.specs.Plan.{Plan}
-
-abbrev pub matched : PlainWork → Params → Option Plan
-matched (match_files network traces None) options = Some (match_plan network traces options)
-matched (match_files network traces (Some table)) options = None
-matched (follow_files network traces) options = None
-matched (stream_files network traces) options = None
-matched (prove_files network traces) options = None
-matched (check_files network traces certificate) options = None
-matched (table_of_network network) options = None
-matched (match_town side traces seed) options = None
-
-abbrev pub match_alone : PlainCommand → Option Plan
-match_alone command = matched command.work command.options
 
 -- the plan that words ask for, or the line of their refusal
 abbrev pub asked_by : List (List ℕ) → Result Plan (List ℕ)

@@ -1,19 +1,15 @@
 -- The table of lines has every line with which a plan of words may end.
-use Rattle.std.proofs.Common.{◌≡◌, ◌≢◌, ℕ, Bool, true, false, cond, length, List, [], Some, None, Result, Ok, Err, refl, sym, ◌∙◌, ap, inl, inr}
+use Rattle.std.proofs.Common.{◌≡◌, ◌≢◌, ℕ, Bool, true, false, cond, length, List, [], Some, None, Result, Ok, Err, refl, sym, ◌∙◌, ap, subst, inl, inr}
 use Rattle.std.specs.Prelude.{nat_lt, option_map}
 use Rattle.std.specs.declared.option.Option.{Option}
-use Rattle.std.specs.Result.{result_map_both}
-use Rattle.command_line.specs.FaultLine.{fault_line as words_fault_line}
 use Rattle.command_line.specs.Work.{PlainCommand, PlainWork}
 use Rattle.command_line.specs.Work.PlainWork.{check_files, follow_files, match_files, match_town, prove_files, stream_files, table_of_network}
-use Rattle.command_line.specs.Words.{command_of}
-use Rattle.command_line.specs.declared.fault.WordsFault.{WordsFault}
 use Rattle.cost_model.specs.declared.params.Params.{Params}
 use Rattle.program_frame.specs.Jobs.{given_by}
-use Rattle.program_frame.specs.Plan.{Plan, IsLineOf, accepts, loads, plan_of}
+use Rattle.program_frame.specs.Plan.{Plan, IsLineOf, accepts, loads}
 use Rattle.program_frame.specs.Plan.Plan.{ends}
 use Rattle.program_frame.specs.Promises.{Covers}
-use Rattle.program_frame.proofs.RefusalLines.{network_end, traces_end, words_end}
+use Rattle.program_frame.proofs.RefusalLines.{asked_covered, network_end, traces_end}
 use Rattle.program_frame.specs.Outcome.{done_with}
 use Rattle.program_frame.specs.Refusals.{network_said, refusal_lines, trace_limit}
 use Rattle.program_frame.specs.Stream.{works_traces}
@@ -29,7 +25,7 @@ use Rattle.table_file.specs.TableText.{text_limit}
 use Rattle.potential_certificate.specs.CertificateText.{text_limit as certificate_limit}
 use Rattle.match_program.specs.RunLines.{run_lines}
 use Rattle.matcher.specs.Setting.{Setting}
-use Rattle.match_program.specs.Words.{asked_by, command_plan, work_plan}
+use Rattle.match_program.specs.Words.{asked_by, every_work, work_plan}
 use Rattle.follow_work.specs.Follow.{follow_job}
 use Rattle.check_work.specs.Check.{check_said}
 use Rattle.match_work.specs.Matches.{match_plan, match_text}
@@ -116,9 +112,9 @@ work_end (check_files network traces certificate) options status line refused is
     (λ taken last. check_end (record { network = net; params = options }) taken last.0 (check_said (record { network = net; params = options }) taken last.0) status line refl refused last.1) more.1) is.1
 work_end (match_town side traces seed) options status line refused is = absurd (refused (sym is.0))
 
-asked_end : (words : List (List ℕ)) (command : Result PlainCommand WordsFault) (status : ℕ) (line : List ℕ) → command_of words ≡ command → status ≢ 0 → IsLineOf (plan_of (result_map_both command_plan words_fault_line command)) status line → run_lines status line
-asked_end words (Ok command) status line known refused is = work_end command.work command.options status line refused is
-asked_end words (Err fault) status line known refused is = inl (words_end words fault status line known is)
+command_end : (command : PlainCommand) (known : Plan) (status : ℕ) (line : List ℕ) → every_work command ≡ Some known → status ≢ 0 → IsLineOf known status line → run_lines status line
+command_end command known status line planned refused is =
+    work_end command.work command.options status line refused (subst (λ (p : Plan). IsLineOf p status line) (sym (cc planned)) is)
 
 pub lines_covered : (words : List (List ℕ)) → Covers run_lines (asked_by words)
-lines_covered words status line refused is = asked_end words (command_of words) status line refl refused is
+lines_covered words = asked_covered run_lines has_refusals every_work words command_end

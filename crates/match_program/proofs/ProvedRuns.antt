@@ -5,13 +5,13 @@ use Rattle.std.specs.Result.{result_map_both}
 use Rattle.std.proofs.lemmas.List.{take_all}
 use Rattle.cert_checker.specs.Rows.{first_bad_row}
 use Rattle.cert_checker.specs.Whole.{verdict}
-use Rattle.command_line.specs.FaultLine.{fault_line}
 use Rattle.command_line.specs.Options.{and_then as then_ok}
 use Rattle.command_line.specs.Work.{PlainCommand}
 use Rattle.command_line.specs.Words.{command_of}
 use Rattle.command_line.specs.declared.fault.WordsFault.{WordsFault}
 use Rattle.potential_certificate.specs.CertificateText.{text_limit}
 use Rattle.potential_certificate.specs.declared.proof.Certificate.{Certificate}
+use Rattle.program_frame.specs.Asked.{asked_of}
 use Rattle.program_frame.specs.Outcome.{Outcome, done_with, refused_with, seen}
 use Rattle.program_frame.specs.Plan.{Plan, accepts, and_then, loads, outcome_of, plan_of}
 use Rattle.program_frame.specs.Plan.Plan.{ends}
@@ -22,7 +22,7 @@ use Rattle.program_frame.specs.declared.stop.File.TheVariants.{Certificate as Of
 use Rattle.trace_reader.specs.declared.trace.Trace.{Trace}
 use Rattle.match_program.specs.ProvedRuns.{ProvedRunsAreAccepted}
 use Rattle.matcher.specs.Setting.{Setting}
-use Rattle.match_program.specs.Words.{asked_by, command_plan}
+use Rattle.match_program.specs.Words.{asked_by, command_plan, every_work}
 use Rattle.check_work.specs.Check.{certificate_in, check_said, proved_line, proved_or_refused, verdict_said}
 use Rattle.prove_work.specs.Prove.{prove_plan, prove_said, text_of_proofs}
 use Rattle.match_program.proofs.AcceptedOptions.{accepted_words}
@@ -102,7 +102,7 @@ proved_of on traces text line (Err l) is e = absurd (cc e)
 
 -- the plan of words that are accepted
 plan_is : (words : List (List ℕ)) (c : PlainCommand) → command_of words ≡ Ok c → plan_of (asked_by words) ≡ command_plan c
-plan_is words c is = ap (λ (r : Result PlainCommand WordsFault). plan_of (result_map_both command_plan fault_line r)) is
+plan_is words c is = ap (λ (r : Result PlainCommand WordsFault). plan_of (asked_of every_work r)) is
 
 pub proved_runs_are_accepted : ProvedRunsAreAccepted
 proved_runs_are_accepted proves checks files files' o runs is done =

@@ -1,11 +1,10 @@
 -- The plan that words ask for.
 use Rattle.std.specs.Prelude.{ℕ, List, map, Option, Some, None, Result, String, string_bytes}
-use Rattle.std.specs.Result.{result_map_both}
-use Rattle.command_line.specs.FaultLine.{fault_line}
 use Rattle.command_line.specs.Work.{PlainCommand, PlainWork}
 use Rattle.command_line.specs.Work.PlainWork.{check_files, follow_files, match_files, match_town, prove_files, stream_files, table_of_network}
 use Rattle.command_line.specs.Words.{command_of}
 use Rattle.cost_model.specs.declared.params.Params.{Params}
+use Rattle.program_frame.specs.Asked.{Plans, asked_of}
 use Rattle.program_frame.specs.Plan.{Plan}
 use Rattle.follow_work.specs.Follow.{follow_plan}
 use Rattle.check_work.specs.Check.{check_plan}
@@ -35,9 +34,13 @@ work_plan (check_files network traces certificate) options =
 abbrev pub command_plan : PlainCommand → Plan
 command_plan command = work_plan command.work command.options
 
+-- every command is known
+abbrev pub every_work : Plans
+every_work command = Some (command_plan command)
+
 -- the plan that words ask for, or the line of their refusal
 abbrev pub asked_by : List (List ℕ) → Result Plan (List ℕ)
-asked_by words = result_map_both command_plan fault_line (command_of words)
+asked_by words = asked_of every_work (command_of words)
 
 -- the same of words as they are handed to a run
 abbrev pub asked_plan : {Z : Type 0} → List (String Z) → Result Plan (List ℕ)

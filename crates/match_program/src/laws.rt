@@ -2,6 +2,7 @@
 ghost use Rattle.match_program.specs.ProvedFiles.{ProvedFilesAreAccepted};
 ghost use Rattle.match_program.specs.ProvedRuns.{ProvedRunsAreAccepted};
 ghost use Rattle.match_program.specs.ProvedTexts.{ProvedTextsAreAccepted};
+ghost use Rattle.match_program.specs.SmallerPrograms.{SmallerProgramsPlanAlike};
 ghost use Rattle.match_program.specs.TableFiles.{TableFilesChangeNothing};
 ghost use Rattle.match_program.specs.Workers.{WorkersChangeNothing};
 
@@ -29,4 +30,10 @@ pub fn proved_files_are_accepted()
 /// the same files and options.
 pub fn proved_runs_are_accepted()
     ensures { ProvedRunsAreAccepted }
+{}
+
+/// The programs of `match` alone and of `follow` alone have the plan of this program for all words that
+/// they know. All other words they refuse as a faulty command line.
+pub fn smaller_programs_plan_alike()
+    ensures { SmallerProgramsPlanAlike }
 {}

@@ -1,3 +1,4 @@
+pub mod Alone
 pub mod Matched
 pub mod Matches
 pub mod MatchesDone

@@ -1,5 +1,5 @@
 use Rattle.std.proofs.Common.{map, string_bytes}
-use Rattle.match_only.specs.Words.{match_alone}
+use Rattle.match_work.specs.Alone.{match_alone}
 use Rattle.program_frame.proofs.Asked.{words_refuse}
 use Rattle.match_only.proofs.run.perform.Goals as goal
 

@@ -1,10 +1,12 @@
 use Rattle.std.proofs.Common.{map, string_bytes}
-use Rattle.match_program.proofs.Asked.{asked_town, words_refuse}
+use Rattle.program_frame.proofs.Asked.{words_refuse}
+use Rattle.match_program.specs.Words.{every_work}
+use Rattle.match_program.proofs.Asked.{asked_town}
 use Rattle.match_program.proofs.run.perform.Goals as goal
 
 pub returns-in-Err : goal.returns-in-Err
 returns-in-Err g c =
-    words_refuse (map string_bytes c.args.words.now) c.in-Err.fault (g.S.Shelf.state c.args.shelf.now) (g.K.Sink.state c.args.out.now) c.refuse_words.result c.in-Err.ensures.err c.refuse_words.ensures
+    words_refuse every_work (map string_bytes c.args.words.now) c.in-Err.fault (g.S.Shelf.state c.args.shelf.now) (g.K.Sink.state c.args.out.now) c.refuse_words.result c.in-Err.ensures.err c.refuse_words.ensures
 
 pub returns-in-Town : goal.returns-in-Town
 returns-in-Town g c =

@@ -1,0 +1,48 @@
+-- The works that a smaller program knows have the same plan here.
+use Rattle.std.proofs.Common.{◌≡◌, List, ℕ, Some, None, Result, Ok, Err, ap}
+use Rattle.std.specs.declared.option.Option.{Option}
+use Rattle.command_line.specs.Work.{PlainCommand, PlainWork}
+use Rattle.command_line.specs.Work.PlainWork.{check_files, follow_files, match_files, match_town, prove_files, stream_files, table_of_network}
+use Rattle.command_line.specs.Words.{command_of}
+use Rattle.command_line.specs.declared.fault.WordsFault.{WordsFault}
+use Rattle.cost_model.specs.declared.params.Params.{Params}
+use Rattle.follow_work.specs.Alone.{follow_alone, followed}
+use Rattle.match_program.specs.SmallerPrograms.{SmallerProgramsPlanAlike}
+use Rattle.match_program.specs.Words.{command_plan, every_work, work_plan}
+use Rattle.match_work.specs.Alone.{match_alone, matched}
+use Rattle.program_frame.specs.Asked.{Plans, asked_of, known_or_line}
+use Rattle.program_frame.specs.Plan.{Plan}
+
+matched_is : (work : PlainWork) (options : Params) (plan : Plan) → matched work options ≡ Some plan → work_plan work options ≡ plan
+matched_is (match_files network traces None) options plan is = cc is
+matched_is (match_files network traces (Some table)) options plan is = absurd (cc is)
+matched_is (follow_files network traces) options plan is = absurd (cc is)
+matched_is (stream_files network traces) options plan is = absurd (cc is)
+matched_is (prove_files network traces) options plan is = absurd (cc is)
+matched_is (check_files network traces certificate) options plan is = absurd (cc is)
+matched_is (table_of_network network) options plan is = absurd (cc is)
+matched_is (match_town side traces seed) options plan is = absurd (cc is)
+
+followed_is : (work : PlainWork) (options : Params) (plan : Plan) → followed work options ≡ Some plan → work_plan work options ≡ plan
+followed_is (match_files network traces table) options plan is = absurd (cc is)
+followed_is (follow_files network traces) options plan is = cc is
+followed_is (stream_files network traces) options plan is = absurd (cc is)
+followed_is (prove_files network traces) options plan is = absurd (cc is)
+followed_is (check_files network traces certificate) options plan is = absurd (cc is)
+followed_is (table_of_network network) options plan is = absurd (cc is)
+followed_is (match_town side traces seed) options plan is = absurd (cc is)
+
+known_is : (known : Option Plan) (plan : Plan) → known_or_line known ≡ Ok plan → known ≡ Some plan
+known_is (Some known) plan is = ap (λ (p : Plan). let r : Option Plan = Some p in r) (cc is)
+known_is None plan is = absurd (cc is)
+
+of_command : (works : Plans) → ((command : PlainCommand) (plan : Plan) → works command ≡ Some plan → command_plan command ≡ plan)
+    → (command : Result PlainCommand WordsFault) (plan : Plan) → asked_of works command ≡ Ok plan → asked_of every_work command ≡ Ok plan
+of_command works alike (Ok command) plan is = ap (λ (p : Plan). let r : Result Plan (List ℕ) = Ok p in r) (alike command plan (known_is (works command) plan is))
+of_command works alike (Err fault) plan is = absurd (cc is)
+
+pub smaller_programs_plan_alike : SmallerProgramsPlanAlike
+smaller_programs_plan_alike = (
+  λ words plan is. of_command match_alone (λ command known. matched_is command.work command.options known) (command_of words) plan is,
+  λ words plan is. of_command follow_alone (λ command known. followed_is command.work command.options known) (command_of words) plan is,
+)
