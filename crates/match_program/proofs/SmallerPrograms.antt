@@ -1,10 +1,12 @@
 -- The works that a smaller program knows have the same plan here.
-use Rattle.std.proofs.Common.{◌≡◌, List, ℕ, Some, None, Result, Ok, Err, ap}
+use Rattle.std.proofs.Common.{◌≡◌, ◌⊎◌, List, ℕ, Some, None, Result, Ok, Err, refl, sym, ap, inl, inr}
 use Rattle.std.specs.declared.option.Option.{Option}
+use Rattle.command_line.specs.FaultLine.{fault_line}
 use Rattle.command_line.specs.Work.{PlainCommand, PlainWork}
 use Rattle.command_line.specs.Work.PlainWork.{check_files, follow_files, match_files, match_town, prove_files, stream_files, table_of_network}
 use Rattle.command_line.specs.Words.{command_of}
 use Rattle.command_line.specs.declared.fault.WordsFault.{WordsFault}
+use Rattle.command_line.specs.declared.fault.WordsFault.TheVariants.{Usage}
 use Rattle.cost_model.specs.declared.params.Params.{Params}
 use Rattle.follow_work.specs.Alone.{follow_alone, followed}
 use Rattle.match_program.specs.SmallerPrograms.{SmallerProgramsPlanAlike}
@@ -32,17 +34,18 @@ followed_is (check_files network traces certificate) options plan is = absurd (c
 followed_is (table_of_network network) options plan is = absurd (cc is)
 followed_is (match_town side traces seed) options plan is = absurd (cc is)
 
-known_is : (known : Option Plan) (plan : Plan) → known_or_line known ≡ Ok plan → known ≡ Some plan
-known_is (Some known) plan is = ap (λ (p : Plan). let r : Option Plan = Some p in r) (cc is)
-known_is None plan is = absurd (cc is)
+of_known : (works : Plans) → ((command : PlainCommand) (plan : Plan) → works command ≡ Some plan → command_plan command ≡ plan)
+    → (command : PlainCommand) (known : Option Plan) → works command ≡ known → (known_or_line known ≡ asked_of every_work (Ok command)) ⊎ (known_or_line known ≡ Err (fault_line Usage))
+of_known works alike command (Some plan) is = inl (ap (λ (p : Plan). let r : Result Plan (List ℕ) = Ok p in r) (sym (alike command plan is)))
+of_known works alike command None is = inr refl
 
 of_command : (works : Plans) → ((command : PlainCommand) (plan : Plan) → works command ≡ Some plan → command_plan command ≡ plan)
-    → (command : Result PlainCommand WordsFault) (plan : Plan) → asked_of works command ≡ Ok plan → asked_of every_work command ≡ Ok plan
-of_command works alike (Ok command) plan is = ap (λ (p : Plan). let r : Result Plan (List ℕ) = Ok p in r) (alike command plan (known_is (works command) plan is))
-of_command works alike (Err fault) plan is = absurd (cc is)
+    → (command : Result PlainCommand WordsFault) → (asked_of works command ≡ asked_of every_work command) ⊎ (asked_of works command ≡ Err (fault_line Usage))
+of_command works alike (Ok command) = of_known works alike command (works command) refl
+of_command works alike (Err fault) = inl refl
 
 pub smaller_programs_plan_alike : SmallerProgramsPlanAlike
 smaller_programs_plan_alike = (
-  λ words plan is. of_command match_alone (λ command known. matched_is command.work command.options known) (command_of words) plan is,
-  λ words plan is. of_command follow_alone (λ command known. followed_is command.work command.options known) (command_of words) plan is,
+  λ words. of_command match_alone (λ command. matched_is command.work command.options) (command_of words),
+  λ words. of_command follow_alone (λ command. followed_is command.work command.options) (command_of words),
 )

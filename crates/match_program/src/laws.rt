@@ -32,8 +32,8 @@ pub fn proved_runs_are_accepted()
     ensures { ProvedRunsAreAccepted }
 {}
 
-/// The programs of `match` alone and of `follow` alone have the plan of this program for all words that
-/// they know. All other words they refuse as a faulty command line.
+/// Of the programs of `match` alone and of `follow` alone, words ask what they ask of this program, the
+/// line of a refusal too; or they are refused there as a faulty command line.
 pub fn smaller_programs_plan_alike()
     ensures { SmallerProgramsPlanAlike }
 {}
