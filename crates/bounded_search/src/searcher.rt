@@ -5,7 +5,6 @@ ghost use Rattle.bounded_search.specs.Table.{IsRow};
 
 use crate::dijkstra::Workspace;
 use crate::places::place_between;
-use crate::queue::Waiting;
 use crate::table_row::Row;
 use polyline_geometry::List;
 use road_network::{Network, NodeId};
@@ -20,7 +19,6 @@ pub struct Searcher<'n> {
     alloc: Global,
     network: &'n Network,
     workspace: Workspace,
-    taken: List<Waiting>,
 }
 
 // By hand, so that the functions that drop one call this.
@@ -30,7 +28,6 @@ impl<'n> Drop for Searcher<'n> {
             alloc: _,
             network: _,
             workspace: _,
-            taken: _,
         } = self;
     }
 }
@@ -58,7 +55,6 @@ impl<'n> Searcher<'n> {
             alloc,
             network,
             workspace,
-            taken: List::new(alloc),
         })
     }
 
@@ -93,10 +89,7 @@ impl<'n> Searcher<'n> {
         let alloc = self.alloc;
         let network = self.network;
         network.known();
-        match self
-            .workspace
-            .entries(alloc, network, origin, &mut self.taken)
-        {
+        match self.workspace.entries(alloc, network, origin) {
             Ok(entries) => Ok(Row {
                 origin,
                 middle: place_between(&entries, 0, entries.len(), origin).unwrap_or(0),
