@@ -107,7 +107,7 @@ marked_begun bound s words after marks queue lt none is waits v there = elim (ca
 ]
 
 -- a node is taken out of the queue
-pub node_taken : (n : Net) (s : ℕ) (w : Workspace) (x : Waiting) (new : List Waiting) → IsPermutation w.queue (x ∷ new) → IsSearching n s w [] → IsSearching n s (record { bound = w.bound; words = w.words; marks = w.marks; queue = new }) (x ∷ [])
+pub node_taken : (n : Net) (s : ℕ) (w : Workspace) (x : Waiting) (new : List Waiting) → IsPermutation w.queue (x ∷ new) → IsSearching n s w [] → IsSearching n s (record { bound = w.bound; reach = w.reach; words = w.words; marks = w.marks; queue = new }) (x ∷ [])
 node_taken n s w x new perm h = record {
   sized = h.sized;
   underway = reordered n w.bound s w.words.items w.queue (x ∷ new) perm h.underway;

@@ -7,6 +7,7 @@ ghost use Rattle.bounded_search.specs.Labels.{entry_of};
 ghost use Rattle.bounded_search.specs.Marked.{AreMarked, IsClean, IsSized, KeepsSizes, MarksToo, labels_of};
 ghost use Rattle.bounded_search.specs.Table.{IsRow};
 
+use crate::known_rows::KnownRows;
 use crate::label_words::{ORIGIN, distance_in, label_in, no_label};
 use crate::queue::{Queue, Waiting};
 use crate::table_row::Entry;
@@ -21,6 +22,7 @@ use std::alloc::{AllocError, Global};
 /// All words are made for one bound: that of a node without a label is just beyond it.
 pub struct Workspace {
     pub(crate) bound: u32,
+    pub(crate) reach: u32,
     pub(crate) words: Vec<u64>,
     marks: Vec<u64>,
     queue: Queue,
@@ -31,6 +33,7 @@ impl Drop for Workspace {
     fn drop(self) {
         let Workspace {
             bound: _,
+            reach: _,
             words: _,
             marks: _,
             queue: _,
@@ -54,6 +57,12 @@ fn window(net: &Network, bound: u32) -> u32 {
     mean_length(net).saturating_mul(3).max(bound / 64)
 }
 
+/// Up to which distance a node's row is merged, in cm. Within three mean lengths the rows of a few nodes label most
+/// nodes of a row; where the bound is low, a row is found as quickly by its edges.
+fn reach(net: &Network, bound: u32) -> u32 {
+    mean_length(net).saturating_mul(3).min(bound / 4)
+}
+
 impl Workspace {
     /// Arrays for the nodes of a network and a bound, with nothing in them.
     pub fn new(alloc: Global, net: &Network, bound: u32) -> Result<Workspace, AllocError>
@@ -64,6 +73,7 @@ impl Workspace {
         let nodes = net.node_count() as usize;
         Ok(Workspace {
             bound,
+            reach: reach(net, bound),
             words: vec![in alloc; no_label(bound); nodes]?,
             marks: vec![in alloc; 0; nodes / 64 + 1]?,
             queue: Queue::new(alloc, window(net, bound)),
@@ -71,7 +81,7 @@ impl Workspace {
     }
 
     /// Marks a node.
-    fn mark(&mut self, node: NodeId)
+    pub(crate) fn mark(&mut self, node: NodeId)
         requires { node.0 / 64 < length self.old.marks.items }
         ensures words { self.new.words.items ≡ self.old.words.items }
         ensures queue { self.new.queue ≡ self.old.queue }
@@ -102,7 +112,13 @@ impl Workspace {
     ///
     /// A node waits again each time that it becomes nearer. When none waits, every edge within the bound has
     /// been tried from its node's last distance. Taking near nodes first makes that rare.
-    fn label_all(&mut self, net: &Network, origin: NodeId) -> Result<(), AllocError>
+    fn label_all<K: KnownRows>(
+        &mut self,
+        net: &Network,
+        known: &K,
+        origin: NodeId,
+    ) -> Result<(), AllocError>
+        requires known { K.table known.now ≡ record { network = net.now; bound = self.old.bound } }
         requires origin { HasNode net.now origin.0 }
         requires clean { IsClean (length net.now.nodes) self.old }
         ensures labelled { OnOk result (IsLabelled net.now origin.0 self.new) }
@@ -112,7 +128,7 @@ impl Workspace {
         self.words[origin.0 as usize] = ORIGIN;
         self.queue.start(origin.0)?;
         while let Some(next) = self.queue.take()? {
-            self.leave(net, next)?;
+            self.leave_or_merge(net, known, next)?;
         }
         Ok(())
     }
@@ -181,12 +197,14 @@ impl Workspace {
     }
 
     /// The entries of the row of an origin. After Err the arrays have to be cleared.
-    pub fn entries(
+    pub fn entries<K: KnownRows>(
         &mut self,
         alloc: Global,
         net: &Network,
+        known: &K,
         origin: NodeId,
     ) -> Result<Vec<Entry>, AllocError>
+        requires known { K.table known.now ≡ record { network = net.now; bound = self.old.bound } }
         requires origin { HasNode net.now origin.0 }
         requires clean { IsClean (length net.now.nodes) self.old }
         ensures row { IfOk result (λ entries.
@@ -194,7 +212,7 @@ impl Workspace {
         ensures clean { EndsClean result self.old self.new }
     {
         net.known();
-        self.label_all(net, origin)?;
+        self.label_all(net, known, origin)?;
         self.take_entries(alloc)
     }
 

@@ -10,7 +10,7 @@ use Rattle.bounded_search.proofs.Underway.{begun, closed_at_end}
 use Rattle.bounded_search.proofs.dijkstra.Workspace.label_all.Goals as goal
 
 pub loop-next-init : goal.loop-next-init
-loop-next-init c =
+loop-next-init g c =
     let n = c.args.net.now in
     let w = c.args.self.now in
     let clean = c.requires.clean in
@@ -30,31 +30,31 @@ loop-next-init c =
       };
     }
 
-pub leave-requires-clause-next : goal.leave-requires-clause-next
-leave-requires-clause-next c =
+pub leave_or_merge-requires-clause-next : goal.leave_or_merge-requires-clause-next
+leave_or_merge-requires-clause-next g c =
     let w = c.loop-next.self in
     let perm : IsPermutation w.queue (c.in-Some.next ∷ c.take.new.self) = rw c.in-Some.is at c.in_ok-next.ensures in
     taken_inside c.args.net.now c.args.origin.0 w c.in-Some.next c.take.new.self perm c.loop-next.invariant.searching
 
 pub loop-next-smaller : goal.loop-next-smaller
-loop-next-smaller c =
+loop-next-smaller g c =
     let perm : IsPermutation c.loop-next.self.queue (c.in-Some.next ∷ c.take.new.self) = rw c.in-Some.is at c.in_ok-next.ensures in
-    omega (arith, c.in_ok-leave.ensures.leaves.less, fewer_wait c.loop-next.self.queue c.take.new.self c.in-Some.next perm)
+    omega (arith, c.in_ok-leave_or_merge.ensures.leaves.less, fewer_wait c.loop-next.self.queue c.take.new.self c.in-Some.next perm)
 
 pub loop-next-preserved : goal.loop-next-preserved
-loop-next-preserved c =
+loop-next-preserved g c =
     let w = c.loop-next.self in
     let s : ℕ = c.args.origin.0 in
     let inv = c.loop-next.invariant in
-    let e = c.in_ok-leave.ensures in
+    let e = c.in_ok-leave_or_merge.ensures in
     let perm : IsPermutation w.queue (c.in-Some.next ∷ c.take.new.self) = rw c.in-Some.is at c.in_ok-next.ensures in
     record {
-      sized = keeps_both c.args.self.now w c.leave.new.self inv.sized (record { bound = e.sized.bound; words_count = e.sized.words_count; marks_count = e.sized.marks_count });
+      sized = keeps_both c.args.self.now w c.leave_or_merge.new.self inv.sized (record { bound = e.sized.bound; words_count = e.sized.words_count; marks_count = e.sized.marks_count });
       searching = e.leaves.searching s [] (node_taken c.args.net.now s w c.in-Some.next c.take.new.self perm inv.searching);
     }
 
 pub returns-clause-labelled : goal.returns-clause-labelled
-returns-clause-labelled c =
+returns-clause-labelled g c =
     let n = c.args.net.now in
     let w = c.loop-next.self in
     let s : ℕ = c.args.origin.0 in

@@ -5,10 +5,10 @@ use Rattle.bounded_search.specs.Underway.{effort, state_of}
 use Rattle.bounded_search.proofs.dijkstra.Workspace.label_all.Given as goal
 
 abbrev pub invariant-loop-next : goal.invariant-loop-next
-invariant-loop-next l = record {
+invariant-loop-next g l = record {
   sized : KeepsSizes l.fn.self l.self;
   searching : IsSearching l.net l.fn.origin.0 l.self [];
 }
 
 abbrev pub decreases-loop-next : goal.decreases-loop-next
-decreases-loop-next l = effort (state_of l.self)
+decreases-loop-next g l = effort (state_of l.self)
