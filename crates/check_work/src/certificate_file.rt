@@ -1,4 +1,4 @@
-// A certificate's file, read block by block while the block before is taken in. Serves `check`; decided by `ReadsWhole`.
+//! A certificate's file, read block by block while the block before is taken in. Serves `check`; decided by `ReadsWhole`.
 ghost use Rattle.std.specs.Prelude.{◌≡◌, ◌+◌, ◌≤◌, ◌<◌, ◌^◌, ◌++◌, IfErr, IfOk, length};
 ghost use Rattle.potential_certificate.specs.CertificateText.{text_limit};
 ghost use Rattle.program_frame.specs.Read.{FailsToRead, ReadsWhole};

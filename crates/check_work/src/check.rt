@@ -1,4 +1,4 @@
-// `check NET TRACES CERT`. Serves the program; decided by `check_plan`.
+//! `check NET TRACES CERT`. Serves the program; decided by `check_plan`.
 ghost use Rattle.std.specs.Prelude.{◌≡◌, ◌++◌, ◌<◌, ◌^◌, All, Ok, IfOk, OnOk};
 ghost use Rattle.cost_model.specs.Options.{IsAccepted};
 ghost use Rattle.program_frame.specs.Loads.{Accepts};

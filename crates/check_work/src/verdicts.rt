@@ -1,4 +1,4 @@
-// What is said of the verdict on a certificate. Serves `check`; decided by `verdict_said`.
+//! What is said of the verdict on a certificate. Serves `check`; decided by `verdict_said`.
 ghost use Rattle.std.specs.Prelude.{◌≡◌, ◌++◌, OnOk};
 ghost use Rattle.cert_checker.specs.Rows.{first_bad_row};
 ghost use Rattle.program_frame.specs.Loads.{Accepts};

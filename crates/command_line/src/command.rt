@@ -1,4 +1,4 @@
-// The command that words ask for. Serves `run`; decided by `command_of`.
+//! The command that words ask for. Serves `run`; decided by `command_of`.
 ghost use Rattle.std.specs.Prelude.{◌≡◌, ◌≢◌, ◌⊎◌, map, string_bytes, Ok, Err, IfOk, IfErr};
 ghost use Rattle.std.specs.Result.{result_map_both};
 ghost use Rattle.clap.specs.Words.{kind_of, subcommand_rows_of};

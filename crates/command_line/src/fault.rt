@@ -1,4 +1,4 @@
-// Why words are refused, and the line that says so. Serves `read_command`; decided by `fault_line`.
+//! Why words are refused, and the line that says so. Serves `read_command`; decided by `fault_line`.
 ghost use Rattle.std.specs.Prelude.{◌≡◌};
 ghost use Rattle.command_line.specs.FaultLine.{fault_line};
 

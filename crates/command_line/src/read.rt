@@ -1,4 +1,4 @@
-// What the words give for a name. Serves `read_command`; decided by `options_of`.
+//! What the words give for a name. Serves `read_command`; decided by `options_of`.
 ghost use Rattle.std.specs.Prelude.{◌≡◌, IfOk, option_map};
 ghost use Rattle.cost_model.specs.Options.{IsAccepted, IsWithin};
 ghost use Rattle.command_line.specs.Given.{given_for};

@@ -1,4 +1,4 @@
-// The program as `clap` reads its words. Serves `read_command`; decided by `program`.
+//! The program as `clap` reads its words. Serves `read_command`; decided by `program`.
 ghost use Rattle.std.specs.Prelude.{◌≡◌, map, false, IfOk};
 ghost use Rattle.clap.specs.Words.{app_of, rule_of, shape_of, with_subcommand};
 ghost use Rattle.clap.specs.declared.builder.command.Command.TheViews.{out-Command};

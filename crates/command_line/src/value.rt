@@ -1,5 +1,5 @@
-// The values that words give by number. Serves `read_options` and `WordsFault`; decided by
-// `range_of`.
+//! The values that words give by number. Serves `read_options` and `WordsFault`; decided by
+//! `range_of`.
 ghost use Rattle.std.specs.Prelude.{◌≡◌};
 ghost use Rattle.command_line.specs.Values.{name_of, range_of};
 

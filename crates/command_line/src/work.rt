@@ -1,4 +1,4 @@
-// What words ask for.
+//! What words ask for.
 
 use cost_model::Params;
 

@@ -1,5 +1,5 @@
-// The top call: the work of `follow` with a reader in a thread of its own, what is said on err, and the
-// status. Serves `main`; decided by `LivePromises`.
+//! The top call: the work of `follow` with a reader in a thread of its own, what is said on err, and the
+//! status. Serves `main`; decided by `LivePromises`.
 ghost use Rattle.std.specs.Prelude.{Ok};
 ghost use Rattle.cost_model.specs.Options.{IsAccepted};
 ghost use Rattle.follow_work.specs.Follow.{follow_plan};

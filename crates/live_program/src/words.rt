@@ -1,4 +1,4 @@
-// The words with `follow` before them. Serves `live`; decided by `with_follow`.
+//! The words with `follow` before them. Serves `live`; decided by `with_follow`.
 ghost use Rattle.std.specs.Prelude.{◌≡◌, IfOk, map, string_bytes};
 ghost use Rattle.live_program.specs.Words.{with_follow};
 

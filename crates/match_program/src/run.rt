@@ -1,5 +1,5 @@
-// The top call: the work of the words, what is said on err, and the status. Serves `main`; decided
-// by `Promises`.
+//! The top call: the work of the words, what is said on err, and the status. Serves `main`; decided
+//! by `Promises`.
 ghost use Rattle.program_frame.specs.Performs.{Performs};
 ghost use Rattle.program_frame.specs.Promises.{Promises};
 ghost use Rattle.match_program.specs.RunLines.{run_lines};

@@ -1,5 +1,5 @@
-// Readers of one store, and batches of traces that are matched by them. Serves `match` and `town`; decided
-// by `MatchesBatch`.
+//! Readers of one store, and batches of traces that are matched by them. Serves `match` and `town`; decided
+//! by `MatchesBatch`.
 ghost use Rattle.std.specs.Prelude.{◌≡◌, IfOk};
 ghost use Rattle.match_pool.specs.Learning.{AreReadersFor};
 ghost use Rattle.match_pool.specs.Working.{AreJobTraces};

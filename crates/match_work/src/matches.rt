@@ -1,4 +1,4 @@
-// `match NET TRACES`. Serves the programs; decided by `match_plan`.
+//! `match NET TRACES`. Serves the programs; decided by `match_plan`.
 ghost use Rattle.std.specs.Prelude.{◌≡◌, ◌≤◌, ◌^◌, ◌++◌, [], All, Ok, IfOk, OnOk};
 ghost use Rattle.cost_model.specs.Options.{IsAccepted};
 ghost use Rattle.match_pool.specs.Learning.{AreReadersFor};

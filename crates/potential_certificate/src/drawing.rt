@@ -1,4 +1,4 @@
-// The parts of a text, read side by side by workers that draw them. Serves the reader of blocks; decided by `AreReadsOf`.
+//! The parts of a text, read side by side by workers that draw them. Serves the reader of blocks; decided by `AreReadsOf`.
 ghost use Rattle.std.specs.Prelude.{◌≡◌, ◌<◌, ◌≤◌, All, IfOk, length};
 ghost use Rattle.tickets.specs.Tickets.{IsOpenTicket};
 ghost use Rattle.potential_certificate.specs.Gathering.{AreEachReadOf, AreReadsOf, IsPlacedIn, put_at_places};

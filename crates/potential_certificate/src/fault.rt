@@ -1,4 +1,4 @@
-// Why a certificate was not read or not written. Serves all calls; decided by `certificate_of`.
+//! Why a certificate was not read or not written. Serves all calls; decided by `certificate_of`.
 ghost use Rattle.std.specs.Prelude.{◌≡◌};
 
 use std::alloc::AllocError;

@@ -1,4 +1,4 @@
-// A text whose proofs and rows are kept as they were read. Serves the reader of blocks; decided by `gathered_text`.
+//! A text whose proofs and rows are kept as they were read. Serves the reader of blocks; decided by `gathered_text`.
 ghost use Rattle.std.specs.Prelude.{◌≡◌, ◌<◌, ◌++◌, [], IfOk, IsErrOf, IsTrue, OnOk, length};
 ghost use Rattle.potential_certificate.specs.CertificateText.{certificate_text, text_limit};
 ghost use Rattle.potential_certificate.specs.Gathering.{GoesOn, Grows, IsGathered, IsPartRead, gathered_text, least_after, lines_text, rises_from};

@@ -1,4 +1,4 @@
-// The line of a point with candidates, read. Serves `next_line`; decided by `layer_at`.
+//! The line of a point with candidates, read. Serves `next_line`; decided by `layer_at`.
 ghost use Rattle.std.specs.Prelude.{◌≡◌, ◌^◌, ◌-◌, IfOk, length};
 ghost use Rattle.std.specs.Option.{option_copied};
 ghost use Rattle.match_text.specs.Reading.{most32, number_after, numbered_at, seen};

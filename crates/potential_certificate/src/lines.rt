@@ -1,5 +1,5 @@
-// The first and the last line of a certificate. Serves the writer and the reader; decided by
-// `first_line` and `last_line`.
+//! The first and the last line of a certificate. Serves the writer and the reader; decided by
+//! `first_line` and `last_line`.
 ghost use Rattle.std.specs.Prelude.{◌≡◌, ◌++◌, OnOk};
 ghost use Rattle.decimal_text.specs.Number.{decimal};
 ghost use Rattle.potential_certificate.specs.CertificateText.{back_words, first_line, form, gap_words, last_line, option_words};

@@ -1,4 +1,4 @@
-// Parts of a certificate's text: where they begin, and one read. Serves the reader of blocks; decided by `IsPartRead`.
+//! Parts of a certificate's text: where they begin, and one read. Serves the reader of blocks; decided by `IsPartRead`.
 ghost use Rattle.std.specs.Prelude.{◌≡◌, ◌<◌, ◌≤◌, IfOk, length};
 ghost use Rattle.std.specs.List.{flat_map};
 ghost use Rattle.potential_certificate.specs.Gathering.{IsReadOf};

@@ -1,4 +1,4 @@
-// A line of a proof, read. Serves `read_certificate`; decided by `line_at`.
+//! A line of a proof, read. Serves `read_certificate`; decided by `line_at`.
 ghost use Rattle.std.specs.Prelude.{◌≡◌, ◌<◌, ◌+◌, ◌^◌, IfOk, length};
 ghost use Rattle.std.specs.Option.{option_copied, option_map};
 ghost use Rattle.match_text.specs.Grammar.{IsAllowed, place_after};

@@ -1,4 +1,4 @@
-// The lines of a proof, written. Serves `write_certificate`; decided by `proof_text`.
+//! The lines of a proof, written. Serves `write_certificate`; decided by `proof_text`.
 ghost use Rattle.std.specs.Prelude.{◌≡◌, ◌++◌, length, take, OnErr, OnOk};
 ghost use Rattle.std.specs.List.{concat, flat_map};
 ghost use Rattle.potential_certificate.specs.CertificateText.{cell_word, layer_line, point_line, point_lines, pointer_word, proof_text};

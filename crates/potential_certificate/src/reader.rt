@@ -1,4 +1,4 @@
-// A certificate whose text comes in blocks. Serves who reads a file; decided by `certificate_of`.
+//! A certificate whose text comes in blocks. Serves who reads a file; decided by `certificate_of`.
 ghost use Rattle.std.specs.Prelude.{◌≡◌, ◌⊎◌, ◌++◌, [], IfErr, IfOk, Ok, Err};
 ghost use Rattle.potential_certificate.specs.Reading.{certificate_of};
 ghost use Rattle.potential_certificate.specs.declared.fault.CertFault.TheVariants.{Memory};

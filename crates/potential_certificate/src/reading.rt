@@ -1,4 +1,4 @@
-// The text of a certificate, read line by line. Serves all who take one; decided by `certificate_of`.
+//! The text of a certificate, read line by line. Serves all who take one; decided by `certificate_of`.
 ghost use Rattle.std.specs.Prelude.{◌≡◌, ◌⊎◌, ◌<◌, ◌+◌, ◌^◌, ◌==◌, length, IfErr, IfOk, Ok, Err};
 ghost use Rattle.std.specs.List.{count_by, list_any};
 ghost use Rattle.potential_certificate.specs.CertificateText.{text_limit};

@@ -1,4 +1,4 @@
-// The rows of a certificate, read one after the other. Serves the reader; decided by `rows_at`.
+//! The rows of a certificate, read one after the other. Serves the reader; decided by `rows_at`.
 ghost use Rattle.std.specs.Prelude.{◌≡◌, ◌+◌, ◌++◌, IfOk, length};
 ghost use Rattle.match_text.specs.Reading.{seen};
 ghost use Rattle.potential_certificate.specs.Reading.{all_rows_at, row_from, rows_at};

@@ -1,4 +1,4 @@
-// The text of a certificate, written. Serves all who write one; decided by `certificate_text`.
+//! The text of a certificate, written. Serves all who write one; decided by `certificate_text`.
 ghost use Rattle.std.specs.Prelude.{◌≡◌, ◌+◌, ◌<◌, ◌≤◌, ◌++◌, length, take, OnErr, OnOk, IsErrOf, nat_lt};
 ghost use Rattle.std.specs.List.{flat_map};
 ghost use Rattle.row_text.specs.RowLine.{row_line};

@@ -1,4 +1,4 @@
-// The proofs of traces. Serves `prove`; decided by `certificate_of`.
+//! The proofs of traces. Serves `prove`; decided by `certificate_of`.
 ghost use Rattle.std.specs.Prelude.{◌≡◌, All, IfOk, OnOk, map, true};
 ghost use Rattle.bounded_search.specs.Rows.{AreRowsOf, AsksAs};
 ghost use Rattle.matcher.specs.Asked.{AsksTraces};

@@ -1,4 +1,4 @@
-// `prove NET TRACES`. Serves the program; decided by `prove_plan`.
+//! `prove NET TRACES`. Serves the program; decided by `prove_plan`.
 ghost use Rattle.std.specs.Prelude.{All, Ok};
 ghost use Rattle.cost_model.specs.Options.{IsAccepted};
 ghost use Rattle.program_frame.specs.Loads.{Accepts};

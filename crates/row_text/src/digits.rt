@@ -1,5 +1,5 @@
-// Entries as bytes, put together from their last byte to the first. Serves `write_row`; decided by
-// `entry_word`.
+//! Entries as bytes, put together from their last byte to the first. Serves `write_row`; decided by
+//! `entry_word`.
 ghost use Rattle.std.specs.Prelude.{◌≡◌, ◌+◌, ◌≤◌, ◌∷◌, ◌++◌, drop, length};
 ghost use Rattle.decimal_text.specs.Number.{decimal};
 ghost use Rattle.row_text.specs.RowLine.{entry_word, last_word};

@@ -1,4 +1,4 @@
-// Numbers at the front of a text, whose digits are looked at once. Serves `read_row`; decided by `number_after`.
+//! Numbers at the front of a text, whose digits are looked at once. Serves `read_row`; decided by `number_after`.
 ghost use Rattle.std.specs.Prelude.{◌≡◌, ◌∷◌, []};
 ghost use Rattle.match_text.specs.Reading.{has_leading_zero, most32, number_after, number_at, seen};
 

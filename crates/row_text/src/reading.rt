@@ -1,4 +1,4 @@
-// The line of a row, read. Serves all who take texts with such lines; decided by `row_at`.
+//! The line of a row, read. Serves all who take texts with such lines; decided by `row_at`.
 ghost use Rattle.std.specs.Prelude.{◌≡◌, ◌+◌, IfOk, length};
 ghost use Rattle.match_text.specs.Reading.{seen};
 ghost use Rattle.row_text.specs.Reading.{entries_at, entry_at, last_at, row_at};

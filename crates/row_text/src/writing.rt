@@ -1,4 +1,4 @@
-// The line of a row, written. Serves all texts with such lines; decided by `row_line`.
+//! The line of a row, written. Serves all texts with such lines; decided by `row_line`.
 ghost use Rattle.std.specs.Prelude.{◌≡◌, [], ◌∷◌, ◌++◌, length, take, OnOk, OnErr};
 ghost use Rattle.row_text.specs.RowLine.{entries_text, row_line};
 

@@ -1,4 +1,4 @@
-// Why a table was not read or not written. Serves all calls; decided by `table_of`.
+//! Why a table was not read or not written. Serves all calls; decided by `table_of`.
 ghost use Rattle.std.specs.Prelude.{◌≡◌};
 
 use std::alloc::AllocError;

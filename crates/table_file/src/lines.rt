@@ -1,5 +1,5 @@
-// The first and the last line of a table text. Serves the writer and the reader; decided by
-// `first_line` and `end_line`.
+//! The first and the last line of a table text. Serves the writer and the reader; decided by
+//! `first_line` and `end_line`.
 ghost use Rattle.std.specs.Prelude.{◌≡◌, ◌++◌, OnOk, codes};
 ghost use Rattle.decimal_text.specs.Number.{decimal};
 ghost use Rattle.table_file.specs.TableText.{end_line, first_line};

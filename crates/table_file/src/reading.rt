@@ -1,4 +1,4 @@
-// A table text, read line by line. Serves the program; decided by `table_of`.
+//! A table text, read line by line. Serves the program; decided by `table_of`.
 ghost use Rattle.std.specs.Prelude.{◌≡◌, ◌≤◌, ◌==◌, length, IfOk, option_copied};
 ghost use Rattle.std.specs.List.{list_all, list_any};
 ghost use Rattle.match_text.specs.Reading.{after_bytes, seen};

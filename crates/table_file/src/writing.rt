@@ -1,4 +1,4 @@
-// A table text, written row by row. Serves the program; decided by `table_text`.
+//! A table text, written row by row. Serves the program; decided by `table_text`.
 ghost use Rattle.std.specs.Prelude.{◌≡◌, ◌<◌, ◌≤◌, ◌++◌, length, IfOk, OnErr, OnOk, IsErrOf};
 ghost use Rattle.table_file.specs.TableText.{end_line, text_limit};
 ghost use Rattle.table_file.specs.Draft.{no_rows, with_row};

@@ -1,5 +1,5 @@
-// `--table FILE` of `match`: a table that was computed beforehand, whose rows are tried one by one
-// and offered to a store. Serves the program; decided by `table_file_said`.
+//! `--table FILE` of `match`: a table that was computed beforehand, whose rows are tried one by one
+//! and offered to a store. Serves the program; decided by `table_file_said`.
 ghost use Rattle.std.specs.Prelude.{◌≡◌, ◌≤◌, ◌++◌, All, IfOk, OnOk};
 ghost use Rattle.program_frame.specs.Loads.{Accepts, Loads};
 ghost use Rattle.program_frame.specs.Stops.{IsRefusalOr};

@@ -1,4 +1,4 @@
-// `table NET`. Serves the program; decided by `table_plan`.
+//! `table NET`. Serves the program; decided by `table_plan`.
 ghost use Rattle.std.specs.Prelude.{◌≡◌, ◌≤◌, Ok, length};
 ghost use Rattle.cost_model.specs.Options.{IsAccepted};
 ghost use Rattle.program_frame.specs.Loads.{Accepts};

@@ -1,5 +1,5 @@
-// The corners of a town and the ways between them. Serves `town_network` and `town_traces`; decided
-// by `specs/Corners.antt`.
+//! The corners of a town and the ways between them. Serves `town_network` and `town_traces`; decided
+//! by `specs/Corners.antt`.
 ghost use Rattle.std.specs.Prelude.{◌≡◌, ◌≤◌, ◌<◌, ◌*◌, false};
 ghost use Rattle.town.specs.Corners.{along, corner_at, heading_of, is_border, next_corner, node_id, opposite, turned};
 

@@ -1,4 +1,4 @@
-// The generator of a town. Serves `town_traces`; decided by `draw` and `state_after`.
+//! The generator of a town. Serves `town_traces`; decided by `draw` and `state_after`.
 ghost use Rattle.std.specs.Prelude.{◌≡◌, ◌≤◌};
 ghost use Rattle.town.specs.Draws.{draw, state_after};
 

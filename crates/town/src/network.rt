@@ -1,4 +1,4 @@
-// The network file of a town. Serves the command `town`; decided by `network_text`.
+//! The network file of a town. Serves the command `town`; decided by `network_text`.
 ghost use Rattle.std.specs.Prelude.{◌≡◌, ◌≤◌, ◌+◌, ◌*◌, ◌++◌, length, IfOk, OnOk};
 ghost use Rattle.decimal_text.specs.Number.{decimal};
 ghost use Rattle.town.specs.Corners.{IsInTown};

@@ -1,4 +1,4 @@
-// The trace file of a town. Serves the command `town`; decided by `traces_text`.
+//! The trace file of a town. Serves the command `town`; decided by `traces_text`.
 ghost use Rattle.std.specs.Prelude.{◌≡◌, ◌≤◌, ◌+◌, ◌-ℤ◌, ◌++◌, pos, false, IfOk, OnOk};
 ghost use Rattle.std.specs.List.{flat_map};
 ghost use Rattle.town.specs.Corners.{IsInTown, is_border};

@@ -1,4 +1,4 @@
-// `town N T SEED`. Serves the program; decided by `town_plan`.
+//! `town N T SEED`. Serves the program; decided by `town_plan`.
 ghost use Rattle.std.specs.Prelude.{◌≡◌, ◌≤◌, ◌<◌, ◌^◌, ◌++◌, length, Ok, IfOk, OnOk};
 ghost use Rattle.cost_model.specs.Options.{IsAccepted, IsWithin};
 ghost use Rattle.edge_io.specs.State.{ShelfState};

@@ -1,4 +1,4 @@
-// The lines of the file, one after the other: its header, the open trace and the closed ones.
+//! The lines of the file, one after the other: its header, the open trace and the closed ones.
 ghost use Rattle.std.specs.Prelude.{◌≡◌, ◌≢◌, ◌+◌, ◌<◌, ◌≤◌, ◌∷◌, ◌++◌, [], length, OnOk, OnErr, IfOk, IfErr, Some, None};
 ghost use Rattle.std.specs.List.{list_all};
 ghost use Rattle.decimal_text.specs.Blank.{is_blank};

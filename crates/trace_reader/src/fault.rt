@@ -1,4 +1,4 @@
-// Why a trace file is refused, and the line that says so.
+//! Why a trace file is refused, and the line that says so.
 ghost use Rattle.std.specs.Prelude.{◌≡◌, ◌≢◌, ◌++◌, IfOk, OnOk, OnErr};
 ghost use Rattle.std.specs.String.{string_bytes};
 

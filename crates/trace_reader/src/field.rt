@@ -1,5 +1,5 @@
-// One field of a row. A short number without blanks is read in one pass, any other field by its
-// ends.
+//! One field of a row. A short number without blanks is read in one pass, any other field by its
+//! ends.
 ghost use Rattle.std.specs.Prelude.{◌≡◌, ◌≤◌, ◌∷◌, [], true, Ok, length, take, IfSome, MatchOption};
 ghost use Rattle.std.specs.List.{list_all};
 ghost use Rattle.trace_reader.specs.FirstField.{first_of, is_within_field};

@@ -1,4 +1,4 @@
-// The reader: bytes in pieces of any cutting, closed traces and the first fault out.
+//! The reader: bytes in pieces of any cutting, closed traces and the first fault out.
 ghost use Rattle.std.specs.Prelude.{◌≡◌, ◌≢◌, ◌+◌, ◌<◌, ◌≤◌, ◌^◌, ℕ, [], ◌∷◌, ◌++◌, List as ListOf, length, IfOk, IfErr, OnOk, OnErr};
 ghost use Rattle.trace_reader.specs.Parts.{HasNoEnd, is_reached};
 

@@ -1,4 +1,4 @@
-// One line of the file: a header, or a row of numbers.
+//! One line of the file: a header, or a row of numbers.
 ghost use Rattle.std.specs.Prelude.{◌≡◌, ◌<◌, ◌^◌, length, position, is_some, IfSome};
 ghost use Rattle.trace_reader.specs.Row.{header_of, fields_of, row_of, row_fault, is_misspelt, numbers_of};
 

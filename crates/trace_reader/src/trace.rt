@@ -1,4 +1,4 @@
-// What the file holds.
+//! What the file holds.
 use polyline_geometry::List;
 
 /// A measured place in centimetres, and its time in seconds (0 under a header without times).

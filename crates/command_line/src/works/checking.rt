@@ -1,4 +1,4 @@
-// `check NET TRACES CERT`. Serves `read_work` and `program`; decided by `check_kind`.
+//! `check NET TRACES CERT`. Serves `read_work` and `program`; decided by `check_kind`.
 ghost use Rattle.std.specs.Prelude.{◌≡◌, IfOk};
 ghost use Rattle.std.specs.Result.{result_map_both};
 ghost use Rattle.command_line.specs.Given.{given_for};

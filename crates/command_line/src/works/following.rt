@@ -1,4 +1,4 @@
-// `follow NET TRACES`. Serves `read_work` and `program`; decided by `follow_kind`.
+//! `follow NET TRACES`. Serves `read_work` and `program`; decided by `follow_kind`.
 ghost use Rattle.std.specs.Prelude.{◌≡◌, IfOk};
 ghost use Rattle.std.specs.Result.{result_map_both};
 ghost use Rattle.command_line.specs.Given.{given_for};

@@ -1,4 +1,4 @@
-// `match NET TRACES [--table FILE]`. Serves `read_work` and `program`; decided by `match_kind`.
+//! `match NET TRACES [--table FILE]`. Serves `read_work` and `program`; decided by `match_kind`.
 ghost use Rattle.std.specs.Prelude.{◌≡◌, IfOk};
 ghost use Rattle.std.specs.Result.{result_map_both};
 ghost use Rattle.command_line.specs.Given.{given_for};

@@ -1,4 +1,4 @@
-// `prove NET TRACES`. Serves `read_work` and `program`; decided by `prove_kind`.
+//! `prove NET TRACES`. Serves `read_work` and `program`; decided by `prove_kind`.
 ghost use Rattle.std.specs.Prelude.{◌≡◌, IfOk};
 ghost use Rattle.std.specs.Result.{result_map_both};
 ghost use Rattle.command_line.specs.Given.{given_for};

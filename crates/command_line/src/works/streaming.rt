@@ -1,4 +1,4 @@
-// `streams NET TRACES`. Serves `read_work` and `program`; decided by `streams_kind`.
+//! `streams NET TRACES`. Serves `read_work` and `program`; decided by `streams_kind`.
 ghost use Rattle.std.specs.Prelude.{◌≡◌, IfOk};
 ghost use Rattle.std.specs.Result.{result_map_both};
 ghost use Rattle.command_line.specs.Given.{given_for};

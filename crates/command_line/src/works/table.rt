@@ -1,4 +1,4 @@
-// `table NET`. Serves `read_work` and `program`; decided by `table_kind`.
+//! `table NET`. Serves `read_work` and `program`; decided by `table_kind`.
 ghost use Rattle.std.specs.Prelude.{◌≡◌};
 ghost use Rattle.std.specs.Result.{result_map_both};
 ghost use Rattle.command_line.specs.Given.{given_for};

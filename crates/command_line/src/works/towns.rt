@@ -1,4 +1,4 @@
-// `town N T SEED`. Serves `read_work` and `program`; decided by `town_kind`.
+//! `town N T SEED`. Serves `read_work` and `program`; decided by `town_kind`.
 ghost use Rattle.std.specs.Prelude.{◌≡◌, IfOk};
 ghost use Rattle.std.specs.Result.{result_map_both};
 ghost use Rattle.cost_model.specs.Options.{IsWithin};

@@ -1,5 +1,5 @@
-// What no clause says of the workers: they run beside each other, draw the traces one by one, and share
-// the rows of one store. Each gate shows it through `run`.
+//! What no clause says of the workers: they run beside each other, draw the traces one by one, and share
+//! the rows of one store. Each gate shows it through `run`.
 ghost use Rattle.std.specs.Prelude.{◌≡◌, IfOk, IfSome};
 
 use super::{STRAIGHT, many_texts, many_traces, run_to_end, shelf};

@@ -1,4 +1,4 @@
-// Each read and each put fails in turn, and files come a few bytes at a time.
+//! Each read and each put fails in turn, and files come a few bytes at a time.
 use super::{Ended, FAULTY, STRAIGHT, bytes, numbers, run_to_end};
 use edge_io::MemoryShelf;
 use match_pool::OpenGate;
