@@ -11,14 +11,14 @@ use crate::syntax::Form;
 use crate::work::Work;
 use clap::ArgMatches;
 
-/// The command as words give it.
+/// The syntax of the command.
 pub const FORM: Form = Form {
     name: "match",
     options: &["table"],
     arguments: &["NET", "TRACES"],
 };
 
-/// The work, with the names that the words give.
+/// The work, with the names from the command line.
 pub fn read_match<'a>(found: &ArgMatches<'a>) -> Result<Work<'a>, WordsFault>
     ensures value { result_map_both plain_work (λ fault. fault) result
         ≡ match_kind.work (given_for found.now) }
