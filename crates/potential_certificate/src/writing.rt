@@ -15,11 +15,11 @@ use polyline_geometry::List;
 use row_text::write_row;
 use std::alloc::{AllocError, Global};
 
-/// Appends the text of the certificate for these options. After Err `into` is as before.
+/// Appends the text of the certificate for these options. On `Err`, `into` is unchanged.
 ///
-/// That text can be read again where the certificate has a text (`HasText`): as many ranks as
+/// That text can be read again if the certificate has a text (`HasText`): as many ranks as
 /// tables, at most 100,000, a rank below the number of 1 to 32 cells or neither, no pointer without
-/// a cost, pieces over exactly the points with a rank, each with a route, and rising origins.
+/// a cost, pieces over exactly the points with a rank, each with a route, and ascending origins.
 pub fn write_certificate(
     alloc: Global,
     p: &Params,
@@ -40,7 +40,7 @@ pub fn write_certificate(
     written
 }
 
-// Appends the text that begins at `start`. After Err a part of it may stand at the end.
+// Appends the text that begins at `start`. On `Err`, a part of it may remain at the end.
 fn append_certificate(
     alloc: Global,
     p: &Params,
