@@ -93,8 +93,8 @@ fn is_long(start: usize, into: &List<u8>) -> bool
     (into.len() - start) as u64 > TEXT_LIMIT
 }
 
-/// Appends the lines of each proof to the text that begins at `start`. After Err a part of them may
-// stand at the end.
+/// Appends the lines of each proof to the text that begins at `start`. On `Err`, a part of them may
+/// remain at the end.
 pub fn append_proofs(
     proofs: &[TraceProof],
     start: usize,
@@ -115,8 +115,8 @@ pub fn append_proofs(
     Ok(())
 }
 
-/// Appends the line of each row to the text that begins at `start`. After Err some of them may stand
-// at the end.
+/// Appends the line of each row to the text that begins at `start`. On `Err`, some of them may remain
+/// at the end.
 pub fn append_rows(rows: &[Row], start: usize, into: &mut List<u8>) -> Result<(), WriteFault>
     requires { start ≤ length into.old }
     ensures ok { OnOk result (into.new ≡ into.old ++ flat_map row_line rows.now) }

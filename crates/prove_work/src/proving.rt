@@ -50,7 +50,7 @@ fn text_of_proofs(alloc: Global, matcher: &Matcher<'_>, traces: &[Trace]) -> Res
 }
 
 /// Reads the network and then all traces, and writes the certificate text of their matches. The
-/// traces, the certificate and its text are held whole, so that out stays empty where the text is
+/// traces, the certificate and its text are in memory at once, so that nothing is written if the text is
 /// too long.
 pub fn prove_traces<S: Shelf, K: Sink>(
     alloc: Global,
