@@ -21,6 +21,3 @@ pub use command::read_command;
 pub use fault::WordsFault;
 pub use value::{ValueName, ValueRange};
 pub use work::{Command, Work};
-
-#[cfg(test)]
-mod tests;

@@ -66,19 +66,3 @@ fn digits_one_by_one(text: &[u8]) -> (u32, usize)
     }
     (number, count)
 }
-
-#[cfg(test)]
-mod tests {
-    use super::*;
-    use std::test::Fail;
-
-    #[test]
-    fn reads_at_the_front(rt: HostRuntime) -> Result<(), Fail> {
-        assert_eq!(rt; digits_at_front(b"12345678,5"), (12_345_678, 8));
-        assert_eq!(rt; digits_at_front(b"1234567890"), (123_456_789, 9));
-        assert_eq!(rt; digits_at_front(b"0042 12345"), (42, 4));
-        assert_eq!(rt; signed_at_front(b"-70;"), Some((-70, 3)));
-        assert_eq!(rt; signed_at_front(b"--7"), None);
-        Ok(())
-    }
-}

@@ -89,8 +89,8 @@ fn open_at<R: Files>(alloc: Global, rt: &R, name: &str, at: u64) -> io::Result<O
     })
 }
 
-// Reads once, and again if a signal interrupted the read.
-pub(crate) fn read_again<F: Read>(file: &mut F, buffer: &mut [u8]) -> io::Result<usize>
+/// Reads once, and again if a signal interrupted the read. Returns how many bytes came.
+pub fn read_again<F: Read>(file: &mut F, buffer: &mut [u8]) -> io::Result<usize>
     ensures { IfOk result (λ count. count ≤ length buffer.old) }
 {
     for _ in 0..u64::MAX {

@@ -20,12 +20,9 @@ mod shelf;
 mod sink;
 mod stream_sink;
 
-pub use file_shelf::FileShelf;
+pub use file_shelf::{FileShelf, read_again};
 pub use memory_shelf::MemoryShelf;
 pub use memory_sink::MemorySink;
 pub use shelf::{Shelf, Taken};
 pub use sink::{Put, Sink};
 pub use stream_sink::StreamSink;
-
-#[cfg(test)]
-mod tests;

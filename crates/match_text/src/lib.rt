@@ -30,6 +30,3 @@ pub use place::Place;
 pub use reading::read_match;
 pub use scan::{read_piece, read_trace};
 pub use writing::write_match;
-
-#[cfg(test)]
-mod tests;

@@ -26,8 +26,6 @@ mod plane;
 mod quotient;
 mod segment;
 mod square_root;
-#[cfg(test)]
-mod tests;
 
 pub use laws::snap_is_the_nearest;
 pub use line::{

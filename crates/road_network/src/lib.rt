@@ -25,8 +25,6 @@ mod fields;
 mod file;
 mod laws;
 mod limits;
-#[cfg(test)]
-mod tests;
 
 use counting::Adjacency;
 pub use fault::NetworkFault;

@@ -10,8 +10,6 @@ ghost use Rattle.std.specs.Prelude.{◌≡◌, ℕ, ◌+◌, ◌<◌, ◌≤◌,
 ghost use Rattle.tickets.specs.Tickets.{times, hand, fresh_ticket, with_sight, IsOpenTicket, HasEnded, Draws};
 
 mod rule;
-#[cfg(test)]
-mod tests;
 
 use crate::rule::{Draw, Hand, Limits, Note, Numbers, Opening};
 use atomic_table::{Seat, Table};

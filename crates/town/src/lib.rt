@@ -19,6 +19,3 @@ pub use draw::Draw;
 pub use laws::{network_is_lawful, traces_are_lawful};
 pub use network::town_network;
 pub use traces::town_traces;
-
-#[cfg(test)]
-mod tests;

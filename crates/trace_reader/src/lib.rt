@@ -22,6 +22,3 @@ pub use fault::TraceFault;
 pub use laws_of_reading::{closed_traces_stay, known_faults_stay, traces_are_lawful};
 pub use reader::TraceReader;
 pub use trace::{Fix, Trace};
-
-#[cfg(test)]
-mod tests;

@@ -1,4 +1,5 @@
-use crate::{
+//! Roots, lengths, snaps and lists.
+use polyline_geometry::{
     List, NearSegments, Point, extend_offsets, line_length, nearest_in_box, nearest_segment,
     nearest_segments, offset_on, root, snap_line, snap_segment, straight,
 };

@@ -1,5 +1,6 @@
-use crate::{Arc, EdgeId, FILE_LIMIT, NetworkFault, NodeId, read_network};
+//! Networks, and the faults of their files.
 use polyline_geometry::{List, Point};
+use road_network::{Arc, EdgeId, FILE_LIMIT, NetworkFault, NodeId, read_network};
 use std::alloc::Global;
 use std::test::Fail;
 

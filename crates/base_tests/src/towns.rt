@@ -1,7 +1,8 @@
-use crate::{Draw, town_network, town_traces};
+//! Generated towns.
 use polyline_geometry::List;
 use std::alloc::Global;
 use std::test::Fail;
+use town::{Draw, town_network, town_traces};
 
 // The lines of a text, each with its LF.
 fn lines(alloc: Global, text: &List<u8>) -> Result<Vec<&[u8]>, Fail> {

@@ -1,7 +1,8 @@
-use super::*;
+//! Match texts read, written again, and refused.
+use match_text::{Label, TextFault, read_match, write_match};
 use polyline_geometry::List;
 use std::alloc::Global;
-use std::test::*;
+use std::test::Fail;
 
 const ONE_PIECE: &[u8] =
     b"trace 7\nat 0 edge 10 offset 1000 d2 90000\nat 1 edge 10 offset 9000 d2 90000\npiece 0 1 cost 112 route 10\nend 7\n";

@@ -2,10 +2,10 @@
 ghost use Rattle.std.specs.Prelude.{◌≡◌, ◌≤◌, ◌^◌, IfOk, IfSome};
 ghost use Rattle.tickets.specs.Tickets.{HasEnded, IsTicketOf};
 
-use crate::{Claims, Ticket};
 use polyline_geometry::List;
 use std::alloc::{AllocError, Global};
 use std::test::Fail;
+use tickets::{Claims, Ticket};
 
 /// Claims with one ticket. None where the list of tickets has none.
 fn one_ticket(alloc: Global, count: u64) -> Result<Option<(Claims, Ticket)>, AllocError>

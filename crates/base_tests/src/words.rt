@@ -1,4 +1,5 @@
-use crate::{Command, Work, read_command};
+//! Command lines, accepted and refused.
+use command_line::{Command, Work, read_command};
 use cost_model::Params;
 use std::alloc::Global;
 use std::test::Fail;

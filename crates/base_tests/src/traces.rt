@@ -1,7 +1,8 @@
-use crate::{Fix, Trace, TraceFault, TraceReader};
+//! Trace files in chunks, and their faults.
 use polyline_geometry::List;
 use std::alloc::Global;
 use std::test::Fail;
+use trace_reader::{Fix, Trace, TraceFault, TraceReader};
 
 const SPACED: &[u8] = b"trace,x,y\r\n 7 ,\t1000, 300\r\n\r\n7,9000,-300";
 
