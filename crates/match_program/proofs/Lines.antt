@@ -32,7 +32,7 @@ use Rattle.match_work.specs.Matches.{match_plan, match_text}
 use Rattle.table_work.specs.Preload.{preloads, table_file_said}
 use Rattle.prove_work.specs.Prove.{certificate_too_long, prove_said, text_of_proofs}
 use Rattle.stream_work.specs.Streams.{streams_job, too_long_line}
-use Rattle.table_match.specs.TableMatch.{table_match_plan}
+use Rattle.match_work.specs.TableMatch.{table_match_plan}
 use Rattle.table_work.specs.Table.{table_said, table_too_long, text_of_network}
 
 has_refusals : (status : ℕ) (line : List ℕ) → refusal_lines status line → run_lines status line

@@ -1,17 +1,15 @@
-//! The work of `match` with a table file: its rows are offered to the store before the traces are matched.
-//!
-//! [`match_with_table`] does it. Its plan is `table_match_plan` in `specs/TableMatch.antt`.
-#![tactic(auto)]
-
+// `match NET TRACES --table FILE`: the rows of the table file are offered to the store before the traces
+// are matched. Serves the programs; decided by `table_match_plan`.
 ghost use Rattle.std.specs.Prelude.{Ok};
 ghost use Rattle.cost_model.specs.Options.{IsAccepted};
 ghost use Rattle.program_frame.specs.Performs.{Performs};
-ghost use Rattle.table_match.specs.TableMatch.{table_match_plan};
+ghost use Rattle.match_work.specs.TableMatch.{table_match_plan};
 
+use crate::batches::open_store;
+use crate::matches::match_file;
 use cost_model::Params;
 use edge_io::{Shelf, Sink};
 use match_pool::Gate;
-use match_work::{match_file, open_store};
 use matcher::Matcher;
 use program_frame::{Stop, load_network};
 use std::alloc::Global;

@@ -4,7 +4,7 @@ use Rattle.program_frame.specs.Performs.{Performs}
 use Rattle.program_frame.specs.Stream.{works_traces}
 use Rattle.program_frame.proofs.Stages.{loads_fails, loads_performs, memory_performs}
 use Rattle.match_work.specs.Matches.{match_text}
-use Rattle.table_match.proofs.match_with_table.Goals as goal
+use Rattle.match_work.proofs.tabled.match_with_table.Goals as goal
 
 pub returns-in_err-roads : goal.returns-in_err-roads
 returns-in_err-roads g c =

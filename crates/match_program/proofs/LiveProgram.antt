@@ -1,4 +1,4 @@
--- The works that a smaller program knows have the same plan here.
+-- The works that the live program knows have the same plan here.
 use Rattle.std.proofs.Common.{◌≡◌, ◌⊎◌, List, ℕ, Some, None, Result, Ok, Err, refl, sym, ap, inl, inr}
 use Rattle.std.specs.declared.option.Option.{Option}
 use Rattle.command_line.specs.FaultLine.{fault_line}
@@ -9,21 +9,10 @@ use Rattle.command_line.specs.declared.fault.WordsFault.{WordsFault}
 use Rattle.command_line.specs.declared.fault.WordsFault.TheVariants.{Usage}
 use Rattle.cost_model.specs.declared.params.Params.{Params}
 use Rattle.follow_work.specs.Alone.{follow_alone, followed}
-use Rattle.match_program.specs.SmallerPrograms.{SmallerProgramsPlanAlike}
+use Rattle.match_program.specs.LiveProgram.{LiveProgramPlansAlike}
 use Rattle.match_program.specs.Words.{command_plan, every_work, work_plan}
-use Rattle.match_work.specs.Alone.{match_alone, matched}
 use Rattle.program_frame.specs.Asked.{Plans, asked_of, known_or_line}
 use Rattle.program_frame.specs.Plan.{Plan}
-
-matched_is : (work : PlainWork) (options : Params) (plan : Plan) → matched work options ≡ Some plan → work_plan work options ≡ plan
-matched_is (match_files network traces None) options plan is = cc is
-matched_is (match_files network traces (Some table)) options plan is = absurd (cc is)
-matched_is (follow_files network traces) options plan is = absurd (cc is)
-matched_is (stream_files network traces) options plan is = absurd (cc is)
-matched_is (prove_files network traces) options plan is = absurd (cc is)
-matched_is (check_files network traces certificate) options plan is = absurd (cc is)
-matched_is (table_of_network network) options plan is = absurd (cc is)
-matched_is (match_town side traces seed) options plan is = absurd (cc is)
 
 followed_is : (work : PlainWork) (options : Params) (plan : Plan) → followed work options ≡ Some plan → work_plan work options ≡ plan
 followed_is (match_files network traces table) options plan is = absurd (cc is)
@@ -44,8 +33,6 @@ of_command : (works : Plans) → ((command : PlainCommand) (plan : Plan) → wor
 of_command works alike (Ok command) = of_known works alike command (works command) refl
 of_command works alike (Err fault) = inl refl
 
-pub smaller_programs_plan_alike : SmallerProgramsPlanAlike
-smaller_programs_plan_alike = (
-  λ words. of_command match_alone (λ command. matched_is command.work command.options) (command_of words),
-  λ words. of_command follow_alone (λ command. followed_is command.work command.options) (command_of words),
-)
+pub live_program_plans_alike : LiveProgramPlansAlike
+live_program_plans_alike words =
+    of_command follow_alone (λ command. followed_is command.work command.options) (command_of words)
