@@ -24,7 +24,7 @@ use Rattle.trace_sessions.specs.StreamText.{full_id, points_in}
 use Rattle.table_file.specs.TableText.{text_limit}
 use Rattle.potential_certificate.specs.CertificateText.{text_limit as certificate_limit}
 use Rattle.match_program.specs.RunLines.{run_lines}
-use Rattle.matcher.specs.Setting.{Setting}
+use Rattle.trace_match.specs.Setting.{Setting}
 use Rattle.match_program.specs.Words.{asked_by, every_work, work_plan}
 use Rattle.follow_work.specs.Follow.{follow_job}
 use Rattle.check_work.specs.Check.{check_said}

@@ -10,11 +10,11 @@ use crate::matches::match_file;
 use cost_model::Params;
 use edge_io::{Shelf, Sink};
 use match_pool::Gate;
-use matcher::Matcher;
 use program_frame::{Stop, load_network};
 use std::alloc::Global;
 use std::thread::Threads;
 use table_work::preload;
+use trace_match::Matcher;
 
 /// Reads the network, then the table file, and then the traces, which it matches batch by batch. The text
 /// is that of `match_traces`, which reads no table file.

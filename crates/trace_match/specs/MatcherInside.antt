@@ -1,7 +1,7 @@
 -- What a matcher is made of.
 use Rattle.trace_match.specs.Ground.{IsGridFor}
-use Rattle.matcher.specs.Setting.{Setting}
-use Rattle.matcher.specs.declared.matcher.Matcher.TheInside.{Inside}
+use Rattle.trace_match.specs.Setting.{Setting}
+use Rattle.trace_match.specs.declared.matcher.Matcher.TheInside.{Inside}
 
 abbrev pub setting_of : Inside → Setting
 setting_of a = record { network = a.network.now; params = a.params }

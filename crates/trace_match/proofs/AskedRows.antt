@@ -4,10 +4,10 @@ use Rattle.std.proofs.lemmas.Bool.{or_left}
 use Rattle.bounded_search.specs.Rows.{AreRowsOf, AsksAll, Keeps, RowsState}
 use Rattle.trace_match.specs.Match.{asks}
 use Rattle.trace_reader.specs.declared.trace.Trace.{Trace}
-use Rattle.matcher.specs.Asked.{AsksTraces, LearnsAsked}
-use Rattle.matcher.specs.Setting.{Setting}
-use Rattle.matcher.proofs.Asking.{asked_parts}
-use Rattle.matcher.proofs.Traces.{next_trace}
+use Rattle.trace_match.specs.Asked.{AsksTraces, LearnsAsked}
+use Rattle.trace_match.specs.Setting.{Setting}
+use Rattle.trace_match.proofs.Asking.{asked_parts}
+use Rattle.trace_match.proofs.Traces.{next_trace}
 
 -- what more traces make known is added
 learns_then : (on : Setting) (front back : List Trace) (k0 k1 k2 : List ℕ) → LearnsAsked on front k0 k1 → LearnsAsked on back k1 k2 → LearnsAsked on (front ++ back) k0 k2

@@ -34,11 +34,11 @@ impl<'n> Drop for Matcher<'n> {
 }
 
 impl<'n> Model for Matcher<'n> {
-    ghost use Rattle.matcher.specs.Setting.{Setting};
+    ghost use Rattle.trace_match.specs.Setting.{Setting};
 
     ghost Value = { Setting };
 
-    ghost use Rattle.matcher.specs.MatcherInside.{setting_of, IsLaidOut};
+    ghost use Rattle.trace_match.specs.MatcherInside.{setting_of, IsLaidOut};
 
     ghost view = { setting_of };
 

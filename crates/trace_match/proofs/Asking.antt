@@ -4,8 +4,8 @@ use Rattle.std.proofs.lemmas.Bool.{or_cases, or_left, or_right}
 use Rattle.std.proofs.lemmas.List.Folds.{list_any-append}
 use Rattle.trace_match.specs.Match.{asks}
 use Rattle.trace_reader.specs.declared.trace.Trace.{Trace}
-use Rattle.matcher.specs.Setting.{Setting}
-use Rattle.matcher.specs.Totals.{is_asked_by}
+use Rattle.trace_match.specs.Setting.{Setting}
+use Rattle.trace_match.specs.Totals.{is_asked_by}
 
 asked-append : (on : Setting) (front back : List Trace) (v : ℕ) → is_asked_by on (front ++ back) v ≡ (is_asked_by on front v || is_asked_by on back v)
 asked-append on front back v = list_any-append (λ trace. asks on.network on.params trace v) front back

@@ -2,8 +2,8 @@
 use Rattle.std.specs.Prelude.{◌≡◌, ◌⊎◌, ◌↔◌, ℕ, List, true, Contains}
 use Rattle.bounded_search.specs.Rows.{AreRowsOf, RowsState}
 use Rattle.trace_reader.specs.declared.trace.Trace.{Trace}
-use Rattle.matcher.specs.Setting.{Setting}
-use Rattle.matcher.specs.Totals.{is_asked_by}
+use Rattle.trace_match.specs.Setting.{Setting}
+use Rattle.trace_match.specs.Totals.{is_asked_by}
 
 -- known is what was known before, and what these traces ask for
 abbrev pub LearnsAsked : Setting → List Trace → List ℕ → List ℕ → Type 0
