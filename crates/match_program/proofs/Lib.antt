@@ -1,7 +1,7 @@
 pub mod AcceptedOptions
 pub mod Asked
 pub mod Lines
-pub mod SmallerPrograms
+pub mod LiveProgram
 pub mod ProvedTexts
 pub mod TableFiles
 pub mod Workers

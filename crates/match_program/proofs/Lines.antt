@@ -24,7 +24,7 @@ use Rattle.trace_sessions.specs.StreamText.{full_id, points_in}
 use Rattle.table_file.specs.TableText.{text_limit}
 use Rattle.potential_certificate.specs.CertificateText.{text_limit as certificate_limit}
 use Rattle.match_program.specs.RunLines.{run_lines}
-use Rattle.matcher.specs.Setting.{Setting}
+use Rattle.trace_match.specs.Setting.{Setting}
 use Rattle.match_program.specs.Words.{asked_by, every_work, work_plan}
 use Rattle.follow_work.specs.Follow.{follow_job}
 use Rattle.check_work.specs.Check.{check_said}
@@ -32,7 +32,7 @@ use Rattle.match_work.specs.Matches.{match_plan, match_text}
 use Rattle.table_work.specs.Preload.{preloads, table_file_said}
 use Rattle.prove_work.specs.Prove.{certificate_too_long, prove_said, text_of_proofs}
 use Rattle.stream_work.specs.Streams.{streams_job, too_long_line}
-use Rattle.table_match.specs.TableMatch.{table_match_plan}
+use Rattle.match_work.specs.TableMatch.{table_match_plan}
 use Rattle.table_work.specs.Table.{table_said, table_too_long, text_of_network}
 
 has_refusals : (status : ℕ) (line : List ℕ) → refusal_lines status line → run_lines status line

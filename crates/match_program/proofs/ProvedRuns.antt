@@ -21,7 +21,7 @@ use Rattle.program_frame.specs.declared.stop.File.{File}
 use Rattle.program_frame.specs.declared.stop.File.TheVariants.{Certificate as OfCertificate, Network, Traces}
 use Rattle.trace_reader.specs.declared.trace.Trace.{Trace}
 use Rattle.match_program.specs.ProvedRuns.{ProvedRunsAreAccepted}
-use Rattle.matcher.specs.Setting.{Setting}
+use Rattle.trace_match.specs.Setting.{Setting}
 use Rattle.match_program.specs.Words.{asked_by, command_plan, every_work}
 use Rattle.check_work.specs.Check.{certificate_in, check_said, proved_line, proved_or_refused, verdict_said}
 use Rattle.prove_work.specs.Prove.{prove_plan, prove_said, text_of_proofs}

@@ -13,7 +13,7 @@ use Rattle.cert_checker.proofs.MatchTexts.{matches_have_text}
 use Rattle.cert_checker.proofs.WholeVerdict.{matches_are_proved}
 use Rattle.command_line.specs.Options.{and_then}
 use Rattle.cost_model.specs.declared.params.Params.{Params}
-use Rattle.matcher.specs.Totals.{is_asked_by}
+use Rattle.trace_match.specs.Totals.{is_asked_by}
 use Rattle.potential_certificate.specs.CertificateText.{text_limit}
 use Rattle.potential_certificate.specs.Reading.{certificate_of as certificate_read}
 use Rattle.potential_certificate.specs.declared.fault.CertFault.{CertFault}
@@ -24,7 +24,7 @@ use Rattle.road_network.specs.Net.{Net}
 use Rattle.trace_match.specs.Match.{asks}
 use Rattle.trace_reader.specs.declared.trace.Trace.{Trace}
 use Rattle.match_program.specs.ProvedTexts.{ProvedTextsAreAccepted}
-use Rattle.matcher.specs.Setting.{Setting}
+use Rattle.trace_match.specs.Setting.{Setting}
 use Rattle.check_work.specs.Check.{certificate_fault_line, check_said, proved_line, proved_or_refused, verdict_said}
 use Rattle.prove_work.specs.Prove.{certificate_too_long, text_of_proofs}
 

@@ -2,7 +2,7 @@ pub mod ProvedTexts
 pub mod ProvedFiles
 pub mod ProvedRuns
 pub mod RunLines
-pub mod SmallerPrograms
+pub mod LiveProgram
 pub mod TableFiles
 pub mod Workers
 pub mod Words

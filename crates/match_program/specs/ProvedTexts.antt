@@ -6,7 +6,7 @@ use Rattle.prove_work.specs.Certificates.{certificate_of}
 use Rattle.road_network.specs.Net.{IsLawful}
 use Rattle.trace_reader.specs.Trace.{IsLawfulTrace}
 use Rattle.trace_reader.specs.declared.trace.Trace.{Trace}
-use Rattle.matcher.specs.Setting.{Setting}
+use Rattle.trace_match.specs.Setting.{Setting}
 use Rattle.check_work.specs.Check.{check_said, proved_line}
 use Rattle.prove_work.specs.Prove.{prove_said}
 

@@ -3,7 +3,7 @@ use Rattle.std.specs.Prelude.{◌≡◌, ◌⊎◌, ℕ, List, Err}
 use Rattle.program_frame.specs.Refusals.{refusal_lines}
 use Rattle.road_network.specs.Net.{Net}
 use Rattle.trace_reader.specs.declared.trace.Trace.{Trace}
-use Rattle.matcher.specs.Setting.{Setting}
+use Rattle.trace_match.specs.Setting.{Setting}
 use Rattle.check_work.specs.Check.{check_said}
 use Rattle.table_work.specs.Preload.{table_file_said}
 use Rattle.prove_work.specs.Prove.{certificate_too_long}

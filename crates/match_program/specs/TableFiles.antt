@@ -4,7 +4,7 @@ use Rattle.cost_model.specs.declared.params.Params.{Params}
 use Rattle.program_frame.specs.Outcome.{Outcome}
 use Rattle.program_frame.specs.Plan.{outcome_of}
 use Rattle.match_work.specs.Matches.{match_plan}
-use Rattle.table_match.specs.TableMatch.{table_match_plan}
+use Rattle.match_work.specs.TableMatch.{table_match_plan}
 
 -- what `match` with a table file comes to, but for a refusal of that file, it comes to without it
 abbrev pub TableFilesChangeNothing : Type 0

@@ -11,7 +11,7 @@ use Rattle.check_work.specs.Check.{check_plan}
 use Rattle.match_work.specs.Matches.{match_plan}
 use Rattle.prove_work.specs.Prove.{prove_plan}
 use Rattle.stream_work.specs.Streams.{streams_plan}
-use Rattle.table_match.specs.TableMatch.{table_match_plan}
+use Rattle.match_work.specs.TableMatch.{table_match_plan}
 use Rattle.table_work.specs.Table.{table_plan}
 use Rattle.town_work.specs.Towns.{town_plan}
 

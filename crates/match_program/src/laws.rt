@@ -2,7 +2,7 @@
 ghost use Rattle.match_program.specs.ProvedFiles.{ProvedFilesAreAccepted};
 ghost use Rattle.match_program.specs.ProvedRuns.{ProvedRunsAreAccepted};
 ghost use Rattle.match_program.specs.ProvedTexts.{ProvedTextsAreAccepted};
-ghost use Rattle.match_program.specs.SmallerPrograms.{SmallerProgramsPlanAlike};
+ghost use Rattle.match_program.specs.LiveProgram.{LiveProgramPlansAlike};
 ghost use Rattle.match_program.specs.TableFiles.{TableFilesChangeNothing};
 ghost use Rattle.match_program.specs.Workers.{WorkersChangeNothing};
 
@@ -32,8 +32,8 @@ pub fn proved_runs_are_accepted()
     ensures { ProvedRunsAreAccepted }
 {}
 
-/// Of the programs of `match` alone and of `follow` alone, words ask what they ask of this program, the
-/// line of a refusal too; or they are refused there as a faulty command line.
-pub fn smaller_programs_plan_alike()
-    ensures { SmallerProgramsPlanAlike }
+/// Of the live program words ask what they ask of this program, the line of a refusal too; or they are
+/// refused there as a faulty command line.
+pub fn live_program_plans_alike()
+    ensures { LiveProgramPlansAlike }
 {}

@@ -10,13 +10,12 @@ use command_line::{Work, read_command};
 use edge_io::{Shelf, Sink};
 use follow_work::follow_traces;
 use match_pool::Gate;
-use match_work::match_traces;
+use match_work::{match_traces, match_with_table};
 use program_frame::{Stop, refuse_words, say, status_after};
 use prove_work::prove_traces;
 use std::alloc::Global;
 use std::thread::Threads;
 use stream_work::stream_traces;
-use table_match::match_with_table;
 use table_work::write_table;
 use town_work::match_town;
 

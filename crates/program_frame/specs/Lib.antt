@@ -1,6 +1,8 @@
 pub mod Asked
 pub mod Batches
+pub mod Counts
 pub mod Jobs
+pub mod NoRefusal
 pub mod Lines
 pub mod Loads
 pub mod Outcome

@@ -1,7 +1,7 @@
 //! The proofs of traces. Serves `prove`; decided by `certificate_of`.
 ghost use Rattle.std.specs.Prelude.{◌≡◌, All, IfOk, OnOk, map, true};
 ghost use Rattle.bounded_search.specs.Rows.{AreRowsOf, AsksAs};
-ghost use Rattle.matcher.specs.Asked.{AsksTraces};
+ghost use Rattle.trace_match.specs.Asked.{AsksTraces};
 ghost use Rattle.trace_match.specs.Ground.{IsGridFor};
 ghost use Rattle.trace_match.specs.Match.{asks};
 ghost use Rattle.trace_reader.specs.Trace.{IsLawfulTrace};

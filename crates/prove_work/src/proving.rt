@@ -10,11 +10,11 @@ ghost use Rattle.prove_work.specs.ProveDone.{WritesProofs};
 use crate::certifying::certify_traces;
 use cost_model::Params;
 use edge_io::{Shelf, Sink};
-use matcher::Matcher;
 use polyline_geometry::List;
 use potential_certificate::{WriteFault, write_certificate};
 use program_frame::{Refusal, Stop, load_network, load_traces, put_text, refuse};
 use std::alloc::Global;
+use trace_match::Matcher;
 use trace_reader::Trace;
 
 // The text of the certificate of traces, which are matched one after the other with own rows.

@@ -13,10 +13,10 @@ use bounded_search::OwnRows;
 use cost_model::Params;
 use decimal_text::write_unsigned;
 use edge_io::{Shelf, Sink};
-use matcher::Matcher;
 use polyline_geometry::List;
 use program_frame::{Job, Refusal, Stop, Tally, load_network, work_traces};
 use std::alloc::{AllocError, Global};
+use trace_match::Matcher;
 use trace_reader::Trace;
 use trace_sessions::{SessionFault, Sessions};
 

@@ -18,7 +18,6 @@ use itoa::Buffer;
 use match_pool::Gate;
 use match_text::MatchedTrace;
 use match_work::{match_batch, open_readers, open_store};
-use matcher::Matcher;
 use polyline_geometry::List;
 use program_frame::{Stop, Tally, put_text};
 use road_network::{Network, read_network};
@@ -26,6 +25,7 @@ use row_store::{RowStore, known_count};
 use std::alloc::{AllocError, Global};
 use std::thread::Threads;
 use town::{town_network, town_traces};
+use trace_match::Matcher;
 use trace_reader::{Trace, TraceReader};
 
 /// The sums over the matches of some traces.
