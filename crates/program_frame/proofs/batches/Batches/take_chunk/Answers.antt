@@ -1,5 +1,4 @@
 use Rattle.std.proofs.Common.{◌++◌, ◌∙◌, sym, subst}
-use Rattle.std.proofs.lemmas.Result.{err_from_is_err_and}
 use Rattle.program_frame.specs.Batches.{IsBetween, TakesChunk}
 use Rattle.program_frame.proofs.batches.Batches.take_chunk.Goals as goal
 
