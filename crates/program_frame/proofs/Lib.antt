@@ -7,6 +7,7 @@ pub mod FileEnds
 pub mod Giving
 pub mod NetworkLoad
 pub mod PointCounts
+pub mod PromiseLaws
 pub mod Reading
 pub mod RefusalLines
 pub mod RunEnds

@@ -8,6 +8,7 @@ pub mod Loads
 pub mod Outcome
 pub mod Performs
 pub mod Plan
+pub mod PromiseLaws
 pub mod Promises
 pub mod Read
 pub mod Refusals

@@ -57,7 +57,7 @@ fn behind(chunk: &[u8], taken: usize) -> &[u8]
 }
 
 impl<J: Job + Drop> Batches<J> {
-    ghost use Rattle.program_frame.specs.Batches.{Finishes, IsHeld, IsReady, PutsEnding, Refuses, Takes, TakesFront, Writes, WritesIfFull};
+    ghost use Rattle.program_frame.specs.Batches.{Finishes, IsHeld, IsReady, PutsEnding, Refuses, Takes, TakesFront, Writes, WritesIfFull, WritesRead};
 
     /// Nothing was read.
     pub fn open(alloc: Global, job: J) -> Batches<J>
@@ -147,13 +147,8 @@ impl<J: Job + Drop> Batches<J> {
         }
     }
 
-    /// Takes the next chunk of the file, and writes each batch of traces that it fills.
-    pub fn take_chunk<K: Sink>(
-        &mut self,
-        alloc: Global,
-        chunk: &[u8],
-        out: &mut K,
-    ) -> Result<(), Stop>
+    // Takes the next chunk of the file, and writes each batch of traces that it fills.
+    fn take_bytes<K: Sink>(&mut self, alloc: Global, chunk: &[u8], out: &mut K) -> Result<(), Stop>
         requires ready { IsReady J.text J.has self.old (K.state out.old) }
         requires short { length chunk.now < 2 ^ 32 }
         ensures text { J.text self.new.job ≡ J.text self.old.job }
@@ -166,6 +161,37 @@ impl<J: Job + Drop> Batches<J> {
             rest = behind(rest, taken);
         }
         Ok(())
+    }
+
+    // Writes the traces that wait, if the job wants its text after each read.
+    fn write_read<K: Sink>(&mut self, alloc: Global, out: &mut K) -> Result<(), Stop>
+        requires { IsReady J.text J.has self.old (K.state out.old) }
+        ensures text { J.text self.new.job ≡ J.text self.old.job }
+        ensures writes { WritesRead J.text J.has self.old self.new
+            (K.state out.old) (K.state out.new) result }
+    {
+        if !self.job.puts_each_read() {
+            return Ok(());
+        }
+        self.write(alloc, out)
+    }
+
+    /// Takes the next chunk of the file. Writes each batch of traces that it fills, and the traces
+    /// that then wait, if the job wants its text after each read.
+    pub fn take_chunk<K: Sink>(
+        &mut self,
+        alloc: Global,
+        chunk: &[u8],
+        out: &mut K,
+    ) -> Result<(), Stop>
+        requires ready { IsReady J.text J.has self.old (K.state out.old) }
+        requires short { length chunk.now < 2 ^ 32 }
+        ensures text { J.text self.new.job ≡ J.text self.old.job }
+        ensures takes { Takes J.text J.has self.old self.new
+            (K.state out.old) (K.state out.new) chunk.now result }
+    {
+        self.take_bytes(alloc, chunk, out)?;
+        self.write_read(alloc, out)
     }
 
     // Writes what stands behind the text of all traces.

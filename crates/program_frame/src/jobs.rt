@@ -16,6 +16,11 @@ pub trait Job {
     /// The job has taken these traces.
     ghost has: { Self → ListOf Trace → Type 0 };
 
+    /// Whether its text is put after each read of the file. If not, it is put after each full batch.
+    fn puts_each_read(&self) -> bool {
+        false
+    }
+
     /// Takes more traces, and appends their text. Where the job refuses one of them, it appends the
     /// text up to it, and answers the refusal.
     fn take(&mut self, alloc: Global, traces: &[Trace], into: &mut List<u8>) -> Result<(), Stop>

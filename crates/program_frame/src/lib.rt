@@ -8,6 +8,8 @@
 //!   `batches` holds the traces that wait; `total` counts them. `whole_traces` reads all traces of a
 //!   file and holds them.
 //!
+//! `laws` has what holds of the promises of every run.
+//!
 //! Read `specs/Plan.antt` first, then `specs/Performs.antt`, `specs/Jobs.antt` and
 //! `specs/Promises.antt`. The clause to read first is that of `work_traces`.
 #![tactic(auto)]
@@ -15,6 +17,7 @@
 mod batches;
 mod files;
 mod jobs;
+pub mod laws;
 mod load;
 mod stop;
 mod stream;

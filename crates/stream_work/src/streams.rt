@@ -98,6 +98,11 @@ impl<'m> Job for StreamJob<'m> {
 
     ghost has = { λ job traces. HasStreamed job.matcher.now job.sessions job.rows job.tally traces };
 
+    // So a position is answered as soon as the row behind it was read.
+    fn puts_each_read(&self) -> bool {
+        true
+    }
+
     fn take(&mut self, alloc: Global, traces: &[Trace], into: &mut List<u8>) -> Result<(), Stop> {
         match stream_fragments(&mut self.sessions, &mut self.rows, traces, into) {
             Ok(pieces) => {
