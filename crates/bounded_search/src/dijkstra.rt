@@ -72,7 +72,7 @@ impl Workspace {
     }
 
     /// Marks a node.
-    fn mark(&mut self, node: NodeId)
+    pub(crate) fn mark(&mut self, node: NodeId)
         requires { node.0 / 64 < length self.old.marks.items }
         ensures words { self.new.words.items ≡ self.old.words.items }
         ensures queue { self.new.queue ≡ self.old.queue }
