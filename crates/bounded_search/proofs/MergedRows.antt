@@ -91,24 +91,24 @@ merges bound d b (x ∷ row) words r all =
     }
 
 -- a node is listed or not
-entry_or_none : (o : Option Entry) → (o ≡ None) ⊎ ((x : Entry) × (o ≡ Some x))
+pub entry_or_none : (o : Option Entry) → (o ≡ None) ⊎ ((x : Entry) × (o ≡ Some x))
 entry_or_none None = inl refl
 entry_or_none (Some x) = inr (x, refl)
 
 -- what a label tells of the entry
-record IsEntryOf (row : List Entry) (v : ℕ) (l : Label) : Type 0 where
-  entry : Entry
-  at : entry_in row v ≡ Some entry
-  label : label_of entry ≡ l
+pub record IsEntryOf (row : List Entry) (v : ℕ) (l : Label) : Type 0 where
+  pub entry : Entry
+  pub at : entry_in row v ≡ Some entry
+  pub label : label_of entry ≡ l
 
-entry_with : (row : List Entry) (v : ℕ) (l : Label) → label_in row v ≡ Some l → IsEntryOf row v l
+pub entry_with : (row : List Entry) (v : ℕ) (l : Label) → label_in row v ≡ Some l → IsEntryOf row v l
 entry_with row v l h = from (entry_in row v) refl h
   where
     from : (o : Option Entry) → entry_in row v ≡ o → option_map label_of o ≡ Some l → IsEntryOf row v l
     from None is h = absurd (none_some refl h)
     from (Some x) is h = record { entry = x; at = is; label = same_Some (label_of x) l h }
 
-label_at_entry : (row : List Entry) (v : ℕ) (x : Entry) → entry_in row v ≡ Some x → label_in row v ≡ Some (label_of x)
+pub label_at_entry : (row : List Entry) (v : ℕ) (x : Entry) → entry_in row v ≡ Some x → label_in row v ≡ Some (label_of x)
 label_at_entry row v x at = ap (option_map label_of) at
 
 -- the row of node v is merged at the distance that v has
@@ -123,7 +123,7 @@ own_entry : (n : Net) (bound v : ℕ) (row : List Entry) → IsClosed n bound v 
 own_entry n bound v row closed u x same at = same_Some (label_of x) origin_label (sym (label_at_entry row u x at) ∙ (ap (label_in row) same ∙ closed.origin))
 
 -- another is reached by an edge
-by_edge : (n : Net) (bound v : ℕ) (row : List Entry) → IsClosed n bound v (label_in row) → (u : ℕ) (x : Entry) → u ≢ v → entry_in row u ≡ Some x → IsReached n (label_in row) u (label_of x)
+pub by_edge : (n : Net) (bound v : ℕ) (row : List Entry) → IsClosed n bound v (label_in row) → (u : ℕ) (x : Entry) → u ≢ v → entry_in row u ≡ Some x → IsReached n (label_in row) u (label_of x)
 by_edge n bound v row closed u x apart at = (closed.closed u (label_of x) (label_at_entry row u x at)).reached apart
 
 low_is : (l : Option EdgeId) (e : ℕ) → l ≡ Some (record { 0 = e }) → low_of l ≡ e
