@@ -110,7 +110,7 @@ marked_begun bound s words after marks queue lt none is waits v there = elim (ca
 ]
 
 -- a bucket is taken out of the queue
-pub bucket_taken : (n : Net) (s : ℕ) (w : Workspace) (taken new : List Waiting) → IsPermutation w.queue (taken ++ new) → IsSearching n s w [] → IsSearching n s (record { bound = w.bound; words = w.words; marks = w.marks; queue = new }) (taken ++ [])
+pub bucket_taken : (n : Net) (s : ℕ) (w : Workspace) (taken new : List Waiting) → IsPermutation w.queue (taken ++ new) → IsSearching n s w [] → IsSearching n s (record { bound = w.bound; reach = w.reach; words = w.words; marks = w.marks; queue = new }) (taken ++ [])
 bucket_taken n s w taken new perm h =
     let all : (taken ++ []) ++ new ≡ taken ++ new = ap (λ (k : List Waiting). k ++ new) (append-nil taken) in
     record {

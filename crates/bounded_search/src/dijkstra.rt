@@ -9,6 +9,7 @@ ghost use Rattle.bounded_search.specs.Labels.{entry_of};
 ghost use Rattle.bounded_search.specs.Marked.{AreMarked, IsClean, IsSized, KeepsSizes, MarksToo, labels_of};
 ghost use Rattle.bounded_search.specs.Table.{IsRow};
 
+use crate::known_rows::KnownRows;
 use crate::label_words::{ORIGIN, distance_in, label_in, least_word, no_label, step_by};
 use crate::queue::{Queue, Waiting};
 use crate::table_row::Entry;
@@ -24,6 +25,7 @@ use std::alloc::{AllocError, Global};
 /// All words are made for one bound: that of a node without a label is just beyond it.
 pub struct Workspace {
     pub(crate) bound: u32,
+    pub(crate) reach: u32,
     pub(crate) words: Vec<u64>,
     marks: Vec<u64>,
     queue: Queue,
@@ -34,11 +36,26 @@ impl Drop for Workspace {
     fn drop(self) {
         let Workspace {
             bound: _,
+            reach: _,
             words: _,
             marks: _,
             queue: _,
         } = self;
     }
+}
+
+/// Up to which distance a node's row is merged: three mean lengths of an edge, and at most a quarter of the bound.
+///
+/// Merging costs a step for each entry of the row, and spares the edges of all nodes that it labels. Within that
+/// distance most nodes of a row are labelled by the rows of a few others.
+fn reach_of(net: &Network, bound: u32) -> u32 {
+    let mut total: u64 = 0;
+    for e in 0..net.edge_count() {
+        total = total.saturating_add(u64::from(net.length(EdgeId(e))));
+    }
+    let mean = total / (u64::from(net.edge_count()) + 1);
+    let most = u64::from(bound / 4);
+    mean.saturating_mul(3).min(most) as u32
 }
 
 /// How wide the buckets of the queue are, as a power of two: up to half of the mean length of an edge. So few
@@ -65,6 +82,7 @@ impl Workspace {
         let nodes = net.node_count() as usize;
         Ok(Workspace {
             bound,
+            reach: reach_of(net, bound),
             words: vec![in alloc; no_label(bound); nodes]?,
             marks: vec![in alloc; 0; nodes / 64 + 1]?,
             queue: Queue::new(alloc, bound, bucket_shift(net, bound))?,
@@ -72,7 +90,7 @@ impl Workspace {
     }
 
     /// Marks a node.
-    fn mark(&mut self, node: NodeId)
+    pub(crate) fn mark(&mut self, node: NodeId)
         requires { node.0 / 64 < length self.old.marks.items }
         ensures words { self.new.words.items ≡ self.old.words.items }
         ensures queue { self.new.queue ≡ self.old.queue }
@@ -120,7 +138,7 @@ impl Workspace {
     }
 
     /// Marks a node that waited and tries every edge out of it, unless it has become nearer since.
-    fn leave(&mut self, net: &Network, next: Waiting) -> Result<(), AllocError>
+    pub(crate) fn leave(&mut self, net: &Network, next: Waiting) -> Result<(), AllocError>
         requires next { HasNode net.now next.node × (next.distance ≤ 10_000_000) }
         requires sized { IsSized (length net.now.nodes) self.old }
         ensures leaves { OnOk result (Leaves net.now (next ∷ []) self.old self.new) }
@@ -138,14 +156,20 @@ impl Workspace {
     }
 
     /// Leaves each of the nodes that waited in a bucket.
-    fn leave_all(&mut self, net: &Network, taken: &[Waiting]) -> Result<(), AllocError>
+    fn leave_all<K: KnownRows>(
+        &mut self,
+        net: &Network,
+        known: &K,
+        taken: &[Waiting],
+    ) -> Result<(), AllocError>
+        requires known { K.table known.now ≡ record { network = net.now; bound = self.old.bound } }
         requires inside { All (λ x. HasNode net.now x.node × (x.distance ≤ 10_000_000)) taken.now }
         requires sized { IsSized (length net.now.nodes) self.old }
         ensures leaves { OnOk result (Leaves net.now taken.now self.old self.new) }
         ensures sized { KeepsSizes self.old self.new }
     {
         for next in taken {
-            self.leave(net, *next)?;
+            self.leave_or_merge(net, known, *next)?;
         }
         Ok(())
     }
@@ -155,12 +179,14 @@ impl Workspace {
     /// A node waits again each time that it becomes nearer. When none waits, every edge within the bound has
     /// been tried from its node's last distance. Taking the nearest first makes that rare. The nodes of a
     /// bucket are taken at once, in the order in which they came, so that neighbours follow one another.
-    fn label_all(
+    fn label_all<K: KnownRows>(
         &mut self,
         net: &Network,
+        known: &K,
         origin: NodeId,
         taken: &mut List<Waiting>,
     ) -> Result<(), AllocError>
+        requires known { K.table known.now ≡ record { network = net.now; bound = self.old.bound } }
         requires origin { HasNode net.now origin.0 }
         requires clean { IsClean (length net.now.nodes) self.old }
         ensures labelled { OnOk result (IsLabelled net.now origin.0 self.new) }
@@ -170,7 +196,7 @@ impl Workspace {
         self.label(origin, ORIGIN)?;
         let mut place = 0;
         while self.queue.take_bucket(&mut place, taken) {
-            self.leave_all(net, taken.as_slice())?;
+            self.leave_all(net, known, taken.as_slice())?;
         }
         Ok(())
     }
@@ -240,13 +266,15 @@ impl Workspace {
 
     /// The entries of the row of an origin. The list is for the nodes of a bucket, and what is in it is dropped.
     /// After Err the arrays have to be cleared.
-    pub fn entries(
+    pub fn entries<K: KnownRows>(
         &mut self,
         alloc: Global,
         net: &Network,
+        known: &K,
         origin: NodeId,
         taken: &mut List<Waiting>,
     ) -> Result<Vec<Entry>, AllocError>
+        requires known { K.table known.now ≡ record { network = net.now; bound = self.old.bound } }
         requires origin { HasNode net.now origin.0 }
         requires clean { IsClean (length net.now.nodes) self.old }
         ensures row { IfOk result (λ entries.
@@ -254,7 +282,7 @@ impl Workspace {
         ensures clean { EndsClean result self.old self.new }
     {
         net.known();
-        self.label_all(net, origin, taken)?;
+        self.label_all(net, known, origin, taken)?;
         self.take_entries(alloc)
     }
 

@@ -3,11 +3,12 @@ ghost use Rattle.std.specs.Prelude.{◌≡◌, ◌≤◌, ◌↔◌, length, map
 ghost use Rattle.road_network.specs.Net.{HasNode};
 ghost use Rattle.bounded_search.specs.Table.{IsRow};
 ghost use Rattle.bounded_search.specs.Known.{IsKnownList};
-ghost use Rattle.bounded_search.specs.OwnInside.{AreHeldRows};
+ghost use Rattle.bounded_search.specs.OwnInside.{AreHeldRows, HoldsRows};
 ghost use Rattle.bounded_search.specs.RowValue.{row_of};
 ghost use Rattle.bounded_search.specs.Rows.{AsksFor, no_rows};
 
 use crate::Rows;
+use crate::known_rows::HeldRows;
 use crate::searcher::Searcher;
 use crate::table_row::Row;
 use polyline_geometry::List;
@@ -96,7 +97,7 @@ impl<'n> OwnRows<'n> {
         if self.rows[place].is_some() {
             return Ok(());
         }
-        let row = self.searcher.row(n)?;
+        let row = find_from(&mut self.searcher, self.rows.as_slice(), n)?;
         self.rows[place] = Some(row);
         self.count += 1;
         Ok(())
@@ -109,6 +110,21 @@ impl<'n> OwnRows<'n> {
     {
         self.rows[n.0 as usize].as_ref().unwrap()
     }
+}
+
+// The row of a node, found with the help of the rows that stand in places.
+fn find_from(
+    searcher: &mut Searcher<'_>,
+    places: &[Option<Row>],
+    n: NodeId,
+) -> Result<Row, AllocError>
+    requires node { HasNode searcher.old.network n.0 }
+    requires places { HoldsRows searcher.old places.now }
+    ensures same { searcher.new ≡ searcher.old }
+    ensures row { IfOk result (IsRow searcher.old.network searcher.old.bound n.0) }
+{
+    let known = HeldRows::of(searcher.network(), searcher.bound(), places);
+    searcher.row_from(&known, n)
 }
 
 // The rows that stand in places, of which `count` have one, in their order. They are moved out, and

@@ -4,6 +4,7 @@ ghost use Rattle.road_network.specs.Net.{HasNode, IsLawful};
 ghost use Rattle.bounded_search.specs.Table.{IsRow};
 
 use crate::dijkstra::Workspace;
+use crate::known_rows::{KnownRows, NoRows};
 use crate::places::place_between;
 use crate::queue::Waiting;
 use crate::table_row::Row;
@@ -84,9 +85,40 @@ impl<'n> Searcher<'n> {
         row.origin() == origin && self.workspace.gives_all(network, row.entries())
     }
 
+    /// The network.
+    pub(crate) fn network(&self) -> &'n Network
+        ensures { result.now ≡ self.now.network }
+    {
+        self.network
+    }
+
+    /// The bound, in cm.
+    pub(crate) fn bound(&self) -> u32
+        ensures { result ≡ self.now.bound }
+    {
+        self.workspace.bound
+    }
+
     /// The row of an origin, as `search` finds it.
     pub fn row(&mut self, origin: NodeId) -> Result<Row, AllocError>
         requires { HasNode self.old.network origin.0 }
+        ensures same { self.new ≡ self.old }
+        ensures row { IfOk result (IsRow self.old.network self.old.bound origin.0) }
+    {
+        let none = NoRows {
+            network: self.network,
+            bound: self.workspace.bound,
+        };
+        self.row_from(&none, origin)
+    }
+
+    /// The row of an origin, as `search` finds it, with the help of rows that are known.
+    ///
+    /// The search does not look again for what lies behind a near node whose row is known. So the more rows are
+    /// known near the origin, the less it costs.
+    pub fn row_from<K: KnownRows>(&mut self, known: &K, origin: NodeId) -> Result<Row, AllocError>
+        requires known { K.table known.now ≡ self.old }
+        requires origin { HasNode self.old.network origin.0 }
         ensures same { self.new ≡ self.old }
         ensures row { IfOk result (IsRow self.old.network self.old.bound origin.0) }
     {
@@ -95,7 +127,7 @@ impl<'n> Searcher<'n> {
         network.known();
         match self
             .workspace
-            .entries(alloc, network, origin, &mut self.taken)
+            .entries(alloc, network, known, origin, &mut self.taken)
         {
             Ok(entries) => Ok(Row {
                 origin,

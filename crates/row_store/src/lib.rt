@@ -11,6 +11,7 @@
 //! The clauses to read first are those of [`Reader::look`] and [`agree`]. No call waits.
 #![tactic(auto)]
 
+mod accepted;
 mod counting;
 mod place;
 mod reader;

@@ -1,5 +1,6 @@
 //! What a reader keeps for one node. Serves `Reader`; decided by `Fits`.
-ghost use Rattle.std.specs.Prelude.{◌≡◌, ◌<◌, slice_index, OnErr, OnOk, IfSome, Some, None, IsSome, length};
+ghost use Rattle.std.specs.Prelude.{◌≡◌, ℕ, ◌<◌, slice_index, ◌⊎◌, OnErr, OnOk, IfSome, IsTrue, Some, None, IsSome, length};
+ghost use Rattle.road_network.specs.Net.{Net};
 ghost use Rattle.once_cell.specs.Once.{cell_name, Agrees};
 ghost use Rattle.bounded_search.specs.Table.{IsRow};
 ghost use Rattle.row_store.specs.Places.{Fits, IsPlaceOf, IsReady, KeepsSight, StaysBlind};
@@ -59,46 +60,23 @@ impl<'s> Place<'s> {
         self.seen = Some(row);
     }
 
-    /// Puts the row that is searched for into an empty cell, and looks at what it then holds.
-    fn fill(
-        &mut self,
-        store: &'s RowStore<'s>,
-        searcher: &mut Searcher<'s>,
-        n: NodeId,
-    ) -> Result<(), AllocError>
-        requires place { IsPlaceOf store.now n.0 searcher.old self.old }
-        requires none { self.old.note.known ≡ None }
-        ensures place { IsPlaceOf store.now n.0 searcher.new self.new }
-        ensures seen { OnOk result (IsSome self.new.note.known) }
-        ensures err { OnErr result (self.new.note.known ≡ None) }
-    {
-        let made = Box::new(store.alloc, searcher.row(n)?)?;
-        self.put(store, searcher, n, made);
-        Ok(())
-    }
-
-    /// Looks at the cell, and fills it where it is empty.
-    pub fn look(
-        &mut self,
-        store: &'s RowStore<'s>,
-        searcher: &mut Searcher<'s>,
-        n: NodeId,
-    ) -> Result<(), AllocError>
+    /// Looks at the cell. False where it is empty, and then nothing is known.
+    pub fn look(&mut self, store: &'s RowStore<'s>, searcher: &mut Searcher<'s>, n: NodeId) -> bool
         requires { IsPlaceOf store.now n.0 searcher.old self.old }
         ensures place { IsPlaceOf store.now n.0 searcher.new self.new }
-        ensures seen { OnOk result (KeepsSight self.old.note.known self.new.note.known) }
-        ensures err { OnErr result (StaysBlind self.old.note.known self.new.note.known) }
+        ensures seen { IsTrue result → KeepsSight self.old.note.known self.new.note.known }
+        ensures empty { IsTrue result ⊎ StaysBlind self.old.note.known self.new.note.known }
     {
         if self.seen.is_some() {
-            return Ok(());
+            return true;
         }
         let cell = &store.cells[n.0 as usize];
         let Some(row) = cell.get_as(&mut self.note) else {
-            return self.fill(store, searcher, n);
+            return false;
         };
         self.right = searcher.check(n, row);
         self.seen = Some(row);
-        Ok(())
+        true
     }
 
     /// Offers a row to the cell, and looks at what it then holds.
@@ -164,6 +142,16 @@ impl<'s> Place<'s> {
             self.own = Some(row);
         }
         Ok(())
+    }
+
+    /// The node's row, if it was made here or what is known is right.
+    pub fn right_row(&self) -> Option<&Row>
+        ensures { (net : Net) (bound v name : ℕ) → Fits net bound v name self.now → IfSome result (λ row. IsRow net bound v row.now) }
+    {
+        if self.right {
+            return self.seen;
+        }
+        self.own.as_deref()
     }
 
     /// The node's row: its own where there is one, and else the one that is known.

@@ -1,10 +1,11 @@
 //! What one thread knows of a store. Serves `Reader`; decided by `Reading`.
-ghost use Rattle.std.specs.Prelude.{◌≡◌, ◌<◌, ◌↔◌, IfOk, IsOk, OnOk, OnErr, length, replicate, slice_get, Some, None};
+ghost use Rattle.std.specs.Prelude.{◌≡◌, ◌<◌, ◌↔◌, ◌⊎◌, IfOk, IsTrue, IsOk, OnOk, OnErr, length, replicate, slice_get, Some, None};
 ghost use Rattle.road_network.specs.Net.{HasNode};
 ghost use Rattle.bounded_search.specs.Table.{TableRow, IsRow};
 ghost use Rattle.row_store.specs.Store.{IsKnown, Sees, knows, rows_state};
 ghost use Rattle.row_store.specs.Sights.{row_seen, IsTable};
 
+use crate::accepted::Accepted;
 use crate::place::Place;
 use crate::sight::Sight;
 use crate::store::RowStore;
@@ -88,16 +89,39 @@ impl<'s> Reader<'s> {
         self.places[n.0 as usize].seen.is_some()
     }
 
-    /// Makes the row of the cell of n known.
+    /// Looks at the cell of n, and makes its row known. False where it is empty.
+    fn glance(&mut self, n: NodeId) -> bool
+        requires { HasNode self.old.store.network n.0 }
+        ensures seen { IsTrue result → (row : TableRow) × Sees self.old n.0 row self.new }
+        ensures empty { IsTrue result ⊎ ((self.new ≡ self.old) × (IsKnown self.old n.0 → ⊥)) }
+    {
+        let store = self.store;
+        let place = &mut self.places[n.0 as usize];
+        place.look(store, &mut self.searcher, n)
+    }
+
+    /// The row of n, found with the help of the rows that are accepted.
+    fn find(&mut self, n: NodeId) -> Result<Row, AllocError>
+        requires { HasNode self.old.store.network n.0 }
+        ensures same { self.new ≡ self.old }
+        ensures row { IfOk result (IsRow self.old.store.network self.old.store.bound n.0) }
+    {
+        let known = Accepted::of(self.store, self.places.as_slice());
+        self.searcher.row_from(&known, n)
+    }
+
+    /// Makes the row of the cell of n known. An empty cell is filled with the row of n.
     fn settle(&mut self, n: NodeId) -> Result<(), AllocError>
         requires { HasNode self.old.store.network n.0 }
         ensures seen { OnOk result ((row : TableRow) × Sees self.old n.0 row self.new) }
         ensures err { OnErr result (self.new ≡ self.old) }
         ensures again { IsKnown self.old n.0 → IsOk result }
     {
-        let store = self.store;
-        let place = &mut self.places[n.0 as usize];
-        place.look(store, &mut self.searcher, n)
+        if self.glance(n) {
+            return Ok(());
+        }
+        let row = self.find(n)?;
+        self.settle_right(n, row)
     }
 
     /// Makes the row of the cell of n known, which is this one if the cell was empty.

@@ -1,0 +1,26 @@
+-- What merging a row leaves: each node has the better one of its own label and that of the row's entry, so much farther.
+use Rattle.std.specs.Prelude.{ℕ, ◌+◌, ◌⊎◌, List, [], ◌∷◌, min, slice_set}
+use Rattle.std.specs.Option.{IsSome}
+use Rattle.bounded_search.specs.declared.table_row.Entry.{Entry}
+use Rattle.bounded_search.specs.LabelWords.{word_at, word_of}
+use Rattle.bounded_search.specs.Marked.{IsMarked}
+use Rattle.bounded_search.specs.Table.{entry_in}
+
+-- the word of an entry, by distance d farther
+abbrev pub merged_word : ℕ → Entry → ℕ
+merged_word d x = word_of (d + x.distance) x.last
+
+-- the words after one entry was merged
+abbrev pub merged_entry : ℕ → ℕ → Entry → List ℕ → List ℕ
+merged_entry bound d x words = slice_set words x.node.0 (min (word_at bound words x.node.0) (merged_word d x))
+
+-- the words after all of them were
+abbrev pub merged : ℕ → ℕ → List Entry → List ℕ → List ℕ
+merged bound d [] words = words
+merged bound d (x ∷ entries) words = merged bound d entries (merged_entry bound d x words)
+
+-- the nodes of the entries are marked, and else what was marked before
+pub record MarksAlso (entries : List Entry) (before after : List ℕ) : Type 0 where
+  pub kept : (v : ℕ) → IsMarked before v → IsMarked after v
+  pub listed : (v : ℕ) → IsSome (entry_in entries v) → IsMarked after v
+  pub only : (v : ℕ) → IsMarked after v → IsMarked before v ⊎ IsSome (entry_in entries v)

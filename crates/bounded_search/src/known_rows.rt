@@ -1,0 +1,86 @@
+//! Rows that are known already, which a search may take over. Serves `Searcher::row_from`; decided by `IsRow`.
+ghost use Rattle.std.specs.Prelude.{◌≡◌, IfSome};
+ghost use Rattle.road_network.specs.Net.{HasNode};
+ghost use Rattle.bounded_search.specs.OwnInside.{HoldsRows};
+ghost use Rattle.bounded_search.specs.Table.{BoundedTable, IsRow};
+
+use crate::table_row::Row;
+use road_network::{Network, NodeId};
+use std::marker::Model;
+
+/// Who knows rows of a network within a bound, so that a search need not find again what they say.
+pub trait KnownRows {
+    /// Of which network and bound the rows are.
+    ghost table: { Self → BoundedTable };
+
+    /// The row of a node, if it is known. Takes no memory.
+    fn known_row(&self, n: NodeId) -> Option<&Row>
+        requires { HasNode (table self.now).network n.0 }
+        ensures { IfSome result (λ row. IsRow (table self.now).network (table self.now).bound n.0 row.now) };
+}
+
+/// No row of this network and bound is known.
+#[derive(Clone, Copy)]
+pub struct NoRows<'n> {
+    pub network: &'n Network,
+    pub bound: u32,
+}
+
+impl<'n> KnownRows for NoRows<'n> {
+    ghost table = { λ none. record { network = none.network.now; bound = none.bound } };
+
+    fn known_row(&self, _n: NodeId) -> Option<&Row> {
+        None
+    }
+}
+
+/// The rows in a list with a place for each node.
+pub struct HeldRows<'a> {
+    network: &'a Network,
+    bound: u32,
+    rows: &'a [Option<Row>],
+}
+
+// By hand, so that the functions that drop one call this.
+impl<'a> Drop for HeldRows<'a> {
+    fn drop(self) {
+        let HeldRows {
+            network: _,
+            bound: _,
+            rows: _,
+        } = self;
+    }
+}
+
+impl<'a> Model for HeldRows<'a> {
+    ghost use Rattle.bounded_search.specs.OwnInside.{HoldsRows};
+    ghost use Rattle.bounded_search.specs.Table.{BoundedTable};
+
+    ghost Value = { BoundedTable };
+
+    ghost view = { λ a. record { network = a.network.now; bound = a.bound } };
+
+    ghost invariant = { λ a. HoldsRows (record { network = a.network.now; bound = a.bound }) a.rows.now };
+}
+
+impl<'a> HeldRows<'a> {
+    /// The rows in these places.
+    pub fn of(network: &'a Network, bound: u32, rows: &'a [Option<Row>]) -> HeldRows<'a>
+        requires { HoldsRows (record { network = network.now; bound = bound }) rows.now }
+        ensures { result ≡ record { network = network.now; bound = bound } }
+    {
+        HeldRows {
+            network,
+            bound,
+            rows,
+        }
+    }
+}
+
+impl<'a> KnownRows for HeldRows<'a> {
+    ghost table = { λ held. held };
+
+    fn known_row(&self, n: NodeId) -> Option<&Row> {
+        self.rows[n.0 as usize].as_ref()
+    }
+}

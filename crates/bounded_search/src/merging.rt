@@ -1,0 +1,89 @@
+//! How a search takes over what is known of a node: its row. Serves `Workspace::leave`; decided by `merged`.
+ghost use Rattle.std.specs.Prelude.{◌≡◌, ◌<◌, ◌≤◌, ◌/◌, ◌⊎◌, ◌∷◌, [], length, IsTrue, OnOk};
+ghost use Rattle.std.specs.List.{All};
+ghost use Rattle.road_network.specs.Net.{HasNode};
+ghost use Rattle.bounded_search.specs.Marked.{IsSized, KeepsSizes, MarksToo};
+ghost use Rattle.bounded_search.specs.Merging.{MarksAlso, merged, merged_entry};
+ghost use Rattle.bounded_search.specs.Searching.{Leaves};
+
+use crate::dijkstra::Workspace;
+use crate::known_rows::KnownRows;
+use crate::label_words::{distance_in, least_word, word_of};
+use crate::queue::Waiting;
+use crate::table_row::{Entry, Row};
+use road_network::{Network, NodeId};
+use std::alloc::AllocError;
+
+impl Workspace {
+    /// Merges an entry of the row of a node at this distance: its node is marked, and has the entry's label,
+    /// so much farther, if that is better than its own.
+    fn merge_entry(&mut self, entry: Entry, distance: u32)
+        requires distance { (distance ≤ 10_000_000) × (entry.distance ≤ 10_000_000) }
+        requires node { (entry.node.0 < length self.old.words.items) × (entry.node.0 / 64 < length self.old.marks.items) }
+        ensures words { self.new.words.items ≡ merged_entry self.old.bound distance entry self.old.words.items }
+        ensures marks { MarksToo self.old.marks.items entry.node.0 self.new.marks.items }
+        ensures sized { KeepsSizes self.old self.new }
+        ensures queue { self.new.queue ≡ self.old.queue }
+    {
+        self.mark(entry.node);
+        let word = least_word(distance) + word_of(entry.distance, entry.last);
+        let place = entry.node.0 as usize;
+        self.words[place] = self.words[place].min(word);
+    }
+
+    /// Merges the row of a node at this distance (in cm), entry by entry. Takes no memory, and lets nothing wait.
+    pub(crate) fn merge(&mut self, row: &Row, distance: u32)
+        requires distance { distance ≤ 10_000_000 }
+        requires sized { IsSized (length self.old.words.items) self.old }
+        requires inside { All (λ x. (x.node.0 < length self.old.words.items) × (x.distance ≤ 10_000_000)) row.now.entries }
+        ensures words { self.new.words.items ≡ merged self.old.bound distance row.now.entries self.old.words.items }
+        ensures marks { MarksAlso row.now.entries self.old.marks.items self.new.marks.items }
+        ensures sized { KeepsSizes self.old self.new }
+        ensures queue { self.new.queue ≡ self.old.queue }
+    {
+        for entry in row.entries() {
+            self.merge_entry(*entry, distance);
+        }
+    }
+
+    /// Leaves a node that waited by merging its row, where it is near and its row is known. False where it does not.
+    fn leave_by_row<K: KnownRows>(&mut self, net: &Network, known: &K, next: Waiting) -> bool
+        requires known { K.table known.now ≡ record { network = net.now; bound = self.old.bound } }
+        requires next { HasNode net.now next.node × (next.distance ≤ 10_000_000) }
+        requires sized { IsSized (length net.now.nodes) self.old }
+        ensures leaves { IsTrue result → Leaves net.now (next ∷ []) self.old self.new }
+        ensures stays { IsTrue result ⊎ (self.new ≡ self.old) }
+        ensures sized { KeepsSizes self.old self.new }
+    {
+        net.known();
+        if next.distance >= self.reach
+            || distance_in(self.words[next.node as usize]) != next.distance
+        {
+            return false;
+        }
+        let Some(row) = known.known_row(NodeId(next.node)) else {
+            return false;
+        };
+        self.merge(row, next.distance);
+        true
+    }
+
+    /// Leaves a node that waited: by its row, where it is near and its row is known, and else by its edges.
+    pub(crate) fn leave_or_merge<K: KnownRows>(
+        &mut self,
+        net: &Network,
+        known: &K,
+        next: Waiting,
+    ) -> Result<(), AllocError>
+        requires known { K.table known.now ≡ record { network = net.now; bound = self.old.bound } }
+        requires next { HasNode net.now next.node × (next.distance ≤ 10_000_000) }
+        requires sized { IsSized (length net.now.nodes) self.old }
+        ensures leaves { OnOk result (Leaves net.now (next ∷ []) self.old self.new) }
+        ensures sized { KeepsSizes self.old self.new }
+    {
+        if self.leave_by_row(net, known, next) {
+            return Ok(());
+        }
+        self.leave(net, next)
+    }
+}
