@@ -6,6 +6,8 @@
 #[cfg(test)]
 mod costs;
 #[cfg(test)]
+mod drawn_numbers;
+#[cfg(test)]
 mod geometry;
 #[cfg(test)]
 mod match_texts;
@@ -15,8 +17,6 @@ mod networks;
 mod numbers;
 #[cfg(test)]
 mod shelves;
-#[cfg(test)]
-mod tickets;
 #[cfg(test)]
 mod towns;
 #[cfg(test)]

@@ -1,7 +1,7 @@
 use Rattle.std.proofs.Common.{◌≡◌, List, [], ◌∷◌, ◌++◌, All, sym, ap, ◌∙◌, subst}
 use Rattle.std.proofs.lemmas.List.Elements.{All-cons, All-nil}
 use Rattle.tickets.specs.Tickets.{Drawn, HasEnded}
-use Rattle.base_tests.proofs.tickets.gather_two.Goals as goal
+use Rattle.base_tests.proofs.drawn_numbers.gather_two.Goals as goal
 
 pub gather-requires-clause-ended : goal.gather-requires-clause-ended
 gather-requires-clause-ended c =
