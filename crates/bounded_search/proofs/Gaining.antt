@@ -1,4 +1,4 @@
--- Queues that gain a node, or none.
+-- Queues that gain a node, or none, and what trying an arc leaves, in whatever order the queue is.
 use Rattle.std.proofs.Common.{◌≡◌, ℕ, zero, suc, ◌+◌, ◌<◌, ◌≤◌, ◌⊎◌, inl, inr, Bool, true, false, length, List, [], ◌∷◌, ◌++◌, slice_index_or, refl, sym, ap, subst, arith}
 use Rattle.std.proofs.lemmas.Bool.{false≢true}
 use Rattle.std.proofs.lemmas.List.Elements.{All-cons, Contains-append_right}
@@ -6,7 +6,18 @@ use Rattle.std.proofs.lemmas.List.Sorted.{All-permutation, Contains-permutation,
 use Rattle.std.specs.List.{All, Contains}
 use Rattle.std.specs.List.Sorted.{IsPermutation}
 use Rattle.bounded_search.specs.declared.queue.Waiting.{Waiting}
-use Rattle.bounded_search.specs.Underway.{Gains}
+use Rattle.road_network.specs.declared.Arc.{Arc}
+use Rattle.bounded_search.specs.Underway.{SearchState, is_nearer, item_by, words_after}
+
+-- x waits too, where it is to
+abbrev pub Gains : Bool → Waiting → List Waiting → List Waiting → Type 0
+Gains true x old new = IsPermutation (x ∷ old) new
+Gains false x old new = new ≡ old
+
+-- a better label is written, and its node waits if it is nearer
+pub record Tries (bound d : ℕ) (a : Arc) (old new : SearchState) : Type 0 where
+  pub words : new.words ≡ words_after bound d a old.words
+  pub queue : Gains (is_nearer bound d a old.words) (item_by d a) old.queue new.queue
 
 front_or_rest_at : {X : Type 0} (x : X) (xs : List X) (y : X) (k : ℕ) → k < length (x ∷ xs) → slice_index_or (x ∷ xs) k y ≡ y → (y ≡ x) ⊎ Contains xs y
 front_or_rest_at x xs y zero lt e = inl (sym e)

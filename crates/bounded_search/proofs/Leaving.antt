@@ -1,26 +1,23 @@
 -- What leaving a node keeps, where others were taken with it: the search, and what is marked.
-use Rattle.std.proofs.Common.{◌≡◌, ◌≢◌, ℕ, ◌+◌, ◌/◌, ◌^◌, ◌<◌, ◌≤◌, ◌⊎◌, inl, inr, false, ltb, length, append-nil, slice_index_or, List, [], ◌∷◌, ◌++◌, set, refl, sym, ap, subst, ◌∙◌, arith}
+use Rattle.std.proofs.Common.{◌≡◌, ◌≢◌, ℕ, ◌+◌, ◌/◌, ◌^◌, ◌<◌, ◌≤◌, ◌⊎◌, inl, inr, false, ltb, length, List, [], ◌∷◌, ◌++◌, map, set, refl, sym, ap, subst, ◌∙◌, arith}
 use Rattle.std.proofs.lemmas.Bool.{cases_eq, cases_Bool, ltb-true, ltb-false}
-use Rattle.std.proofs.lemmas.List.{get_or_append_left, length-append}
+use Rattle.std.proofs.lemmas.List.Elements.{All-tail}
 use Rattle.std.proofs.lemmas.List.Sorted.{All-permutation, Contains-permutation, length_permutation}
 use Rattle.std.specs.List.{All, Contains}
 use Rattle.std.specs.List.Sorted.{IsPermutation}
-use Rattle.road_network.specs.Net.{Net, HasNode}
+use Rattle.road_network.specs.Net.{Net, HasNode, IsLawful, arc_of, leaving}
 use Rattle.road_network.specs.declared.Arc.{Arc}
 use Rattle.bounded_search.specs.declared.dijkstra.Workspace.{Workspace}
 use Rattle.bounded_search.specs.declared.queue.Waiting.{Waiting}
 use Rattle.bounded_search.specs.LabelWords.{distance_at, no_label, origin_word, word_at, word_by}
 use Rattle.bounded_search.specs.Marked.{AreMarked, IsMarked, MarksToo}
-use Rattle.bounded_search.specs.QueueInside.{TakesSome}
 use Rattle.bounded_search.specs.Searching.{AreMarkedOrWait, IsSearching}
-use Rattle.bounded_search.specs.Underway.{IsUnderway, NonePending, SearchState, Tries, Waits, is_better, is_nearer}
-use Rattle.bounded_search.proofs.Gaining.{front_or_rest, gains_beside, gains_keeps, gains_there}
+use Rattle.bounded_search.specs.Underway.{IsUnderway, NonePending, SearchState, Waits, after_arc, after_arcs, effort, is_better, is_nearer, state_of}
+use Rattle.bounded_search.proofs.AfterArcs.{beside, tries_arc}
+use Rattle.bounded_search.proofs.Arcs.{IsLeaving, known_arcs}
+use Rattle.bounded_search.proofs.Gaining.{Tries, front_or_rest, gains_beside, gains_keeps, gains_there}
 use Rattle.bounded_search.proofs.LabelWords.{distance_by, not_farther, word_elsewhere, word_here}
-use Rattle.bounded_search.proofs.Underway.{reordered}
-
--- a search with other nodes that wait
-abbrev pub beside : List Waiting → SearchState → SearchState
-beside taken state = record { words = state.words; queue = taken ++ state.queue }
+use Rattle.bounded_search.proofs.Underway.{IsPending, edge_small, no_more_effort, reordered, starts_still, step_keeps, taken}
 
 -- a search from s with others taken, while the arcs of a node are tried
 pub record IsTrying (n : Net) (bound s : ℕ) (state : SearchState) (marks : List ℕ) (taken : List Waiting) (pending : ℕ → Type 0) : Type 0 where
@@ -109,32 +106,70 @@ marked_begun bound s words after marks queue lt none is waits v there = elim (ca
   | inr apart ↦ absurd (there (ap (λ (k : List ℕ). word_at bound k v) is ∙ (word_elsewhere bound words s v origin_word apart ∙ none v)))
 ]
 
--- a bucket is taken out of the queue
-pub bucket_taken : (n : Net) (s : ℕ) (w : Workspace) (taken new : List Waiting) → IsPermutation w.queue (taken ++ new) → IsSearching n s w [] → IsSearching n s (record { bound = w.bound; reach = w.reach; words = w.words; marks = w.marks; queue = new }) (taken ++ [])
-bucket_taken n s w taken new perm h =
-    let all : (taken ++ []) ++ new ≡ taken ++ new = ap (λ (k : List Waiting). k ++ new) (append-nil taken) in
-    record {
-      sized = h.sized;
-      underway = subst (λ (k : List Waiting). IsUnderway n w.bound s (record { words = w.words.items; queue = k }) NonePending) (sym all) (reordered n w.bound s w.words.items w.queue (taken ++ new) perm h.underway);
-      inside = h.inside;
-      marked = λ v there. elim (h.marked v there) [
-        | inl waits ↦ inl (subst (λ (k : List Waiting). Waits k v (distance_at w.bound w.words.items v)) (sym all) (Contains-permutation w.queue (taken ++ new) (record { distance = distance_at w.bound w.words.items v; node = v }) perm waits))
-        | inr is ↦ inr is
-      ];
-    }
+-- a node is taken out of the queue
+pub node_taken : (n : Net) (s : ℕ) (w : Workspace) (x : Waiting) (new : List Waiting) → IsPermutation w.queue (x ∷ new) → IsSearching n s w [] → IsSearching n s (record { bound = w.bound; reach = w.reach; words = w.words; marks = w.marks; queue = new }) (x ∷ [])
+node_taken n s w x new perm h = record {
+  sized = h.sized;
+  underway = reordered n w.bound s w.words.items w.queue (x ∷ new) perm h.underway;
+  inside = h.inside;
+  marked = λ v there. elim (h.marked v there) [
+    | inl waits ↦ inl (Contains-permutation w.queue (x ∷ new) (record { distance = distance_at w.bound w.words.items v; node = v }) perm waits)
+    | inr is ↦ inr is
+  ];
+}
 
 -- so fewer wait
-pub fewer_wait : (old taken new : List Waiting) → TakesSome old taken new → length new < length old
-fewer_wait old [] new t = absurd (t.some refl)
-fewer_wait old (x ∷ taken) new t = omega (arith, length_permutation old (x ∷ (taken ++ new)) t.all, length-append taken new)
+pub fewer_wait : (old new : List Waiting) (x : Waiting) → IsPermutation old (x ∷ new) → length new < length old
+fewer_wait old new x perm = omega (arith, length_permutation old (x ∷ new) perm)
 
--- and those that were taken have nodes of the network and distances within the bound
-pub taken_inside : (n : Net) (s : ℕ) (w : Workspace) (taken new : List Waiting) → IsPermutation w.queue (taken ++ new) → IsSearching n s w [] → All (λ x. HasNode n x.node × (x.distance ≤ 10_000_000)) taken
-taken_inside n s w taken new perm h k d lt =
-    let all = All-permutation (λ x. (x.node < length w.words.items) × (x.distance ≤ w.bound)) w.queue (taken ++ new) perm h.underway.inside in
-    let at : slice_index_or (taken ++ new) k d ≡ slice_index_or taken k d = get_or_append_left taken new d k lt in
-    let is = rw at at (all k d (omega (arith, lt, length-append taken new))) in
+-- and the network has that node, at a distance within the bound
+pub taken_inside : (n : Net) (s : ℕ) (w : Workspace) (x : Waiting) (new : List Waiting) → IsPermutation w.queue (x ∷ new) → IsSearching n s w [] → HasNode n x.node × (x.distance ≤ 10_000_000)
+taken_inside n s w x new perm h =
+    let all = All-permutation (λ y. (y.node < length w.words.items) × (y.distance ≤ w.bound)) w.queue (x ∷ new) perm h.underway.inside in
+    let is : (x.node < length w.words.items) × (x.distance ≤ w.bound) = all 0 x (omega arith) in
     (omega (arith, is.0, h.sized.words_count), omega (arith, is.1, h.sized.low))
+
+-- all arcs out of a node are tried
+pub arcs_keep : (n : Net) (bound d u s : ℕ) (arcs : List Arc) (marks : List ℕ) (others : List Waiting) (state : SearchState) → IsLawful n → All (IsLeaving n u) arcs → distance_at bound state.words u ≡ d → IsTrying n bound s state marks others (IsPending n arcs) → IsTrying n bound s (after_arcs bound d arcs state) marks others (IsPending n [])
+arcs_keep n bound d u s [] marks others state lawful leaving starts t = t
+arcs_keep n bound d u s (a ∷ arcs) marks others state lawful leaving starts t =
+    let arc : IsLeaving n u a = leaving 0 a (omega arith) in
+    let new : SearchState = after_arc bound d a state in
+    let tries : Tries bound d a state new = tries_arc bound d a state in
+    let there : Tries bound d a (beside others state) (beside others new) = tries_beside bound d a others state new tries in
+    let count : length state.words ≡ length n.nodes = t.underway.count in
+    let still = starts_still n bound d u a state new lawful arc count starts tries in
+    arcs_keep n bound d u s arcs marks others new lawful (All-tail (IsLeaving n u) a arcs leaving) still.0 (record {
+      underway = step_keeps n bound d u s a arcs (beside others state) (beside others new) lawful arc starts there t.underway;
+      inside = t.inside;
+      marked = marked_tried bound d a marks (beside others state) (beside others new) (omega (arith, arc.end, count)) (omega (arith, edge_small n a.edge.0 lawful arc.has)) there t.marked;
+    })
+
+-- and the effort does not rise
+pub arcs_effort : (n : Net) (bound d u : ℕ) (arcs : List Arc) (state : SearchState) → IsLawful n → All (IsLeaving n u) arcs → length state.words ≡ length n.nodes → distance_at bound state.words u ≡ d → effort (after_arcs bound d arcs state) ≤ effort state
+arcs_effort n bound d u [] state lawful leaving count starts = omega arith
+arcs_effort n bound d u (a ∷ arcs) state lawful leaving count starts =
+    let arc : IsLeaving n u a = leaving 0 a (omega arith) in
+    let new : SearchState = after_arc bound d a state in
+    let tries : Tries bound d a state new = tries_arc bound d a state in
+    let still = starts_still n bound d u a state new lawful arc count starts tries in
+    let rest : effort (after_arcs bound d arcs new) ≤ effort new = arcs_effort n bound d u arcs new lawful (All-tail (IsLeaving n u) a arcs leaving) still.1 still.0 in
+    let one : effort new ≤ effort state = no_more_effort bound d a state new (omega (arith, arc.end, count)) tries in
+    omega (arith, rest, one)
+
+-- a node that was taken is left
+pub node_left : (n : Net) (s : ℕ) (w : Workspace) (next : Waiting) (others : List Waiting) (marks : List ℕ) (new : SearchState) → IsLawful n → HasNode n next.node → distance_at w.bound w.words.items next.node ≡ next.distance → MarksToo w.marks.items next.node marks → new ≡ after_arcs w.bound next.distance (map (arc_of n) (leaving n next.node)) (state_of w) → IsSearching n s w (next ∷ others) → IsTrying n w.bound s new marks others (IsPending n [])
+node_left n s w next others marks new lawful has starts more is h =
+    let u : ℕ = next.node in
+    let arcs : List Arc = map (arc_of n) (leaving n u) in
+    subst (λ (k : SearchState). IsTrying n w.bound s k marks others (IsPending n [])) (sym is) (arcs_keep n w.bound next.distance u s arcs marks others (state_of w) lawful (known_arcs n u lawful) starts (record {
+      underway = taken n w.bound s next w.words.items (others ++ w.queue) h.underway;
+      inside = λ v marked. elim ((more v).0 marked) [
+        | inl old ↦ h.inside v old
+        | inr here ↦ omega (arith, here, has)
+      ];
+      marked = marked_taken w.bound w.words.items w.marks.items marks next (others ++ w.queue) more h.marked;
+    }))
 
 -- at the end none waits, so all labelled nodes are marked
 pub all_marked : (n : Net) (s : ℕ) (w : Workspace) → w.queue ≡ [] → IsSearching n s w [] → AreMarked (length n.nodes) w

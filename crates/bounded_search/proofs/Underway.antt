@@ -15,10 +15,10 @@ use Rattle.road_network.proofs.Leaving.{leaving_every}
 use Rattle.bounded_search.specs.declared.table_row.Label.{Label}
 use Rattle.bounded_search.specs.declared.queue.Waiting.{Waiting}
 use Rattle.bounded_search.specs.Closed.{IsClosed, IsClosedAt}
-use Rattle.bounded_search.specs.Underway.{Gains, IsHeld, IsTried, IsUnderway, NonePending, SearchState, Tries, Waits, effort, is_better, is_nearer}
+use Rattle.bounded_search.specs.Underway.{IsHeld, IsTried, IsUnderway, NonePending, SearchState, Waits, effort, is_better, is_nearer}
 use Rattle.bounded_search.specs.LabelWords.{distance_at, label_at, label_in_word, last_in, no_label, origin_word, word_at, word_by}
 use Rattle.bounded_search.proofs.Arcs.{IsLeaving}
-use Rattle.bounded_search.proofs.Gaining.{front_or_rest, gains_inside, gains_keeps, gains_length, gains_there, in_front}
+use Rattle.bounded_search.proofs.Gaining.{Gains, Tries, front_or_rest, gains_inside, gains_keeps, gains_length, gains_there, in_front}
 use Rattle.bounded_search.proofs.LabelWords.{distance_by, label_there, last_by, last_there, not_farther, word_elsewhere, word_here, word_there}
 
 -- the edges of these arcs are pending

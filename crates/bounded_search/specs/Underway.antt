@@ -1,7 +1,6 @@
 -- What a search keeps. It holds in whatever order the waiting nodes are taken: the order is only for speed.
-use Rattle.std.specs.Prelude.{ℕ, ◌≡◌, ◌≢◌, ◌⊎◌, ◌+◌, ◌<◌, ◌≤◌, ◌%◌, ◌^◌, ◌&&◌, Bool, true, false, nat_lt, if◌then◌else◌, List, ◌∷◌, length, slice_set}
+use Rattle.std.specs.Prelude.{ℕ, ◌≡◌, ◌≢◌, ◌⊎◌, ◌+◌, ◌<◌, ◌≤◌, ◌%◌, ◌^◌, ◌&&◌, Bool, true, false, nat_lt, if◌then◌else◌, List, [], ◌∷◌, ◌++◌, length, slice_set}
 use Rattle.std.specs.List.{All, Contains, sum}
-use Rattle.std.specs.List.Sorted.{IsPermutation}
 use Rattle.road_network.specs.Net.{Net, HasEdge, source, target, span}
 use Rattle.road_network.specs.declared.Arc.{Arc}
 use Rattle.bounded_search.specs.declared.queue.Waiting.{Waiting}
@@ -56,12 +55,30 @@ is_better bound d a words = nat_lt (word_by (d + a.length) a.edge.0) (word_at bo
 abbrev pub is_nearer : ℕ → ℕ → Arc → List ℕ → Bool
 is_nearer bound d a words = is_better bound d a words && nat_lt (d + a.length) (distance_at bound words a.to.0)
 
--- x waits too, where it is to
-abbrev pub Gains : Bool → Waiting → List Waiting → List Waiting → Type 0
-Gains true x old new = IsPermutation (x ∷ old) new
-Gains false x old new = new ≡ old
+-- how the end of an arc waits, from distance d
+abbrev pub item_by : ℕ → Arc → Waiting
+item_by d a = record { distance = d + a.length; node = a.to.0 }
+
+-- the end of an arc has a word, and the arc is not too long
+pub record IsTriable (count : ℕ) (a : Arc) : Type 0 where
+  pub end : a.to.0 < count
+  pub not_long : a.length ≤ 100_000_000
 
 -- what trying an arc from distance d leaves: a better label is written, and its node waits if it is nearer
-pub record Tries (bound d : ℕ) (a : Arc) (old new : SearchState) : Type 0 where
-  pub words : new.words ≡ (if is_better bound d a old.words then slice_set old.words a.to.0 (word_by (d + a.length) a.edge.0) else old.words)
-  pub queue : Gains (is_nearer bound d a old.words) (record { distance = d + a.length; node = a.to.0 }) old.queue new.queue
+abbrev pub words_after : ℕ → ℕ → Arc → List ℕ → List ℕ
+words_after bound d a words = if is_better bound d a words then slice_set words a.to.0 (word_by (d + a.length) a.edge.0) else words
+
+abbrev pub with_item : Bool → Waiting → List Waiting → List Waiting
+with_item true x queue = queue ++ x ∷ []
+with_item false x queue = queue
+
+abbrev pub after_arc : ℕ → ℕ → Arc → SearchState → SearchState
+after_arc bound d a state = record {
+  words = words_after bound d a state.words;
+  queue = with_item (is_nearer bound d a state.words) (item_by d a) state.queue;
+}
+
+-- and what trying arcs one after another leaves
+abbrev pub after_arcs : ℕ → ℕ → List Arc → SearchState → SearchState
+after_arcs bound d [] state = state
+after_arcs bound d (a ∷ arcs) state = after_arcs bound d arcs (after_arc bound d a state)

@@ -1,20 +1,17 @@
 //! The search for the row of an origin. Serves `Searcher::row`; decided by `IsRow`.
-ghost use Rattle.std.specs.Prelude.{◌≡◌, ◌<◌, ◌≤◌, ◌/◌, ◌^◌, ◌++◌, ◌∷◌, [], nat_lt, length, IfOk, OnOk, slice_set};
-ghost use Rattle.std.specs.List.{All};
+ghost use Rattle.std.specs.Prelude.{◌≡◌, ◌<◌, ◌≤◌, ◌/◌, ◌++◌, ◌∷◌, [], length, IfOk, OnOk, slice_set};
 ghost use Rattle.road_network.specs.Net.{HasNode};
-ghost use Rattle.bounded_search.specs.Underway.{Gains, Tries, state_of};
 ghost use Rattle.bounded_search.specs.Searching.{EndsClean, IsLabelled, Leaves, ListsLabels, TakesMarked};
-ghost use Rattle.bounded_search.specs.LabelWords.{distance_at, no_label};
+ghost use Rattle.bounded_search.specs.LabelWords.{no_label};
 ghost use Rattle.bounded_search.specs.Labels.{entry_of};
 ghost use Rattle.bounded_search.specs.Marked.{AreMarked, IsClean, IsSized, KeepsSizes, MarksToo, labels_of};
 ghost use Rattle.bounded_search.specs.Table.{IsRow};
 
 use crate::known_rows::KnownRows;
-use crate::label_words::{ORIGIN, distance_in, label_in, least_word, no_label, step_by};
+use crate::label_words::{ORIGIN, distance_in, label_in, no_label};
 use crate::queue::{Queue, Waiting};
 use crate::table_row::Entry;
-use polyline_geometry::List;
-use road_network::{Arc, EdgeId, Network, NodeId};
+use road_network::{EdgeId, Network, NodeId};
 use std::alloc::{AllocError, Global};
 
 /// The labels of one search as words by node number, the nodes that have one, and the nodes that wait.
@@ -44,32 +41,26 @@ impl Drop for Workspace {
     }
 }
 
-/// Up to which distance a node's row is merged: three mean lengths of an edge, and at most a quarter of the bound.
-///
-/// Merging costs a step for each entry of the row, and spares the edges of all nodes that it labels. Within that
-/// distance most nodes of a row are labelled by the rows of a few others.
-fn reach_of(net: &Network, bound: u32) -> u32 {
+/// The mean length of an edge, in cm.
+pub(crate) fn mean_length(net: &Network) -> u32 {
     let mut total: u64 = 0;
     for e in 0..net.edge_count() {
         total = total.saturating_add(u64::from(net.length(EdgeId(e))));
     }
-    let mean = total / (u64::from(net.edge_count()) + 1);
-    let most = u64::from(bound / 4);
-    mean.saturating_mul(3).min(most) as u32
+    let mean = total / u64::from(net.edge_count()).max(1);
+    mean.min(u64::from(u32::MAX)) as u32
 }
 
-/// How wide the buckets of the queue are, as a power of two: up to half of the mean length of an edge. So few
-/// nodes become nearer after they were taken out, and few buckets are empty. There are at most some 2,048.
-fn bucket_shift(net: &Network, bound: u32) -> u32
-    ensures { result < 32 }
-{
-    let mut total: u64 = 0;
-    for e in 0..net.edge_count() {
-        total = total.saturating_add(u64::from(net.length(EdgeId(e))));
-    }
-    let half = total / (u64::from(net.edge_count()) * 2 + 1);
-    let width = half.max(u64::from(bound / 1024)).max(1);
-    63_u32.saturating_sub(width.leading_zeros()).min(31)
+/// By how much the limit of the queue rises, in cm. Few nodes become nearer after they were taken, and few nodes
+/// are set aside more than once.
+fn window(net: &Network, bound: u32) -> u32 {
+    mean_length(net).saturating_mul(3).max(bound / 64)
+}
+
+/// Up to which distance a node's row is merged, in cm. Within three mean lengths the rows of a few nodes label most
+/// nodes of a row; where the bound is low, a row is found as quickly by its edges.
+fn reach(net: &Network, bound: u32) -> u32 {
+    mean_length(net).saturating_mul(3).min(bound / 4)
 }
 
 impl Workspace {
@@ -82,10 +73,10 @@ impl Workspace {
         let nodes = net.node_count() as usize;
         Ok(Workspace {
             bound,
-            reach: reach_of(net, bound),
+            reach: reach(net, bound),
             words: vec![in alloc; no_label(bound); nodes]?,
             marks: vec![in alloc; 0; nodes / 64 + 1]?,
-            queue: Queue::new(alloc, bound, bucket_shift(net, bound))?,
+            queue: Queue::new(alloc, window(net, bound)),
         })
     }
 
@@ -100,43 +91,6 @@ impl Workspace {
         self.marks[node.0 as usize / 64] |= 1 << (node.0 % 64);
     }
 
-    /// Gives a node the label of a word. Where the node becomes nearer, it waits.
-    fn label(&mut self, node: NodeId, word: u64) -> Result<(), AllocError>
-        requires node { node.0 < length self.old.words.items }
-        ensures words { OnOk result (self.new.words.items ≡ slice_set self.old.words.items node.0 word) }
-        ensures queue { OnOk result (Gains (nat_lt (word / 2 ^ 32) (distance_at self.old.bound self.old.words.items node.0))
-            (record { distance = word / 2 ^ 32; node = node.0 }) self.old.queue self.new.queue) }
-        ensures sized { KeepsSizes self.old self.new }
-        ensures marks { self.new.marks.items ≡ self.old.marks.items }
-    {
-        let before = self.words[node.0 as usize];
-        self.words[node.0 as usize] = word;
-        if distance_in(word) < distance_in(before) {
-            self.queue.push(Waiting {
-                distance: distance_in(word),
-                node: node.0,
-            })?;
-        }
-        Ok(())
-    }
-
-    /// Tries an arc from a distance: where it gives its end a better label, that is written.
-    ///
-    /// One comparison is with both the bound and the label that is there, since no word is beyond that of no label.
-    fn relax(&mut self, distance: u32, arc: Arc) -> Result<(), AllocError>
-        requires end { arc.to.0 < length self.old.words.items }
-        requires fits { (arc.length ≤ 100_000_000) × (distance ≤ 10_000_000) }
-        ensures tries { OnOk result (Tries self.old.bound distance arc (state_of self.old) (state_of self.new)) }
-        ensures sized { KeepsSizes self.old self.new }
-        ensures marks { self.new.marks.items ≡ self.old.marks.items }
-    {
-        let word = least_word(distance) + step_by(arc);
-        if word >= self.words[arc.to.0 as usize] {
-            return Ok(());
-        }
-        self.label(arc.to, word)
-    }
-
     /// Marks a node that waited and tries every edge out of it, unless it has become nearer since.
     pub(crate) fn leave(&mut self, net: &Network, next: Waiting) -> Result<(), AllocError>
         requires next { HasNode net.now next.node × (next.distance ≤ 10_000_000) }
@@ -149,42 +103,20 @@ impl Workspace {
             return Ok(());
         }
         self.mark(NodeId(next.node));
-        for arc in net.arcs(NodeId(next.node)) {
-            self.relax(next.distance, *arc)?;
-        }
-        Ok(())
+        let arcs = net.arcs(NodeId(next.node));
+        self.queue
+            .try_arcs(self.words.as_mut_slice(), next.distance, arcs)
     }
 
-    /// Leaves each of the nodes that waited in a bucket.
-    fn leave_all<K: KnownRows>(
-        &mut self,
-        net: &Network,
-        known: &K,
-        taken: &[Waiting],
-    ) -> Result<(), AllocError>
-        requires known { K.table known.now ≡ record { network = net.now; bound = self.old.bound } }
-        requires inside { All (λ x. HasNode net.now x.node × (x.distance ≤ 10_000_000)) taken.now }
-        requires sized { IsSized (length net.now.nodes) self.old }
-        ensures leaves { OnOk result (Leaves net.now taken.now self.old self.new) }
-        ensures sized { KeepsSizes self.old self.new }
-    {
-        for next in taken {
-            self.leave_or_merge(net, known, *next)?;
-        }
-        Ok(())
-    }
-
-    /// Labels every node within the bound (Dijkstra).
+    /// Labels every node within the bound.
     ///
     /// A node waits again each time that it becomes nearer. When none waits, every edge within the bound has
-    /// been tried from its node's last distance. Taking the nearest first makes that rare. The nodes of a
-    /// bucket are taken at once, in the order in which they came, so that neighbours follow one another.
+    /// been tried from its node's last distance. Taking near nodes first makes that rare.
     fn label_all<K: KnownRows>(
         &mut self,
         net: &Network,
         known: &K,
         origin: NodeId,
-        taken: &mut List<Waiting>,
     ) -> Result<(), AllocError>
         requires known { K.table known.now ≡ record { network = net.now; bound = self.old.bound } }
         requires origin { HasNode net.now origin.0 }
@@ -193,10 +125,10 @@ impl Workspace {
         ensures sized { KeepsSizes self.old self.new }
     {
         net.known();
-        self.label(origin, ORIGIN)?;
-        let mut place = 0;
-        while self.queue.take_bucket(&mut place, taken) {
-            self.leave_all(net, known, taken.as_slice())?;
+        self.words[origin.0 as usize] = ORIGIN;
+        self.queue.start(origin.0)?;
+        while let Some(next) = self.queue.take()? {
+            self.leave_or_merge(net, known, next)?;
         }
         Ok(())
     }
@@ -264,15 +196,13 @@ impl Workspace {
         Ok(entries)
     }
 
-    /// The entries of the row of an origin. The list is for the nodes of a bucket, and what is in it is dropped.
-    /// After Err the arrays have to be cleared.
+    /// The entries of the row of an origin. After Err the arrays have to be cleared.
     pub fn entries<K: KnownRows>(
         &mut self,
         alloc: Global,
         net: &Network,
         known: &K,
         origin: NodeId,
-        taken: &mut List<Waiting>,
     ) -> Result<Vec<Entry>, AllocError>
         requires known { K.table known.now ≡ record { network = net.now; bound = self.old.bound } }
         requires origin { HasNode net.now origin.0 }
@@ -282,7 +212,7 @@ impl Workspace {
         ensures clean { EndsClean result self.old self.new }
     {
         net.known();
-        self.label_all(net, known, origin, taken)?;
+        self.label_all(net, known, origin)?;
         self.take_entries(alloc)
     }
 

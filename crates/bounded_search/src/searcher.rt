@@ -6,7 +6,6 @@ ghost use Rattle.bounded_search.specs.Table.{IsRow};
 use crate::dijkstra::Workspace;
 use crate::known_rows::{KnownRows, NoRows};
 use crate::places::place_between;
-use crate::queue::Waiting;
 use crate::table_row::Row;
 use polyline_geometry::List;
 use road_network::{Network, NodeId};
@@ -21,7 +20,6 @@ pub struct Searcher<'n> {
     alloc: Global,
     network: &'n Network,
     workspace: Workspace,
-    taken: List<Waiting>,
 }
 
 // By hand, so that the functions that drop one call this.
@@ -31,7 +29,6 @@ impl<'n> Drop for Searcher<'n> {
             alloc: _,
             network: _,
             workspace: _,
-            taken: _,
         } = self;
     }
 }
@@ -59,7 +56,6 @@ impl<'n> Searcher<'n> {
             alloc,
             network,
             workspace,
-            taken: List::new(alloc),
         })
     }
 
@@ -125,10 +121,7 @@ impl<'n> Searcher<'n> {
         let alloc = self.alloc;
         let network = self.network;
         network.known();
-        match self
-            .workspace
-            .entries(alloc, network, known, origin, &mut self.taken)
-        {
+        match self.workspace.entries(alloc, network, known, origin) {
             Ok(entries) => Ok(Row {
                 origin,
                 middle: place_between(&entries, 0, entries.len(), origin).unwrap_or(0),

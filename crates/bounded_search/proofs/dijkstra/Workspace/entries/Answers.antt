@@ -14,13 +14,13 @@ if_ok P Q (Ok x) p f = f x p
 if_ok P Q (Err e) p f = tt
 
 pub take_entries-requires-clause-few : goal.take_entries-requires-clause-few
-take_entries-requires-clause-few c = omega (arith, c.in_ok-label_all.ensures.labelled.marked.sized.words_count, c.known.ensures.few_nodes)
+take_entries-requires-clause-few g c = omega (arith, c.in_ok-label_all.ensures.labelled.marked.sized.words_count, c.known.ensures.few_nodes)
 
 pub take_entries-requires-clause-marked : goal.take_entries-requires-clause-marked
-take_entries-requires-clause-marked c = subst (λ (k : ℕ). AreMarked k c.label_all.new.self) (sym c.in_ok-label_all.ensures.labelled.marked.sized.words_count) c.in_ok-label_all.ensures.labelled.marked
+take_entries-requires-clause-marked g c = subst (λ (k : ℕ). AreMarked k c.label_all.new.self) (sym c.in_ok-label_all.ensures.labelled.marked.sized.words_count) c.in_ok-label_all.ensures.labelled.marked
 
 pub returns-clause-row : goal.returns-clause-row
-returns-clause-row c =
+returns-clause-row g c =
     let n = c.args.net.now in
     let s : ℕ = c.args.origin.0 in
     let labels = c.label_all.new.self.words.items in
@@ -30,7 +30,7 @@ returns-clause-row c =
     (λ x lists. subst (λ (k : ℕ). IsRow n k s (record { origin = s; entries = x.items })) same (row_of_labels n bound s labels x.items c.known.ensures c.in_ok-label_all.ensures.labelled.closed lists.rising lists.same))
 
 pub returns-clause-clean : goal.returns-clause-clean
-returns-clause-clean c =
+returns-clause-clean g c =
     let first = c.in_ok-label_all.ensures.sized in
     let ends = c.take_entries.ensures.clean in
     record {
@@ -39,7 +39,7 @@ returns-clause-clean c =
     }
 
 pub returns-in_err-label_all-clause-clean : goal.returns-in_err-label_all-clause-clean
-returns-in_err-label_all-clause-clean c = record { sized = c.in_err-label_all.ensures.sized; clean = search rules }
+returns-in_err-label_all-clause-clean g c = record { sized = c.in_err-label_all.ensures.sized; clean = search rules }
 
 pub returns-in_err-label_all-clause-row : goal.returns-in_err-label_all-clause-row
-returns-in_err-label_all-clause-row c = let p = err_from_is_err_and c.from_residual.result c.from_residual.ensures.1 in rw p.1 tt
+returns-in_err-label_all-clause-row g c = let p = err_from_is_err_and c.from_residual.result c.from_residual.ensures.1 in rw p.1 tt

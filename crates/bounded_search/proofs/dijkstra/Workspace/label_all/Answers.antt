@@ -1,91 +1,68 @@
-use Rattle.std.proofs.lemmas.Result.{err_from_is_err_and}
-use Rattle.std.proofs.Common.{◌≡◌, ◌∷◌, ◌≤◌, ℕ, List, [], true, inl, inr, refl, subst, sym, arith, length, ltb}
-use Rattle.std.proofs.lemmas.Bool.{false≢true, lt-ltb}
-use Rattle.std.specs.List.{All}
+use Rattle.std.proofs.Common.{◌≡◌, ◌∷◌, ◌∙◌, List, [], ℕ, length, length-set, set, refl, sym, subst, arith}
+use Rattle.std.proofs.lemmas.List.Sorted.{IsPermutation-refl}
 use Rattle.std.specs.List.Sorted.{IsPermutation}
-use Rattle.road_network.specs.Net.{HasNode}
 use Rattle.bounded_search.specs.declared.queue.Waiting.{Waiting}
-use Rattle.bounded_search.specs.LabelWords.{distance_at}
-use Rattle.bounded_search.specs.Marked.{IsMarked}
-use Rattle.bounded_search.specs.QueueInside.{TakesSome}
-use Rattle.bounded_search.specs.Searching.{AreMarkedOrWait}
-use Rattle.bounded_search.specs.Underway.{IsUnderway, NonePending, state_of}
-use Rattle.bounded_search.proofs.Gaining.{gains_one}
-use Rattle.bounded_search.proofs.Leaving.{all_marked, bucket_taken, fewer_wait, marked_begun, taken_inside}
-use Rattle.bounded_search.proofs.MarkedNodes.{keeps_both, sized_still}
+use Rattle.bounded_search.specs.LabelWords.{origin_word}
+use Rattle.bounded_search.specs.Underway.{IsUnderway, NonePending}
+use Rattle.bounded_search.proofs.Leaving.{all_marked, fewer_wait, marked_begun, node_taken, taken_inside}
+use Rattle.bounded_search.proofs.MarkedNodes.{keeps_both}
 use Rattle.bounded_search.proofs.Underway.{begun, closed_at_end}
 use Rattle.bounded_search.proofs.dijkstra.Workspace.label_all.Goals as goal
 
-pub label-requires : goal.label-requires
-label-requires c = record { node = omega (arith, c.requires.clean.sized.words_count, c.requires.origin) }
-
-pub loop-self-init : goal.loop-self-init
-loop-self-init c =
+pub loop-next-init : goal.loop-next-init
+loop-next-init g c =
     let n = c.args.net.now in
     let w = c.args.self.now in
-    let after = c.label.new.self in
     let clean = c.requires.clean in
     let s : ℕ = c.args.origin.0 in
-    let e = c.in_ok-label.ensures in
-    let nearer : ltb 0 (distance_at w.bound w.words.items s) ≡ true = lt-ltb 0 (distance_at w.bound w.words.items s) (omega (arith, clean.none_labelled s)) in
-    let waits : IsPermutation (record { distance = 0; node = s } ∷ []) after.queue = gains_one (ltb 0 (distance_at w.bound w.words.items s)) (record { distance = 0; node = s }) w.queue after.queue nearer clean.none_waiting e.queue in
-    let underway : IsUnderway n w.bound s (state_of after) NonePending = rw e.words (begun n w.bound s w.words.items after.queue c.requires.origin clean.sized.words_count clean.none_labelled waits) in
-    let marked : AreMarkedOrWait w.bound after.words.items after.marks.items after.queue = marked_begun w.bound s w.words.items after.words.items after.marks.items after.queue (omega (arith, clean.sized.words_count, c.requires.origin)) clean.none_labelled e.words waits in
+    let queue : List Waiting = c.start.new.self in
+    let x : Waiting = record { distance = 0; node = s } in
+    let waits : IsPermutation (x ∷ []) queue = subst (IsPermutation (x ∷ [])) (sym c.in_ok-start.ensures) (IsPermutation-refl (x ∷ [])) in
+    let words : List ℕ = set w.words.items s origin_word in
+    let same : length words ≡ length w.words.items = length-set w.words.items s origin_word in
     record {
-      sized = e.sized;
+      sized = record { bound = refl; words_count = same; marks_count = refl };
       searching = record {
-        sized = sized_still (length n.nodes) w after clean.sized e.sized;
-        underway = subst (λ (k : ℕ). IsUnderway n k s (state_of after) NonePending) (sym e.sized.bound) underway;
-        inside = λ v m. absurd (clean.none_marked v (subst (λ (k : List ℕ). IsMarked k v) e.marks m));
-        marked = subst (λ (k : ℕ). AreMarkedOrWait k after.words.items after.marks.items after.queue) (sym e.sized.bound) marked;
+        sized = record { low = clean.sized.low; words_count = same ∙ clean.sized.words_count; marks_count = clean.sized.marks_count };
+        underway = begun n w.bound s w.words.items queue c.requires.origin clean.sized.words_count clean.none_labelled waits;
+        inside = λ v m. absurd (clean.none_marked v m);
+        marked = marked_begun w.bound s w.words.items words w.marks.items queue (omega (arith, clean.sized.words_count, c.requires.origin)) clean.none_labelled refl waits;
       };
     }
 
-pub leave_all-requires-clause-inside : goal.leave_all-requires-clause-inside
-leave_all-requires-clause-inside c =
-    let taken : List Waiting = c.take_bucket.new.taken in
-    let takes : TakesSome c.loop-self.self.queue taken c.take_bucket.new.self = c.loop-self-test.ensures.taken refl in
-    subst (All (λ x. HasNode c.args.net.now x.node × (x.distance ≤ 10_000_000))) (sym c.as_slice.ensures)
-    (taken_inside c.args.net.now c.args.origin.0 c.loop-self.self taken c.take_bucket.new.self takes.all c.loop-self.invariant.searching)
+pub leave_or_merge-requires-clause-next : goal.leave_or_merge-requires-clause-next
+leave_or_merge-requires-clause-next g c =
+    let w = c.loop-next.self in
+    let perm : IsPermutation w.queue (c.in-Some.next ∷ c.take.new.self) = rw c.in-Some.is at c.in_ok-next.ensures in
+    taken_inside c.args.net.now c.args.origin.0 w c.in-Some.next c.take.new.self perm c.loop-next.invariant.searching
 
-pub leave_all-requires-clause-sized : goal.leave_all-requires-clause-sized
-leave_all-requires-clause-sized c = c.loop-self.invariant.searching.sized
+pub loop-next-smaller : goal.loop-next-smaller
+loop-next-smaller g c =
+    let perm : IsPermutation c.loop-next.self.queue (c.in-Some.next ∷ c.take.new.self) = rw c.in-Some.is at c.in_ok-next.ensures in
+    omega (arith, c.in_ok-leave_or_merge.ensures.leaves.less, fewer_wait c.loop-next.self.queue c.take.new.self c.in-Some.next perm)
 
-pub loop-self-smaller : goal.loop-self-smaller
-loop-self-smaller c =
-    let takes : TakesSome c.loop-self.self.queue c.take_bucket.new.taken c.take_bucket.new.self = c.loop-self-test.ensures.taken refl in
-    omega (arith, c.in_ok-leave_all.ensures.leaves.less, fewer_wait c.loop-self.self.queue c.take_bucket.new.taken c.take_bucket.new.self takes)
-
-pub loop-self-preserved : goal.loop-self-preserved
-loop-self-preserved c =
-    let w = c.loop-self.self in
+pub loop-next-preserved : goal.loop-next-preserved
+loop-next-preserved g c =
+    let w = c.loop-next.self in
     let s : ℕ = c.args.origin.0 in
-    let taken : List Waiting = c.take_bucket.new.taken in
-    let inv = c.loop-self.invariant in
-    let e = c.in_ok-leave_all.ensures in
-    let takes : TakesSome w.queue taken c.take_bucket.new.self = c.loop-self-test.ensures.taken refl in
-    let searching = rw (← c.as_slice.ensures) at (bucket_taken c.args.net.now s w taken c.take_bucket.new.self takes.all inv.searching) in
+    let inv = c.loop-next.invariant in
+    let e = c.in_ok-leave_or_merge.ensures in
+    let perm : IsPermutation w.queue (c.in-Some.next ∷ c.take.new.self) = rw c.in-Some.is at c.in_ok-next.ensures in
     record {
-      sized = keeps_both c.args.self.now w c.leave_all.new.self inv.sized (record { bound = e.sized.bound; words_count = e.sized.words_count; marks_count = e.sized.marks_count });
-      searching = e.leaves.searching s [] searching;
+      sized = keeps_both c.args.self.now w c.leave_or_merge.new.self inv.sized (record { bound = e.sized.bound; words_count = e.sized.words_count; marks_count = e.sized.marks_count });
+      searching = e.leaves.searching s [] (node_taken c.args.net.now s w c.in-Some.next c.take.new.self perm inv.searching);
     }
 
 pub returns-clause-labelled : goal.returns-clause-labelled
-returns-clause-labelled c =
+returns-clause-labelled g c =
     let n = c.args.net.now in
-    let w = c.loop-self.self in
+    let w = c.loop-next.self in
     let s : ℕ = c.args.origin.0 in
-    let inv = c.loop-self.invariant in
-    let none : (w.queue ≡ []) × (c.take_bucket.new.self ≡ []) = elim c.loop-self-test.ensures.none [ inl is ↦ absurd (false≢true is) | inr is ↦ is ] in
+    let inv = c.loop-next.invariant in
+    let none : (w.queue ≡ []) × (c.take.new.self ≡ []) = rw c.in_default.is at c.in_ok-next.ensures in
     let marked = all_marked n s w none.0 inv.searching in
     record {
       closed = closed_at_end n w.bound s w.words.items w.queue c.known.ensures none.0 inv.searching.underway;
       marked = record { sized = marked.sized; inside = marked.inside; labelled = marked.labelled };
       none_waiting = none.1;
     }
-
-pub returns-in_err-label-clause-labelled : goal.returns-in_err-label-clause-labelled
-returns-in_err-label-clause-labelled c = let p = err_from_is_err_and c.from_residual.result c.from_residual.ensures.1 in rw p.1 tt
-
-pub returns-in_err-leave_all-clause-labelled : goal.returns-in_err-leave_all-clause-labelled
-returns-in_err-leave_all-clause-labelled c = let p = err_from_is_err_and c.from_residual-in_err-leave_all.result c.from_residual-in_err-leave_all.ensures.1 in rw p.1 tt

@@ -4,11 +4,11 @@ use Rattle.bounded_search.specs.Searching.{IsSearching}
 use Rattle.bounded_search.specs.Underway.{effort, state_of}
 use Rattle.bounded_search.proofs.dijkstra.Workspace.label_all.Given as goal
 
-abbrev pub invariant-loop-self : goal.invariant-loop-self
-invariant-loop-self l = record {
+abbrev pub invariant-loop-next : goal.invariant-loop-next
+invariant-loop-next g l = record {
   sized : KeepsSizes l.fn.self l.self;
   searching : IsSearching l.net l.fn.origin.0 l.self [];
 }
 
-abbrev pub decreases-loop-self : goal.decreases-loop-self
-decreases-loop-self l = effort (state_of l.self)
+abbrev pub decreases-loop-next : goal.decreases-loop-next
+decreases-loop-next g l = effort (state_of l.self)

@@ -1,0 +1,172 @@
+//! A list of nodes that wait, to which the arcs of a node append without a branch. Serves the queue.
+ghost use Rattle.std.specs.Prelude.{◌≡◌, ◌≤◌, ◌<◌, ◌+◌, ◌++◌, ◌∷◌, [], ℕ, length, slice_get, take, Some, OnOk};
+ghost use Rattle.std.specs.List.{All};
+ghost use Rattle.bounded_search.specs.Underway.{IsTriable, after_arcs, is_nearer, item_by, words_after};
+
+use crate::label_words::{distance_in, least_word, step_by};
+use crate::queue::Waiting;
+use road_network::Arc;
+use std::alloc::{AllocError, Global};
+use std::marker::Model;
+
+/// A list of nodes that wait: the first `count` places. The others are free.
+pub struct WaitingList {
+    places: Vec<Waiting>,
+    count: usize,
+}
+
+// By hand, so that the functions that drop one call this.
+impl Drop for WaitingList {
+    fn drop(self) {
+        let WaitingList {
+            places: _,
+            count: _,
+        } = self;
+    }
+}
+
+impl Model for WaitingList {
+    ghost use Rattle.std.specs.Prelude.{List};
+    ghost use Rattle.bounded_search.specs.declared.queue.Waiting.{Waiting};
+
+    ghost Value = { List Waiting };
+
+    ghost use Rattle.bounded_search.specs.QueueInside.{listed, IsCountInside};
+
+    ghost view = { listed };
+
+    ghost invariant = { IsCountInside };
+}
+
+/// Makes at least so many places.
+fn make_places(places: &mut Vec<Waiting>, count: usize) -> Result<(), AllocError>
+    ensures enough { OnOk result (count ≤ length places.new.items) }
+    ensures more { length places.old.items ≤ length places.new.items }
+    ensures same { take (length places.old.items) places.new.items ≡ places.old.items }
+{
+    if count <= places.len() {
+        return Ok(());
+    }
+    let free = Waiting {
+        distance: 0,
+        node: 0,
+    };
+    places.resize(count.saturating_mul(2), free)
+}
+
+/// Tries an arc from a distance in cm: where it gives its end a better label, that is written. Whether the end
+/// becomes nearer, and so has to wait as `item`.
+///
+/// One comparison is with both the bound and the label that is there, since no word is beyond that of no label.
+/// Nothing branches on labels: which arcs give better ones cannot be predicted.
+fn relax(words: &mut [u64], distance: u32, arc: Arc, item: &mut Waiting) -> bool
+    requires arc { IsTriable (length words.old) arc }
+    requires distance { distance ≤ 10_000_000 }
+    ensures words { (bound : ℕ) → words.new ≡ words_after bound distance arc words.old }
+    ensures item { item.new ≡ item_by distance arc }
+    ensures nearer { (bound : ℕ) → result ≡ is_nearer bound distance arc words.old }
+    ensures count { length words.new ≡ length words.old }
+{
+    let word = least_word(distance) + step_by(arc);
+    let before = words[arc.to.0 as usize];
+    words[arc.to.0 as usize] = word.min(before);
+    *item = Waiting {
+        distance: distance_in(word),
+        node: arc.to.0,
+    };
+    distance_in(word) < distance_in(before)
+}
+
+/// Tries arcs from a distance in cm. The nodes that become nearer are appended to the first `count` places, and
+/// the result is how many items there are then.
+fn try_arcs(
+    words: &mut [u64],
+    distance: u32,
+    arcs: &[Arc],
+    places: &mut [Waiting],
+    count: usize,
+) -> usize
+    requires arcs { All (IsTriable (length words.old)) arcs.now }
+    requires distance { distance ≤ 10_000_000 }
+    requires room { count + length arcs.now ≤ length places.old }
+    ensures tries { (bound : ℕ) → record { words = words.new; queue = take result places.new }
+        ≡ after_arcs bound distance arcs.now (record { words = words.old; queue = take count places.old }) }
+    ensures count { length words.new ≡ length words.old }
+    ensures room { (count ≤ result) × (result ≤ length places.new) }
+{
+    let mut end = count;
+    for arc in arcs {
+        let nearer = relax(words, distance, *arc, &mut places[end]);
+        end += usize::from(nearer);
+    }
+    end
+}
+
+impl WaitingList {
+    /// The empty list. Takes no memory.
+    pub fn new(alloc: Global) -> WaitingList
+        ensures { result ≡ [] }
+    {
+        WaitingList {
+            places: Vec::new(alloc),
+            count: 0,
+        }
+    }
+
+    /// How many items there are.
+    pub fn len(&self) -> usize
+        ensures { result ≡ length self.now }
+    {
+        self.count
+    }
+
+    /// The item at a place.
+    pub fn at(&self, place: usize) -> Waiting
+        requires { place < length self.now }
+        ensures { slice_get self.now place ≡ Some result }
+    {
+        self.places[place]
+    }
+
+    /// Appends an item.
+    pub fn push(&mut self, item: Waiting) -> Result<(), AllocError>
+        ensures { OnOk result (self.new ≡ self.old ++ item ∷ []) }
+    {
+        make_places(&mut self.places, self.count.saturating_add(1))?;
+        self.places[self.count] = item;
+        self.count += 1;
+        Ok(())
+    }
+
+    /// Tries arcs from a distance in cm, and appends the nodes that become nearer.
+    pub fn try_arcs(
+        &mut self,
+        words: &mut [u64],
+        distance: u32,
+        arcs: &[Arc],
+    ) -> Result<(), AllocError>
+        requires arcs { All (IsTriable (length words.old)) arcs.now }
+        requires distance { distance ≤ 10_000_000 }
+        ensures tries { OnOk result ((bound : ℕ) → record { words = words.new; queue = self.new }
+            ≡ after_arcs bound distance arcs.now (record { words = words.old; queue = self.old })) }
+        ensures count { length words.new ≡ length words.old }
+        ensures more { length self.old ≤ length self.new }
+    {
+        make_places(&mut self.places, self.count + arcs.len())?;
+        self.count = try_arcs(
+            words,
+            distance,
+            arcs,
+            self.places.as_mut_slice(),
+            self.count,
+        );
+        Ok(())
+    }
+
+    /// Takes all items out.
+    pub fn clear(&mut self)
+        ensures { self.new ≡ [] }
+    {
+        self.count = 0;
+    }
+}
