@@ -151,7 +151,10 @@ impl<'s> Place<'s> {
         if self.right {
             return self.seen;
         }
-        self.own.as_deref()
+        match &self.own {
+            Some(row) => Some(&**row),
+            None => None,
+        }
     }
 
     /// The node's row: its own where there is one, and else the one that is known.
