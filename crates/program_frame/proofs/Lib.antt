@@ -2,6 +2,7 @@ pub mod Asked
 pub mod BatchEnds
 pub mod Bounds
 pub mod ChunkEnds
+pub mod ChunkReads
 pub mod Counting
 pub mod FileEnds
 pub mod Giving

@@ -1,10 +1,11 @@
 pub mod Asked
 pub mod Batches
+pub mod Chunks
 pub mod Counts
 pub mod Jobs
-pub mod NoRefusal
 pub mod Lines
 pub mod Loads
+pub mod NoRefusal
 pub mod Outcome
 pub mod Performs
 pub mod Plan

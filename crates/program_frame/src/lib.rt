@@ -2,8 +2,8 @@
 //! the network, the traces of a file by batches for a job, and what a run promises.
 //!
 //! - `stop` has why work ends early, what is then said on err, and the status.
-//! - `files` reads a file whole, `texts` puts a text, `load` reads the network and says what is
-//!   refused of words and files.
+//! - `files` reads a file whole, `chunks` a trace file chunk by chunk, `texts` puts a text, `load` reads
+//!   the network and says what is refused of words and files.
 //! - `jobs` has the trait of what is done with traces, `stream` reads their file in chunks, and
 //!   `batches` holds the traces that wait; `total` counts them. `whole_traces` reads all traces of a
 //!   file and holds them.
@@ -15,6 +15,7 @@
 #![tactic(auto)]
 
 mod batches;
+mod chunks;
 mod files;
 mod jobs;
 pub mod laws;
@@ -25,6 +26,7 @@ mod texts;
 mod total;
 mod whole_traces;
 
+pub use chunks::{CHUNK, Chunks};
 pub use files::read_file;
 pub use jobs::Job;
 pub use load::{load_network, refuse_traces, refuse_words};

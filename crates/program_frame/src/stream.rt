@@ -5,16 +5,11 @@ ghost use Rattle.program_frame.specs.Performs.{Performs};
 ghost use Rattle.program_frame.specs.Stream.{TakesFile, works_traces};
 
 use crate::batches::Batches;
+use crate::chunks::Chunks;
 use crate::jobs::Job;
-use crate::stop::{File, Stop};
-use edge_io::{Shelf, Sink, Taken};
+use crate::stop::Stop;
+use edge_io::{Shelf, Sink};
 use std::alloc::Global;
-
-/// The most bytes of a trace file.
-pub const TRACE_LIMIT: u64 = 1_099_511_627_776;
-
-/// The most bytes of one read.
-pub const CHUNK: u64 = 65_536;
 
 // Reads a file to its end, to the first byte above the limit or to its first fault.
 fn take_file<J: Job + Drop, S: Shelf, K: Sink>(
@@ -30,20 +25,9 @@ fn take_file<J: Job + Drop, S: Shelf, K: Sink>(
     ensures takes { TakesFile J.text J.has batches.old batches.new name.now
         (S.state shelf.old) (S.state shelf.new) (K.state out.old) (K.state out.new) result }
 {
-    let mut chunk = Vec::new(alloc);
-    let mut at: u64 = 0;
-    while at <= TRACE_LIMIT {
-        chunk.truncate(0);
-        let most = (TRACE_LIMIT + 1 - at).min(CHUNK) as u32;
-        match shelf.read(name, at, &mut chunk, most) {
-            Taken::Got(count) => {
-                batches.take_chunk(alloc, &chunk, out)?;
-                at += u64::from(count);
-            }
-            Taken::End => return Ok(()),
-            Taken::Failed => return Err(Stop::Unread(File::Traces)),
-            Taken::NoMemory => return Err(Stop::NoMemory),
-        }
+    let mut chunks = Chunks::open(alloc);
+    while chunks.next(shelf, name)? {
+        batches.take_chunk(alloc, &chunks.bytes, out)?;
     }
     Ok(())
 }

@@ -6,10 +6,10 @@ ghost use Rattle.program_frame.specs.Loads.{Loads};
 ghost use Rattle.program_frame.specs.Refusals.{RefusesTraces, trace_limit};
 ghost use Rattle.program_frame.specs.WholeTraces.{FeedsFile, traces_said};
 
+use crate::chunks::Chunks;
 use crate::load::refuse_traces;
-use crate::stop::{File, Refusal, Stop};
-use crate::stream::{CHUNK, TRACE_LIMIT};
-use edge_io::{Shelf, Taken};
+use crate::stop::{Refusal, Stop};
+use edge_io::Shelf;
 use polyline_geometry::List;
 use std::alloc::Global;
 use trace_reader::{Trace, TraceFault, TraceReader};
@@ -42,21 +42,10 @@ fn feed_file<S: Shelf>(
     ensures { FeedsFile name.now (S.state shelf.old) (S.state shelf.new) reader.new traces.new
         result }
 {
-    let mut chunk = Vec::new(alloc);
-    let mut at: u64 = 0;
-    while at <= TRACE_LIMIT {
-        chunk.truncate(0);
-        let most = (TRACE_LIMIT + 1 - at).min(CHUNK) as u32;
-        match shelf.read(name, at, &mut chunk, most) {
-            Taken::Got(count) => {
-                if let Err(fault) = reader.feed(&chunk, traces) {
-                    return Err(stop_reading(alloc, fault));
-                }
-                at += u64::from(count);
-            }
-            Taken::End => return Ok(()),
-            Taken::Failed => return Err(Stop::Unread(File::Traces)),
-            Taken::NoMemory => return Err(Stop::NoMemory),
+    let mut chunks = Chunks::open(alloc);
+    while chunks.next(shelf, name)? {
+        if let Err(fault) = reader.feed(&chunks.bytes, traces) {
+            return Err(stop_reading(alloc, fault));
         }
     }
     Ok(())
