@@ -1,5 +1,5 @@
-// The reader: a trace file in chunks, its traces one by one on the relay. Serves `live_traces`; decided
-// by `HasRead`.
+//! The reader: a trace file in chunks, its traces one by one on the relay. Serves `live_traces`; decided
+//! by `HasRead`.
 ghost use Rattle.std.specs.Prelude.{◌≡◌, []};
 ghost use Rattle.live_pipeline.specs.Feeding.{HasFed};
 ghost use Rattle.live_pipeline.specs.Reading.{HasPut, HasRead, PutsChunks};
