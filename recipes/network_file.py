@@ -1,5 +1,4 @@
 """Writes a network file, and beside it a lookup table that says for each edge from where it came."""
-import csv
 import sys
 
 LIMITS = {"edges": 150_000, "nodes": 60_000, "points": 1_000_000}
@@ -8,12 +7,10 @@ LIMITS = {"edges": 150_000, "nodes": 60_000, "points": 1_000_000}
 class NetworkFile:
     """Takes streets between crossings. A street that is open both ways becomes two edges."""
 
-    def __init__(self, network_path, lookup_path, columns):
-        self.network = open(network_path, "w", encoding="utf-8", newline="\n")
-        self.lookup = open(lookup_path, "w", encoding="utf-8", newline="")
-        self.rows = csv.writer(self.lookup, lineterminator="\n")
+    def __init__(self, files, network_path, lookup_path, columns):
+        self.network = files.open(network_path)
+        self.rows = files.table(lookup_path, ["edge", "direction", *columns])
         self.network.write("edge,from,to,line\n")
-        self.rows.writerow(["edge", "direction", *columns])
         self.edges, self.nodes, self.points = 0, set(), 0
 
     def add(self, begin, end, line, forward, backward, about):
@@ -33,10 +30,8 @@ class NetworkFile:
         self.network.write(f"{self.edges},{begin},{end}," + ";".join(f"{x} {y}" for x, y in line) + "\n")
         self.rows.writerow([self.edges, direction, *about])
 
-    def close(self):
-        """Ends both files, says what is in them, and warns where FMM will refuse the network."""
-        self.network.close()
-        self.lookup.close()
+    def report(self):
+        """Says what the network has, and warns if fmm will refuse it."""
         counts = {"edges": self.edges, "nodes": len(self.nodes), "points": self.points}
         print("network: " + ", ".join(f"{n} {what}" for what, n in counts.items()), file=sys.stderr)
         for what, limit in LIMITS.items():
