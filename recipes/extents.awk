@@ -121,7 +121,7 @@ function exchanged(    from_south, middle, near) {
 function away(a, b) { return a < b ? b - a : a - b }
 function judge(    i, other) {
     for (i = 1; i <= 2; i++)
-        if (decimals[i] && within(i, 180)) return "The " kind[i] " " is(i) " in degrees: project to centimetres of a plane."
+        if (decimals[i] && within(i, 180)) return "The " kind[i] " " is(i) " in degrees: project " it(i) " to a plane, in centimetres."
     if (meet(1, 2, 1)) {
         for (i = 1; i <= 2; i++)
             if (decimals[i]) return "The " kind[i] " " has(i) " decimal points: fmm takes whole centimetres."
@@ -130,7 +130,7 @@ function judge(    i, other) {
     for (i = 1; i <= 2; i++)
         if (within(i, 180) || within(i, 18000) && !within(3 - i, 1800000))
             return "The " kind[i] " " (within(i, 180) ? is(i) " in degrees" : look(i) " like degrees times 100") \
-                ": project to centimetres of a plane."
+                ": project " it(i) " to a plane, in centimetres."
     if (meet(2, 1, 100)) return "The " kind[2] " " is(2) " in metres: multiply " it(2) " by 100."
     if (meet(1, 2, 100)) return "The " kind[1] " " is(1) " in metres: multiply " it(1) " by 100."
     if (swapped(1, 2, 1)) return "The axes of one file are swapped: x is east, y is north."
@@ -157,12 +157,10 @@ END {
     verdict = judge()
     print verdict ? verdict : "The boxes meet."
     if (again) {
-        printf "A trace comes again after another one %d times, first in line %d (trace %s): for match and fmm_live it begins a", \
-            again, again_line, again_trace
-        print " new trace. Sort by trace and time, or use streams for interleaved positions."
+        printf "Trace %s comes again after another trace in line %d (%d such places in all): ", again_trace, again_line, again
+        print "match and fmm_live begin a new trace there. Sort by trace and time, or use streams for interleaved positions."
     }
     if (falls)
-        printf "The time falls within a trace %d times, first in line %d (trace %s): sort each trace by time.\n", falls, falls_line, \
-            falls_trace
+        printf "Trace %s goes back in time in line %d (%d such places in all): sort each trace by time.\n", falls_trace, falls_line, falls
     exit verdict ? 1 : 0
 }

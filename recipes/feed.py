@@ -272,7 +272,7 @@ def main():
         good += 1
         sys.stdout.write(row)
         sys.stdout.flush()
-    if bad and not good:
+    if not good:
         raise Wrong("the feed has no good row")
     print(f"positions: {good}, left out: {bad}, traces: {ids.last}", file=sys.stderr)
 

@@ -53,15 +53,15 @@ def main():
                 points = [p for p in segment if tag(p) == "trkpt"]
                 longest = max(longest, (len(points), f"{path} track {place} segment {part}"))
                 for count, point in enumerate(points, 1):
-                    where = f"{path} track {place} segment {part}"
-                    degrees = [number(point.get(name), f"{where} point", count) for name in ("lon", "lat")]
-                    x, y = project(args.zone, *degrees, f"{where} point", count)
+                    where = f"{path} track {place} segment {part} point {count}"
+                    degrees = [number(point.get(name, ""), where) for name in ("lon", "lat")]
+                    x, y = project(args.zone, *degrees, where)
                     time = text_of(point, "time")
                     if time.strip():
                         try:
                             now, timed = seconds(time), True
                         except ValueError as fault:
-                            raise Wrong(f"{where} point {count}: {fault}") from None
+                            raise Wrong(f"{where}: {fault}") from None
                     rows.append((trace, x, y, now))
         progress.add(1)
     progress.end()

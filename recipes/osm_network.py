@@ -40,9 +40,9 @@ class Map:
                 progress.add(len(block))
             self.parser.Parse(b"", True)
         except xml.parsers.expat.ExpatError as fault:
-            what = f"is cut: its XML does not end (line {fault.lineno})" if self.root and "no element" in str(fault) else \
-                f"is not the XML of OpenStreetMap: {fault}"
-            raise Wrong(f"{path} {what}") from None
+            cut = self.root and str(fault).startswith(("no element found", "unclosed token"))
+            raise Wrong(f"{path} is cut: its XML does not end (line {fault.lineno})" if cut else
+                        f"{path} is not the XML of OpenStreetMap: {fault}") from None
         finally:
             progress.end()
 

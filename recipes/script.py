@@ -156,23 +156,27 @@ def header_of(path, row, *wanted):
         raise Wrong(f"{path}: the header is {header[:60] or 'an empty line'}, not {' or '.join(wanted)}")
 
 
-def number(text, path, line):
+def at(path, line):
+    return f"{path} line {line}" if line else path
+
+
+def number(text, path, line=None):
     """A finite number of a file."""
     try:
         value = float(text)
-    except (TypeError, ValueError):
+    except ValueError:
         value = math.nan
     if not math.isfinite(value):
-        raise Wrong(f"{path} line {line}: {str(text)[:40] or 'an empty field'} is not a number")
+        raise Wrong(f"{at(path, line)}: {text[:40] or 'an empty field'} is not a number")
     return value
 
 
-def project(wanted, longitude, latitude, path, line):
+def project(wanted, longitude, latitude, path, line=None):
     """The place of degrees in the zone that is wanted."""
     try:
         return wanted.project(longitude, latitude)
     except ValueError as fault:
-        raise Wrong(f"{path} line {line}: {fault}") from None
+        raise Wrong(f"{at(path, line)}: {fault}") from None
 
 
 class Files:
