@@ -74,3 +74,7 @@ def time_at(along, times, place):
         return times[min(after, len(times) - 1)]
     share = (place - along[after - 1]) / (along[after] - along[after - 1])
     return times[after - 1] + share * (times[after] - times[after - 1])
+
+
+if __name__ == "__main__":
+    print(__doc__)

@@ -148,6 +148,7 @@ function has(i) { return kind[i] == "network" ? "has" : "have" }
 function look(i) { return kind[i] == "network" ? "looks" : "look" }
 function it(i) { return kind[i] == "network" ? "it" : "them" }
 END {
+    if (terminal && NR >= 1000000) printf "\r\033[K" > "/dev/stderr"
     if (failed) exit failed < 0 ? 0 : failed
     for (i = 1; i < ARGC; i++) if (name[i] != ARGV[i]) fail(ARGV[i] " is empty")
     for (i = 1; i <= files; i++) if (!count[i]) fail(name[i] " has a header and nothing else")

@@ -18,10 +18,11 @@ BEGIN {
     if (margin == "") margin = 300000
     if (margin !~ /^[0-9]+$/) fail("the margin is in whole centimetres", 2)
     terminal = system("test -t 2") == 0
+    MARK = "\357\273\277"
 }
 FNR == 1 {
     header = $0
-    if (++files == 1) sub(/^\357\273\277/, "", header)
+    if (++files == 1 && index(header, MARK) == 1) header = substr(header, 1 + length(MARK))
     gsub(/[" \t\r]/, "", header)
     if (files == 1 && header != "edge,from,to,line") fail(FILENAME ": the header of the network is not edge,from,to,line")
     if (files == 2 && header != "trace,x,y" && header != "trace,x,y,time")
@@ -63,6 +64,7 @@ function finish() {
     for (j = 1; j <= held; j++) print line[j]
 }
 END {
+    if (terminal && NR >= 1000000) printf "\r\033[K" > "/dev/stderr"
     if (failed) exit failed < 0 ? 0 : failed
     if (files < 2) fail(ARGV[files ? 2 : 1] " is empty")
     finish()

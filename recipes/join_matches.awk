@@ -32,6 +32,7 @@ $1 !~ /^(trace|at|none|piece|end|fix|finish)$/ { fail("line " NR " is not of the
 { print }
 BEGIN { begun = ended = places = routes = 0 }
 END {
+    if (terminal && NR >= 1000000) printf "\r\033[K" > "/dev/stderr"
     if (failed) exit failed < 0 ? 0 : failed
     if (begun || places) fail("part " parts + 1 " is cut: it has no total line")
     if (!parts) fail("there is no part, or it is empty")

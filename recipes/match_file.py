@@ -311,3 +311,7 @@ def route_line(network, labels, piece):
         line += network[edge].line
     line += part_of(network[edges[-1]].line, 0, end)
     return line[:1] + [q for p, q in zip(line, line[1:]) if p != q]
+
+
+if __name__ == "__main__":
+    print(__doc__)

@@ -37,3 +37,7 @@ class NetworkFile:
         for what, limit in LIMITS.items():
             if counts[what] > limit:
                 print(f"warning: fmm takes at most {limit} {what}; cut the map or take fewer classes", file=sys.stderr)
+
+
+if __name__ == "__main__":
+    print(__doc__)

@@ -84,3 +84,7 @@ def draw(file, network, drives):
         picture.text(min(x + 8, picture.width - 80), y - 12, f"trace {trace}", colour)
     picture.scale_bar()
     picture.write(file)
+
+
+if __name__ == "__main__":
+    print(__doc__)

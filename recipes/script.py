@@ -189,7 +189,7 @@ class Files:
         return self
 
     def open(self, path):
-        special = os.path.exists(path) and not os.path.isfile(path)
+        special = path.startswith("/dev/") or os.path.exists(path) and not os.path.isfile(path)
         unfinished = path if special else path + ".unfinished"
         file = open(unfinished, "w", encoding="utf-8", newline="")
         self.open_files.append((file, unfinished, path))
@@ -210,3 +210,7 @@ class Files:
                     file.close()
                 finally:
                     os.remove(unfinished) if unfinished != path else None
+
+
+if __name__ == "__main__":
+    print(__doc__)

@@ -41,6 +41,7 @@ path == "" || ($1 != trace && count >= lines) {
 }
 { trace = $1; count++; print > path }
 END {
+    if (terminal && NR >= 1000000) printf "\r\033[K" > "/dev/stderr"
     if (failed) exit failed < 0 ? 0 : failed
     if (!part) fail(width ? "the trace file has no position" : "there is no trace file, or it is empty")
     if ((getline header < name(part + 1)) > 0) fail(name(part + 1) " is of an earlier run: remove it and those after it")

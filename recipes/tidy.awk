@@ -48,6 +48,7 @@ function keep() {
     print
 }
 END {
+    if (terminal && NR >= 1000000) printf "\r\033[K" > "/dev/stderr"
     if (failed) exit failed < 0 ? 0 : failed
     if (!width) fail("there is no trace file, or it is empty")
     printf "kept %d, too near %d, jumps %d\n", kept, near, dropped > "/dev/stderr"

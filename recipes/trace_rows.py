@@ -40,3 +40,7 @@ class Ids:
     def write(self, files, path, columns):
         rows = files.table(path, ["trace", *columns])
         rows.writerows([number, *names] for names, number in self.numbers.items())
+
+
+if __name__ == "__main__":
+    print(__doc__)

@@ -55,3 +55,7 @@ class Zone:
         for _ in range(5):  # from the conformal latitude to the latitude
             sine = math.tanh(math.atanh(math.sin(wanted)) + ROUND * math.atanh(ROUND * sine))
         return math.degrees(self.middle + math.atan2(math.sinh(h), math.cos(s))), math.degrees(math.asin(sine))
+
+
+if __name__ == "__main__":
+    print(__doc__)
