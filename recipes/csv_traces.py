@@ -1,12 +1,16 @@
 #!/usr/bin/env python3
 """csv_traces.py --ids IDS [--zone 32N | --metres] [--columns ID,LONGITUDE,LATITUDE,TIME] [FILE] > TRACES
 
-Makes a trace file of a table of positions, or of the standard input. --columns names the four columns in the header
-(vehicle,longitude,latitude,time by default), or three if there is no time. Ids may be any text; IDS becomes a table of
-trace numbers and ids. With a zone the positions are degrees, without one metres. Times are ISO times or seconds. Positions
-that look like degrees are refused without a zone, except with --metres.
+Turns a table of positions, or standard input, into a trace file. Ids may be any text; IDS gets the number and the id of each
+trace. Times are ISO times, in UTC if they name no zone, or seconds since 1970.
 
-The rows come out in the order of the table. If vehicles alternate in it, sort the rows by trace and time:
+  --columns   the names of the columns of id, x, y and time (vehicle,longitude,latitude,time by default); three if the table
+              has no times
+  --zone      the positions are degrees, and this is the UTM zone of the network
+  --metres    the positions are metres of the network's projection, even if they look like degrees
+
+Without --zone the positions are metres, and positions that look like degrees are refused. The rows keep the order of the
+table. If vehicles alternate in it, sort the rows by trace and time:
 
     csv_traces.py .. | { IFS= read -r header; echo "$header"; sort -s -t, -k1,1n -k4,4n; } > TRACES
 """
@@ -16,7 +20,7 @@ import itertools
 from script import Files, Parser, Wrong, lines, number, project, run, zone
 from trace_rows import Ids, seconds
 
-LOOK = 1000  # so many positions decide whether they look like degrees
+LOOK = 1000  # the number of positions that decide whether they look like degrees
 
 
 def places(args, name, rows, columns):

@@ -1,4 +1,4 @@
-"""When a vehicle entered and left each edge of a route: interpolated along the route between its positions."""
+"""The times at which a vehicle entered and left each edge of a route, interpolated along the route between its positions."""
 import bisect
 import itertools
 

@@ -2,26 +2,27 @@
 """feed.py --ids IDS [--format csv|json|rows] [--columns ID,LONGITUDE,LATITUDE,TIME] [--zone 32N | --centimetres]
                [--milliseconds] [--gap 600] [--most 100000] [--vehicles 100000] [--close] < FEED | ./fmm streams NETWORK /dev/stdin
 
-Turns a feed of positions that does not end into the rows of a trace file, which it writes at once. The feed comes from
-standard input:
+Turns an endless feed of positions on standard input into rows of a trace file, and writes each row at once.
 
-  csv    a table with a header; --columns names its columns of id, x, y and time (vehicle,longitude,latitude,time by default)
-  json   an object on each line; --columns names its fields, and a dot leads into an object: payload.lon
-  rows   fields separated by commas without a header: id, x, y and time in this order
+  --format        csv is a table with a header (the default), json an object on each line, rows is id, x, y and time separated
+                  by commas, without a header
+  --columns       the columns or fields of id, x, y and time (vehicle,longitude,latitude,time by default). A dot leads into an
+                  object: payload.lon. Without the fourth, and in rows of three fields, the time is that of arrival
+  --zone          the positions are degrees, and this is the UTM zone of the network; without it they are metres
+  --centimetres   the positions are whole centimetres
+  --milliseconds  times are milliseconds since 1970 or ISO times; without it seconds or ISO times
+  --ids           the table of trace numbers and ids. New rows are appended, also after a restart, so a number keeps its meaning
+  --gap           a vehicle gets a new trace number after more than this many seconds without a position (600 by default)
+  --most          a vehicle gets a new trace number after this many positions (100000 by default, the most that fmm takes)
+  --vehicles      how many vehicles are remembered (100000 by default). The one that was silent longest is forgotten first, and
+                  gets a new number if it comes back
+  --close         writes a row of trace 4000000001 after each position, far from all roads
 
-With a zone the positions are degrees, without one metres of the projection, with --centimetres whole centimetres of it.
-Times are ISO times or seconds, or milliseconds with --milliseconds. If --columns names three columns, or a row has three
-fields, the time is that of arrival.
+Ids may be any text. A row is left out if it is wrong, if it comes again, or if it is older than the last one of its vehicle.
+Standard error has a line about each of them.
 
-Ids may be any text. A vehicle gets a new trace number with its first position, after more than --gap seconds without a
-position, and when its trace has --most positions. IDS is a table of trace numbers and ids. Rows are appended to it, also
-after a restart, so a number never gets another meaning. At most --vehicles vehicles are remembered; the one that has been
-silent for the longest time is forgotten first, and gets a new number if it comes back.
-
-A row that is wrong, comes again or is older than the one before it is left out, and standard error has a line about it.
-
-`fmm streams` writes the lines of a position when a position of another vehicle has come. A single vehicle has none, so
---close writes a row of trace 4000000001 after each position, far from all roads. Drop its lines with grep -v '^40000000'.
+`fmm streams` writes the lines of a position when the next position of another vehicle has come. A single vehicle has no
+other, so it needs --close. Drop the additional lines with grep -v '^40000000'.
 """
 import collections
 import csv
@@ -41,7 +42,7 @@ MOST = 100_000
 
 
 def feed_lines(file):
-    """The lines of the feed with their numbers; None in place of one that is too long."""
+    """The lines of the feed with their numbers. A line that is too long is None."""
     for count in range(1, 1 << 62):
         line = file.readline(LONGEST)
         if not line:
@@ -55,7 +56,7 @@ def feed_lines(file):
 
 
 class Reader:
-    """Takes the id, x, y and time out of a line, as they stand there. The time is None for the time of arrival."""
+    """Takes the id, x, y and time out of a line, unchanged. The time is None if that of arrival is wanted."""
 
     def __init__(self, form, columns):
         self.form, self.columns, self.places, self.header = form, columns, None, None
@@ -144,7 +145,7 @@ def time_of(value, args):
 
 
 class IdTable:
-    """The table of trace numbers and ids. What earlier runs wrote stays."""
+    """The table of trace numbers and ids. The rows of earlier runs are kept."""
 
     def __init__(self, path):
         self.last, self.closing = 0, set()
@@ -196,7 +197,7 @@ class Vehicle:
 
 
 class Fleet:
-    """The vehicles that are remembered, the one that has been silent longest first."""
+    """The vehicles that are remembered, in the order of their last positions."""
 
     def __init__(self, args, ids):
         self.args, self.ids, self.vehicles = args, ids, collections.OrderedDict()

@@ -1,9 +1,9 @@
 #!/usr/bin/env python3
 """gpx_traces.py --zone 32N --ids IDS FILE.gpx .. > TRACES
 
-Makes a trace file of GPX tracks. Each segment of a track becomes a trace of its own. The zone is the one that
-osm_network.py shows. IDS becomes a table of trace numbers, files, track names and segments. A point without a time has that
-of the point before it; if no point of any file has a time, the trace file has no times.
+Turns GPX tracks into a trace file. Each segment of a track becomes a trace. The zone is the one that osm_network.py shows.
+IDS gets a row for each trace: its number, file, track, track name and segment. A point without a time gets the time of the
+point before it. If no point of any file has a time, the trace file has no times.
 """
 import sys
 import xml.etree.ElementTree

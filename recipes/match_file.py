@@ -304,7 +304,7 @@ def route_line(network, labels, piece):
     """The line that the vehicle drove in a piece, from its first matched place to its last."""
     first, last, _, edges = piece
     begin, end = labels[first][1], labels[last][1]
-    if len(edges) == 1:  # a vehicle that stood may end behind its beginning
+    if len(edges) == 1:  # a vehicle that waited may end before its beginning
         return part_of(network[edges[0]].line, min(begin, end), max(begin, end))
     line = part_of(network[edges[0]].line, begin, math.inf)
     for edge in edges[1:-1]:

@@ -2,16 +2,19 @@
 """match_points.py NETWORK TRACES MATCH [--points POINTS.csv] [--routes ROUTES.csv] [--edges EDGES.csv]
                        [--svg PICTURE.svg [--trace ID ..]] [--lookup LOOKUP] [--ids IDS] [--zone 32N]
 
-Joins a match with the network and the traces that it was made of. MATCH is the text of `fmm match`, `fmm follow`,
-`fmm streams` or `fmm_live`. A match of other files is refused.
+Turns a match into tables and a picture. MATCH is the text of `fmm match`, `fmm follow`, `fmm streams` or `fmm_live`, NETWORK
+and TRACES are the files that were matched. A match of other files is refused.
 
-  POINTS   a row for each position: where it was measured, its edge, the place on the edge, and the metres between
-  ROUTES   a row for each piece, with the road that was driven as WKT
-  EDGES    a row for each driven edge: the times of entry and exit, seconds and metres
-  PICTURE  the traces that --trace names, or else the first eight, on their roads
+  --points   a row for each position: where it was measured, its edge, the place on the edge, and the metres between
+  --routes   a row for each piece, with the driven road as WKT
+  --edges    a row for each driven edge: the times of entry and exit, seconds and metres
+  --svg      a picture of the traces that --trace names, by default the first eight
+  --lookup   the lookup table of the network, whose columns are added
+  --ids      the table of ids of the traces, whose columns are added
+  --zone     the UTM zone of the network: coordinates become degrees, longitude first; without it they are metres of the
+             projection
 
-LOOKUP (of the network) and IDS (of the traces) add their columns. With the zone of the network, coordinates are degrees,
-longitude first. Without it they are metres of the projection. Times come as they are in the traces, and as ISO text in UTC.
+Times are those of the traces, and ISO text in UTC in the columns whose names end in utc.
 """
 import csv
 import datetime

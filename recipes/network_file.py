@@ -1,4 +1,4 @@
-"""Writes a network file, and beside it a lookup table that says for each edge from where it came."""
+"""Writes a network file, and a lookup table that shows the origin of each edge."""
 import sys
 
 LIMITS = {"edges": 150_000, "nodes": 60_000, "points": 1_000_000}
@@ -14,9 +14,9 @@ class NetworkFile:
         self.edges, self.nodes, self.points = 0, set(), 0
 
     def add(self, begin, end, line, forward, backward, about):
-        """A street from node `begin` to node `end` along `line`, points in whole centimetres, open in the ways said."""
+        """Adds a street from node `begin` to node `end` along `line`, in whole centimetres, open forward, backward or both."""
         kept = line[:1] + [q for p, q in zip(line, line[1:]) if p != q]
-        if len(kept) == 1:  # the whole street lies within one centimetre: an edge needs two points
+        if len(kept) == 1:  # the whole street is within one centimetre, and an edge needs two points
             kept.append((kept[0][0] + 1, kept[0][1]))
         if forward:
             self._write(begin, end, kept, "forward", about)
@@ -31,7 +31,7 @@ class NetworkFile:
         self.rows.writerow([self.edges, direction, *about])
 
     def report(self):
-        """Says what the network has, and warns if fmm will refuse it."""
+        """Shows the size of the network, and warns if fmm will refuse it."""
         counts = {"edges": self.edges, "nodes": len(self.nodes), "points": self.points}
         print("network: " + ", ".join(f"{n} {what}" for what, n in counts.items()), file=sys.stderr)
         for what, limit in LIMITS.items():

@@ -1,11 +1,15 @@
 #!/usr/bin/env python3
 """osm_network.py MAP.osm NETWORK LOOKUP [--roads main|cars|all] [--both-ways] [--zone 32N]
 
-Makes a network file of the streets of an OpenStreetMap XML file. Streets are split where they share a node. LOOKUP becomes
-a table of edge ids, OpenStreetMap way ids, classes and names. Standard error shows the zone of the projection (UTM); the
-traces need the same one. By default it is the zone of the middle of the map.
+Turns the streets of an OpenStreetMap XML file into a network file. Streets are split at the nodes that they share. LOOKUP
+gets a row for each edge: its id, its direction along the way, and the id, class and name of the way. Standard error shows the
+UTM zone of the projection. The traces need the same zone.
 
-An extract in PBF, such as map.osm.pbf, becomes XML with osmium: osmium tags-filter map.osm.pbf w/highway -o roads.osm
+  --roads       main keeps motorways to tertiary roads, cars (the default) all streets for cars, all keeps paths too
+  --both-ways   opens every street in both directions, for pedestrians
+  --zone        the zone; by default that of the middle of the map
+
+If the map is a PBF file, make XML of its roads first: osmium tags-filter map.osm.pbf w/highway -o roads.osm
 """
 import collections
 import sys
@@ -23,7 +27,7 @@ NO_ROADS = {"construction", "proposed", "planned", "abandoned", "razed", "disuse
 
 
 class Map:
-    """The nodes of the file as degrees, and its wanted ways as (id, node ids, tags)."""
+    """The nodes of the file in degrees, and the ways that are kept as (id, node ids, tags)."""
 
     def __init__(self, roads):
         self.roads, self.nodes, self.ways, self.way = roads, {}, [], None
@@ -98,7 +102,7 @@ def ways_open(tags):
 
 
 def parts(refs, nodes, crossings):
-    """The way cut at its crossings. What leads to a node that the file does not have is left out."""
+    """Splits a way at its crossings. Parts that lead to an unknown node are left out."""
     part = []
     for ref in refs:
         if ref not in nodes:
@@ -116,7 +120,7 @@ def main():
     for name in ("map", "network", "lookup"):
         parser.add_argument(name)
     parser.add_argument("--roads", choices=("main", "cars", "all"), default="cars")
-    parser.add_argument("--both-ways", action="store_true", help="for people on foot: every street is open both ways")
+    parser.add_argument("--both-ways", action="store_true")
     parser.add_argument("--zone", type=zone)
     args = parser.parse_args()
     streets = Map(args.roads)

@@ -1,4 +1,4 @@
-"""What all scripts share: options, faults in one line, files that say what they are, output files, and progress."""
+"""Shared by all scripts: options, errors of one line, a look at each input file, output files, and progress."""
 import argparse
 import csv
 import math
@@ -24,16 +24,18 @@ MARK = b"\xef\xbb\xbf"
 
 
 class Wrong(Exception):
-    """A fault of the input that ends a script. The text names the file and what is wrong with it."""
+    """An error of the input, which ends a script. The text names the file and what is wrong."""
 
 
 class Parser(argparse.ArgumentParser):
-    """Options whose faults take one line; the description is the text at the head of the script."""
+    """Options. --help prints the text at the head of the script; a fault takes one line."""
 
     def __init__(self, text):
-        usage, _, more = text.strip().partition("\n\n")
-        super().__init__(usage=usage.replace("%", "%%"), description=more.replace("%", "%%"),
-                         formatter_class=argparse.RawDescriptionHelpFormatter)
+        super().__init__()
+        self.text = text.strip() + "\n"
+
+    def format_help(self):
+        return self.text
 
     def error(self, message):
         self.exit(2, f"{self.prog}: {message} (--help shows the options)\n")
@@ -48,22 +50,28 @@ def zone(text):
 
 
 def run(main):
-    """Runs a script. A fault becomes one line on standard error and status 1."""
+    """Runs a script. An error becomes one line on standard error and status 1."""
     name = os.path.basename(sys.argv[0])
     try:
         main()
         sys.stdout.flush()
     except BrokenPipeError:
-        os.dup2(os.open(os.devnull, os.O_WRONLY), 1)  # nothing is left to flush at exit
+        drop_output()
         fail(name, "the reader of the output has gone")
     except KeyboardInterrupt:
         fail(name, "interrupted", 130)
     except MemoryError:
         fail(name, "out of memory")
     except OSError as fault:
-        fail(name, f"{fault.filename}: {fault.strerror}" if fault.filename else str(fault))
+        drop_output()
+        fail(name, f"{fault.filename or 'the output'}: {fault.strerror or fault}")
     except (Wrong, csv.Error) as fault:
         fail(name, str(fault))
+
+
+def drop_output():
+    """Leaves nothing to be written at exit."""
+    os.dup2(os.open(os.devnull, os.O_WRONLY), 1)
 
 
 def fail(name, message, status=1):
@@ -72,7 +80,7 @@ def fail(name, message, status=1):
 
 
 def look(path, file):
-    """Refuses a file that is empty, packed or no text. `file` is open for bytes and can be peeked into."""
+    """Refuses a file that is empty, compressed or not text. `file` is open for bytes and has `peek`."""
     head = file.peek(1024)[:1024]
     if not head:
         raise Wrong(f"{path} is empty")
@@ -114,7 +122,7 @@ def progress_of(path, file):
 
 
 def open_bytes(path):
-    """A file, or the standard input for `-` or none, after a look at what it is."""
+    """Opens a file, or standard input for `-` and None, and looks at its first bytes."""
     file = sys.stdin.buffer if path in (None, "-") else open(path, "rb")
     look(path or "standard input", file)
     return file
@@ -150,7 +158,7 @@ def lines(path, mark="dropped", shows=True):
 
 
 def header_of(path, row, *wanted):
-    """Refuses a table whose header is none of those wanted."""
+    """Refuses a table with another header."""
     header = ",".join(name.strip() for name in row)
     if header not in wanted:
         raise Wrong(f"{path}: the header is {header[:60] or 'an empty line'}, not {' or '.join(wanted)}")
@@ -161,7 +169,7 @@ def at(path, line):
 
 
 def number(text, path, line=None):
-    """A finite number of a file."""
+    """Reads a finite number."""
     try:
         value = float(text)
     except ValueError:
@@ -172,7 +180,7 @@ def number(text, path, line=None):
 
 
 def project(wanted, longitude, latitude, path, line=None):
-    """The place of degrees in the zone that is wanted."""
+    """Projects degrees to centimetres of the zone."""
     try:
         return wanted.project(longitude, latitude)
     except ValueError as fault:
@@ -180,7 +188,7 @@ def project(wanted, longitude, latitude, path, line=None):
 
 
 class Files:
-    """Output files. They appear under their names when all is written, so a script that fails leaves none behind."""
+    """Output files. They get their names when all of them are complete, so a script that fails leaves none."""
 
     def __init__(self):
         self.open_files = []

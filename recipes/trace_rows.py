@@ -1,4 +1,4 @@
-"""What gpx_traces.py, csv_traces.py and feed.py share: times, and numbers for names."""
+"""Shared by gpx_traces.py, csv_traces.py and feed.py: times, and numbers for names."""
 import calendar
 import math
 import re

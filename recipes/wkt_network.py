@@ -1,13 +1,15 @@
 #!/usr/bin/env python3
 """wkt_network.py LAYER.csv NETWORK LOOKUP [--oneway COLUMN --forward V,.. --backward V,..] [--keep COLUMN,..] [--join CM]
 
-Makes a network file of a layer of lines, as ogr2ogr writes it in metres:
+Turns a layer of lines into a network file. ogr2ogr makes the layer, in metres:
 
     ogr2ogr -f CSV LAYER.csv ROADS.gpkg -t_srs EPSG:32632 -lco GEOMETRY=AS_WKT
 
-Lines join where their ends lie within CM centimetres (1 by default), and where the end of one lies at an inner point of
-another, which is split there. A line is open both ways, except if its value in the column --oneway is one of --forward or
---backward. LOOKUP becomes a table of edge ids, record numbers of the layer, and the columns named by --keep.
+  --join       lines join if their ends are at most CM centimetres apart (1 by default), and if the end of one is at an inner
+               point of another, which is split there
+  --oneway     the column that has the direction. A line is open in both directions, except if its value is one of --forward
+               (open in the direction of its points) or --backward (open against it)
+  --keep       columns of the layer that LOOKUP gets for each edge, after its id, direction and record number
 """
 import csv
 import math
@@ -19,7 +21,7 @@ from script import Files, Parser, Wrong, lines, run
 
 
 class Nodes:
-    """Places with numbers from 1. Places within `join` centimetres of a node are that node."""
+    """Nodes with numbers from 1. A place at most `join` centimetres from a node is that node."""
 
     def __init__(self, join):
         self.join, self.cells, self.count = join, {}, 0
