@@ -199,7 +199,10 @@ class Files:
     def open(self, path):
         special = path.startswith("/dev/") or os.path.exists(path) and not os.path.isfile(path)
         unfinished = path if special else path + ".unfinished"
-        file = open(unfinished, "w", encoding="utf-8", newline="")
+        try:
+            file = open(unfinished, "w", encoding="utf-8", newline="")
+        except OSError as fault:
+            raise Wrong(f"{path}: {fault.strerror}") from None
         self.open_files.append((file, unfinished, path))
         return file
 
@@ -209,15 +212,15 @@ class Files:
         return rows
 
     def __exit__(self, kind, fault, trace):
-        for file, unfinished, path in self.open_files:
-            if kind is None:
+        complete = False
+        try:
+            for file, _, _ in self.open_files:
                 file.close()
-                os.replace(unfinished, path) if unfinished != path else None
-            else:
-                try:
-                    file.close()
-                finally:
-                    os.remove(unfinished) if unfinished != path else None
+            complete = kind is None
+        finally:
+            for _, unfinished, path in self.open_files:
+                if unfinished != path:
+                    os.replace(unfinished, path) if complete else os.remove(unfinished)
 
 
 if __name__ == "__main__":
