@@ -3,10 +3,12 @@
 function help() {
     print "awk -f extents.awk NETWORK TRACES"
     print ""
-    print "Prints the box in which the lines of a network and the positions of a trace file lie. If the boxes do not meet, it"
-    print "names the likely reason: metres or degrees in place of centimetres, exchanged axes, longitude and latitude exchanged"
-    print "before the projection, another zone or place. It warns of a trace that comes again after another one, and of times"
-    print "that fall within a trace. The status is 0 if the boxes meet, 1 if not or if a file is wrong."
+    print "Shows whether a network and a trace file fit together, and why they do not. It prints the box of the lines and the"
+    print "box of the positions. If the boxes do not meet, it names the likely reason: metres or degrees in place of centimetres,"
+    print "exchanged axes, longitude and latitude exchanged before the projection, another zone or place. It warns if a trace"
+    print "comes again after another trace, or goes back in time."
+    print ""
+    print "The status is 0 if the boxes meet, and 1 if they do not or if a file is wrong."
 }
 function fail(text, status) {
     print "extents.awk: " text > "/dev/stderr"

@@ -3,8 +3,9 @@
 function help() {
     print "awk -v margin=300000 -f inside.awk NETWORK TRACES > INSIDE"
     print ""
-    print "Writes the traces all of whose positions lie in the box of the network, at least `margin` centimetres from its sides"
-    print "(300000, that is 3 km, by default). Standard error shows how many others there are; they need another part of the map."
+    print "Keeps the traces that are inside a network. All their positions are in the box of the network, at least `margin`"
+    print "centimetres from its sides (300000, or 3 km, by default). Standard error shows how many traces were left out; they need"
+    print "another part of the map."
 }
 function fail(text, status) {
     print "inside.awk: " text > "/dev/stderr"

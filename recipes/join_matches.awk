@@ -3,9 +3,9 @@
 function help() {
     print "cat PART-MATCH .. | awk -f join_matches.awk > MATCH"
     print ""
-    print "Joins the texts of the parts of a trace file, in order, under one total line. Traces, points and pieces add up. Rows"
-    print "do not, since parts ask for the same rows; so the line ends before them. A part that is cut, or is not the text of"
-    print "`fmm match` or `fmm follow`, is refused with status 1."
+    print "Joins the matches of the parts of a trace file. The text has the traces of all parts in order, and one total line. Its"
+    print "traces, points and pieces are sums. It ends before the rows, since several parts may ask for the same row. A part that is"
+    print "cut, or is not the text of `fmm match` or `fmm follow`, is refused with status 1."
 }
 function fail(text, status) {
     print "join_matches.awk: " text > "/dev/stderr"

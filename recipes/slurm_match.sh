@@ -1,8 +1,8 @@
 #!/bin/bash
 # sbatch --wait --array=1-COUNT recipes/slurm_match.sh NETWORK [OPTION ..]
 #
-# Matches each part parts/000001.csv .. in a job of a Slurm array, into matched/000001.txt .. The options are those of
-# `fmm match`. The variable FMM names the program; by default it is `fmm` on the path.
+# Matches the parts of a trace file in the jobs of a Slurm array. Job 1 matches parts/000001.csv into matched/000001.txt, and so on.
+# The options are those of `fmm match`. The variable FMM names the program; by default it is `fmm` on the path.
 #SBATCH --job-name=fmm
 #SBATCH --output=matched/%a.log
 set -e

@@ -1,8 +1,8 @@
 #!/usr/bin/env python3
 """spark-submit recipes/spark_match.py NETWORK [OPTION ..]
 
-Matches the parts parts/*.csv into the folder matched, by Spark. The options are those of `fmm match`. The variable FMM names
-the program; by default it is `fmm` on the path.
+Matches the parts of a trace file with Spark. The parts are parts/*.csv, and the texts come into the folder matched. The
+options are those of `fmm match`. The variable FMM names the program; by default it is `fmm` on the path.
 """
 import glob
 import os

@@ -3,8 +3,9 @@
 function help() {
     print "awk -v lines=1000000 -v out=parts/ -f split_traces.awk TRACES"
     print ""
-    print "Cuts a trace file into files parts/000001.csv, parts/000002.csv .. of at least `lines` positions each, all with the"
-    print "header. No trace is cut. The folder has to exist, and to have no parts of an earlier run."
+    print "Splits a trace file into parts, for several processes or machines. The parts are files parts/000001.csv,"
+    print "parts/000002.csv .. with the header and at least `lines` positions each (1000000 by default). No trace is split. The"
+    print "folder has to exist, and must not have parts of an earlier run."
 }
 function fail(text, status) {
     print "split_traces.awk: " text > "/dev/stderr"

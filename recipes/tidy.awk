@@ -3,10 +3,10 @@
 function help() {
     print "awk -v step=500 -v speed=7000 -f tidy.awk TRACES > TIDY"
     print ""
-    print "Drops from a trace file the positions that lie less than `step` centimetres from the last position kept (500 by"
-    print "default), and with them every repeated position. It also drops those that the vehicle would have reached faster than"
-    print "`speed` centimetres a second (7000 by default, 252 km/h; this needs times). After three such jumps in a row the next"
-    print "position is believed. The first position of each trace is always kept."
+    print "Drops repeated positions, jumps, and positions that are too close together. Two positions that are kept are at least"
+    print "`step` centimetres apart (500 by default). A jump is a position that the vehicle would have reached faster than `speed`"
+    print "centimetres a second (7000 by default, 252 km/h); finding jumps needs times. After three jumps in a row the next"
+    print "position is kept. The first position of each trace is always kept."
 }
 function fail(text, status) {
     print "tidy.awk: " text > "/dev/stderr"
