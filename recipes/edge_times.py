@@ -23,10 +23,11 @@ def places_in_route(labels, edges, back):
 
 
 def align(labels, edges):
-    """`places_in_route` without knowing the option `back` of the match: the greatest value that fits."""
+    """`places_in_route` for a value of `back` that fits: the option of the match is not in its text."""
     moves = {offset - after for (edge, offset, _), (following, after, _) in zip(labels, labels[1:])
              if edge == following and offset > after}
-    for back in sorted(moves | {0}, reverse=True):
+    # All moves are moves back in most matches, and none in a match without the option.
+    for back in [max(moves, default=0), 0, *sorted(moves, reverse=True)[1:]]:
         places = places_in_route(labels, edges, back)
         if places:
             return places
