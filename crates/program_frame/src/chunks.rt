@@ -7,8 +7,8 @@ use crate::stop::{File, Stop};
 use edge_io::{Shelf, Taken};
 use std::alloc::Global;
 
-/// The most bytes of a trace file.
-pub const TRACE_LIMIT: u64 = 1_099_511_627_776;
+// The most bytes of a trace file.
+const TRACE_LIMIT: u64 = 1_099_511_627_776;
 
 /// The most bytes of one read.
 pub const CHUNK: u64 = 65_536;

@@ -3,6 +3,7 @@ ghost use Rattle.std.specs.Prelude.{◌≡◌, ◌≢◌, []};
 ghost use Rattle.trace_reader.specs.Reader.{StandsFor};
 ghost use Rattle.program_frame.specs.Loads.{Loads};
 ghost use Rattle.program_frame.specs.Refusals.{RefusesTraces, trace_limit};
+ghost use Rattle.program_frame.specs.declared.stop.File.{File};
 ghost use Rattle.program_frame.specs.WholeTraces.{FeedsFile, traces_said};
 
 use crate::chunks::Chunks;
