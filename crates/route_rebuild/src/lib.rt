@@ -17,8 +17,6 @@
 pub mod laws;
 mod routes;
 mod run;
-#[cfg(test)]
-mod tests;
 mod walks;
 
 pub use routes::{route, route_over};

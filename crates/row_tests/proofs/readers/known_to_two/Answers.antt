@@ -1,7 +1,7 @@
 use Rattle.std.proofs.Common.{◌≡◌, ◌<◌, ◌∙◌, ℕ, zero, suc, List, [], ◌∷◌, arith}
 use Rattle.std.specs.Prelude.{slice_index_or}
 use Rattle.row_store.specs.Store.{Stored, Reading}
-use Rattle.row_store.proofs.tests.known_to_two.Goals as goal
+use Rattle.row_tests.proofs.readers.known_to_two.Goals as goal
 
 -- two readers are of one store
 both : (a b : Reading) (store : Stored) → a.store ≡ store → b.store ≡ store → (k : ℕ) (d : Reading) → k < 2 → (slice_index_or (a ∷ b ∷ []) k d).store ≡ store

@@ -1,27 +1,15 @@
 ghost use Rattle.std.specs.Prelude.{◌≤◌};
 ghost use Rattle.polyline_geometry.specs.Plane.{InRange};
 
-use crate::{candidates, candidates_plain};
+use crate::small::{TWO_EDGES, TWO_ROADS, on_edge};
+use candidate_search::{candidates, candidates_plain};
 use cost_model::Params;
 use grid_index::Grid;
 use polyline_geometry::Point;
-use road_network::{Candidate, EdgeId, read_network};
+use road_network::{Candidate, read_network};
 use std::alloc::Global;
 use std::process::Abort;
 use std::test::Fail;
-
-const DEFAULTS: Params = Params {
-    k: 8,
-    radius: 10_000,
-    sigma: 1_000,
-    beta: 1_000,
-    bound: 300_000,
-    workers: 4,
-    back: 0,
-    gap: u32::MAX,
-};
-
-const TWO_EDGES: &[u8] = b"edge,from,to,line\n10,1,2,0 0;10000 0\n11,2,3,10000 0;20000 0\n";
 
 /// Both calls on one network, with the first k wanted.
 fn both(
@@ -36,7 +24,10 @@ fn both(
     requires k_few { k ≤ 32 }
     requires at_in { InRange at }
 {
-    let params = Params { k, ..DEFAULTS };
+    let params = Params {
+        k,
+        ..Params::DEFAULT
+    };
     let net = read_network(alloc, network)?;
     let grid = Grid::build(alloc, &net, 10_000)?;
     let by_grid = candidates(alloc, &net, &grid, &params, at)?;
@@ -46,18 +37,10 @@ fn both(
     Ok(())
 }
 
-fn candidate(edge: u32, d2: u64, offset: u32) -> Candidate {
-    Candidate {
-        edge: EdgeId(edge),
-        d2,
-        offset,
-    }
-}
-
 #[test]
 fn nearest_first_and_cut_to_k(rt: HostRuntime) -> Result<(), Fail> {
     let at = Point { x: 9_000, y: -300 };
-    let wanted = [candidate(0, 90_000, 9_000), candidate(1, 1_090_000, 0)];
+    let wanted = [on_edge(0, 90_000, 9_000), on_edge(1, 1_090_000, 0)];
     both(&rt, rt.alloc(), TWO_EDGES, 8, at, wanted.as_slice())?;
     both(&rt, rt.alloc(), TWO_EDGES, 2, at, wanted.as_slice())?;
     both(&rt, rt.alloc(), TWO_EDGES, 1, at, &wanted[..1])
@@ -65,7 +48,7 @@ fn nearest_first_and_cut_to_k(rt: HostRuntime) -> Result<(), Fail> {
 
 #[test]
 fn at_the_radius_and_beyond(rt: HostRuntime) -> Result<(), Fail> {
-    let wanted = [candidate(0, 100_000_000, 5_000)];
+    let wanted = [on_edge(0, 100_000_000, 5_000)];
     both(
         &rt,
         rt.alloc(),
@@ -93,7 +76,7 @@ fn at_the_radius_and_beyond(rt: HostRuntime) -> Result<(), Fail> {
 #[test]
 fn a_wide_edge(rt: HostRuntime) -> Result<(), Fail> {
     let network = b"edge,from,to,line\n1,1,2,-1000000000 0;-900000000 0\n";
-    let wanted = [candidate(0, 25, 50_000_000)];
+    let wanted = [on_edge(0, 25, 50_000_000)];
     both(
         &rt,
         rt.alloc(),
@@ -110,7 +93,7 @@ fn a_wide_edge(rt: HostRuntime) -> Result<(), Fail> {
 #[test]
 fn ties_by_place_in_the_file(rt: HostRuntime) -> Result<(), Fail> {
     let network = b"edge,from,to,line\n20,1,2,0 0;10000 0\n5,1,2,0 0;10000 0\n";
-    let wanted = [candidate(0, 10_000, 5_000), candidate(1, 10_000, 5_000)];
+    let wanted = [on_edge(0, 10_000, 5_000), on_edge(1, 10_000, 5_000)];
     both(
         &rt,
         rt.alloc(),
@@ -123,21 +106,20 @@ fn ties_by_place_in_the_file(rt: HostRuntime) -> Result<(), Fail> {
 
 #[test]
 fn two_lanes(rt: HostRuntime) -> Result<(), Fail> {
-    let network = b"edge,from,to,line\n1,1,2,0 0;10000 0\n2,3,4,0 400;10000 400\n";
-    let first = [candidate(0, 10_000, 1_000), candidate(1, 90_000, 1_000)];
+    let first = [on_edge(0, 10_000, 1_000), on_edge(1, 90_000, 1_000)];
     both(
         &rt,
         rt.alloc(),
-        network,
+        TWO_ROADS,
         8,
         Point { x: 1_000, y: 100 },
         first.as_slice(),
     )?;
-    let second = [candidate(1, 10_000, 2_000), candidate(0, 90_000, 2_000)];
+    let second = [on_edge(1, 10_000, 2_000), on_edge(0, 90_000, 2_000)];
     both(
         &rt,
         rt.alloc(),
-        network,
+        TWO_ROADS,
         8,
         Point { x: 2_000, y: 300 },
         second.as_slice(),
@@ -148,7 +130,7 @@ fn two_lanes(rt: HostRuntime) -> Result<(), Fail> {
 fn both_ways_of_a_street_that_comes_back(rt: HostRuntime) -> Result<(), Fail> {
     let network =
         b"edge,from,to,line\n1,1,2,0 0;10000 0;10000 400;0 400\n2,2,1,0 400;10000 400;10000 0;0 0\n";
-    let wanted = [candidate(0, 40_000, 5_000), candidate(1, 40_000, 5_000)];
+    let wanted = [on_edge(0, 40_000, 5_000), on_edge(1, 40_000, 5_000)];
     both(
         &rt,
         rt.alloc(),

@@ -1,5 +1,5 @@
-use crate::{read_row, write_row};
 use polyline_geometry::List;
+use row_text::{read_row, write_row};
 use std::test::Fail;
 
 // Each line, whether it is read: then it is written again.

@@ -1,12 +1,10 @@
-use crate::{EdgeScan, candidates_plain_all};
+use crate::small::TWO_ROADS;
+use candidate_search::{EdgeScan, candidates_plain_all};
 use cost_model::Params;
 use polyline_geometry::{List, Point};
 use road_network::{Candidate, read_network};
 use std::process::Abort;
 use std::test::Fail;
-
-/// Two edges that go from left to right, one of them higher up.
-const TWO_ROADS: &[u8] = b"edge,from,to,line\n1,1,2,0 0;10000 0\n2,3,4,0 400;10000 400\n";
 
 /// Fails where the lists are not of these edges in this order.
 fn expect_edges(

@@ -1,14 +1,12 @@
-use crate::Grid;
+use crate::small::TWO_EDGES;
+use grid_index::Grid;
 use polyline_geometry::Point;
 use road_network::{EdgeId, read_network};
 use std::test::Fail;
 
 #[test]
 fn near_the_ends_of_two_edges(rt: HostRuntime) -> Result<(), Fail> {
-    let net = read_network(
-        rt.alloc(),
-        b"edge,from,to,line\n10,1,2,0 0;10000 0\n11,2,3,10000 0;20000 0\n",
-    )?;
+    let net = read_network(rt.alloc(), TWO_EDGES)?;
     let grid = Grid::build(rt.alloc(), &net, 10_000)?;
     let near = grid.near(rt.alloc(), Point { x: 1_000, y: 300 }, 10_000)?;
     assert_eq!(rt; near.as_slice(), [EdgeId(0), EdgeId(1)].as_slice());

@@ -1,7 +1,7 @@
-use crate::{TableFault, TableWriter, read_table};
 use polyline_geometry::List;
 use std::alloc::{AllocError, Global};
 use std::test::Fail;
+use table_file::{TableFault, TableWriter, read_table};
 
 const WHOLE: &[u8] =
     b"fmm-table 1 bound 300000 nodes 3 edges 2\nrow 0 0:0:- 1:10000:0 2:20000:1\nrow 1 1:0:- 2:10000:1\nrow 2 2:0:-\nend rows 3\n";

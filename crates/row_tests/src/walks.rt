@@ -1,20 +1,10 @@
 //! Walks of a small network, worked out by hand.
-use crate::walk;
+use crate::searches::network;
+use crate::small::TWO_WAYS;
 use bounded_search::search;
-use road_network::{EdgeId, Network, NodeId, read_network};
-use std::alloc::Global;
+use road_network::{EdgeId, NodeId};
+use route_rebuild::walk;
 use std::io;
-use std::process::Abort;
-
-/// Two ways from 1 to 4 of 2,828 cm each: over 2 by edges 1 and 4, and over 3 by edges 2 and 3.
-const TWO_WAYS: &str =
-    "edge,from,to,line\n1,1,2,0 0;1000 0\n2,2,3,1000 0;2000 1000\n3,2,4,1000 0;2000 -1000\n4,4,5,2000 -1000;3000 0\n5,3,5,2000 1000;3000 0\n6,5,6,3000 0;4000 0\n";
-
-fn network(rt: &impl Abort, alloc: Global, text: &str) -> Network {
-    read_network(alloc, text.as_bytes())
-        .ok()
-        .expect(rt, "a network")
-}
 
 #[test]
 fn rebuilds_the_earlier_of_two_ways(rt: HostRuntime) -> io::Result<()> {

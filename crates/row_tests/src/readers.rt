@@ -1,59 +1,20 @@
 //! What readers of one store see of rows that are found, and of rows that are offered.
-ghost use Rattle.std.specs.Prelude.{◌≡◌, IfOk, IfSome};
+ghost use Rattle.std.specs.Prelude.{◌≡◌};
 ghost use Rattle.road_network.specs.Net.{HasNode};
 
-use crate::{RowStore, Sight, agree, known_count};
+use crate::searches::network;
+use crate::small::{TWO_EDGES, entry, offered, wrong};
 use bounded_search::{Entry, Row, Rows};
-use polyline_geometry::List;
-use road_network::{EdgeId, Network, NodeId, read_network};
+use road_network::NodeId;
+use row_store::{RowStore, Sight, agree, known_count};
 use std::alloc::{AllocError, Global};
 use std::io;
-use std::process::Abort;
-
-/// Two edges of 10,000 cm, one after the other: 0 to 1, and 1 to 2.
-const CHAIN: &str = "edge,from,to,line\n10,1,2,0 0;10000 0\n11,2,3,10000 0;20000 0\n";
 
 const BOUND: u32 = 300_000;
 
-fn entry(node: u32, distance: u32, last: Option<EdgeId>) -> Entry {
-    Entry {
-        node: NodeId(node),
-        distance,
-        last,
-    }
-}
-
 /// The row of node 1.
 fn whole() -> [Entry; 2] {
-    [entry(1, 0, None), entry(2, 10_000, Some(EdgeId(1)))]
-}
-
-/// Entries after `1:0:-` with which a row is not that of node 1.
-fn wrong() -> [Option<Entry>; 4] {
-    [
-        None,
-        Some(entry(2, 10_000, Some(EdgeId(7)))),
-        Some(entry(9, 5, Some(EdgeId(0)))),
-        Some(entry(2, 4_294_967_295, Some(EdgeId(1)))),
-    ]
-}
-
-fn network(rt: &impl Abort, alloc: Global) -> Network {
-    read_network(alloc, CHAIN.as_bytes())
-        .ok()
-        .expect(rt, "a network")
-}
-
-/// The row with `1:0:-` and this entry.
-fn offered(alloc: Global, more: Option<Entry>) -> Result<Option<Row>, AllocError>
-    ensures { IfOk result (λ o. IfSome o (λ row. row.origin ≡ 1)) }
-{
-    let mut entries = List::new(alloc);
-    entries.push(entry(1, 0, None))?;
-    if let Some(entry) = more {
-        entries.push(entry)?;
-    }
-    Ok(Row::of(NodeId(1), entries))
+    [entry(1, 0, None), entry(2, 10_000, Some(1))]
 }
 
 fn is_table(sight: Sight<'_>) -> bool {
@@ -128,7 +89,7 @@ fn is_foreign_to_both(
 
 #[test]
 fn two_readers_see_the_row(rt: HostRuntime) -> io::Result<()> {
-    let net = network(&rt, rt.alloc());
+    let net = network(&rt, rt.alloc(), TWO_EDGES);
     assert!(rt; 2 < net.node_count());
     let store = RowStore::open(rt.alloc(), &net, BOUND)?;
     assert!(rt; is_seen_by_both(&store)?);
@@ -140,7 +101,7 @@ fn two_readers_see_the_row(rt: HostRuntime) -> io::Result<()> {
 // A store whose readers share no cell, or that drops every offer, fails here.
 #[test]
 fn an_offered_row_is_foreign(rt: HostRuntime) -> io::Result<()> {
-    let net = network(&rt, rt.alloc());
+    let net = network(&rt, rt.alloc(), TWO_EDGES);
     for more in wrong() {
         assert!(rt; 1 < net.node_count());
         let store = RowStore::open(rt.alloc(), &net, BOUND)?;
