@@ -1,5 +1,5 @@
-use crate::{Part, Relay};
 use std::test::Fail;
+use trace_relay::{Part, Relay};
 
 // A relay with room for one part.
 #[test]

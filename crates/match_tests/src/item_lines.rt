@@ -2,15 +2,14 @@
 ghost use Rattle.std.specs.Prelude.{◌↔◌, IsTrue};
 ghost use Rattle.trace_sessions.specs.ItemText.{AreItemsOf, IsItemOf};
 
-use super::write_items;
 use matching::Piece;
 use online_commit::Item;
 use polyline_geometry::List;
 use road_network::{Candidate, EdgeId, Network, read_network};
+use row_tests::small::TWO_EDGES;
 use std::alloc::{AllocError, Global};
 use std::test::Fail;
-
-const ROW: &[u8] = b"edge,from,to,line\n10,1,2,0 0;10000 0\n11,2,3,10000 0;20000 0\n";
+use trace_sessions::write_items;
 
 fn is_item(net: &Network, item: &Item) -> bool
     ensures { IsTrue result ↔ IsItemOf net.now item.now }
@@ -89,7 +88,7 @@ const WITH_ID: &[u8] =
 
 #[test]
 fn lines_of_items(rt: HostRuntime) -> Result<(), Fail> {
-    let net = read_network(rt.alloc(), ROW)?;
+    let net = read_network(rt.alloc(), TWO_EDGES)?;
     let items = some_items(rt.alloc())?;
     for (id, lines) in [(None, BARE), (Some(1), WITH_ID)] {
         let text = written(rt.alloc(), &net, id, items.as_slice())?.ok_or("no items")?;

@@ -3,33 +3,24 @@
 ghost use Rattle.std.specs.Prelude.{◌≡◌, IfOk};
 ghost use Rattle.bounded_search.specs.Rows.{no_rows};
 
-use crate::{Item, Online};
 use bounded_search::RefusingRows;
 use cost_model::Params;
 use matching::is_layer;
+use online_commit::{Item, Online};
 use polyline_geometry::{List, Point};
 use road_network::{Candidate, EdgeId, Network, read_network};
+use row_tests::small::{TWO_EDGES, TWO_ROADS};
 use std::alloc::{AllocError, Global};
 use std::test::Fail;
 use trellis::Layer;
 
-const DEFAULTS: Params = Params {
-    k: 8,
-    radius: 10_000,
-    sigma: 1_000,
-    beta: 1_000,
-    bound: 300_000,
-    workers: 4,
-    back: 0,
+const OPTIONS: Params = Params {
     gap: 60,
+    ..Params::DEFAULT
 };
-
-const PAIR: &[u8] = b"edge,from,to,line\n1,1,2,0 0;10000 0\n2,3,4,0 400;10000 400\n";
 
 const JOINED: &[u8] =
     b"edge,from,to,line\n1,1,3,0 0;10000 0\n2,2,3,0 400;10000 400\n3,3,4,10000 200;20000 200\n";
-
-const ROW: &[u8] = b"edge,from,to,line\n10,1,2,0 0;10000 0\n11,2,3,10000 0;20000 0\n";
 
 /// A point: x, y, its time, and its candidates as (edge, d2, offset).
 type Seen = (i32, i32, u32, &'static [(u32, u64, u32)]);
@@ -37,7 +28,7 @@ type Seen = (i32, i32, u32, &'static [(u32, u64, u32)]);
 /// An item in numbers: a label as (0, index, edge, offset), a point without candidates as
 /// (1, index, 0, 0), and a piece as (2, first, last, cost) with its route behind it, each edge as
 /// (3, edge, 0, 0).
-type Told = (u32, u32, u32, u64);
+pub type Told = (u32, u32, u32, u64);
 
 const NEXT: Told = (4, 0, 0, 0);
 
@@ -55,7 +46,7 @@ struct Case {
 const CASES: [Case; 6] = [
     Case {
         shows: "no points",
-        network: ROW,
+        network: TWO_EDGES,
         points: &[],
         told: &[],
     },
@@ -81,7 +72,7 @@ const CASES: [Case; 6] = [
     },
     Case {
         shows: "two roads that never meet wait for the end",
-        network: PAIR,
+        network: TWO_ROADS,
         points: &[
             (1_000, 100, 0, &[(0, 10_000, 1_000), (1, 90_000, 1_000)]),
             (2_000, 300, 0, &[(1, 10_000, 2_000), (0, 90_000, 2_000)]),
@@ -97,7 +88,7 @@ const CASES: [Case; 6] = [
     },
     Case {
         shows: "a break closes the piece before the next begins",
-        network: PAIR,
+        network: TWO_ROADS,
         points: &[
             (1_000, 100, 0, &[(0, 10_000, 1_000)]),
             (2_000, 300, 0, &[(1, 10_000, 2_000)]),
@@ -115,7 +106,7 @@ const CASES: [Case; 6] = [
     },
     Case {
         shows: "a point without candidates closes the piece",
-        network: ROW,
+        network: TWO_EDGES,
         points: &[
             (1_000, 0, 0, &[(0, 0, 1_000), (1, 81_000_000, 0)]),
             (1_000, 50_000, 0, &[]),
@@ -136,7 +127,7 @@ const CASES: [Case; 6] = [
     },
     Case {
         shows: "a gap in time closes the piece",
-        network: ROW,
+        network: TWO_EDGES,
         points: &[
             (1_000, 300, 0, &[(0, 90_000, 1_000), (1, 81_090_000, 0)]),
             (9_000, -300, 61, &[(0, 90_000, 9_000), (1, 1_090_000, 0)]),
@@ -201,7 +192,7 @@ fn rows_refusing<'n>(
 {
     let mut refuse = List::new(alloc);
     refuse.push(call)?;
-    RefusingRows::open(alloc, session.net, session.params.bound, refuse)
+    RefusingRows::open(alloc, session.network(), session.params().bound, refuse)
 }
 
 /// The items of the next point, over rows that refuse this call. None where it is no point of the
@@ -212,7 +203,7 @@ fn fed(
     layer: Layer,
     call: u64,
 ) -> Result<Option<List<Item>>, AllocError> {
-    let (net, p) = (session.net, session.params);
+    let (net, p) = (session.network(), *session.params());
     if !is_layer(net, &p, &layer) || layer.candidates.len() > 32 || session.count() >= 100_000 {
         return Ok(None);
     }
@@ -258,7 +249,7 @@ fn ended_at_last(
     Err("each call was refused")?
 }
 
-fn append_told(items: &List<Item>, told: &mut Vec<Told>) -> Result<(), AllocError> {
+pub fn append_told(items: &List<Item>, told: &mut Vec<Told>) -> Result<(), AllocError> {
     for item in items.as_slice() {
         in_numbers(item, told)?;
     }
@@ -272,7 +263,7 @@ fn told_of(
     points: &[Seen],
     refused: &mut u32,
 ) -> Result<Vec<Told>, Fail> {
-    let mut session = Online::open(alloc, net, &DEFAULTS);
+    let mut session = Online::open(alloc, net, &OPTIONS);
     let mut told = Vec::new(alloc);
     for seen in points {
         let items = fed_at_last(alloc, &mut session, seen, refused)?;

@@ -1,50 +1,21 @@
 //! Two traces whose points are interleaved, worked out by hand.
-use super::{SessionFault, Sessions};
+use crate::sessions::{Told, append_told};
 use bounded_search::RefusingRows;
 use cost_model::Params;
 use grid_index::Grid;
 use online_commit::Item;
 use polyline_geometry::List;
 use road_network::read_network;
+use row_tests::small::TWO_EDGES;
 use std::alloc::{AllocError, Global};
 use std::test::Fail;
 use trace_reader::Fix;
-
-const NETWORK: &[u8] = b"edge,from,to,line\n10,1,2,0 0;10000 0\n11,2,3,10000 0;20000 0\n";
+use trace_sessions::{SessionFault, Sessions};
 
 const NEAR: Params = Params {
-    k: 8,
     radius: 500,
-    sigma: 1_000,
-    beta: 1_000,
-    bound: 300_000,
-    workers: 4,
-    back: 0,
-    gap: 4_294_967_295,
+    ..Params::DEFAULT
 };
-
-/// An item in numbers: a label as (0, index, edge, offset), a point without candidates as
-/// (1, index, 0, 0), and a piece as (2, first, last, cost) with its route behind it, each edge as
-/// (3, edge, 0, 0).
-type Told = (u32, u32, u32, u64);
-
-fn append_told(items: &List<Item>, told: &mut Vec<Told>) -> Result<(), AllocError> {
-    for item in items.as_slice() {
-        match item {
-            Item::At { index, candidate } => {
-                told.push((0, *index, candidate.edge.0, u64::from(candidate.offset)))?;
-            }
-            Item::Missing(index) => told.push((1, *index, 0, 0))?,
-            Item::Closed { piece, route } => {
-                told.push((2, piece.first, piece.last, piece.cost))?;
-                for edge in route.as_slice() {
-                    told.push((3, edge.0, 0, 0))?;
-                }
-            }
-        }
-    }
-    Ok(())
-}
 
 /// A point at this x for an id, or its end, over rows of its own, which refuse this call.
 fn call(
@@ -56,7 +27,7 @@ fn call(
 ) -> Result<List<Item>, SessionFault> {
     let mut refuse = List::new(alloc);
     refuse.push(refused)?;
-    let mut rows = RefusingRows::open(alloc, sessions.net, sessions.params.bound, refuse)?;
+    let mut rows = RefusingRows::open(alloc, sessions.network(), sessions.params().bound, refuse)?;
     match x {
         Some(x) => {
             let fix = Fix {
@@ -142,7 +113,7 @@ fn are_closed(alloc: Global, sessions: &mut Sessions) -> Result<bool, Fail> {
 #[test]
 fn ids_have_sessions_of_their_own(rt: HostRuntime) -> Result<(), Fail> {
     let alloc = rt.alloc();
-    let net = read_network(alloc, NETWORK)?;
+    let net = read_network(alloc, TWO_EDGES)?;
     let grid = Grid::build(alloc, &net, 10_000)?;
     let mut sessions = Sessions::open(alloc, &net, &grid, &NEAR);
     assert!(rt; is_refused(alloc, &mut sessions, 5, None, 0, SessionFault::NotOpen(5)));
