@@ -3,7 +3,7 @@
 //!
 //! - `stop` has why work ends early, what is then said on err, and the status.
 //! - `files` reads a file whole, `chunks` a trace file chunk by chunk, `texts` puts a text, `load` reads
-//!   the network and says what is refused of words and files.
+//!   the network and says what is refused of words and files, and `words` has the words of a program.
 //! - `jobs` has the trait of what is done with traces, `stream` reads their file in chunks, and
 //!   `batches` holds the traces that wait; `total` counts them. `whole_traces` reads all traces of a
 //!   file and holds them.
@@ -25,6 +25,7 @@ mod stream;
 mod texts;
 mod total;
 mod whole_traces;
+mod words;
 
 pub use chunks::{CHUNK, Chunks};
 pub use files::read_file;
@@ -35,3 +36,4 @@ pub use stream::work_traces;
 pub use texts::put_text;
 pub use total::Tally;
 pub use whole_traces::load_traces;
+pub use words::arguments;
