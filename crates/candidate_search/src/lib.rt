@@ -16,13 +16,9 @@ mod best;
 mod boxes;
 mod edge_scan;
 mod groups;
-#[cfg(test)]
-mod many_points_tests;
 mod nearest;
 mod placed;
 mod search;
-#[cfg(test)]
-mod tests;
 mod visit;
 mod wanted;
 

@@ -25,8 +25,6 @@ mod nearest_cell;
 mod runs;
 mod starts;
 mod table;
-#[cfg(test)]
-mod tests;
 mod twins;
 
 pub use cells::Cells;

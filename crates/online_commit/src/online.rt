@@ -17,9 +17,6 @@ use std::alloc::{AllocError, Global};
 use std::marker::Model;
 use trellis::Layer;
 
-#[cfg(test)]
-mod tests;
-
 /// A session of one trace. A contract sees the network, the options and what is kept of the points;
 /// `StandsFor` says which points the session represents.
 pub struct Online<'n> {
@@ -75,6 +72,20 @@ impl<'n> Online<'n> {
             params: *p,
             piece: no_piece(alloc, 0),
         }
+    }
+
+    /// The network.
+    pub fn network(&self) -> &'n Network
+        ensures { result.now ≡ self.now.network }
+    {
+        self.net
+    }
+
+    /// The options.
+    pub fn params(&self) -> &Params
+        ensures { result.now ≡ self.now.params }
+    {
+        &self.params
     }
 
     /// The number of points taken since the session was opened or finished.

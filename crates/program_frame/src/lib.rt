@@ -3,10 +3,10 @@
 //!
 //! - `stop` has why work ends early, the error line, and the status.
 //! - `files` reads a file whole, `chunks` a trace file chunk by chunk, `texts` writes a text, `load` reads
-//! the network and has the refusals of words and files.
+//!   the network and has the refusals of words and files, and `words` has the words of a program.
 //! - `jobs` has the trait for what is done with traces, `stream` reads their file in chunks, and
-//! `batches` holds the waiting traces; `total` counts them. `whole_traces` reads all traces of a
-//! file into memory.
+//!   `batches` holds the waiting traces; `total` counts them. `whole_traces` reads all traces of a
+//!   file into memory.
 //!
 //! `laws` has what holds of the promises of every run.
 //!
@@ -25,6 +25,7 @@ mod stream;
 mod texts;
 mod total;
 mod whole_traces;
+mod words;
 
 pub use chunks::{CHUNK, Chunks};
 pub use files::read_file;
@@ -35,3 +36,4 @@ pub use stream::work_traces;
 pub use texts::put_text;
 pub use total::Tally;
 pub use whole_traces::load_traces;
+pub use words::arguments;

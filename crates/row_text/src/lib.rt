@@ -15,8 +15,6 @@ mod digits;
 pub mod laws;
 mod numbers;
 mod reading;
-#[cfg(test)]
-mod tests;
 mod writing;
 
 pub use reading::read_row;

@@ -16,8 +16,6 @@ mod fault;
 pub mod laws;
 mod lines;
 mod reading;
-#[cfg(test)]
-mod tests;
 mod writing;
 
 pub use fault::{TableFault, TableWriteFault};

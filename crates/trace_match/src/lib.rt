@@ -6,13 +6,13 @@
 //!
 //! - [`layers`] gives the positions of a trace with their candidates, and [`layer`] one of them.
 //! - [`labels`] gives the labels of points by their ranks, [`label`] one of them, and [`label_on`] that of a
-//! candidate.
+//!   candidate.
 //! - [`routed`] gives a piece with its route in the ids of the file.
 //! - [`Matcher`] has what traces are matched on: a network with the grid of its edges, and the options.
-//! Contracts see it as a `Setting` (`specs/Setting.antt`). `specs/Totals.antt` has the pieces of
-//! traces and the rows that they ask for, and `specs/Asked.antt` what becomes known by these.
+//!   Contracts see it as a `Setting` (`specs/Setting.antt`). `specs/Totals.antt` has the pieces of
+//!   traces and the rows that they ask for, and `specs/Asked.antt` what becomes known by these.
 //! - [`laws`] has what holds of every match, that labels agree exactly if ranks do, and that committed
-//! labels stay, whatever positions follow.
+//!   labels stay, whatever positions follow.
 #![tactic(auto)]
 
 mod fixes;

@@ -16,8 +16,6 @@ ghost use Rattle.trace_relay.specs.Order.{AreBounded, HeldSome, MayFollow, more,
 
 mod part;
 mod rule;
-#[cfg(test)]
-mod tests;
 
 use crate::rule::{InOrder, Log, Puts, Roles, Takes, Total};
 use crossbeam_queue::{Pass, RuledArrayQueue};

@@ -11,9 +11,6 @@ use road_network::Network;
 use std::alloc::{AllocError, Global};
 use trace_match::{label_on, routed};
 
-#[cfg(test)]
-mod tests;
-
 /// Appends the lines of these items, each after the id and a space if there is an id. On `Err`, `into`
 /// is unchanged.
 ///

@@ -26,8 +26,6 @@ use trace_match::layer;
 use trace_reader::Fix;
 
 mod streaming;
-#[cfg(test)]
-mod tests;
 
 /// Why a call of [`Sessions`] changed nothing.
 #[derive(Clone, Copy, Debug, PartialEq, Eq)]
@@ -147,6 +145,20 @@ impl<'n> Sessions<'n> {
             params: *p,
             sessions: IndexMap::new(alloc),
         }
+    }
+
+    /// The network.
+    pub fn network(&self) -> &'n Network
+        ensures { result.now ≡ self.now.network }
+    {
+        self.net
+    }
+
+    /// The options.
+    pub fn params(&self) -> &Params
+        ensures { result.now ≡ self.now.params }
+    {
+        &self.params
     }
 
     /// The number of ids with a session.
