@@ -1,6 +1,6 @@
-// Loaded before a program (LD_PRELOAD), it refuses one of its allocations, as a machine without memory does.
-// REFUSE_AT=N says which, counted from 1; REFUSE_BEHIND=1 refuses all behind it too. At the first refusal a byte is
-// written to the file REFUSE_NOTE, so that whoever ran the program knows that there was one.
+// A library for LD_PRELOAD that makes one allocation of a program fail, as if there were no memory left. REFUSE_AT=N is
+// the number of that allocation, counted from 1. With REFUSE_LATER=1 all later allocations fail too. The first failure
+// writes a byte to the file REFUSE_NOTE, so that the caller can see that it happened.
 #include <errno.h>
 #include <fcntl.h>
 #include <stdlib.h>
@@ -12,13 +12,13 @@ extern void *__libc_realloc(void *held, size_t size);
 extern void *__libc_memalign(size_t alignment, size_t size);
 
 static unsigned long refused_at;
-static int all_behind;
+static int all_later;
 static unsigned long met;
 
 __attribute__((constructor)) static void read_words(void) {
     const char *at = getenv("REFUSE_AT");
     refused_at = at ? strtoul(at, NULL, 10) : 0;
-    all_behind = getenv("REFUSE_BEHIND") != NULL;
+    all_later = getenv("REFUSE_LATER") != NULL;
 }
 
 static void note(void) {
@@ -30,7 +30,7 @@ static void note(void) {
 
 static int refuses(void) {
     unsigned long number = __atomic_add_fetch(&met, 1, __ATOMIC_RELAXED);
-    if (refused_at == 0 || number < refused_at || (number > refused_at && !all_behind))
+    if (refused_at == 0 || number < refused_at || (number > refused_at && !all_later))
         return 0;
     if (number == refused_at)
         note();

@@ -12,7 +12,7 @@ use Rattle.bounded_search.specs.declared.queue.Waiting.{Waiting}
 use Rattle.bounded_search.specs.LabelWords.{distance_at, no_label, origin_word, word_at, word_by}
 use Rattle.bounded_search.specs.Marked.{AreMarked, IsMarked, MarksToo}
 use Rattle.bounded_search.specs.Searching.{AreMarkedOrWait, IsSearching}
-use Rattle.bounded_search.specs.Underway.{IsUnderway, NonePending, SearchState, Waits, after_arc, after_arcs, effort, is_better, is_nearer, state_of}
+use Rattle.bounded_search.specs.Underway.{IsUnderway, SearchState, Waits, after_arc, after_arcs, effort, is_better, is_nearer, state_of}
 use Rattle.bounded_search.proofs.AfterArcs.{beside, tries_arc}
 use Rattle.bounded_search.proofs.Arcs.{IsLeaving, known_arcs}
 use Rattle.bounded_search.proofs.Gaining.{Tries, front_or_rest, gains_beside, gains_keeps, gains_there}

@@ -1,5 +1,5 @@
 -- A node is left by merging its row: the search is underway without it, and what is labelled is marked.
-use Rattle.std.proofs.Common.{◌≡◌, ◌≢◌, ℕ, ◌+◌, ◌<◌, ◌≤◌, ◌/◌, ◌^◌, ◌⊎◌, inl, inr, length, List, [], ◌∷◌, ◌++◌, sum, slice_index_or, Some, None, is_some, true≢false, refl, sym, ap, subst, ◌∙◌, arith}
+use Rattle.std.proofs.Common.{◌≡◌, ◌≢◌, ℕ, ◌<◌, ◌≤◌, ◌/◌, ◌^◌, inl, inr, length, List, [], ◌∷◌, ◌++◌, slice_index_or, Some, is_some, true≢false, sym, ap, subst, ◌∙◌, arith}
 use Rattle.std.proofs.lemmas.Bool.{cases_eq}
 use Rattle.std.proofs.lemmas.List.Elements.{recursion_from_All}
 use Rattle.std.specs.List.{All, AllByRecursion}
@@ -8,10 +8,10 @@ use Rattle.bounded_search.specs.declared.dijkstra.Workspace.{Workspace}
 use Rattle.bounded_search.specs.declared.queue.Waiting.{Waiting}
 use Rattle.bounded_search.specs.declared.table_row.Entry.{Entry}
 use Rattle.bounded_search.specs.Closed.{IsClosed, IsReached, origin_label}
-use Rattle.bounded_search.specs.LabelWords.{distance_at, no_label, word_at}
+use Rattle.bounded_search.specs.LabelWords.{distance_at, word_at}
 use Rattle.bounded_search.specs.Marked.{IsMarked, IsSized, KeepsSizes}
 use Rattle.bounded_search.specs.Merging.{MarksAlso, merged}
-use Rattle.bounded_search.specs.Searching.{AreMarkedOrWait, IsSearching, Leaves}
+use Rattle.bounded_search.specs.Searching.{AreMarkedOrWait, Leaves}
 use Rattle.bounded_search.specs.Table.{IsRow, RisesFrom, TableRow, entry_in, label_in, label_of}
 use Rattle.bounded_search.specs.Underway.{IsUnderway, NonePending, Waits}
 use Rattle.bounded_search.proofs.ClosedTables.{closed_of_table, none_some, some_there}

@@ -1,21 +1,20 @@
 -- Merging the row of a node that is taken keeps what a search is underway with, as trying its edges does.
-use Rattle.std.proofs.Common.{◌≡◌, ◌≢◌, ℕ, zero, suc, ◌+◌, ◌-◌, ◌/◌, ◌%◌, ◌^◌, ◌<◌, ◌≤◌, ◌⊎◌, inl, inr, min, length, List, [], ◌∷◌, sum, set, length-set, slice_index_or, Option, Some, None, true≢false, refl, sym, ap, subst, ◌∙◌, arith}
+use Rattle.std.proofs.Common.{◌≡◌, ◌≢◌, ℕ, suc, ◌+◌, ◌-◌, ◌/◌, ◌%◌, ◌^◌, ◌<◌, ◌≤◌, ◌⊎◌, inl, inr, min, length, List, [], ◌∷◌, sum, set, length-set, Option, Some, None, true≢false, refl, sym, ap, subst, ◌∙◌, arith}
 use Rattle.std.proofs.Math.Nat.{min-le_left, min-le_right, min-eq_left, min-eq_right}
 use Rattle.std.proofs.lemmas.Bool.{cases_eq, cases_lt}
 use Rattle.std.proofs.lemmas.Bool.Decides.{eqb_tells}
-use Rattle.std.proofs.lemmas.List.Elements.{recursion_from_All}
 use Rattle.std.proofs.lemmas.List.Sums.{sum_by-set}
 use Rattle.std.proofs.lemmas.Option.{same_Some}
-use Rattle.std.specs.List.{All, AllByRecursion}
-use Rattle.std.specs.Option.{IsSome, option_map}
-use Rattle.road_network.specs.Net.{Net, HasEdge, HasNode, IsLawful, source, target, span}
+use Rattle.std.specs.List.{AllByRecursion}
+use Rattle.std.specs.Option.{option_map}
+use Rattle.road_network.specs.Net.{Net, HasEdge, IsLawful, source, target, span}
 use Rattle.road_network.specs.declared.EdgeId.{EdgeId}
 use Rattle.bounded_search.specs.declared.queue.Waiting.{Waiting}
 use Rattle.bounded_search.specs.declared.table_row.Entry.{Entry}
 use Rattle.bounded_search.specs.declared.table_row.Label.{Label}
 use Rattle.bounded_search.specs.Closed.{IsClosed, IsReached, IsRelaxed, origin_label}
 use Rattle.bounded_search.specs.LabelWords.{distance_at, low_of, no_label, origin_word, word_at, word_by}
-use Rattle.bounded_search.specs.Marked.{IsMarked, MarksToo}
+use Rattle.bounded_search.specs.Marked.{MarksToo}
 use Rattle.bounded_search.specs.Merging.{MarksAlso, merged, merged_entry, merged_word}
 use Rattle.bounded_search.specs.Table.{RisesFrom, entry_in, label_in, label_of}
 use Rattle.bounded_search.specs.Underway.{IsHeld, IsTried, IsUnderway, NonePending, Waits}

@@ -8,7 +8,7 @@ use crate::wanted::Search;
 use road_network::EdgeId;
 use std::alloc::AllocError;
 
-/// An edge with the nearest of its segments that were seen, and how far that is, in cm².
+/// An edge with its nearest segment seen so far, and the squared distance in cm².
 #[derive(Clone, Copy)]
 pub(crate) struct NearEdge {
     pub(crate) edge: EdgeId,
@@ -32,7 +32,7 @@ impl NearEdge {
     }
 }
 
-/// The squared distance from which on no segment is wanted.
+/// The squared distance from which on a segment is not wanted.
 pub(crate) fn limit_for(found: &[NearEdge], search: Search) -> u64
     requires few { length found.now ≤ search.k }
     requires apart { AreApart found.now }
@@ -46,7 +46,7 @@ pub(crate) fn limit_for(found: &[NearEdge], search: Search) -> u64
     }
 }
 
-/// Whether k are found that come before an edge at this squared distance.
+/// Whether k edges are found that precede an edge at this squared distance.
 fn is_behind(found: &[NearEdge], search: Search, edge: EdgeId, d2: u64) -> bool
     requires few { length found.now ≤ search.k }
     requires apart { AreApart found.now }
@@ -70,7 +70,7 @@ fn place_of_edge(found: &[NearEdge], edge: EdgeId) -> usize
     place
 }
 
-/// The place of the first that comes after it.
+/// The index of the first one that comes after it.
 fn place_for(found: &[NearEdge], near: NearEdge) -> usize
     requires apart { AreApart found.now }
     requires others { All (λ c. c.edge.0 ≡ near.edge.0 → ⊥) found.now }
@@ -83,7 +83,7 @@ fn place_for(found: &[NearEdge], near: NearEdge) -> usize
     place
 }
 
-/// Takes the memory for k edges and two more, where none is found yet.
+/// Reserves memory for k + 2 edges, if none is found yet.
 fn make_room(found: &mut Vec<NearEdge>, k: usize) -> Result<(), AllocError>
     ensures { found.new.items ≡ found.old.items }
 {
@@ -94,7 +94,7 @@ fn make_room(found: &mut Vec<NearEdge>, k: usize) -> Result<(), AllocError>
     }
 }
 
-/// Puts one more edge at its place, and drops what is then beyond the first k.
+/// Inserts one more edge at its place, and drops what is then beyond the first k.
 fn put(found: &mut Vec<NearEdge>, k: usize, near: NearEdge) -> Result<(), AllocError>
     requires apart { AreApart found.old.items }
     requires others { All (λ c. c.edge.0 ≡ near.edge.0 → ⊥) found.old.items }
@@ -107,7 +107,7 @@ fn put(found: &mut Vec<NearEdge>, k: usize, near: NearEdge) -> Result<(), AllocE
     Ok(())
 }
 
-/// Puts an edge that stands at a place at that of a nearer segment of it.
+/// Moves an edge to the place of its nearer segment.
 fn move_up(
     found: &mut Vec<NearEdge>,
     k: usize,
@@ -123,7 +123,7 @@ fn move_up(
     put(found, k, near)
 }
 
-/// Takes one more segment, which no k edges keep out.
+/// Takes one more segment that is wanted.
 fn take_wanted(found: &mut Vec<NearEdge>, k: usize, near: NearEdge) -> Result<(), AllocError>
     requires few { length found.old.items ≤ k }
     requires apart { AreApart found.old.items }
@@ -140,7 +140,7 @@ fn take_wanted(found: &mut Vec<NearEdge>, k: usize, near: NearEdge) -> Result<()
     move_up(found, k, place, near)
 }
 
-/// Takes one more segment: of each edge the nearest is kept, and of the edges the first k.
+/// Takes one more segment: the nearest segment of each edge is kept, and of the edges the first k.
 pub(crate) fn take_near(
     found: &mut Vec<NearEdge>,
     search: Search,
@@ -168,7 +168,7 @@ fn has_neither(found: &[NearEdge], one: EdgeId, other: EdgeId) -> bool
     true
 }
 
-/// Whether two edges stand in order and both are new and wanted.
+/// Whether two edges are in order and both are new and wanted.
 fn is_new_pair(found: &[NearEdge], search: Search, own: NearEdge, twin: NearEdge) -> bool
     requires few { length found.now ≤ search.k }
     requires apart { AreApart found.now }
@@ -183,7 +183,7 @@ fn is_new_pair(found: &[NearEdge], search: Search, own: NearEdge, twin: NearEdge
     has_neither(found, own.edge, twin.edge)
 }
 
-/// Puts two more edges at their places, and drops what is then beyond the first k.
+/// Inserts two more edges at their places, and drops what is then beyond the first k.
 fn put_pair(
     found: &mut Vec<NearEdge>,
     k: usize,

@@ -1,4 +1,4 @@
-//! Boxes of edges, and those of them that are near a box of points. Serves `EdgeScan`; decided by
+//! Boxes of edges, and the boxes near a box of points. Serves `EdgeScan`; decided by
 //! `AreBoxes` and `touches`.
 ghost use Rattle.std.specs.Prelude.{◌≡◌, ◌<◌, ◌≤◌, All, IfOk, length, map, pos, ◌+ℤ◌, ◌-ℤ◌};
 ghost use Rattle.std.specs.Int.RustNames.{unsigned_abs};
@@ -15,23 +15,23 @@ use polyline_geometry::Point;
 use road_network::{EdgeId, Network};
 use std::alloc::{AllocError, Global};
 
-/// A line along an axis, which parts points: those on it lie below.
+/// A line parallel to an axis that divides points: those on it count as below.
 #[derive(Clone, Copy)]
 pub(crate) enum Cut {
-    /// Points up to this x lie below.
+    /// Points up to this x are below.
     X(i32),
-    /// Points up to this y lie below.
+    /// Points up to this y are below.
     Y(i32),
 }
 
-/// An edge, with a box that holds its line.
+/// An edge with a box around its line.
 #[derive(Clone, Copy)]
 pub(crate) struct EdgeBox {
     pub(crate) edge: EdgeId,
     pub(crate) extent: Extent,
 }
 
-/// A coordinate, less so many cm.
+/// A coordinate minus this many cm.
 fn less(z: i32, by: u32) -> i32
     requires small { unsigned_abs z ≤ 1_000_000_000 }
     requires by { by ≤ 100_000 }
@@ -40,7 +40,7 @@ fn less(z: i32, by: u32) -> i32
     z - by as i32
 }
 
-/// A coordinate, and so many cm.
+/// A coordinate plus this many cm.
 fn more(z: i32, by: u32) -> i32
     requires small { unsigned_abs z ≤ 1_000_000_000 }
     requires by { by ≤ 100_000 }
@@ -68,7 +68,7 @@ fn overlap(low: i32, high: i32, first: i32, last: i32) -> bool
 }
 
 impl Cut {
-    /// Whether a place lies below.
+    /// Whether a point is below.
     pub(crate) fn has_below(self, at: Point) -> bool {
         match self {
             Cut::X(x) => at.x <= x,
@@ -104,7 +104,7 @@ pub(crate) fn middle(extent: Extent) -> Cut
     }
 }
 
-/// The extent whose corners lie farther out by `reach`, in cm.
+/// The extent grown by `reach` cm on each side.
 pub(crate) fn grown(extent: Extent, reach: u32) -> Extent
     requires corners { AreCorners extent }
     requires reach { reach ≤ 100_000 }
@@ -122,7 +122,7 @@ pub(crate) fn grown(extent: Extent, reach: u32) -> Extent
     }
 }
 
-/// Whether two boxes have a place in common.
+/// Whether two boxes have a point in common.
 fn touches(one: Extent, other: Extent) -> bool
     ensures { result ≡ touches one other }
 {
@@ -157,7 +157,7 @@ pub(crate) fn boxes_of(alloc: Global, net: &Network) -> Result<Vec<EdgeBox>, All
     Ok(boxes)
 }
 
-/// Those of the boxes that touch a box.
+/// The boxes that touch a box.
 pub(crate) fn boxes_near(
     alloc: Global,
     boxes: &[EdgeBox],

@@ -13,7 +13,7 @@ use road_network::{Candidate, Network};
 use std::alloc::{AllocError, Global};
 use std::marker::Model;
 
-/// The boxes of all edges of a network, to be asked for the candidates of many points.
+/// The boxes of all edges of a network, for candidate searches at many points.
 pub struct EdgeScan<'n> {
     net: &'n Network,
     boxes: Vec<EdgeBox>,
@@ -39,8 +39,8 @@ impl<'n> Model for EdgeScan<'n> {
 }
 
 impl<'n> EdgeScan<'n> {
-    /// A scan of this network's edges. Takes 20 bytes for each edge, and a look at each point of its
-    /// line.
+    /// A scan of this network's edges. Uses 20 bytes for each edge, and visits each point of the lines
+    /// once.
     pub fn open(alloc: Global, net: &'n Network) -> Result<EdgeScan<'n>, AllocError>
         ensures { IfOk result (λ scan. scan ≡ net.now) }
     {
@@ -50,9 +50,9 @@ impl<'n> EdgeScan<'n> {
 
     /// The candidates of each point, without a grid.
     ///
-    /// The points are cut in two by where they lie, again and again, and each part looks only at the
-    /// boxes that are near the part that it was cut from. So points that lie near each other share most
-    /// of the work, in whatever order they come.
+    /// The points are divided in two by their positions, again and again, and each part visits only the
+    /// boxes that are near the part from which it was divided. So nearby points share most of the work,
+    /// in whatever order they come.
     pub fn candidates(
         &self,
         alloc: Global,
@@ -79,8 +79,8 @@ impl<'n> EdgeScan<'n> {
     }
 }
 
-/// The candidates of each point, by a scan of all edges that is made for this call. For many calls take
-/// an [`EdgeScan`].
+/// The candidates of each point, by a scan of all edges made for this call. For many calls use an
+/// [`EdgeScan`].
 pub fn candidates_plain_all(
     alloc: Global,
     net: &Network,

@@ -18,7 +18,7 @@ use polyline_geometry::{List, Point};
 use road_network::{Candidate, Network};
 use std::alloc::{AllocError, Global};
 
-/// So many empty lists.
+/// This many empty lists.
 pub(crate) fn empty_lists(alloc: Global, count: usize) -> Result<Vec<List<Candidate>>, AllocError>
     ensures { IfOk result (λ lists. lists.items ≡ replicate count []) }
 {
@@ -29,7 +29,7 @@ pub(crate) fn empty_lists(alloc: Global, count: usize) -> Result<Vec<List<Candid
     Ok(lists)
 }
 
-/// The candidates of a point, among the edges of these boxes.
+/// The candidates of a point among the edges of these boxes.
 fn candidates_among(
     alloc: Global,
     net: &Network,
@@ -73,7 +73,7 @@ fn list_each(
     Ok(())
 }
 
-/// Those of the boxes that are near a group, with this extent.
+/// The boxes that are near a group with this extent.
 fn boxes_for(
     alloc: Global,
     net: &Network,
@@ -92,8 +92,8 @@ fn boxes_for(
     Ok(near)
 }
 
-/// Writes the candidates of each point of a group at its place. Parts of the group look only at the boxes
-/// that are near the whole of it.
+/// Writes the candidates of each point of a group at its place. Parts of the group visit only the boxes
+/// that are near the whole group.
 pub(crate) fn list_group(
     alloc: Global,
     net: &Network,

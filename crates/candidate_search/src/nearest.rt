@@ -1,4 +1,4 @@
-//! The nearest candidates so far, kept in order while edges are taken by rising number. Serves
+//! The nearest candidates so far, kept in order while edges are taken by ascending number. Serves
 //! `candidates` and `candidates_plain`; decided by `with_one`.
 ghost use Rattle.std.specs.Prelude.{◌≡◌, ℕ, ◌+◌, ◌*◌, ◌≤◌, ◌<◌, ◌⊎◌, length, take, OnOk};
 ghost use Rattle.std.specs.List.{All};
@@ -20,7 +20,7 @@ fn place_of(found: &[Candidate], d2: u64) -> usize
     found.partition_point(|candidate| candidate.d2 <= d2)
 }
 
-/// The squared distance from which on a later edge is no candidate.
+/// The squared distance from which on a later edge is not a candidate.
 pub(crate) fn limit_of(found: &[Candidate], search: Search) -> u64
     requires few { length found.now ≤ search.k }
     requires sorted { IsNonDecreasingBy (λ c. c.d2) found.now }
@@ -35,7 +35,7 @@ pub(crate) fn limit_of(found: &[Candidate], search: Search) -> u64
     }
 }
 
-/// Puts a candidate of a later edge at its place, and drops what is then beyond the first k.
+/// Inserts a candidate of a later edge at its place, and drops what is then beyond the first k.
 fn insert(found: &mut Vec<Candidate>, k: usize, candidate: Candidate) -> Result<(), AllocError>
     requires { IsFound k candidate.edge.0 found.old.items }
     ensures list { OnOk result (found.new.items ≡ take k (placed candidate found.old.items)) }
@@ -47,8 +47,8 @@ fn insert(found: &mut Vec<Candidate>, k: usize, candidate: Candidate) -> Result<
     Ok(())
 }
 
-/// Takes one more edge, by rising number, whose nearest segment is known: None says that it has none
-/// that is near enough.
+/// Takes one more edge, by ascending number, whose nearest segment is known; `None` if no segment
+/// is near enough.
 pub(crate) fn take_segment(
     net: &Network,
     found: &mut Vec<Candidate>,
@@ -79,7 +79,7 @@ pub(crate) fn take_segment(
     }
 }
 
-/// Takes one more edge, by rising number.
+/// Takes one more edge, by ascending number.
 pub(crate) fn consider(
     net: &Network,
     found: &mut Vec<Candidate>,

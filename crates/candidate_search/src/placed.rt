@@ -1,4 +1,4 @@
-//! Points with their places, and groups of them cut in two by where they lie. Serves `EdgeScan`; decided
+//! Points with their indices, and groups of them divided in two by position. Serves `EdgeScan`; decided
 //! by `IsPlaced` and `AreHalves`.
 ghost use Rattle.std.specs.Prelude.{◌<◌, ◌^◌, ◌++◌, ◌∷◌, [], IfOk, IfSome, OnOk, length};
 ghost use Rattle.std.specs.List.Sorted.{IsPermutation};
@@ -10,24 +10,24 @@ use grid_index::Extent;
 use polyline_geometry::Point;
 use std::alloc::{AllocError, Global};
 
-/// How many points share the last look at boxes.
+/// How many points share the last visit of boxes.
 const FEW: usize = 4;
 
-/// A point with its place among those that are asked for.
+/// A point with its index in the request.
 #[derive(Clone, Copy)]
 pub(crate) struct Placed {
     pub(crate) place: u32,
     pub(crate) at: Point,
 }
 
-/// The points of a group, cut in two.
+/// The points of a group, divided in two.
 #[derive(Drop)]
 pub(crate) struct Halves {
     pub(crate) below: Vec<Placed>,
     pub(crate) above: Vec<Placed>,
 }
 
-/// Points with their places.
+/// Points with their indices.
 pub(crate) fn with_places(alloc: Global, points: &[Point]) -> Result<Vec<Placed>, AllocError>
     requires { length points.now < 2 ^ 32 }
     ensures { IfOk result (λ group. ArePlaced points.now group.items) }
@@ -43,7 +43,7 @@ pub(crate) fn with_places(alloc: Global, points: &[Point]) -> Result<Vec<Placed>
 }
 
 impl Halves {
-    /// Takes one more point, on its side of the cut.
+    /// Takes one more point, on its side of the division.
     fn take(&mut self, cut: Cut, point: Placed) -> Result<(), AllocError>
         ensures { OnOk result (IsPermutation (both self.old ++ point ∷ []) (both self.new)) }
     {
@@ -57,7 +57,7 @@ impl Halves {
     }
 }
 
-/// The points of a group on each side of the middle of its extent; None where they are few, or all on
+/// The points of a group on each side of the middle of its extent; `None` if they are few, or all on
 /// one side.
 pub(crate) fn cut_in_two(
     alloc: Global,

@@ -15,7 +15,7 @@ use polyline_geometry::{List, Point, offset_on};
 use road_network::{Candidate, EdgeId, Network};
 use std::alloc::{AllocError, Global};
 
-/// What the options say of a search.
+/// The part of the options that a search needs.
 pub(crate) fn search_for(p: &Params, at: Point) -> Search
     requires options { IsAccepted p.now }
     requires at_in { InRange at }
@@ -66,7 +66,7 @@ fn candidates_of(
     Ok(list)
 }
 
-/// The nearest edges, by the runs of the grid. Beside the whole network there are none.
+/// The nearest edges, by the runs of the grid; none for a point far from the whole network.
 fn nearest_edges(
     alloc: Global,
     net: &Network,
@@ -96,7 +96,7 @@ fn nearest_edges(
     Ok(found)
 }
 
-/// The candidates of a point, among the runs that the grid gives.
+/// The candidates of a point, among the runs of the grid.
 pub fn candidates(
     alloc: Global,
     net: &Network,

@@ -1,5 +1,5 @@
-//! Visits of the runs near a point, cell by cell from its own on. Serves `candidates`; decided by
-//! `HasSeenCell`.
+//! Visits the runs near a point, cell by cell from its own cell outwards. Serves `candidates`; decided
+//! by `HasSeenCell`.
 ghost use Rattle.std.specs.Prelude.{◌≡◌, ◌<◌, OnOk};
 ghost use Rattle.polyline_geometry.specs.Plane.{InRange};
 ghost use Rattle.road_network.specs.Net.{Net};
@@ -29,7 +29,7 @@ fn nearest_of_twin(net: &Network, run: Run, twin: EdgeId, near: NearSegments) ->
     }
 }
 
-/// Takes the nearest segments of a run, of its own edge and of the twin, where there is one.
+/// Takes the nearest segments of a run, for its own edge and for the twin, if it has one.
 fn take_both(
     net: &Network,
     found: &mut Vec<NearEdge>,
@@ -76,7 +76,7 @@ fn measure_run(
     }
 }
 
-/// Looks at a run, by how far its box is: its segments are measured where that is near enough.
+/// Visits a run, given the distance to its box: its segments are measured if the box is near enough.
 fn look_at_box(
     net: &Network,
     found: &mut Vec<NearEdge>,
@@ -99,7 +99,7 @@ fn look_at_box(
     }
 }
 
-/// Looks at a run.
+/// Visits a run.
 fn look_at_run(
     net: &Network,
     found: &mut Vec<NearEdge>,
@@ -115,7 +115,7 @@ fn look_at_run(
     look_at_box(net, found, search, run, distance2(search.at, place))
 }
 
-/// Looks at the runs that stand at no cell.
+/// Visits the runs that are in no cell.
 pub(crate) fn look_at_wide(
     net: &Network,
     grid: &Grid,
@@ -135,7 +135,7 @@ pub(crate) fn look_at_wide(
     Ok(())
 }
 
-/// Looks at a run where its nearest place lies in this cell, so that each is looked at once.
+/// Visits a run if its nearest point lies in this cell, so that each run is visited once.
 fn look_at_run_once(
     net: &Network,
     grid: &Grid,
@@ -158,7 +158,7 @@ fn look_at_run_once(
     }
 }
 
-/// Looks at the runs of a cell, where it is near enough.
+/// Visits the runs of a cell, if it is near enough.
 fn look_at_cell(
     net: &Network,
     grid: &Grid,
@@ -187,7 +187,7 @@ fn look_at_cell(
     Ok(())
 }
 
-/// Looks at the cells of a row from one column up to before another.
+/// Visits the cells of a row in a range of columns.
 fn look_at_columns(
     net: &Network,
     grid: &Grid,
@@ -209,7 +209,7 @@ fn look_at_columns(
     Ok(())
 }
 
-/// Looks at the cells of a row, that of the point's column first.
+/// Visits the cells of a row, the point's own column first.
 fn look_at_row(
     net: &Network,
     grid: &Grid,
@@ -232,7 +232,7 @@ fn look_at_row(
     Ok(())
 }
 
-/// Looks at the rows of cells from one up to before another.
+/// Visits the rows of cells in a range.
 fn look_at_rows(
     net: &Network,
     grid: &Grid,
@@ -254,7 +254,7 @@ fn look_at_rows(
     Ok(())
 }
 
-/// Looks at cells, those of the point's row first.
+/// Visits cells, those of the point's own row first.
 pub(crate) fn look_at_cells(
     net: &Network,
     grid: &Grid,

@@ -4,7 +4,7 @@ ghost use Rattle.polyline_geometry.specs.Plane.{InRange};
 
 use polyline_geometry::Point;
 
-/// Whose candidates are wanted, and which.
+/// For which point candidates are wanted, and which.
 #[derive(Clone, Copy)]
 pub(crate) struct Search {
     pub(crate) at: Point,

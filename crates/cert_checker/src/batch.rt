@@ -1,14 +1,14 @@
-//! Some traces in a row with their proofs, checked by one thread. Serves `check_all`.
+//! Consecutive traces with their proofs, checked by one thread. Serves `check_all`.
 ghost use Rattle.std.specs.Prelude.{◌≡◌, ◌≤◌, ◌<◌, ◌+◌, ◌^◌, All, length};
 ghost use Rattle.trace_reader.specs.Trace.{IsLawfulTrace};
 
 use potential_certificate::TraceProof;
 use trace_reader::Trace;
 
-/// A batch has at most so many traces.
+/// The most traces of a batch.
 pub const BATCH_TRACES: usize = 32_768;
 
-/// Traces in a row, of which the first is number `first`, each with its proof.
+/// Consecutive traces, each with its proof; `first` is the index of the first.
 #[derive(Clone, Copy)]
 pub struct Batch<'a> {
     pub first: u64,

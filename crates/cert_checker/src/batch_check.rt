@@ -18,7 +18,7 @@ use std::alloc::{AllocError, Global};
 use std::thread::Threads;
 use trace_reader::{Fix, Trace};
 
-/// The fixes of all traces, one trace after the other.
+/// The positions of all traces, one trace after the other.
 fn fixes(alloc: Global, traces: &[Trace]) -> Result<List<Fix>, AllocError>
     ensures { IfOk result (λ fixes. fixes ≡ flat_map (λ trace. trace.fixes) traces.now) }
 {
@@ -29,7 +29,7 @@ fn fixes(alloc: Global, traces: &[Trace]) -> Result<List<Fix>, AllocError>
     Ok(fixes)
 }
 
-/// So many of these layers, behind the first ones.
+/// `count` of these layers, from index `first` on.
 fn part(layers: &[Layer], first: usize, count: usize) -> &[Layer]
     requires { first + count ≤ length layers.now }
     ensures { result.now ≡ take count (drop first layers.now) }
@@ -37,7 +37,7 @@ fn part(layers: &[Layer], first: usize, count: usize) -> &[Layer]
     &layers[first..first + count]
 }
 
-/// The first verdict that refuses a trace of a batch. The candidates of all come from one search.
+/// The first verdict that refuses a trace of a batch. One search gives the candidates of all traces.
 fn verdict_on_batch(alloc: Global, ground: &Ground, batch: &Batch) -> Result<Verdict, AllocError>
     ensures { IfOk result (λ v. v ≡ batch_verdict ground.now.net.now ground.now.params.now
         ground.now.rows.now batch.now) }
@@ -86,7 +86,7 @@ pub fn verdicts<R: Threads + Sync>(
         .collect(rt, alloc)
 }
 
-/// The first of these verdicts that refuses; want of memory where it stands before it.
+/// The first of these verdicts that refuses; out of memory if that comes before it.
 pub fn first_refused(answers: &[Result<Verdict, AllocError>]) -> Result<Verdict, AllocError>
     ensures { (verdicts : ListOf AVerdict) → AllZip (λ v r. IfOk r (λ w. w ≡ v)) verdicts answers.now
         → IfOk result (λ w. w ≡ first_refused verdicts) }

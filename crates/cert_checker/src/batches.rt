@@ -9,10 +9,10 @@ use potential_certificate::TraceProof;
 use std::alloc::{AllocError, Global};
 use trace_reader::Trace;
 
-/// From so many points on a batch is full.
+/// A batch is full from this many points on.
 const BATCH_POINTS: usize = 5_000;
 
-/// Where the batch ends that begins with a trace.
+/// Where the batch that begins with a trace ends.
 fn batch_end(traces: &[Trace], first: usize) -> usize
     requires { first < length traces.now }
     ensures after { first < result }

@@ -1,4 +1,4 @@
-//! What a point says of pieces: where they begin and end, and what holds of the one that ends there.
+//! The pieces at a point: where they begin and end, and the conditions on the piece that ends there.
 //! Serves `check_trace`; decided by `has_breaks` and `each_ended`.
 ghost use Rattle.std.specs.Prelude.{◌≡◌, ◌&&◌, ◌∷◌, [], IfOk};
 ghost use Rattle.cert_checker.specs.Case.{has_way, is_looked_at};
@@ -14,7 +14,7 @@ use crate::verdict::Condition;
 use match_text::Routed;
 use std::alloc::{AllocError, Global};
 
-/// Whether the point begins a piece, goes on with one or is in none, as its transitions tell.
+/// Whether the point begins a piece, continues one or is in none, as its transitions require.
 fn breaks_right(case: &TraceCase, left: &[Routed], i: usize, is_reached: bool) -> bool
     requires point { IsNext (case_seen case.now) i left.now }
     requires reached { is_reached
@@ -31,8 +31,8 @@ fn breaks_right(case: &TraceCase, left: &[Routed], i: usize, is_reached: bool) -
     }
 }
 
-/// Whether the pieces stand at a point as its transitions tell. `left` are those that end at the point
-/// or later, and `is_reached` says whether some live cell of the point before has a route to it.
+/// Whether the pieces at a point are as its transitions require. `left` are the pieces that end at the
+/// point or later, and `is_reached` says whether some live cell of the previous point has a route to it.
 pub fn has_breaks(case: &TraceCase, left: &[Routed], i: usize, is_reached: bool) -> bool
     requires point { IsNext (case_seen case.now) i left.now }
     requires reached { is_reached
@@ -42,7 +42,7 @@ pub fn has_breaks(case: &TraceCase, left: &[Routed], i: usize, is_reached: bool)
     breaks_right(case, left, i, is_reached) && (i + 1 != case.layers.len() || !ends_after(left, i))
 }
 
-/// The first condition that fails of the piece that ends with a point.
+/// The first failing condition of the piece that ends with a point.
 pub fn failing_end(
     alloc: Global,
     case: &TraceCase,

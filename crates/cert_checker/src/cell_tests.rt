@@ -9,15 +9,15 @@ use matching::Cell;
 /// The least number that does not fit 64 bits.
 const BEYOND: u128 = 18_446_744_073_709_551_616;
 
-/// Whether there is a way.
+/// Whether there is any way.
 pub fn has_way(column: &[Option<u128>]) -> bool
     ensures { result ≡ list_any is_some column.now }
 {
     column.iter().any(|way| way.is_some())
 }
 
-/// Whether a cost is at most that of a way, if there is that way. A sum that does not fit 64 bits is
-/// no bound.
+/// Whether a cost is at most that of a way, if there is that way. A sum that does not fit 64 bits
+/// does not bound it.
 fn is_relaxed_by(cost: Option<u64>, way: Option<u128>) -> bool
     ensures { result ≡ is_relaxed_by cost way }
 {
@@ -35,7 +35,7 @@ pub fn is_relaxed(column: &[Option<u128>], cell: Cell) -> bool
     column.iter().all(|way| is_relaxed_by(cell.cost, *way))
 }
 
-/// Whether there is the way, and it costs this much.
+/// Whether the way exists and has this cost.
 fn is_cost(cost: u64, way: Option<u128>) -> bool
     ensures { result ≡ is_cost cost way }
 {
@@ -55,7 +55,7 @@ fn way_at(column: &[Option<u128>], rank: u32) -> Option<u128>
     }
 }
 
-/// Whether a live cell costs what the way that its pointer names costs.
+/// Whether a live cell has the cost of the way that its pointer names.
 pub fn is_tight(column: &[Option<u128>], cell: Cell) -> bool
     ensures { result ≡ is_tight column.now cell }
 {
@@ -66,7 +66,7 @@ pub fn is_tight(column: &[Option<u128>], cell: Cell) -> bool
     }
 }
 
-/// Whether a way before this rank costs this much.
+/// Whether a way before this rank has this cost.
 fn costs_before(column: &[Option<u128>], rank: u32, cost: u64) -> bool
     ensures { result ≡ list_any (is_cost cost) (take rank column.now) }
 {
@@ -87,7 +87,7 @@ pub fn is_first_pointer(column: &[Option<u128>], cell: Cell) -> bool
     }
 }
 
-/// Whether a cell costs what its candidate costs, without pointer.
+/// Whether a cell has the cost of its candidate, without a pointer.
 pub fn is_first_cell(emission: u64, cell: Cell) -> bool
     ensures { result ≡ is_first_cell emission cell }
 {

@@ -19,7 +19,7 @@ fn costs_less(cells: &[Cell], cost: u64) -> bool
         .any(|cell| cell.cost.is_some_and(|other| other < cost))
 }
 
-/// Whether one of these cells costs this much.
+/// Whether one of these cells has this cost.
 fn costs_same(cells: &[Cell], cost: u64) -> bool
     ensures { result ≡ list_any (λ cell. is_cost cost (cell.cost)) cells.now }
 {
@@ -28,7 +28,7 @@ fn costs_same(cells: &[Cell], cost: u64) -> bool
         .any(|cell| cell.cost.is_some_and(|other| other == cost))
 }
 
-/// Whether a rank is the least of least cost, and that cost is this one.
+/// Whether a rank is the least one of least cost, and that cost is `cost`.
 fn is_least_rank(cells: &[Cell], rank: Option<u32>, cost: u64) -> bool
     ensures { result ≡ is_least_rank cells.now rank cost }
 {
@@ -54,7 +54,7 @@ fn pointer(case: &TraceCase, i: usize) -> Option<u32>
     }
 }
 
-/// Whether at each point of a piece but the last the chosen rank is the pointer of the next chosen
+/// Whether at each point of a piece except the last the chosen rank is the pointer of the next chosen
 /// cell.
 fn follows_pointers(case: &TraceCase, piece: &Routed) -> bool
     ensures { result ≡ follows_pointers (case_seen case.now) piece.now }

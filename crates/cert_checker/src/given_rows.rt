@@ -10,7 +10,7 @@ use road_network::{Network, NodeId};
 use std::alloc::AllocError;
 use std::marker::Model;
 
-/// Right rows by rising origin. No other row is found.
+/// Right rows by ascending origin. No other row is available.
 #[derive(Drop)]
 pub struct GivenRows<'a> {
     net: &'a Network,
@@ -31,7 +31,7 @@ impl<'a> Model for GivenRows<'a> {
 }
 
 impl<'a> GivenRows<'a> {
-    /// These rows, of which none is bad.
+    /// These rows; none of them is bad.
     pub fn of(net: &'a Network, bound: u32, rows: &'a PlacedRows<'a>) -> GivenRows<'a>
         requires { first_bad_row net.now bound rows.now ≡ None }
         ensures { result ≡ rows_given net.now bound rows.now }
@@ -39,7 +39,7 @@ impl<'a> GivenRows<'a> {
         GivenRows { net, bound, rows }
     }
 
-    /// The row of a node; an error where it is not there.
+    /// The row of a node; an error if it is missing.
     fn find(&self, n: NodeId) -> Result<&Row, AllocError>
         ensures row { IfOk result (λ row. IsRow self.now.network self.now.bound n.0 row.now) }
         ensures known { OnOk result (Contains self.now.known n.0) }

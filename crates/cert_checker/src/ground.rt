@@ -1,4 +1,4 @@
-//! What the traces of a certificate are checked on. Serves `check_all`.
+//! What the traces of a certificate are checked against. Serves `check_all`.
 ghost use Rattle.std.specs.Prelude.{◌≡◌, None};
 ghost use Rattle.cost_model.specs.Options.{IsAccepted};
 ghost use Rattle.cert_checker.specs.Rows.{first_bad_row};

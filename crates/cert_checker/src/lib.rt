@@ -1,9 +1,10 @@
-//! The checker of certificates: whether a certificate proves the match of traces, without the match.
+//! The checker of certificates: whether a certificate proves the match of traces, without matching them.
 //!
-//! [`check_rows`] tries the rows that the rest stands on, [`check_trace`] one trace, and [`check_all`] a
-//! whole certificate. The verdict on a trace is `trace_verdict` in `specs/Verdicts.antt`, and that on a
-//! certificate `verdict` in `specs/Whole.antt`. [`laws`] has that they prove the matches of traces, and
-//! nothing else. Certificates, right and forged, are tried by the crate `cert_tests`.
+//! [`check_rows`] checks the rows that everything else relies on, [`check_trace`] one trace, and
+//! [`check_all`] a whole certificate. The verdict on a trace is `trace_verdict` in
+//! `specs/Verdicts.antt`, and that on a certificate `verdict` in `specs/Whole.antt`. [`laws`] shows that
+//! a certificate is proved exactly if it has the matches of the traces. The crate `cert_tests` tests
+//! right and forged certificates.
 #![tactic(auto)]
 
 mod batch;

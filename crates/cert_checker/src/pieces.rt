@@ -1,4 +1,4 @@
-//! The pieces of a proof, met in the order of the points. Serves `check_trace`; decided by
+//! The pieces of a proof, in the order of the points. Serves `check_trace`; decided by
 //! `rise_from`, `begins` and `goes_on`.
 ghost use Rattle.std.specs.Prelude.{◌≡◌, ◌+◌, nat_lt, List as ListOf, option_copied};
 ghost use Rattle.std.specs.List.{list_any};
@@ -22,7 +22,7 @@ pub fn pieces_rise(pieces: &[Routed]) -> bool
     true
 }
 
-/// Whether one of the pieces that end at point i or later has the point.
+/// Whether one of the pieces that end at point i or later contains the point.
 pub fn is_in_any(left: &[Routed], i: usize) -> bool
     ensures { (pieces : ListOf Routed) → AreLeft pieces left.now i → result ≡ is_in_any pieces i }
 {

@@ -1,4 +1,4 @@
-//! The rows of a certificate with their places by node. Serves `way` and `ways_by_step`; decided by
+//! The rows of a certificate with an index by node. Serves `way` and `ways_by_step`; decided by
 //! `FindsRow`.
 ghost use Rattle.std.specs.Prelude.{◌≡◌, ◌<◌, IfOk, length, slice_index_or};
 ghost use Rattle.bounded_search.specs.Table.{TableRow};
@@ -9,11 +9,11 @@ use road_network::{Network, NodeId};
 use std::alloc::{AllocError, Global};
 use std::marker::Model;
 
-/// Rows by rising origin. The place of the row of a node is found at once.
+/// Rows by ascending origin. The row of a node is found in constant time.
 #[derive(Drop)]
 pub struct PlacedRows<'a> {
     rows: &'a [Row],
-    /// By node: one more than the place of its row, and 0 where there is none.
+    /// By node: the index of its row plus one, or 0 if it has none.
     places: Vec<u32>,
 }
 
@@ -31,7 +31,7 @@ impl<'a> Model for PlacedRows<'a> {
 }
 
 impl<'a> PlacedRows<'a> {
-    /// These rows, of which none is bad. Takes 4 bytes for each node.
+    /// These rows; none of them is bad. Uses 4 bytes for each node.
     pub fn of(alloc: Global, net: &Network, rows: &'a [Row]) -> Result<PlacedRows<'a>, AllocError>
         requires { AreRightRows net.now rows.now }
         ensures { IfOk result (λ placed. placed ≡ rows.now) }

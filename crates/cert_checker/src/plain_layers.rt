@@ -1,5 +1,5 @@
-//! The fixes of traces with their candidates, by a scan of all edges that neighbouring fixes share.
-//! Serves `check_trace`; decided by `layer_of`.
+//! The positions of traces with their candidates, by one scan of all edges. Serves `check_trace`;
+//! decided by `layer_of`.
 ghost use Rattle.std.specs.Prelude.{◌≡◌, ◌<◌, ◌^◌, All, IfOk, length, map};
 ghost use Rattle.polyline_geometry.specs.Plane.{InRange};
 ghost use Rattle.road_network.specs.Near.{candidates};
@@ -13,7 +13,7 @@ use road_network::{Candidate, Network};
 use std::alloc::{AllocError, Global};
 use trace_reader::Fix;
 
-/// Where fixes were measured.
+/// The points of these positions.
 fn places(alloc: Global, fixes: &[Fix]) -> Result<List<Point>, AllocError>
     ensures { IfOk result (λ points. points ≡ map place_of fixes.now) }
 {
@@ -24,7 +24,7 @@ fn places(alloc: Global, fixes: &[Fix]) -> Result<List<Point>, AllocError>
     Ok(List::from_vec(points))
 }
 
-/// Fixes with these candidates.
+/// Positions with these candidates.
 fn with_candidates(
     alloc: Global,
     net: &Network,
@@ -47,7 +47,7 @@ fn with_candidates(
     Ok(List::from_vec(layers))
 }
 
-/// Fixes with their candidates.
+/// Positions with their candidates.
 pub fn plain_layers(
     alloc: Global,
     ground: &Ground,

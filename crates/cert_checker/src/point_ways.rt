@@ -1,4 +1,4 @@
-//! What the ways to the candidates of a point say of its cells. Serves `check_trace`; decided by
+//! What the ways to the candidates of a point show about its cells. Serves `check_trace`; decided by
 //! `AreWaysOf`.
 ghost use Rattle.std.specs.Prelude.{◌≡◌, ◌-◌, IfOk, length};
 ghost use Rattle.cert_checker.specs.Case.{width};
@@ -14,20 +14,20 @@ use matching::Cell;
 use std::alloc::{AllocError, Global};
 use trellis::PairMemory;
 
-/// What the ways to the candidates of a point say of its cells.
+/// What the ways to the candidates of a point show about its cells.
 #[derive(Clone, Copy, Debug, PartialEq, Eq)]
 pub struct PointWays {
-    /// Some live cell of the point before has a route to some candidate.
+    /// Some live cell of the previous point has a route to some candidate.
     pub any: bool,
     /// No cell costs more than a way to it.
     pub relaxed: bool,
-    /// Each live cell costs what the way that its pointer names costs.
+    /// Each live cell has the cost of the way that its pointer names.
     pub tight: bool,
     /// Each pointer names the first way of its cost.
     pub least: bool,
 }
 
-/// What was found of the first cells, and of one more with the ways to it.
+/// The result for the first cells and one more, with the ways to it.
 fn with_column(found: PointWays, column: &[Option<u128>], cell: Cell) -> PointWays
     ensures { result ≡ with_column found column.now cell }
 {
@@ -39,7 +39,7 @@ fn with_column(found: PointWays, column: &[Option<u128>], cell: Cell) -> PointWa
     }
 }
 
-/// What the ways to each candidate say, one column after the other.
+/// The result for all candidates, one column after the other.
 fn ways_by_columns(case: &TraceCase, i: usize, column: &mut [Option<u128>]) -> PointWays
     requires ready { IsReady (case_seen case.now) i }
     requires count { length column.old ≡ width (case_seen case.now) (i - 1) }
@@ -59,8 +59,8 @@ fn ways_by_columns(case: &TraceCase, i: usize, column: &mut [Option<u128>]) -> P
     found
 }
 
-/// What the ways to the candidates of a point say of its cells. What rows said of pairs of nodes is
-/// remembered.
+/// What the ways to the candidates of a point show about its cells. Remembers lookups of pairs of
+/// nodes.
 pub fn point_ways(
     alloc: Global,
     case: &TraceCase,

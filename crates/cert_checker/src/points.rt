@@ -1,5 +1,5 @@
-//! Conditions of a point that need no way: that it has its table and its rank, that the rows are there
-//! that its transitions rest on, and what the first cells of a piece cost.
+//! The conditions of a point that need no way: its table and its rank, the rows that its transitions
+//! rely on, and the costs of the first cells of a piece.
 ghost use Rattle.std.specs.Prelude.{◌≡◌, ◌<◌, ◌-◌, length, true};
 ghost use Rattle.cert_checker.specs.Case.{width};
 ghost use Rattle.cert_checker.specs.CaseSeen.{IsCheckable, case_seen};
@@ -10,7 +10,7 @@ use crate::cell_tests::is_first_cell;
 use crate::trace_case::TraceCase;
 use cost_model::emission;
 
-/// Whether it is a rank of so many candidates, and none where there are none.
+/// Whether the rank is below `width`, or `None` if `width` is 0.
 fn is_rank_of(width: usize, rank: Option<u32>) -> bool
     ensures { result ≡ is_rank_of width rank }
 {
@@ -20,8 +20,8 @@ fn is_rank_of(width: usize, rank: Option<u32>) -> bool
     }
 }
 
-/// Whether a point has a table of the size of its candidates and a rank of them, and none stands
-/// beyond the last point.
+/// Whether a point has a table of the size of its candidates and a rank of them, with nothing after
+/// the last point.
 pub fn has_candidates(case: &TraceCase, i: usize) -> bool
     requires { i < length case.now.layers.now }
     ensures { result ≡ has_candidates (case_seen case.now) i }
@@ -51,8 +51,8 @@ fn has_row_of(case: &TraceCase, i: usize, a: usize) -> bool
     }
 }
 
-/// Whether the certificate has the row of each live cell of the point before, where transitions from
-/// there are looked at.
+/// Whether the certificate has the row of each live cell of the previous point, if transitions from
+/// there are checked.
 pub fn has_rows(case: &TraceCase, i: usize) -> bool
     requires checkable { IsCheckable (case_seen case.now) }
     requires point { i < length case.now.layers.now }
@@ -69,7 +69,7 @@ pub fn has_rows(case: &TraceCase, i: usize) -> bool
     true
 }
 
-/// Whether cell j of a point costs what its candidate costs, without pointer.
+/// Whether cell j of a point has the cost of its candidate, without a pointer.
 fn is_first_at(case: &TraceCase, i: usize, j: usize) -> bool
     requires checkable { IsCheckable (case_seen case.now) }
     requires point { i < length case.now.layers.now }

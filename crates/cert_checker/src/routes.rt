@@ -13,7 +13,7 @@ use road_network::{Candidate, EdgeId, Network};
 use route_rebuild::walk;
 use std::alloc::{AllocError, Global};
 
-/// What is left of the ids of a route behind that of an edge; None where they begin otherwise.
+/// The ids of a route after that of an edge; `None` if the route begins otherwise.
 fn after_edge<'a>(net: &Network, names: &'a [u32], edge: EdgeId) -> Option<&'a [u32]>
     requires { HasEdge net.now edge.0 }
     ensures { IsLeftAfter net.now names.now (edge.0 ∷ []) (option_copied result) }
@@ -24,7 +24,7 @@ fn after_edge<'a>(net: &Network, names: &'a [u32], edge: EdgeId) -> Option<&'a [
     }
 }
 
-/// What is left of the ids of a route behind those of edges; None where they begin otherwise.
+/// The ids of a route after those of edges; `None` if the route begins otherwise.
 fn after_edges<'a>(net: &Network, names: &'a [u32], edges: &[EdgeId]) -> Option<&'a [u32]>
     requires { All (λ e. HasEdge net.now e.0) edges.now }
     ensures { IsLeftAfter net.now names.now (numbers edges.now) (option_copied result) }
@@ -45,7 +45,7 @@ fn chosen(case: &TraceCase, i: usize) -> Candidate
     case.layers[i].candidates.as_slice()[rank]
 }
 
-/// What is left of the ids of a route behind those by which it goes on from a point to the next.
+/// The ids of a route after the leg from a point to the next.
 fn after_leg<'a>(
     alloc: Global,
     case: &TraceCase,
@@ -71,7 +71,7 @@ fn after_leg<'a>(
     Ok(after_edge(case.net, left, b.edge))
 }
 
-/// Whether a piece has the route over its chosen candidates. Builds one walk at a time.
+/// Whether the route of a piece is that over its chosen candidates. Builds one walk at a time.
 pub fn has_route(alloc: Global, case: &TraceCase, piece: &Routed) -> Result<bool, AllocError>
     requires { IsRoutable (case_seen case.now) piece.now }
     ensures { IfOk result (λ has. has ≡ has_route (case_seen case.now) piece.now) }

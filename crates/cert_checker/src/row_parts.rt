@@ -1,4 +1,4 @@
-//! The rows of a certificate cut into parts. Serves `check_all`; decided by `bad_in_part`.
+//! The rows of a certificate, partitioned. Serves `check_all`; decided by `bad_in_part`.
 ghost use Rattle.std.specs.Prelude.{◌≡◌, ℕ, IfOk, map};
 ghost use Rattle.road_network.specs.Net.{Net};
 ghost use Rattle.cert_checker.specs.RowParts.{bad_in_part, first_place};
@@ -9,13 +9,13 @@ use bounded_search::Row;
 use polyline_geometry::List;
 use std::alloc::{AllocError, Global};
 
-/// Into about so many parts many rows are cut.
+/// About how many parts many rows are divided into.
 const PARTS: usize = 16;
 
-/// Each part but the last has at least so many rows.
+/// The least number of rows of a part, except the last.
 const PART_ROWS: usize = 256;
 
-/// The rows cut into parts, so that the first row that is bad in a part is the first of all.
+/// The rows in parts, so that the first bad row of a part is the first bad row of all.
 pub fn row_parts<'a>(alloc: Global, rows: &'a [Row]) -> Result<List<RowPart<'a>>, AllocError>
     ensures { IfOk result (λ parts. (n : Net) → (bound : ℕ)
         → first_place (map (bad_in_part n bound) parts) ≡ first_bad_row n bound rows.now) }

@@ -6,7 +6,7 @@ ghost use Rattle.cert_checker.specs.Rows.{first_bad_row, is_next_row};
 use bounded_search::{Row, check_row};
 use road_network::Network;
 
-/// Whether a row is that of its origin.
+/// Whether a row is the row of its origin.
 fn is_right(net: &Network, bound: u32, row: &Row) -> bool
     ensures { result ≡ is_right_row net.now bound row.now }
 {
@@ -14,15 +14,15 @@ fn is_right(net: &Network, bound: u32, row: &Row) -> bool
     row.origin().0 < net.node_count() && check_row(net, bound, row.origin(), row)
 }
 
-/// Whether a row is that of its origin, which is not below `least`.
+/// Whether a row is the row of its origin, which is not below `least`.
 fn is_next(net: &Network, bound: u32, least: u32, row: &Row) -> bool
     ensures { result ≡ is_next_row net.now bound least row.now }
 {
     least <= row.origin().0 && is_right(net, bound, row)
 }
 
-/// The place of the first row that is not the row of its origin within the bound, or whose origin is
-/// not above that of the row before it. Takes no memory.
+/// The index of the first row that is not the row of its origin within the bound, or whose origin is
+/// not above that of the previous row. Allocates nothing.
 pub fn check_rows(net: &Network, bound: u32, rows: &[Row]) -> Option<u32>
     ensures { result ≡ first_bad_row net.now bound rows.now }
 {

@@ -1,4 +1,4 @@
-//! The rows of a certificate, tried by searchers, side by side. Serves `check_all`; decided by `first_bad_row`.
+//! The rows of a certificate, checked by searchers in parallel. Serves `check_all`; decided by `first_bad_row`.
 ghost use Rattle.std.specs.Prelude.{◌≡◌, ◌≤◌, IfOk, map};
 ghost use Rattle.cert_checker.specs.RowParts.{bad_in_part, first_place};
 ghost use Rattle.bounded_search.specs.RightRow.{is_right_row};
@@ -12,7 +12,7 @@ use road_network::Network;
 use std::alloc::{AllocError, Global};
 use std::thread::Threads;
 
-/// Whether a row is that of its origin.
+/// Whether a row is the row of its origin.
 fn is_right(net: &Network, searcher: &mut Searcher, row: &Row) -> bool
     requires { searcher.old.network ≡ net.now }
     ensures right { result ≡ is_right_row net.now searcher.old.bound row.now }
@@ -22,7 +22,7 @@ fn is_right(net: &Network, searcher: &mut Searcher, row: &Row) -> bool
     row.origin().0 < net.node_count() && searcher.check(row.origin(), row)
 }
 
-/// Whether a row is that of its origin, which is not below `least`.
+/// Whether a row is the row of its origin, which is not below `least`.
 fn is_next(net: &Network, searcher: &mut Searcher, least: u64, row: &Row) -> bool
     requires { searcher.old.network ≡ net.now }
     ensures next { result ≡ is_next_row net.now searcher.old.bound least row.now }
@@ -31,7 +31,7 @@ fn is_next(net: &Network, searcher: &mut Searcher, least: u64, row: &Row) -> boo
     least <= u64::from(row.origin().0) && is_right(net, searcher, row)
 }
 
-/// The number of the first bad row of a part, where the searcher is that of the network.
+/// The number of the first bad row of a part; the searcher is for this network.
 fn first_bad(net: &Network, searcher: &mut Searcher, part: &RowPart) -> Option<u64>
     requires { searcher.old.network ≡ net.now }
     ensures { result ≡ bad_in_part net.now searcher.old.bound part.now }
@@ -60,7 +60,7 @@ fn bad_in_part(
     Ok(first_bad(net, &mut searcher, part))
 }
 
-/// The numbers of the first bad rows of parts, side by side.
+/// The numbers of the first bad rows of parts, in parallel.
 fn bad_in_parts<R: Threads + Sync>(
     rt: &R,
     alloc: Global,
@@ -84,7 +84,7 @@ fn bad_in_parts<R: Threads + Sync>(
         .collect::<Result<Vec<Option<u64>>, AllocError>>(rt, alloc)?
 }
 
-/// The first number of these that is there.
+/// The first number that is present.
 fn first_place(numbers: &[Option<u64>]) -> Option<u64>
     ensures { result ≡ first_place numbers.now }
 {
@@ -96,9 +96,9 @@ fn first_place(numbers: &[Option<u64>]) -> Option<u64>
     None
 }
 
-/// The number of the first row that is not the row of its origin, or whose origin is not above that of the
-/// row before it, as `check_rows` finds it. The rows are tried in parts, side by side. Each part takes memory
-/// for each node, and so less time: one look for each edge out of a listed node.
+/// The number of the first row that is not the row of its origin, or whose origin is not above that of
+/// the previous row, as `check_rows` finds it. The rows are checked in parts, in parallel. Each part
+/// uses memory for each node, and is faster for it: one lookup for each edge out of a listed node.
 pub fn bad_row<R: Threads + Sync>(
     rt: &R,
     alloc: Global,

@@ -1,4 +1,4 @@
-//! The ways to the cells of a point, where these are the cells of a step from the point before. Serves
+//! The ways to the cells of a point, if these are the cells of a step from the previous point. Serves
 //! `point_ways`; decided by `AreWaysOf`.
 ghost use Rattle.std.specs.Prelude.{◌≡◌, ◌-◌, ◌^◌, IfSome, is_some};
 ghost use Rattle.std.specs.Bool.{OnTrue};
@@ -39,15 +39,15 @@ fn has_live(cells: &[Cell]) -> bool
     cells.iter().any(|cell| cell.cost.is_some())
 }
 
-/// Whether cells are the same, one by one.
+/// Whether two lists of cells are equal.
 fn are_same(cells: &[Cell], others: &[Cell]) -> bool
     ensures { OnTrue result (cells.now ≡ others.now) }
 {
     cells == others
 }
 
-/// What the ways say, where each cell of the point has the least way, as in a lawful certificate: then a
-/// step finds the same cells. None where it does not, and where it finds no memory.
+/// What the ways show, if each cell of the point has the least way, as in a lawful certificate: then a
+/// step finds the same cells. `None` if it does not, or when out of memory.
 pub fn ways_by_step(
     alloc: Global,
     case: &TraceCase,

@@ -1,4 +1,4 @@
-//! One trace with its proof, as code looks at it. Serves `check_trace`; seen as `case_seen`.
+//! One trace with its proof, as the code sees it. Serves `check_trace`; contracts see it as `case_seen`.
 use crate::placed_rows::PlacedRows;
 use cost_model::Params;
 use matching::{Cell, Layer};
@@ -6,7 +6,7 @@ use potential_certificate::TraceProof;
 use road_network::{Candidate, Network};
 use trellis::is_near;
 
-/// A trace that is checked: what it is matched on, the rows of the certificate, its fixes with their
+/// A trace to be checked: what it is matched on, the rows of the certificate, its positions with their
 /// candidates, and its proof.
 #[derive(Drop)]
 pub struct TraceCase<'a> {
@@ -50,7 +50,7 @@ impl<'a> TraceCase<'a> {
         }
     }
 
-    /// The cells that the proof gives for a point; none where it has no table.
+    /// The cells that the proof gives for a point; none if it has no table.
     pub fn table(&self, i: usize) -> &[Cell]
         ensures { result.now ≡ table (case_seen self.now) i }
     {
@@ -70,7 +70,7 @@ impl<'a> TraceCase<'a> {
         }
     }
 
-    /// Whether transitions from the point before to this one are looked at.
+    /// Whether transitions from the previous point to this one are checked.
     pub fn is_looked_at(&self, i: usize) -> bool
         requires { i < length self.now.layers.now }
         ensures { result ≡ is_looked_at (case_seen self.now) i }

@@ -19,7 +19,7 @@ use match_text::Routed;
 use std::alloc::{AllocError, Global};
 use trellis::PairMemory;
 
-/// What the ways say of the cells of a point; nothing against them where none is looked at.
+/// What the ways show about the cells of a point; nothing against them if no transition is checked.
 fn ways_to(
     alloc: Global,
     case: &TraceCase,
@@ -43,7 +43,7 @@ fn ways_to(
     })
 }
 
-/// The first condition that fails of the pieces and the cells at a point.
+/// The first failing condition of the pieces and the cells at a point.
 fn failing_cells(case: &TraceCase, left: &[Routed], i: usize, ways: PointWays) -> Option<Condition>
     requires point { IsNext (case_seen case.now) i left.now }
     requires candidates { has_candidates (case_seen case.now) i ≡ true }
@@ -71,7 +71,7 @@ fn failing_cells(case: &TraceCase, left: &[Routed], i: usize, ways: PointWays) -
     None
 }
 
-/// The first condition that fails at a point.
+/// The first failing condition at a point.
 fn failing(
     alloc: Global,
     case: &TraceCase,
@@ -98,7 +98,7 @@ fn failing(
     failing_end(alloc, case, left, i)
 }
 
-/// The verdict on a trace whose pieces do not rise.
+/// The verdict on a trace whose pieces do not ascend.
 fn verdict_without_order(case: &TraceCase, number: u64) -> Verdict
     requires some { 0 < length case.now.layers.now }
     requires pieces { rise_from 0 case.now.proof.now.pieces ≡ false }
@@ -116,7 +116,7 @@ fn verdict_without_order(case: &TraceCase, number: u64) -> Verdict
     }
 }
 
-/// The verdict on a trace with its proof: the first condition that fails, point by point.
+/// The verdict on a trace with its proof: the first failing condition, point by point.
 pub fn trace_verdict(alloc: Global, case: &TraceCase, number: u64) -> Result<Verdict, AllocError>
     requires checkable { IsCheckable (case_seen case.now) }
     requires some { 0 < length case.now.layers.now }

@@ -1,6 +1,6 @@
-//! What a certificate is found to be. Serves everyone.
+//! The verdict on a certificate.
 
-/// What a certificate has to meet. The numbers are those of the definition.
+/// The conditions of a certificate. The numbers are those of the definition.
 #[derive(Clone, Copy, Debug, PartialEq, Eq)]
 pub enum Condition {
     /// A rank and a table for each point, of the size of its candidates.
@@ -9,7 +9,7 @@ pub enum Condition {
     FirstCost = 2,
     /// No cell costs more than a way to it.
     Relaxed = 3,
-    /// Each live cell costs what the way that its pointer names costs.
+    /// Each live cell has the cost of the way that its pointer names.
     Tight = 4,
     /// Each pointer names the first way of its cost.
     Pointer = 5,
@@ -17,7 +17,7 @@ pub enum Condition {
     Chosen = 6,
     /// Where pieces begin and end.
     Break = 7,
-    /// The rows that the costs rest on.
+    /// The rows that the costs rely on.
     Row = 8,
     /// The route of a piece.
     Route = 9,
@@ -29,8 +29,8 @@ pub enum Condition {
 #[derive(Clone, Copy, Debug, PartialEq, Eq)]
 pub enum Verdict {
     Proved,
-    /// The first condition that fails, the number of its trace, and the place where it fails: that
-    /// of the point, of the row or of the trace.
+    /// The first failing condition, the number of its trace, and the index of the point, row or trace
+    /// where it fails.
     Refused {
         condition: Condition,
         trace: u64,

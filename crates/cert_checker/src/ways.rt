@@ -1,4 +1,4 @@
-//! What it costs to come to a candidate by way of a cell of the point before. Serves `plain_ways`;
+//! The cost of reaching a candidate through a cell of the previous point. Serves `plain_ways`;
 //! decided by `way`.
 ghost use Rattle.std.specs.Prelude.{◌≡◌, ◌<◌, ◌-◌, length};
 ghost use Rattle.cert_checker.specs.Case.{layer, way, ways, width};
@@ -12,8 +12,8 @@ use cost_model::{emission, transition};
 use polyline_geometry::straight;
 use trellis::link;
 
-/// What it costs to come from candidate a of the point before to candidate j of point i, by the row
-/// of the node where the edge of a ends. None where there is no route.
+/// The cost of the transition from candidate a of the previous point to candidate j of point i, by the
+/// row of the node where the edge of a ends. `None` if there is no route.
 fn transition_by_row(case: &TraceCase, i: usize, a: usize, j: usize, row: &Row) -> Option<u64>
     requires ready { IsReady (case_seen case.now) i }
     requires a { a < width (case_seen case.now) (i - 1) }
@@ -30,8 +30,8 @@ fn transition_by_row(case: &TraceCase, i: usize, a: usize, j: usize, row: &Row) 
     Some(transition(case.params, route.length, apart))
 }
 
-/// The cost of coming to candidate j of point i by way of cell a of the point before, if that is
-/// live and has a route to j. It need not fit 64 bits.
+/// The cost of reaching candidate j of point i through cell a of the previous point, if that is
+/// live and has a route to j. It may not fit 64 bits.
 pub fn way(case: &TraceCase, i: usize, a: usize, j: usize) -> Option<u128>
     requires ready { IsReady (case_seen case.now) i }
     requires a { a < width (case_seen case.now) (i - 1) }
@@ -47,7 +47,7 @@ pub fn way(case: &TraceCase, i: usize, a: usize, j: usize) -> Option<u128>
     Some(u128::from(cost) + u128::from(moved) + u128::from(own))
 }
 
-/// Makes a column the ways to candidate j of point i.
+/// Fills a column with the ways to candidate j of point i.
 pub fn fill_column(case: &TraceCase, i: usize, j: usize, column: &mut [Option<u128>])
     requires ready { IsReady (case_seen case.now) i }
     requires count { length column.old ≡ width (case_seen case.now) (i - 1) }

@@ -1,4 +1,4 @@
-//! The verdict on a certificate. Serves everyone; decided by `verdict`.
+//! The verdict on a certificate. Decided by `verdict`.
 ghost use Rattle.std.specs.Prelude.{◌≡◌, ◌≤◌, All, IfOk, None};
 ghost use Rattle.cost_model.specs.Options.{IsAccepted};
 ghost use Rattle.trace_reader.specs.Trace.{IsLawfulTrace};
@@ -25,11 +25,11 @@ use std::thread;
 use std::thread::Threads;
 use trace_reader::Trace;
 
-/// Whether a proof proves the match of a trace: the first condition that fails, point by point. Ids are
+/// Whether a proof proves the match of a trace: the first failing condition, point by point. Ids are
 /// not compared. `number` is the trace's number in the verdict.
 ///
-/// The rows are right: [`check_rows`](crate::check_rows) answers None for them, with the bound of `p`.
-/// The call costs the plain search for the candidates of the trace, and at each point a look into the
+/// The rows are right: [`check_rows`](crate::check_rows) returns `None` for them, with the bound of `p`.
+/// The call costs a plain search for the candidates of the trace, and at each point one lookup in the
 /// rows for each pair of candidates of neighbouring points.
 pub fn check_trace(
     alloc: Global,
@@ -80,7 +80,7 @@ fn verdict_on(
     trace_verdict(alloc, &case, number)
 }
 
-/// The first place where a proof or a trace is missing or their ids differ.
+/// The first index at which a proof or a trace is missing or their ids differ.
 fn first_apart(traces: &[Trace], proofs: &[TraceProof]) -> Option<u64>
     ensures { result ≡ apart_from 0 traces.now proofs.now }
 {
@@ -97,7 +97,7 @@ fn first_apart(traces: &[Trace], proofs: &[TraceProof]) -> Option<u64>
     }
 }
 
-/// The number of the first bad row, and the scan of all edges, which is made while the rows are tried.
+/// The number of the first bad row, and the scan of all edges, which is made while the rows are checked.
 fn try_rows<'n, R: Threads + Sync>(
     rt: &R,
     alloc: Global,
@@ -121,7 +121,7 @@ fn try_rows<'n, R: Threads + Sync>(
     Ok((bad?, scan?))
 }
 
-/// Whether a certificate proves the match of these traces: the first condition of the whole that fails,
+/// Whether a certificate proves the match of these traces: the first failing condition overall,
 /// of its rows, of the ids of its proofs, and of each trace in order.
 pub fn check_all<R: Threads + Sync>(
     rt: &R,

@@ -12,12 +12,11 @@ use match_text::Routed;
 use polyline_geometry::List;
 use potential_certificate::{CertFault, Certificate, TraceProof, read_certificate};
 use road_network::{Network, read_network};
+use row_tests::small::TWO_EDGES;
 use std::alloc::{AllocError, Global};
 use std::test::Fail;
 use std::thread::Threads;
 use trace_reader::{Fix, Trace};
-
-const TWO_EDGES: &[u8] = b"edge,from,to,line\n10,1,2,0 0;10000 0\n11,2,3,10000 0;20000 0\n";
 
 const TWIN_EDGES: &[u8] =
     b"edge,from,to,line\n20,1,2,0 0;10000 0\n5,1,2,0 0;10000 0\n7,2,3,10000 0;20000 0\n";

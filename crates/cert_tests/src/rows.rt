@@ -3,10 +3,9 @@ use bounded_search::{Entry, Row};
 use cert_checker::check_rows;
 use polyline_geometry::List;
 use road_network::{EdgeId, Network, NodeId, read_network};
+use row_tests::small::TWO_EDGES;
 use std::alloc::{AllocError, Global};
 use std::test::Fail;
-
-const TWO_EDGES: &[u8] = b"edge,from,to,line\n10,1,2,0 0;10000 0\n11,2,3,10000 0;20000 0\n";
 
 /// The row of a node from which the edge of the same number leads this far to the next node.
 fn row(alloc: Global, origin: u32, length: u32) -> Result<Option<Row>, AllocError> {

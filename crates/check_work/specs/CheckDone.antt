@@ -13,7 +13,7 @@ use Rattle.program_frame.specs.declared.stop.Refusal.TheVariants.{Certificate}
 use Rattle.program_frame.specs.declared.stop.Stop.{Stop}
 use Rattle.program_frame.specs.declared.stop.Stop.TheVariants.{Refused as Stopped, NoMemory, Unread, Unwritten}
 use Rattle.trace_reader.specs.declared.trace.Trace.{Trace}
-use Rattle.matcher.specs.Setting.{Setting}
+use Rattle.trace_match.specs.Setting.{Setting}
 use Rattle.check_work.specs.Check.{certificate_fault_line, check_said}
 
 -- the ending where the text has this fault, or memory ran out

@@ -1,4 +1,4 @@
-// A certificate's file, read block by block while the block before is taken in. Serves `check`; decided by `ReadsWhole`.
+//! Reads a certificate file block by block, while the previous block is being processed. Serves `check`; decided by `ReadsWhole`.
 ghost use Rattle.std.specs.Prelude.{◌≡◌, ◌+◌, ◌≤◌, ◌<◌, ◌^◌, ◌++◌, IfErr, IfOk, length};
 ghost use Rattle.potential_certificate.specs.CertificateText.{text_limit};
 ghost use Rattle.program_frame.specs.Read.{FailsToRead, ReadsWhole};
@@ -14,7 +14,7 @@ use std::thread::Threads;
 // The most bytes of one read.
 const PIECE: u64 = 65_536;
 
-// The bytes of a file behind a place, at most so many.
+// The bytes of a file after a place, up to a limit.
 #[derive(Drop)]
 struct Block {
     from: u64,
@@ -22,7 +22,7 @@ struct Block {
     bytes: Vec<u8>,
 }
 
-// An empty block behind this one, in memory of its own.
+// An empty block after this one, with memory of its own.
 fn next_block(block: &Block, memory: Vec<u8>, most: u64) -> Block
     requires within { block.now.from + length block.now.bytes.items ≤ text_limit }
     requires most { (1 ≤ most) × (most < 2 ^ 40) }
@@ -38,7 +38,7 @@ fn next_block(block: &Block, memory: Vec<u8>, most: u64) -> Block
     }
 }
 
-// Reads a block, and says whether the file may go on behind it: it does not where its end was told, or the first byte
+// Reads a block. Returns whether the file may continue after it: not if its end was reached, or the first byte
 // above the limit was read.
 fn fill<S: Shelf>(shelf: &mut S, name: &str, block: &mut Block) -> Result<bool, Stop>
     requires { IsToBeRead block.old }
@@ -61,7 +61,7 @@ fn fill<S: Shelf>(shelf: &mut S, name: &str, block: &mut Block) -> Result<bool, 
     Ok(end <= TEXT_LIMIT)
 }
 
-// Takes a block in.
+// Processes a block.
 fn take<R: Threads + Sync>(
     rt: &R,
     reader: CertificateReader,
@@ -76,7 +76,7 @@ fn take<R: Threads + Sync>(
     }
 }
 
-// Takes a block in, and reads the next one meanwhile.
+// Processes a block while the next one is read.
 fn take_and_fill<R: Threads + Sync, S: Shelf>(
     rt: &R,
     shelf: &mut S,
@@ -117,8 +117,8 @@ fn take_and_fill<R: Threads + Sync, S: Shelf>(
     }
 }
 
-/// Reads a certificate's file from its start to its end or to the first byte above the limit, in blocks of at most so
-/// many bytes. Of the text only the parts that are no proof or row are kept, and two blocks.
+/// Reads a certificate file from its start to its end or to the first byte above the limit, in blocks of at most
+/// `most` bytes. Only two blocks are stored, and the parts of the text that are not proofs or rows.
 pub fn read_certificate_file<R: Threads + Sync, S: Shelf>(
     rt: &R,
     alloc: Global,
@@ -134,7 +134,7 @@ pub fn read_certificate_file<R: Threads + Sync, S: Shelf>(
 {
     let mut reader = CertificateReader::new(alloc);
     let mut spare = Vec::new(alloc);
-    // The first block is read alone, so it is a small one.
+    // The first block is read alone, so it is small.
     let mut block = Block {
         from: 0,
         most: size.div_ceil(4),

@@ -1,4 +1,4 @@
-// `check NET TRACES CERT`. Serves the program; decided by `check_plan`.
+//! `check NET TRACES CERT`. Serves the program; decided by `check_plan`.
 ghost use Rattle.std.specs.Prelude.{◌≡◌, ◌++◌, ◌<◌, ◌^◌, All, Ok, IfOk, OnOk};
 ghost use Rattle.cost_model.specs.Options.{IsAccepted};
 ghost use Rattle.program_frame.specs.Loads.{Accepts};
@@ -24,11 +24,11 @@ use std::thread;
 use std::thread::Threads;
 use trace_reader::Trace;
 
-// So many bytes of a certificate are read at once: enough for all processors to read their rows, and no more than are
-// soon read.
+// The bytes of a certificate that are read at once: enough to keep all processors busy, few enough to be
+// read soon.
 const BLOCK: u64 = 16_777_216;
 
-// Appends the line of a fault of the text.
+// Appends the error line of a fault of the text.
 fn append_fault(fault: CertFault, line: &mut List<u8>) -> Result<(), AllocError>
     ensures { OnOk result (line.new ≡ line.old ++ certificate_fault_line fault) }
 {
@@ -72,7 +72,7 @@ fn read_proofs(
     }
 }
 
-// How many pieces proofs have.
+// The number of pieces of these proofs.
 fn count_pieces(proofs: &[TraceProof]) -> u64
     requires { pieces_in proofs.now < 2 ^ 63 }
     ensures { result ≡ pieces_in proofs.now }
@@ -80,7 +80,7 @@ fn count_pieces(proofs: &[TraceProof]) -> u64
     proofs.iter().map(|proof| proof.pieces.len() as u64).sum()
 }
 
-// Appends the line of a certificate that is proved.
+// Appends the line of a proved certificate.
 fn append_proved(certificate: &Certificate, line: &mut List<u8>) -> Result<(), AllocError>
     requires { pieces_proved certificate.now < 2 ^ 63 }
     ensures { OnOk result (line.new ≡ line.old ++ proved_line certificate.now) }
@@ -94,7 +94,7 @@ fn append_proved(certificate: &Certificate, line: &mut List<u8>) -> Result<(), A
     line.extend_from_slice(b"\n")
 }
 
-// Accepts a certificate that is proved, and refuses another.
+// Accepts a proved certificate, and refuses any other.
 fn check_proofs<R: Threads + Sync>(
     rt: &R,
     alloc: Global,
@@ -115,7 +115,7 @@ fn check_proofs<R: Threads + Sync>(
     accept_verdict(alloc, bad_row, verdict)
 }
 
-// Gives back the memory of a certificate: that of its proofs, and beside it that of its rows, side by side.
+// Frees the memory of a certificate: proofs and rows in parallel.
 fn let_go<R: Threads + Sync>(rt: &R, certificate: Certificate) {
     let Certificate { proofs, rows } = certificate;
     thread::join(
@@ -131,7 +131,7 @@ fn let_go<R: Threads + Sync>(rt: &R, certificate: Certificate) {
     );
 }
 
-// The line of a text whose certificate is proved, or the refusal of the text or of the certificate.
+// The line for a text whose certificate is proved, or the refusal of the text or of the certificate.
 fn accept_certificate<R: Threads + Sync>(
     rt: &R,
     alloc: Global,
@@ -174,8 +174,8 @@ fn load_certificate<R: Threads + Sync, S: Shelf>(
     accept_certificate(rt, alloc, roads, options, traces, text)
 }
 
-/// Reads the network, then all traces and then the certificate, and says that it is proved. The certificate is taken
-/// in block by block, by all processors, while its next block is read.
+/// Reads the network, then all traces and then the certificate, and reports that it is proved. All processors
+/// process a block of the certificate while the next block is read.
 pub fn check_traces<R: Threads + Sync, S: Shelf, K: Sink>(
     rt: &R,
     alloc: Global,

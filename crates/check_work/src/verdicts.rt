@@ -1,4 +1,4 @@
-// What is said of the verdict on a certificate. Serves `check`; decided by `verdict_said`.
+//! The lines for the verdict on a certificate. Serves `check`; decided by `verdict_said`.
 ghost use Rattle.std.specs.Prelude.{◌≡◌, ◌++◌, OnOk};
 ghost use Rattle.cert_checker.specs.Rows.{first_bad_row};
 ghost use Rattle.program_frame.specs.Loads.{Accepts};
@@ -40,7 +40,7 @@ fn append_name(condition: Condition, line: &mut List<u8>) -> Result<(), AllocErr
     line.extend_from_slice(b"\n")
 }
 
-// Appends the line of a condition that fails at a place of the rows or of the traces.
+// Appends the line of a condition that fails at an index of the rows or of the traces.
 fn append_whole(
     subject: &[u8],
     place: u64,
@@ -73,7 +73,7 @@ fn append_point(
     append_name(condition, line)
 }
 
-// Appends the line of a refusal, where this is the place of the first row that is not right.
+// Appends the line of a refusal; `bad_row` is the index of the first wrong row.
 fn append_refusal(
     bad_row: Option<u32>,
     condition: Condition,
@@ -90,9 +90,9 @@ fn append_refusal(
     }
 }
 
-/// The place of the first row that is not right, where the verdict refuses a row of the whole.
+/// The index of the first wrong row, if the verdict refuses a row of the certificate.
 ///
-/// A refusal by `Row` may speak of a point of the first trace too. Only then are the rows tried again.
+/// A refusal by `Row` may also concern a point of the first trace. Only then are the rows checked again.
 pub fn row_refused(roads: &Network, bound: u32, rows: &[Row], verdict: Verdict) -> Option<u32>
     requires { SpeaksFirstOf (first_bad_row roads.now bound rows.now) verdict }
     ensures { verdict_said result verdict
@@ -108,7 +108,7 @@ pub fn row_refused(roads: &Network, bound: u32, rows: &[Row], verdict: Verdict) 
     }
 }
 
-/// Accepts a certificate that is proved, and refuses another.
+/// Accepts a proved certificate, and refuses any other.
 pub fn accept_verdict(alloc: Global, bad_row: Option<u32>, verdict: Verdict) -> Result<(), Stop>
     ensures { Accepts Refusal.Certificate (verdict_said bad_row verdict) result }
 {

@@ -1,4 +1,4 @@
-// The command that words ask for. Serves `run`; decided by `command_of`.
+//! The command that the words ask for. Serves `run`; decided by `command_of`.
 ghost use Rattle.std.specs.Prelude.{◌≡◌, ◌≢◌, ◌⊎◌, map, string_bytes, Ok, Err, IfOk, IfErr};
 ghost use Rattle.std.specs.Result.{result_map_both};
 ghost use Rattle.clap.specs.Words.{kind_of, subcommand_rows_of};
@@ -40,7 +40,7 @@ pub fn read_command<'a>(alloc: Global, words: &'a [String]) -> Result<Command<'a
     command_in(&matches)
 }
 
-// Nothing depends on the kind of a refusal, but whether memory was wanting.
+// The kind of a refusal does not matter, except whether it was out of memory.
 fn refusal_of(error: &clap::Error) -> WordsFault
     ensures memory { kind_of error.now ≡ ErrorKind.OutOfMemory → result ≡ WordsFault.Memory }
     ensures usage { kind_of error.now ≢ ErrorKind.OutOfMemory → result ≡ WordsFault.Usage }

@@ -1,18 +1,19 @@
-// Why words are refused, and the line that says so. Serves `read_command`; decided by `fault_line`.
+//! Why the words are refused, and the error line of each fault. Serves `read_command`; decided by
+//! `fault_line`.
 ghost use Rattle.std.specs.Prelude.{◌≡◌};
 ghost use Rattle.command_line.specs.FaultLine.{fault_line};
 
 use crate::value::ValueName;
 use std::alloc::AllocError;
 
-/// Why the words give no command.
+/// Why the words are not a command.
 #[derive(Clone, Copy, Debug)]
 pub enum WordsFault {
-    /// The words are not those of a command.
+    /// The words do not form a command.
     Usage,
-    /// The value of this name is no number, or is out of its range.
+    /// The value of this name is not a number, or is out of range.
     BadValue(ValueName),
-    /// Memory is wanting.
+    /// Out of memory.
     Memory,
 }
 
@@ -27,7 +28,7 @@ impl From<AllocError> for WordsFault {
 }
 
 impl WordsFault {
-    /// The line that says the fault, with its LF.
+    /// The error line of the fault, with its LF.
     #[tactic(auto, unfolding(crate::specs::FaultLine::fault_line))]
     pub fn line(self) -> &'static str
         ensures { result.now ≡ fault_line self }

@@ -1,10 +1,10 @@
-//! The words of the command line: which command they ask for, with which options.
+//! The command line: which command the words ask for, and its options.
 //!
-//! [`read_command`] reads the words behind the program's name, by `clap`, into a [`Command`] whose
-//! names are those of the files and whose options are in their ranges. Words that `clap` refuses
-//! are [`WordsFault::Usage`], also those that ask for help; then the options' values are read, in
-//! the order of [`OptionName`], and the first that is no number of its range is
-//! [`WordsFault::BadValue`]. [`WordsFault::line`] is the line that says so.
+//! [`read_command`] parses the words after the program's name by `clap` into a [`Command`] with the
+//! names of the files and options in their ranges. Words that `clap` refuses, requests for help
+//! included, are [`WordsFault::Usage`]. Then the values of the options are read, in the order of
+//! [`OptionName`], and the first one that is not a number in its range is
+//! [`WordsFault::BadValue`]. [`WordsFault::line`] is the error line.
 //!
 //! Read the clauses of `read_command` first, and `command_of` in `specs/Words.antt`.
 #![tactic(auto)]
@@ -21,6 +21,3 @@ pub use command::read_command;
 pub use fault::WordsFault;
 pub use value::{ValueName, ValueRange};
 pub use work::{Command, Work};
-
-#[cfg(test)]
-mod tests;

@@ -1,4 +1,4 @@
-// What the words give for a name. Serves `read_command`; decided by `options_of`.
+//! The value of a name on the command line. Serves `read_command`; decided by `options_of`.
 ghost use Rattle.std.specs.Prelude.{◌≡◌, IfOk, option_map};
 ghost use Rattle.cost_model.specs.Options.{IsAccepted, IsWithin};
 ghost use Rattle.command_line.specs.Given.{given_for};
@@ -12,14 +12,14 @@ use clap::ArgMatches;
 use cost_model::Params;
 use decimal_text::parse_unsigned;
 
-/// What the words give for a name.
+/// The text given for a name.
 pub fn text_of<'a>(found: &ArgMatches<'a>, name: &str) -> Option<&'a str>
     ensures { option_map (λ text. text.now) result ≡ given_for found.now name.now }
 {
     found.get_str(name)
 }
 
-/// The options that the words give, and the defaults of the others.
+/// The options that the words give, and defaults for the others.
 #[tactic(auto, using(crate::proofs::Halves::in_halves))]
 pub fn read_options(found: &ArgMatches) -> Result<Params, WordsFault>
     ensures value { result ≡ options_of (given_for found.now) }
@@ -29,7 +29,7 @@ pub fn read_options(found: &ArgMatches) -> Result<Params, WordsFault>
     read_limits(found, params)
 }
 
-// The options that decide which roads and costs a point has, and the defaults of the others.
+// The options that decide which roads and costs a point has, and defaults for the others.
 #[tactic(auto, unfolding(crate::specs::Halves::model_of))]
 fn read_model(found: &ArgMatches) -> Result<Params, WordsFault>
     ensures value { result ≡ model_of (given_for found.now) }
@@ -45,7 +45,7 @@ fn read_model(found: &ArgMatches) -> Result<Params, WordsFault>
     })
 }
 
-// The options that limit walks, workers and pieces, beside those of `model`.
+// The options that limit walks, workers and pieces, and defaults for the others.
 #[tactic(auto, unfolding(crate::specs::Halves::limits_of))]
 fn read_limits(found: &ArgMatches, model: Params) -> Result<Params, WordsFault>
     requires { IsAccepted model }
@@ -73,7 +73,7 @@ fn read_option(found: &ArgMatches, name: ValueName, default: u32) -> Result<u32,
     }
 }
 
-/// The value of this name that a text gives.
+/// The value that a text gives for this name.
 #[tactic(auto, unfolding(crate::specs::Values::value_of))]
 pub fn read_value(name: ValueName, text: &str) -> Result<u32, WordsFault>
     ensures value { result ≡ value_of name text.now }

@@ -1,4 +1,4 @@
-// The program as `clap` reads its words. Serves `read_command`; decided by `program`.
+//! The program as `clap` parses its words. Serves `read_command`; decided by `program`.
 ghost use Rattle.std.specs.Prelude.{◌≡◌, map, false, IfOk};
 ghost use Rattle.clap.specs.Words.{app_of, rule_of, shape_of, with_subcommand};
 ghost use Rattle.clap.specs.declared.builder.command.Command.TheViews.{out-Command};
@@ -12,17 +12,17 @@ use crate::works::{checking, following, matching, proving, streaming, table, tow
 use clap::{Arg, Command};
 use std::alloc::{AllocError, Global};
 
-/// A command as words give it.
+/// The syntax of a command.
 #[derive(Clone, Copy)]
 pub struct Form {
     pub name: &'static str,
-    /// The options that it takes beside those of every command.
+    /// The options that it takes besides those of every command.
     pub options: &'static [&'static str],
-    /// The arguments, in their order.
+    /// The arguments, in order.
     pub arguments: &'static [&'static str],
 }
 
-/// Every command.
+/// All commands.
 const FORMS: [Form; 7] = [
     matching::FORM,
     following::FORM,
@@ -33,12 +33,12 @@ const FORMS: [Form; 7] = [
     checking::FORM,
 ];
 
-/// What a word behind the command is.
+/// What a word after the command is.
 #[derive(Clone, Copy)]
 pub enum WordRole {
-    /// The value of an option, which stands behind `--` and the option's name.
+    /// The value of an option, given after `--` and the option's name.
     Option,
-    /// An argument, which has to be given.
+    /// An argument, which is required.
     Argument,
 }
 

@@ -1,10 +1,10 @@
-// The values that words give by number. Serves `read_options` and `WordsFault`; decided by
-// `range_of`.
+//! The values that are given as numbers. Serves `read_options` and `WordsFault`; decided by
+//! `range_of`.
 ghost use Rattle.std.specs.Prelude.{◌≡◌};
 ghost use Rattle.command_line.specs.Values.{name_of, range_of};
 
-/// A value that words give as a number. An option is named as the field of `Params` that has its
-/// value, and an argument as the words name it.
+/// A value that is given as a number. An option has the name of its field of `Params`, and an
+/// argument the name in the usage line.
 #[derive(Clone, Copy, Debug)]
 pub enum ValueName {
     K,
@@ -17,18 +17,18 @@ pub enum ValueName {
     Gap,
     /// How many rows and columns a town has.
     N,
-    /// How many traces.
+    /// How many traces a town has.
     T,
-    /// What a generated input begins with.
+    /// The seed of a generated town.
     Seed,
 }
 
-/// The numbers that a value may be.
+/// The range of a value.
 #[derive(Clone, Copy)]
 pub struct ValueRange {
-    /// The least number.
+    /// The least value.
     pub least: u32,
-    /// The greatest number.
+    /// The greatest value.
     pub most: u32,
 }
 
@@ -45,7 +45,7 @@ impl ValueName {
         ValueName::Gap,
     ];
 
-    /// The name. Words give an option behind `--` and its name.
+    /// The name. An option is given after `--` and its name.
     pub fn name(self) -> &'static str
         ensures { result.now ≡ name_of self }
     {
@@ -64,7 +64,7 @@ impl ValueName {
         }
     }
 
-    /// The numbers that it may be, for an option in the unit of its field of `Params`.
+    /// The range; for an option in the unit of its field of `Params`.
     pub fn range(self) -> ValueRange
         ensures { result ≡ range_of self }
     {

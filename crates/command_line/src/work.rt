@@ -1,4 +1,4 @@
-// What words ask for.
+//! What the words ask for.
 
 use cost_model::Params;
 
@@ -18,7 +18,7 @@ pub enum Work<'a> {
         network: &'a str,
         /// The name of the trace file.
         traces: &'a str,
-        /// The name of a file with a table that was computed beforehand, where there is one.
+        /// The name of a table file computed beforehand, if there is one.
         table: Option<&'a str>,
     },
     /// Follow the traces of a file, point by point, on the network of a file.
@@ -28,8 +28,8 @@ pub enum Work<'a> {
         /// The name of the trace file.
         traces: &'a str,
     },
-    /// Follow interleaved traces: each part of a trace in the file goes on where the part before it with
-    /// the same id ended.
+    /// Follow interleaved traces: each fragment of a trace continues the previous fragment with the
+    /// same id.
     Streams {
         /// The name of the network file.
         network: &'a str,
@@ -49,7 +49,7 @@ pub enum Work<'a> {
         network: &'a str,
         /// The name of the trace file.
         traces: &'a str,
-        /// The name of the file of the certificate.
+        /// The name of the certificate file.
         certificate: &'a str,
     },
     /// Write the table of the network of a file.
@@ -63,7 +63,7 @@ pub enum Work<'a> {
         side: u32,
         /// How many traces.
         traces: u32,
-        /// What the generator begins with.
+        /// The seed of the generator.
         seed: u32,
     },
 }

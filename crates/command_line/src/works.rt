@@ -1,4 +1,4 @@
-// The kinds of work, each in a file of its own.
+//! The kinds of work, each in a file of its own.
 pub mod checking;
 pub mod following;
 pub mod matching;

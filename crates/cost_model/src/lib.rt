@@ -14,6 +14,3 @@ mod params;
 
 pub use costs::{emission, point_cost_is_bounded, transition};
 pub use params::{ParamFault, Params};
-
-#[cfg(test)]
-mod tests;

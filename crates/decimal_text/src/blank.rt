@@ -1,4 +1,4 @@
-// Spaces and tabs at the ends of a field.
+//! Spaces and tabs at the ends of a field.
 ghost use Rattle.std.specs.Prelude.{◌≡◌};
 ghost use Rattle.decimal_text.specs.Blank.{is_blank, trim, trim_start, trim_end};
 

@@ -1,4 +1,4 @@
-// Numbers of few digits at the front of a text, whose digits are looked at once.
+//! Short numbers at the front of a text, read eight digits at a time.
 ghost use Rattle.std.specs.Prelude.{◌≡◌, ◌<◌, ◌≤◌, ℕ, Ok, IfSome, MatchOption, drop, get_or, if◌then◌else◌, false, true, length, take};
 ghost use Rattle.std.specs.List.{list_all, prefix_len};
 ghost use Rattle.std.specs.Char.{is_ascii_digit};
@@ -9,8 +9,8 @@ ghost use Rattle.decimal_text.specs.AtFront.{behind_minus};
 use crate::number::starts_with_minus;
 use crate::words::digits_of_eight;
 
-/// The number that the digits at the front write, and how many they are. It looks at 9 at most, the
-/// first eight of them at once.
+/// The number that the digits at the front spell, and how many digits there are. Reads at most 9
+/// digits, the first eight at once.
 pub fn digits_at_front(text: &[u8]) -> (u32, usize)
     ensures few { (result.1 ≤ length text.now) × (result.1 ≤ 9) }
     ensures digits { list_all is_ascii_digit (take result.1 text.now) ≡ true }
@@ -28,8 +28,8 @@ pub fn digits_at_front(text: &[u8]) -> (u32, usize)
     (number, count)
 }
 
-/// The signed number of 1 to 9 digits at the front, and how many bytes it has. More digits than 9
-/// are left behind it.
+/// The signed number of 1 to 9 digits at the front, and how many bytes it has. Further digits are
+/// left unread.
 pub fn signed_at_front(text: &[u8]) -> Option<(i32, usize)>
     ensures few { IfSome result (λ read. read.1 ≤ length text.now) }
     ensures value { MatchOption result (prefix_len is_ascii_digit (behind_minus text.now) ≡ 0)
@@ -51,7 +51,7 @@ pub fn signed_at_front(text: &[u8]) -> Option<(i32, usize)>
     Some((number as i32, count))
 }
 
-// What `digits_at_front` answers, in a text of fewer than 8 bytes.
+// The result of `digits_at_front` for a text of fewer than 8 bytes.
 fn digits_one_by_one(text: &[u8]) -> (u32, usize)
     requires { length text.now < 8 }
     ensures count { result.1 ≡ prefix_len is_ascii_digit text.now }
@@ -65,20 +65,4 @@ fn digits_one_by_one(text: &[u8]) -> (u32, usize)
         count += 1;
     }
     (number, count)
-}
-
-#[cfg(test)]
-mod tests {
-    use super::*;
-    use std::test::Fail;
-
-    #[test]
-    fn reads_at_the_front(rt: HostRuntime) -> Result<(), Fail> {
-        assert_eq!(rt; digits_at_front(b"12345678,5"), (12_345_678, 8));
-        assert_eq!(rt; digits_at_front(b"1234567890"), (123_456_789, 9));
-        assert_eq!(rt; digits_at_front(b"0042 12345"), (42, 4));
-        assert_eq!(rt; signed_at_front(b"-70;"), Some((-70, 3)));
-        assert_eq!(rt; signed_at_front(b"--7"), None);
-        Ok(())
-    }
 }

@@ -1,14 +1,14 @@
-//! How numbers stand in texts: one spelling for the network file, the trace file, the command's
-//! words and every text that is written.
+//! How numbers are spelt in text: one rule for the network file, the trace file, the command line and
+//! all output.
 //!
-//! An unsigned number is 1 to 20 decimal digits, leading zeros allowed; a signed number is the
-//! same with or without one leading `-`. Another spelling is misspelt, and a value outside the
-//! range that the caller gives is out of range. Numbers are written without leading zeros.
+//! An unsigned number is 1 to 20 decimal digits, leading zeros allowed; a signed number is the same
+//! with an optional leading `-`. Any other spelling is misspelt, and a value outside the caller's
+//! range is out of range. Numbers are written without leading zeros.
 //!
 //! [`parse_unsigned`] and [`parse_signed`] read a number from a slice, [`write_unsigned`] and
-//! [`write_signed`] append one to a buffer, and [`trim`] drops the blanks at a field's ends.
-//! [`digits_at_front`] and [`signed_at_front`] read a short number before what else a text has, its
-//! digits eight at a time.
+//! [`write_signed`] append one to a buffer, and [`trim`] strips the blanks at both ends of a field.
+//! [`digits_at_front`] and [`signed_at_front`] read a short number at the front of a text, eight
+//! digits at a time.
 //! Read the clause of `parse_unsigned` first.
 #![tactic(auto)]
 

@@ -1,4 +1,4 @@
-// Numbers read from a slice, and written to the end of a buffer.
+//! Numbers read from a slice, and written to the end of a buffer.
 ghost use Rattle.std.specs.Prelude.{◌≡◌, ◌^◌, ◌<◌, ◌≤◌, ◌++◌, true, false, IfOk, OnOk, OnErr, MatchOption, length};
 ghost use Rattle.std.specs.List.{list_all};
 ghost use Rattle.std.specs.Char.{is_ascii_digit};
@@ -10,7 +10,7 @@ use polyline_geometry::List;
 use std::alloc::AllocError;
 use thiserror::Error;
 
-/// Why a text is no number within the range.
+/// Why a text is not a number in the range.
 #[derive(Clone, Copy, Debug, PartialEq, Eq, Error)]
 pub enum NumberFault {
     #[error("bad number")]
@@ -55,7 +55,7 @@ pub(crate) fn starts_with_minus(text: &[u8]) -> bool
     !text.is_empty() && text[0] == b'-'
 }
 
-/// The number that at most 19 digits write.
+/// The number that at most 19 digits spell.
 fn narrow_value(text: &[u8]) -> Option<u64>
     requires { length text.now ≤ 19 }
     ensures { MatchOption result (list_all is_ascii_digit text.now ≡ false)
@@ -71,8 +71,8 @@ fn narrow_value(text: &[u8]) -> Option<u64>
     Some(value)
 }
 
-/// The number that 1 to 20 digits write. 20 digits do not fit 64 bits, so the last is put to the
-/// others in 128.
+/// The number that 1 to 20 digits spell. 20 digits do not fit 64 bits, so the last digit is added in
+/// 128 bits.
 fn value_of(text: &[u8]) -> Option<u128>
     ensures { MatchOption result (is_unsigned text.now ≡ false)
         (λ n. (is_unsigned text.now ≡ true) × (n ≡ digits_value 10 text.now)) }
@@ -106,42 +106,4 @@ pub fn write_signed(number: i32, into: &mut List<u8>) -> Result<(), AllocError>
     ensures err { OnErr result (into.new ≡ into.old) }
 {
     into.extend_from_slice(Buffer::new().format(number).as_bytes())
-}
-
-#[cfg(test)]
-mod tests {
-    use super::*;
-    use std::test::Fail;
-
-    #[test]
-    fn reads_numbers(rt: HostRuntime) -> Result<(), Fail> {
-        assert_eq!(rt; parse_unsigned(b"0042", 42), Ok(42));
-        assert_eq!(rt; parse_unsigned(b"43", 42), Err(NumberFault::OutOfRange));
-        assert_eq!(rt;
-            parse_unsigned(b"18446744073709551615", u64::MAX),
-            Ok(u64::MAX)
-        );
-        assert_eq!(rt;
-            parse_unsigned(b"18446744073709551616", u64::MAX),
-            Err(NumberFault::OutOfRange)
-        );
-        assert_eq!(rt;
-            parse_unsigned(b"000000000000000000001", 9),
-            Err(NumberFault::Misspelt)
-        );
-        assert_eq!(rt; parse_unsigned(b"+1", 9), Err(NumberFault::Misspelt));
-        assert_eq!(rt; parse_signed(b"-1000", 1000), Ok(-1000));
-        assert_eq!(rt; parse_signed(b"-1001", 1000), Err(NumberFault::OutOfRange));
-        assert_eq!(rt; parse_signed(b"--1", 1000), Err(NumberFault::Misspelt));
-        Ok(())
-    }
-
-    #[test]
-    fn writes_numbers(rt: HostRuntime) -> Result<(), Fail> {
-        let mut text = List::new(rt.alloc());
-        write_unsigned(u64::MAX, &mut text)?;
-        write_signed(-70, &mut text)?;
-        assert_eq!(rt; text.as_slice(), b"18446744073709551615-70".as_slice());
-        Ok(())
-    }
 }

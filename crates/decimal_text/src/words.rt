@@ -1,4 +1,4 @@
-// Digits in the bytes of a word, the first byte the lowest. Serves `digits_at_front`; decided by `digits_value`.
+//! Digits in the bytes of a 64-bit word, the first byte lowest. Serves `digits_at_front`; decided by `digits_value`.
 ghost use Rattle.std.specs.Prelude.{◌≡◌, ℕ, ◌-◌, ◌*◌, ◌%◌, ◌^◌, ◌<◌, List, map, take};
 ghost use Rattle.std.specs.List.{prefix_len};
 ghost use Rattle.std.specs.Char.{is_ascii_digit};
@@ -7,7 +7,7 @@ ghost use Rattle.std.specs.Int.Digits.{number_from_digits};
 ghost use Rattle.std.specs.Simd.Lanes.{number_l};
 ghost use Rattle.decimal_text.specs.Words.{IsEight, flag_from_ten};
 
-/// The number that the digits at the front of these bytes write, and how many they are.
+/// The number that the digits at the front of these bytes spell, and how many digits there are.
 pub fn digits_of_eight(bytes: &[u8; 8]) -> (u32, usize)
     ensures count { result.1 ≡ prefix_len is_ascii_digit bytes.now }
     ensures value { result.0 ≡ digits_value 10 (take result.1 bytes.now) }
@@ -30,7 +30,7 @@ fn flags_from_ten(word: u64) -> u64
     ((word & 0x7f7f_7f7f_7f7f_7f7f) + 0x7676_7676_7676_7676 | word) & 0x8080_8080_8080_8080
 }
 
-// The word with its first `count` bytes moved up to the end.
+// The word with its first `count` bytes moved to the top.
 fn keep_first(word: u64, count: u32) -> u64
     requires { count < 8 }
     ensures { result ≡ word * 256 ^ (8 - count) % 2 ^ 64 }
@@ -39,7 +39,7 @@ fn keep_first(word: u64, count: u32) -> u64
     word << (56 - 8 * count) << 8
 }
 
-// The number that eight digits write, the first of them in the lowest byte.
+// The number that eight digits spell, the first of them in the lowest byte.
 fn value_of_eight(word: u64) -> u32
     ensures { (ds : List ℕ) → IsEight 10 ds → word ≡ number_l 256 ds
         → result ≡ number_from_digits 10 ds }

@@ -1,5 +1,5 @@
-// The files of a runtime. Serves the program's `main`; decided by the clauses of `Shelf::read`,
-// which say nothing of a real file's bytes.
+//! The files of a runtime. Serves the program's `main`; decided by the clauses of `Shelf::read`,
+//! which do not specify a real file's bytes.
 ghost use Rattle.std.specs.Prelude.{◌≡◌, ◌+◌, ◌≤◌, ◌^◌, None, length, take, IfOk, IfErr};
 ghost use Rattle.edge_io.specs.State.{new_shelf};
 
@@ -11,25 +11,25 @@ use std::io::{ErrorKind, Read, Seek, SeekFrom};
 use std::rt::Files;
 use std::{fs, io};
 
-/// The files of a runtime, by their paths. A missing file is a failed read.
+/// The files of a runtime, by path. Reading a missing file is a failed read.
 ///
-/// The file of the latest read stays open where that read ended, and a read from there on goes on
-/// in it, without a seek. So a pipe can be read from its start on, and a file that is exchanged
-/// while it is read is read as it was. Any other place or name is opened anew.
+/// The file read last stays open at the place where that read ended, and a read from there continues
+/// without a seek. So a pipe can be read from its start, and a file that is replaced during a read
+/// keeps its old content. Any other place or name is opened anew.
 #[derive(Drop)]
 pub struct FileShelf<R: Files + Drop> {
     alloc: Global,
     rt: R,
     current: Option<OpenFile<R::File>>,
     failed: List<List<u8>>,
-    // Where a read puts its bytes before they are appended: empty before the first one.
+    // The buffer of a read: empty before the first read.
     piece: Vec<u8>,
 }
 
 // The most bytes of one read.
 const PIECE: usize = 65_536;
 
-// A file that is open, and where it stands.
+// An open file and its position.
 #[derive(Drop)]
 struct OpenFile<F: Drop> {
     name: List<u8>,
@@ -51,8 +51,8 @@ impl<R: Files + Drop> FileShelf<R> {
         }
     }
 
-    // Appends what one read of a file brings, and says how many bytes that is. The file that is
-    // left open stands behind them. After an error nothing is appended.
+    // Appends what one read of a file returns, and returns the number of bytes. The open file is left
+    // positioned after them. After an error nothing is appended.
     fn append(&mut self, name: &str, at: u64, into: &mut Vec<u8>, most: u32) -> io::Result<usize>
         requires { at ≤ 2 ^ 40 }
         ensures ok { IfOk result (λ n. (n ≤ most) × (length into.new.items ≡ length into.old.items + n)
@@ -72,7 +72,7 @@ impl<R: Files + Drop> FileShelf<R> {
     }
 }
 
-// Opens a file where a read is to begin.
+// Opens a file at the place where a read begins.
 fn open_at<R: Files>(alloc: Global, rt: &R, name: &str, at: u64) -> io::Result<OpenFile<R::File>>
     ensures { IfOk result (λ file. file.at ≡ at) }
 {
@@ -89,8 +89,8 @@ fn open_at<R: Files>(alloc: Global, rt: &R, name: &str, at: u64) -> io::Result<O
     })
 }
 
-// Reads once, and again where a signal interrupted the read.
-pub(crate) fn read_again<F: Read>(file: &mut F, buffer: &mut [u8]) -> io::Result<usize>
+/// Reads once, and again if a signal interrupted the read. Returns how many bytes came.
+pub fn read_again<F: Read>(file: &mut F, buffer: &mut [u8]) -> io::Result<usize>
     ensures { IfOk result (λ count. count ≤ length buffer.old) }
 {
     for _ in 0..u64::MAX {
@@ -102,7 +102,7 @@ pub(crate) fn read_again<F: Read>(file: &mut F, buffer: &mut [u8]) -> io::Result
     Err(io::Error::from(ErrorKind::Interrupted))
 }
 
-// Reads once into the front of a piece, and says how many bytes came.
+// Reads once into the front of a buffer, and returns the number of bytes.
 fn read_front<F: Read>(file: &mut F, piece: &mut Vec<u8>, most: u32) -> io::Result<usize>
     ensures within { IfOk result (λ count. count ≤ most) }
     ensures front { IfOk result (λ count. count ≤ length piece.new.items) }

@@ -1,4 +1,4 @@
-// A shelf in memory, whose calls fail where they are told to. Serves tests; decided by `Serves`.
+//! A shelf in memory whose calls fail on request. Serves tests; decided by `Serves`.
 ghost use Rattle.std.specs.Prelude.{◌≡◌, ◌≤◌, ◌-◌, ◌^◌, min, option_copied};
 ghost use Rattle.edge_io.specs.Files.{lookup};
 ghost use Rattle.edge_io.specs.Memory.{FilesInMemory, Serves, ServesFile, fails_next, files_after, new_files, state_of_files};
@@ -10,7 +10,7 @@ use polyline_geometry::List;
 use std::alloc::Global;
 use std::marker::Model;
 
-/// A shelf of files in memory. It tells their bytes.
+/// A shelf of files in memory. Contracts see their bytes.
 #[derive(Drop)]
 pub struct MemoryShelf {
     alloc: Global,
@@ -37,15 +37,15 @@ impl Model for MemoryShelf {
 }
 
 impl MemoryShelf {
-    /// A shelf of these files, by name and bytes, whose calls of the numbers `fail` fail, counted
-    /// from 1. Where a name stands twice, its first file is the one that is held.
+    /// A shelf of these files, by name and bytes. The calls whose numbers (from 1) are in `fail` fail. If
+    /// a name occurs twice, its first file counts.
     pub fn new(alloc: Global, files: List<(List<u8>, List<u8>)>, fail: List<u64>) -> Self
         ensures { result ≡ new_files files fail (2 ^ 32 - 1) }
     {
         Self::drip(alloc, files, fail, u32::MAX)
     }
 
-    /// As `new`, but no call gives more than `most` bytes.
+    /// As `new`, but no call returns more than `most` bytes.
     pub fn drip(
         alloc: Global,
         files: List<(List<u8>, List<u8>)>,
@@ -66,7 +66,7 @@ impl MemoryShelf {
     }
 }
 
-// The bytes of the first file of this name.
+// The bytes of the first file with this name.
 fn find<'a>(files: &'a [(List<u8>, List<u8>)], name: &[u8]) -> Option<&'a List<u8>>
     ensures { option_copied result ≡ lookup files.now name.now }
 {
@@ -83,8 +83,8 @@ fn find<'a>(files: &'a [(List<u8>, List<u8>)], name: &[u8]) -> Option<&'a List<u
 impl Shelf for MemoryShelf {
     ghost state = { state_of_files };
 
-    /// Fails where this call's number is among those that fail, or the name is not held; else gives
-    /// what the file has from the place on, as much as one call may give.
+    /// Fails if this call's number is listed or the name is unknown. Otherwise returns the bytes of the
+    /// file from the place on, up to the limit of one call.
     fn read(&mut self, name: &str, at: u64, into: &mut Vec<u8>, most: u32) -> Taken
         requires { 1 ≤ most }
         ensures grows { Grows most into.old.items into.new.items result }
@@ -105,7 +105,7 @@ impl Shelf for MemoryShelf {
     }
 }
 
-// Appends the bytes of a file from a place on, at most so many.
+// Appends at most `most` bytes of a file from a place on.
 fn append_part(file: &[u8], at: u64, into: &mut Vec<u8>, most: u32) -> Taken
     requires { 1 ≤ most }
     ensures grows { Grows most into.old.items into.new.items result }

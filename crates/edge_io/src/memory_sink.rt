@@ -1,4 +1,4 @@
-// A sink in memory, whose puts fail where they are told to. Serves tests; decided by `Takes`.
+//! A sink in memory whose puts fail on request. Serves tests; decided by `Takes`.
 ghost use Rattle.std.specs.Prelude.{◌≡◌, Some};
 ghost use Rattle.edge_io.specs.Memory.{BytesInMemory, Takes, fails_next, new_bytes, state_of_bytes};
 ghost use Rattle.edge_io.specs.Sink.{Puts};
@@ -8,7 +8,7 @@ use polyline_geometry::List;
 use std::alloc::Global;
 use std::marker::Model;
 
-/// A sink in memory. It tells what was written.
+/// A sink in memory. Contracts see what was written.
 #[derive(Drop)]
 pub struct MemorySink {
     // the numbers of the puts that fail
@@ -29,7 +29,7 @@ impl Model for MemorySink {
 }
 
 impl MemorySink {
-    /// An empty sink, whose puts of the numbers `fail` fail, counted from 1.
+    /// An empty sink. The puts whose numbers (from 1) are in `fail` fail.
     pub fn new(alloc: Global, fail: List<u64>) -> Self
         ensures { result ≡ new_bytes fail }
     {
@@ -52,8 +52,7 @@ impl MemorySink {
 impl Sink for MemorySink {
     ghost state = { state_of_bytes };
 
-    /// Fails where this put's number is among those that fail, and then writes the first half
-    /// of the text.
+    /// Fails if this put's number is listed; then the first half of the text was written.
     fn put(&mut self, text: &[u8]) -> Put
         ensures puts { Puts (state_of_bytes self.old) (state_of_bytes self.new) text.now result }
         ensures takes { Takes (fails_next self.old.script) text.now self.old self.new result }

@@ -1,4 +1,4 @@
-// The note of a failed read. Serves the shelves; decided by `shelf_after`.
+//! The record of a failed read. Serves the shelves; decided by `shelf_after`.
 ghost use Rattle.std.specs.Prelude.{◌≡◌, ◌++◌, ◌∷◌, [], None, OnOk, OnErr};
 ghost use Rattle.edge_io.specs.Shelf.{IsNotRead, shelf_after};
 
@@ -16,7 +16,7 @@ fn note(alloc: Global, failed: &mut List<List<u8>>, name: &str) -> Result<(), Al
     failed.push(copy)
 }
 
-/// Notes the name of a read that failed, and gives the read's answer.
+/// Records the name of a failed read, and returns the answer of that read.
 pub fn fail_read(alloc: Global, failed: &mut List<List<u8>>, name: &str) -> Taken
     ensures noted { failed.new
         ≡ (shelf_after result name.now (record { holds = None; failed = failed.old })).failed }

@@ -1,5 +1,5 @@
-// A stream that is written to. Serves the program's `main`; decided by the clause of `Sink::put`,
-// which says nothing of what a stream took.
+//! An output stream. Serves the program's `main`; decided by the clause of `Sink::put`,
+//! which does not specify what a stream received.
 ghost use Rattle.std.specs.Prelude.{◌≡◌, None};
 ghost use Rattle.edge_io.specs.State.{new_sink};
 
@@ -7,7 +7,7 @@ use crate::{Put, Sink};
 use std::io;
 use std::io::Write;
 
-/// A stream that is written to, and flushed after each text.
+/// An output stream that is flushed after each text.
 #[derive(Drop)]
 pub struct StreamSink<W: Write + Drop> {
     stream: W,

@@ -7,13 +7,15 @@ use Rattle.program_frame.specs.Jobs.{points_of}
 use Rattle.program_frame.specs.Total.{Adds, total_line}
 use Rattle.program_frame.specs.declared.total.Tally.{Tally}
 use Rattle.trace_reader.specs.declared.trace.Trace.{Trace}
-use Rattle.matcher.specs.Asked.{AsksTraces, LearnsAsked}
-use Rattle.matcher.specs.Counts.{ArePieces}
-use Rattle.matcher.specs.Setting.{Setting}
-use Rattle.matcher.specs.Totals.{is_asked_by, pieces_of, rows_of, total_of}
-use Rattle.matcher.proofs.Asking.{asked_parts}
-use Rattle.matcher.proofs.Counting.{counts_more}
+use Rattle.trace_match.specs.Asked.{AsksTraces, LearnsAsked}
+use Rattle.program_frame.specs.Counts.{ArePieces}
+use Rattle.trace_match.specs.Setting.{Setting}
+use Rattle.program_frame.specs.Counts.{total_of}
+use Rattle.trace_match.specs.Totals.{is_asked_by, pieces_of, rows_of}
+use Rattle.trace_match.proofs.Asking.{asked_parts}
+use Rattle.program_frame.proofs.Counting.{counts_more}
 use Rattle.follow_work.specs.FollowDone.{HasFollowed, KnowsAsked}
+use Rattle.trace_match.proofs.Traces.{pieces-append}
 
 -- what more traces make known, behind those that made known what is
 asked_more : (on : Setting) (matched more : List Trace) (before after : List ℕ) → KnowsAsked on matched before → LearnsAsked on more before after → KnowsAsked on (matched ++ more) after
@@ -41,15 +43,15 @@ begun on rows tally fresh traces points pieces = record {
 }
 
 -- more traces were matched and counted
-pub followed_more : (on : Setting) (before more : List Trace) (rows rows' : RowsState) (tally tally' : Tally) (pieces : ℕ) → HasFollowed on rows tally before → ArePieces on more pieces → AsksTraces on more rows rows' → Adds more pieces tally tally' → HasFollowed on rows' tally' (before ++ more)
+pub followed_more : (on : Setting) (before more : List Trace) (rows rows' : RowsState) (tally tally' : Tally) (pieces : ℕ) → HasFollowed on rows tally before → ArePieces (pieces_of on) more pieces → AsksTraces on more rows rows' → Adds more pieces tally tally' → HasFollowed on rows' tally' (before ++ more)
 followed_more on before more rows rows' tally tally' pieces has are asks adds = record {
   rows_are = asks.rows;
   asked = asked_more on before more rows.known rows'.known has.asked asks.learns;
-  counts = counts_more on before more tally tally' pieces has.counts are adds;
+  counts = counts_more (pieces_of on) (pieces-append on) before more tally tally' pieces has.counts are adds;
 }
 
 -- the total line of what was counted
-pub total_is : (on : Setting) (taken : List Trace) (rows : RowsState) (tally : Tally) (count : ℕ) → HasFollowed on rows tally taken → IsKnownList rows.network rows.known → count ≡ length rows.known → total_line tally.traces tally.points tally.pieces count ≡ total_of on taken
+pub total_is : (on : Setting) (taken : List Trace) (rows : RowsState) (tally : Tally) (count : ℕ) → HasFollowed on rows tally taken → IsKnownList rows.network rows.known → count ≡ length rows.known → total_line tally.traces tally.points tally.pieces count ≡ total_of (pieces_of on) (rows_of on) taken
 total_is on taken rows tally count has listed counted =
     ap (λ n. total_line n tally.points tally.pieces count) has.counts.traces_are
     ∙ ap (λ n. total_line (length taken) n tally.pieces count) has.counts.points_are

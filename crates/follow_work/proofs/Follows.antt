@@ -6,12 +6,12 @@ use Rattle.program_frame.proofs.PointCounts.{points-append}
 use Rattle.trace_reader.specs.declared.trace.Trace.{Trace}
 use Rattle.trace_sessions.specs.FollowText.{follow_text}
 use Rattle.trace_sessions.specs.Following.{IsPieceCount}
-use Rattle.matcher.specs.Setting.{Setting}
+use Rattle.trace_match.specs.Setting.{Setting}
 use Rattle.follow_work.specs.Follow.{follow_job, followed_of}
-use Rattle.matcher.specs.Totals.{pieces_of}
-use Rattle.matcher.specs.Counts.{ArePieces}
-use Rattle.matcher.proofs.Counting.{pieces-append}
-use Rattle.matcher.proofs.Traces.{next_trace}
+use Rattle.trace_match.specs.Totals.{pieces_of}
+use Rattle.program_frame.specs.Counts.{ArePieces}
+use Rattle.trace_match.proofs.Traces.{pieces-append}
+use Rattle.trace_match.proofs.Traces.{next_trace}
 
 followed-append : (on : Setting) (front back : List Trace) → followed_of on (front ++ back) ≡ followed_of on front ++ followed_of on back
 followed-append on front back = flat_map-append (follow_text on.network on.params) front back
@@ -29,7 +29,7 @@ followed_next on traces i trace base old new low is texts grown =
     ∙ ap (λ (t : List ℕ). base ++ t) (sym (followed-append on (take i traces) (trace ∷ [])) ∙ ap (followed_of on) (sym (next_trace traces i trace low is)))
 
 pub pieces_followed : (on : Setting) (traces : List Trace) (i : ℕ) (trace : Trace) (pieces count : ℕ) → i < length traces → trace ≡ get_or traces i trace
-    → IsPieceCount on.network on.params trace count → ArePieces on (take i traces) pieces → ArePieces on (take (i + 1) traces) (pieces + count)
+    → IsPieceCount on.network on.params trace count → ArePieces (pieces_of on) (take i traces) pieces → ArePieces (pieces_of on) (take (i + 1) traces) (pieces + count)
 pieces_followed on traces i trace pieces count low is one before =
     let next = next_trace traces i trace low is in
     let all : pieces_of on (take (i + 1) traces) ≡ pieces_of on (take i traces) + pieces_of on (trace ∷ []) = ap (pieces_of on) next ∙ pieces-append on (take i traces) (trace ∷ []) in

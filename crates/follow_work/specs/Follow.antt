@@ -11,8 +11,10 @@ use Rattle.program_frame.specs.Stream.{works_traces}
 use Rattle.program_frame.specs.declared.stop.File.TheVariants.{Network}
 use Rattle.trace_reader.specs.declared.trace.Trace.{Trace}
 use Rattle.trace_sessions.specs.FollowText.{follow_text}
-use Rattle.matcher.specs.Setting.{Setting}
-use Rattle.matcher.specs.Totals.{no_line, no_refusal, total_of}
+use Rattle.trace_match.specs.Setting.{Setting}
+use Rattle.program_frame.specs.Counts.{total_of}
+use Rattle.program_frame.specs.NoRefusal.{no_line, no_refusal}
+use Rattle.trace_match.specs.Totals.{pieces_of, rows_of}
 
 -- the follow texts of traces, in their order
 abbrev pub followed_of : Setting → List Trace → List ℕ
@@ -23,7 +25,7 @@ abbrev pub follow_job : Setting → JobText
 follow_job on = record {
   texts = followed_of on;
   refusal = λ traces. no_refusal;
-  ending = total_of on;
+  ending = total_of (pieces_of on) (rows_of on);
   nothing = refl;
   allowed = refl;
   begins = λ front back. (followed_of on back, flat_map-append (follow_text on.network on.params) front back);

@@ -1,23 +1,24 @@
-// The job of `follow`. Serves the programs that follow traces; decided by `follow_job`.
+//! The job of `follow`. Serves the programs that follow traces; decided by `follow_job`.
 ghost use Rattle.std.specs.Prelude.{◌≡◌, ◌++◌, [], true, IfOk, OnErr, OnOk};
 ghost use Rattle.bounded_search.specs.Rows.{AreRowsOf, AsksAs};
 ghost use Rattle.cost_model.specs.Options.{IsAccepted};
-ghost use Rattle.matcher.specs.Asked.{AsksTraces};
-ghost use Rattle.matcher.specs.Counts.{ArePieces};
+ghost use Rattle.trace_match.specs.Asked.{AsksTraces};
+ghost use Rattle.program_frame.specs.Counts.{ArePieces};
 ghost use Rattle.program_frame.specs.Jobs.{IsBounded};
 ghost use Rattle.trace_match.specs.Match.{asks};
 ghost use Rattle.trace_reader.specs.Trace.{IsLawfulTrace};
 ghost use Rattle.trace_sessions.specs.Following.{IsFollowed};
 ghost use Rattle.follow_work.specs.Follow.{follow_job, followed_of};
 ghost use Rattle.follow_work.specs.FollowDone.{HasFollowed};
+ghost use Rattle.trace_match.specs.Totals.{pieces_of};
 
 use bounded_search::OwnRows;
 use cost_model::Params;
-use matcher::Matcher;
 use polyline_geometry::List;
 use program_frame::{Job, Stop, Tally};
 use road_network::Network;
 use std::alloc::{AllocError, Global};
+use trace_match::Matcher;
 use trace_reader::Trace;
 use trace_sessions::{Basis, follow_trace};
 
@@ -39,8 +40,8 @@ impl<'n> Drop for FollowJob<'n> {
     }
 }
 
-// Appends the follow text of a trace, and says how many pieces its match has. After Err `into` is as
-// before.
+// Appends the follow text of a trace, and returns the number of pieces of its match. On `Err`, `into` is
+// unchanged.
 fn follow_one<'n>(
     alloc: Global,
     matcher: &Matcher<'n>,
@@ -64,7 +65,7 @@ fn follow_one<'n>(
     follow_trace(alloc, &on, rows, trace, into)
 }
 
-// Follows traces, appends their texts, and says how many pieces their matches have.
+// Follows traces, appends their texts, and returns the number of pieces of their matches.
 fn write_followed<'n>(
     alloc: Global,
     matcher: &Matcher<'n>,
@@ -75,7 +76,7 @@ fn write_followed<'n>(
     requires rows { AreRowsOf rows.old matcher.now.network matcher.now.params.bound }
     requires traces { IsBounded traces.now }
     ensures text { OnOk result (into.new ≡ into.old ++ followed_of matcher.now traces.now) }
-    ensures pieces { IfOk result (ArePieces matcher.now traces.now) }
+    ensures pieces { IfOk result (ArePieces (pieces_of matcher.now) traces.now) }
     ensures asks { OnOk result (AsksTraces matcher.now traces.now rows.old rows.new) }
 {
     let mut pieces = 0;
@@ -87,7 +88,7 @@ fn write_followed<'n>(
 }
 
 impl<'n> FollowJob<'n> {
-    /// No trace was followed.
+    /// A job that has followed no trace yet.
     pub fn open(alloc: Global, roads: &'n Network, options: Params) -> Result<Self, AllocError>
         requires { IsAccepted options }
         ensures matcher { IfOk result

@@ -18,7 +18,7 @@ pub struct Cells {
     pub top: u32,
 }
 
-/// The coordinate above the least one that any square reaches, which is -1,001,000,000.
+/// A coordinate plus 1,001,000,000, so that no square reaches below 0.
 pub(crate) fn shifted(z: i32) -> u32
     requires { unsigned_abs z ≤ 1_000_000_000 }
     ensures value { result ≡ shifted z }
@@ -48,7 +48,7 @@ impl Cells {
         }
     }
 
-    /// The cells that the square of half side `reach` round p meets.
+    /// The cells that the square around p with half side `reach` meets.
     pub(crate) fn of_square(p: Point, reach: u32, side: u32) -> Cells
         requires p_in { InRange p }
         requires side { 1 ≤ side }
@@ -65,7 +65,7 @@ impl Cells {
         }
     }
 
-    /// How many cells these are.
+    /// The number of these cells.
     pub(crate) fn count(self) -> u64
         requires { AreOrdered self }
         ensures { result ≡ (self.right - self.left) * (self.top - self.bottom) }

@@ -1,5 +1,5 @@
-//! The boxes of points, of lines and of a whole network, by which a place far from all of the network is
-//! told without a look at a cell. Serves `Grid` and scans of edges; decided by `Widens` and `IsExtentOf`.
+//! The boxes of points, of lines and of a whole network. They show that a point is far from the whole
+//! network without visiting a cell. Serves `Grid` and scans of edges; decided by `Widens` and `IsExtentOf`.
 ghost use Rattle.std.specs.Prelude.{◌+◌, ◌<◌, ◌≤◌, ◌⊎◌, length, IsTrue, [], ◌∷◌};
 ghost use Rattle.polyline_geometry.specs.Plane.{InRange, IsLine};
 ghost use Rattle.grid_index.specs.Extent.{AreCorners, IsApart, IsExtentOf, Widens};
@@ -12,7 +12,7 @@ use road_network::{EdgeId, Network};
 /// The greatest coordinate of a point.
 const MOST: i32 = 1_000_000_000;
 
-/// Two opposite corners of a box.
+/// Two opposite corners of a box, with coordinates in cm.
 #[derive(Clone, Copy)]
 pub struct Extent {
     /// The least x and the least y, in cm.
@@ -21,7 +21,7 @@ pub struct Extent {
     pub high: Point,
 }
 
-/// Whether a shifted coordinate differs by more than `reach` from each that lies between two others.
+/// Whether a shifted coordinate differs by more than `reach` from every one between two others.
 fn is_beside(low: u32, high: u32, z: u32, reach: u32) -> bool
     requires high_in { high ≤ 2_001_000_000 }
     requires z_in { z ≤ 2_001_000_000 }
@@ -57,7 +57,7 @@ impl Extent {
         extent
     }
 
-    /// The least extent that holds the lines of a network; where it has none, no place is inside.
+    /// The least extent that contains the lines of a network; empty if the network has no line.
     pub(crate) fn of(net: &Network) -> Extent
         ensures { IsExtentOf net.now (length net.now.edges) result }
     {
@@ -72,7 +72,7 @@ impl Extent {
         extent
     }
 
-    /// Whether the square of half side `reach` round a point lies beside the box.
+    /// Whether the square around a point with half side `reach` lies outside the box.
     pub(crate) fn is_apart(self, p: Point, reach: u32) -> bool
         requires corners { AreCorners self }
         requires p_in { InRange p }

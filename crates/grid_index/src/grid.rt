@@ -1,4 +1,4 @@
-//! The grid of a network. Serves searches of candidates; decided by `IsGrid`.
+//! The grid of a network. Serves candidate searches; decided by `IsGrid`.
 ghost use Rattle.std.specs.Prelude.{◌≡◌, ℕ, ◌*◌, ◌≤◌, IfOk, IsTrue, MatchOption, flat_map};
 ghost use Rattle.std.specs.List.{All, Contains};
 ghost use Rattle.polyline_geometry.specs.declared.plane.Point.{Point as Place};
@@ -28,7 +28,7 @@ use std::marker::Model;
 pub struct Grid<'n> {
     net: &'n Network,
     table: Table,
-    /// Holds the lines of the network.
+    /// Contains the lines of the network.
     extent: Extent,
 }
 
@@ -66,7 +66,8 @@ fn runs_expected(net: &Network) -> usize {
     runs
 }
 
-/// How many slots a row of the table has, as a power of 2, so that there are about as many as runs.
+/// The number of slots in a row of the table, as a power of 2, so that there are about as many slots
+/// as runs.
 fn width_bits_for(net: &Network) -> u32
     ensures { result ≤ 11 }
 {
@@ -78,7 +79,7 @@ fn width_bits_for(net: &Network) -> u32
         + 1
 }
 
-/// The edges that stand in a list, once each and by rising number.
+/// The edges in a list, each once and by ascending number.
 fn in_order(mut edges: Vec<EdgeId>) -> Vec<EdgeId>
     ensures rising { AreRising result.items }
     ensures keeps { (e : EdgeOf) → Contains edges.items e → Contains result.items e }
@@ -89,7 +90,7 @@ fn in_order(mut edges: Vec<EdgeId>) -> Vec<EdgeId>
     edges
 }
 
-/// The edges for which runs stand.
+/// The edges of these runs.
 fn edges_of(alloc: Global, runs: &[Run]) -> Result<Vec<EdgeId>, AllocError>
     ensures { IfOk result (λ edges. edges.items ≡ flat_map edges_of_run runs.now) }
 {
@@ -122,14 +123,14 @@ impl<'n> Grid<'n> {
         Ok(Grid { net, table, extent })
     }
 
-    /// Takes no memory and does nothing: its clause tells what every grid meets.
+    /// Does nothing: its clause states the invariants of every grid.
     pub fn known(&self)
         ensures { IsGrid self.now }
     {
         let _ = &self.table;
     }
 
-    /// The squared distance of a corner of the square of half side `reach` from its middle, in cm².
+    /// The squared distance from the centre of a square with half side `reach` to a corner, in cm².
     fn corner_distance2(&self, reach: u32) -> u64
         requires { reach ≤ self.now.side }
         ensures { result ≡ 2 * reach * reach }
@@ -138,8 +139,8 @@ impl<'n> Grid<'n> {
         2 * reach * reach
     }
 
-    /// Runs near a point: one at least for each segment with a place of its box in the square of half
-    /// side `reach` and no farther than `far2` says, and no run with a box that is farther.
+    /// Runs near a point: at least one for each segment whose box has a point inside the square with half
+    /// side `reach` and within `far2`, and no run whose box is farther than that.
     fn hits(&self, alloc: Global, p: Point, reach: u32, far2: u64) -> Result<Vec<Run>, AllocError>
         requires p_in { InRange p }
         requires reach { reach ≤ self.now.side }
@@ -152,8 +153,8 @@ impl<'n> Grid<'n> {
         Ok(found)
     }
 
-    /// Whether the square of half side `reach` round a point lies beside the box of the whole network,
-    /// so that no segment comes near it. Takes no look at a cell.
+    /// Whether the square around a point with half side `reach` lies outside the box of the whole network,
+    /// so that no segment is near. Visits no cell.
     pub fn is_far(&self, p: Point, reach: u32) -> bool
         requires p_in { InRange p }
         requires reach { reach ≤ self.now.side }
@@ -162,7 +163,7 @@ impl<'n> Grid<'n> {
         self.extent.is_apart(p, reach)
     }
 
-    /// The columns and rows of the cells that the square of half side `reach` round a point meets.
+    /// The columns and rows of the cells that the square around a point with half side `reach` meets.
     pub fn cells_near(&self, p: Point, reach: u32) -> Cells
         requires p_in { InRange p }
         requires reach { reach ≤ self.now.side }
@@ -172,7 +173,7 @@ impl<'n> Grid<'n> {
         Cells::of_square(p, reach, self.table.layout.side)
     }
 
-    /// The column of the cell in which a point lies.
+    /// The column of the cell that contains a point.
     pub fn column_of(&self, p: Point) -> u32
         requires p_in { InRange p }
         ensures { result ≡ cell self.now.side p.x }
@@ -180,7 +181,7 @@ impl<'n> Grid<'n> {
         shifted(p.x) / self.table.layout.side
     }
 
-    /// The row of the cell in which a point lies.
+    /// The row of the cell that contains a point.
     pub fn row_of(&self, p: Point) -> u32
         requires p_in { InRange p }
         ensures { result ≡ cell self.now.side p.y }
@@ -188,22 +189,22 @@ impl<'n> Grid<'n> {
         shifted(p.y) / self.table.layout.side
     }
 
-    /// The runs at the cell of a column and a row: those whose box meets it, and maybe others.
+    /// The runs at the cell in a column and a row: all runs whose box meets the cell, and maybe others.
     pub fn runs_at(&self, column: u32, row: u32) -> &[Run]
         ensures { result.now ≡ runs_at self.now column row }
     {
         self.table.runs_at(column, row)
     }
 
-    /// The runs that stand at no cell, since their box meets too many.
+    /// The runs that are in no cell, since their box meets too many.
     pub fn wide_runs(&self) -> &[Run]
         ensures { result.now ≡ self.now.wide }
     {
         self.table.wide.as_slice()
     }
 
-    /// The squared distance of p and the nearest place of a run's box, in cm², where that place lies
-    /// in the cell of a column and a row.
+    /// The squared distance from p to the nearest point of a run's box, in cm², if that point lies
+    /// in the cell of this column and row.
     pub fn distance2_in_cell(&self, run: &Run, p: Point, column: u32, row: u32) -> Option<u64>
         requires run { IsRun self.now.net run.now }
         requires p_in { InRange p }
@@ -213,8 +214,8 @@ impl<'n> Grid<'n> {
         distance2_in_cell(run, p, column, row, self.table.layout.side)
     }
 
-    /// How far p is at least, squared, from the boxes of the runs that have their nearest place in
-    /// the cell of a column and a row, in cm².
+    /// A lower bound, in cm², on the squared distance from p to the boxes whose nearest point lies in
+    /// the cell of this column and row.
     pub fn cell_distance2(&self, p: Point, column: u32, row: u32) -> u64
         requires p_in { InRange p }
         ensures { HasNoneNearer self.now.net self.now.side p column row result }
@@ -222,8 +223,8 @@ impl<'n> Grid<'n> {
         cell_distance2(p, column, row, self.table.layout.side)
     }
 
-    /// Edges near a point, once each and by rising number: all with a segment whose box meets the
-    /// square of half side `reach` round it, and maybe others.
+    /// Edges near a point, each once and by ascending number: all edges with a segment whose box meets the
+    /// square with half side `reach` around it, and maybe others.
     pub fn near(&self, alloc: Global, p: Point, reach: u32) -> Result<List<EdgeId>, AllocError>
         requires p_in { InRange p }
         requires reach { reach ≤ self.now.side }

@@ -1,21 +1,20 @@
-//! A grid over the segments of a network, by which the edges near a point are found without a
-//! scan of all edges.
+//! A grid over the segments of a network. It finds the edges near a point without a scan of all edges.
 //!
-//! [`Grid::build`] cuts each line into runs of at most 16 segments, lays the plane out in square cells
-//! and enters each run at every cell that its box meets; runs with a box that meets more than 64
-//! cells stand in one list instead. Where two edges have the same line, one from its end to its
-//! start, as those of a two-way street, the runs of the first stand for both.
+//! [`Grid::build`] cuts each line into runs of at most 16 segments, divides the plane into square cells
+//! and enters each run at every cell that its box meets; runs whose box meets more than 64 cells are
+//! in a separate list. If two edges have the same line in opposite directions, as on a two-way street,
+//! the runs of the first serve both.
 //!
-//! [`Grid::near`] gives the edges near a point, and [`Grid::is_far`] tells that a point is far from
-//! the whole network. Those who visit the cells themselves take [`Grid::cells_near`],
-//! [`Grid::runs_at`] and [`Grid::wide_runs`]. [`Grid::distance2_in_cell`] tells at which one cell to
-//! look at a run, and how far its box is; by [`Grid::cell_distance2`] they leave out a cell. [`Extent`] is
-//! the box of a line, for those who keep one of each edge.
+//! [`Grid::near`] returns the edges near a point, and [`Grid::is_far`] shows that a point is far from
+//! the whole network. Callers that visit the cells themselves use [`Grid::cells_near`],
+//! [`Grid::runs_at`] and [`Grid::wide_runs`]. [`Grid::distance2_in_cell`] gives the one cell at which
+//! to consider a run, and the distance to its box; [`Grid::cell_distance2`] allows skipping a cell.
+//! [`Extent`] is the box of a line, for callers that keep one for each edge.
 //!
-//! Cells lie side by side in a table of `width` by `width` slots, which repeats over the plane:
-//! cell (column, row) has the slot of the remainders of both. Two far cells may share a slot, so a
-//! look meets further runs, and takes no search. The clauses to read first are `complete` of
-//! [`Grid::near`], no edge within reach is missed, and that of [`Grid::known`].
+//! The cells are in a table of `width` by `width` slots, which repeats over the plane: cell (column,
+//! row) has the slot given by the remainders of both. Two distant cells may share a slot, so a visit
+//! may see further runs. Read first the clause `complete` of [`Grid::near`] (no edge within reach is
+//! missed) and the clause of [`Grid::known`].
 #![tactic(auto)]
 
 mod cells;
@@ -26,8 +25,6 @@ mod nearest_cell;
 mod runs;
 mod starts;
 mod table;
-#[cfg(test)]
-mod tests;
 mod twins;
 
 pub use cells::Cells;

@@ -1,5 +1,5 @@
-//! The one cell at which a look takes a run: that of the place of its box which is nearest to the
-//! point. Serves `Grid`; decided by `IsNearestCell` and `IsBoxDistance`.
+//! The one cell at which a run is considered: the cell of its box's nearest point. Serves `Grid`;
+//! decided by `IsNearestCell` and `IsBoxDistance`.
 ghost use Rattle.std.specs.Prelude.{◌≡◌, ℕ, ◌+◌, ◌-◌, ◌*◌, ◌/◌, ◌≤◌, ◌↔◌, IsTrue, MatchOption, max, min};
 ghost use Rattle.std.specs.Int.RustNames.{unsigned_abs};
 ghost use Rattle.polyline_geometry.specs.Plane.{InRange};
@@ -11,7 +11,7 @@ use crate::cells::shifted;
 use crate::runs::Run;
 use polyline_geometry::Point;
 
-/// The greatest difference of coordinates that a distance counts.
+/// The greatest coordinate difference that a distance counts.
 const MOST: u64 = 1 << 31;
 
 /// The coordinate from `low` to `high` that is nearest to z, shifted.
@@ -36,8 +36,8 @@ fn is_within(x: u32, number: u32, side: u32) -> bool
     low <= x && x < low + side
 }
 
-/// How far a shifted coordinate is at least from those of a box whose nearest one lies in the
-/// column, or the row, of a number.
+/// A lower bound on the distance of a shifted coordinate from boxes whose nearest coordinate lies in
+/// this column or row.
 fn gap(x: u32, number: u32, side: u32) -> u64
     requires some { 1 ≤ side }
     requires few { side ≤ 1_000_000 }
@@ -54,7 +54,7 @@ fn gap(x: u32, number: u32, side: u32) -> u64
     }
 }
 
-/// How far apart two shifted coordinates are, squared.
+/// The squared difference of two shifted coordinates.
 fn apart2(a: u32, b: u32) -> u64
     requires a_small { a ≤ 2_001_000_000 }
     requires b_small { b ≤ 2_001_000_000 }
@@ -65,7 +65,7 @@ fn apart2(a: u32, b: u32) -> u64
     apart * apart
 }
 
-/// The squared distance of p and the nearest place of a run's box, in cm², where that place lies in
+/// The squared distance from p to the nearest point of a run's box, in cm², if that point lies in
 /// the cell of this column and row.
 pub(crate) fn distance2_in_cell(
     run: &Run,
@@ -90,8 +90,8 @@ pub(crate) fn distance2_in_cell(
     }
 }
 
-/// How far p is at least, squared, from the boxes of the runs that have their nearest place in the
-/// cell of this column and row, in cm².
+/// A lower bound, in cm², on the squared distance from p to the boxes whose nearest point lies in the
+/// cell of this column and row.
 pub(crate) fn cell_distance2(p: Point, column: u32, row: u32, side: u32) -> u64
     requires some { 1 ≤ side }
     requires few { side ≤ 1_000_000 }

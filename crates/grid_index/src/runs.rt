@@ -1,5 +1,5 @@
-//! Runs of segments, the parts in which a grid holds lines. Serves `Entries` and searches of
-//! candidates; decided by `IsRunOf`.
+//! Runs of segments, the units that a grid stores. Serves `Entries` and candidate searches; decided by
+//! `IsRunOf`.
 ghost use Rattle.std.specs.Prelude.{◌≡◌, ◌+◌, ◌<◌, ◌≤◌, length, ◌≤ℤ◌};
 ghost use Rattle.std.specs.Int.RustNames.{unsigned_abs};
 ghost use Rattle.polyline_geometry.specs.Plane.{InRange, IsLine};
@@ -14,8 +14,8 @@ const MOST_SEGMENTS: usize = 16;
 /// How wide and how high the box of a run of several segments may be, in cm.
 const WIDEST: u32 = 20_000;
 
-/// Neighbouring segments of an edge's line, from number `first` up to before `end`, with two
-/// opposite corners of a box that holds them.
+/// Consecutive segments of an edge's line, `first..end`, with two opposite corners of a box around
+/// them.
 #[derive(Clone, Copy)]
 pub struct Run {
     pub edge: EdgeId,
@@ -23,7 +23,7 @@ pub struct Run {
     pub end: u32,
     pub low: Point,
     pub high: Point,
-    /// The edge with the same line from its end to its start, for which the run stands too.
+    /// The edge with the same line in the opposite direction, which the run also serves.
     pub twin: Option<EdgeId>,
 }
 

@@ -1,5 +1,5 @@
-//! Where the entries of each slot begin, among entries that are in the order of their slots. Serves
-//! `Table`; decided by `AreStarts`.
+//! Where the entries of each slot begin, among entries sorted by slot. Serves `Table`; decided by
+//! `AreStarts`.
 ghost use Rattle.std.specs.Prelude.{◌≡◌, ℕ, ◌+◌, ◌≤◌, ◌<◌, length, slice_index, IfOk};
 ghost use Rattle.std.specs.List.Sorted.{IsNonDecreasingBy};
 ghost use Rattle.grid_index.specs.Starts.{AreBefore, AreStarts, IsStart};
@@ -7,7 +7,7 @@ ghost use Rattle.grid_index.specs.Starts.{AreBefore, AreStarts, IsStart};
 use crate::entries::Entry;
 use std::alloc::{AllocError, Global};
 
-/// The place of the first entry, from a place on, whose slot is not below this one.
+/// The index of the first entry from an index on whose slot is not below this one.
 fn first_from(entries: &[Entry], from: usize, slot: u32) -> usize
     requires sorted { IsNonDecreasingBy (λ e. e.slot) entries.now }
     requires within { from ≤ length entries.now }
@@ -21,7 +21,7 @@ fn first_from(entries: &[Entry], from: usize, slot: u32) -> usize
     place
 }
 
-/// For each slot the place of its first entry, or where that would stand; then the end of all.
+/// For each slot the index of its first entry, or where that would be; then the end of all.
 pub(crate) fn starts_of(
     alloc: Global,
     entries: &[Entry],

@@ -44,7 +44,7 @@ fn runs_of(alloc: Global, entries: &[Entry]) -> Result<Vec<Run>, AllocError>
     entries.iter().map(|entry| entry.run).collect(alloc)
 }
 
-/// Appends a run where its box has a place with a squared distance from p of at most `far2`.
+/// Appends a run if its box has a point within squared distance `far2` from p.
 fn append_one(found: &mut Vec<Run>, run: Run, p: Point, far2: u64) -> Result<(), AllocError>
     requires p_in { InRange p }
     requires corners { HasCorners run }
@@ -56,7 +56,7 @@ fn append_one(found: &mut Vec<Run>, run: Run, p: Point, far2: u64) -> Result<(),
     Ok(())
 }
 
-/// Appends the near ones among runs.
+/// Appends the near ones of these runs.
 fn append_near(found: &mut Vec<Run>, runs: &[Run], p: Point, far2: u64) -> Result<(), AllocError>
     requires p_in { InRange p }
     requires corners { All HasCorners runs.now }

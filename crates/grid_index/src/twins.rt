@@ -1,4 +1,4 @@
-//! The twin of an edge, which has the same line from its end to its start. Serves `Entries`; decided
+//! The twin of an edge, which has the same line in the opposite direction. Serves `Entries`; decided
 //! by `IsReverse`.
 ghost use Rattle.std.specs.Prelude.{◌≡◌, ℕ, ◌≤◌, ◌⊎◌, ◌↔◌, Some, IsTrue, length};
 ghost use Rattle.road_network.specs.Net.{HasEdge};
@@ -8,10 +8,10 @@ ghost use Rattle.grid_index.specs.Runs.{IsReverse, IsTurned, IsTwin};
 use polyline_geometry::Point;
 use road_network::{EdgeId, Network};
 
-/// The most arcs out of a node among which a twin is looked for.
+/// The most arcs out of a node that are searched for a twin.
 const MOST_ARCS: usize = 16;
 
-/// Whether the points of one line are those of another from its end to its start.
+/// Whether one line is the reverse of another.
 fn is_turned(line: &[Point], turned: &[Point]) -> bool
     ensures { IsTrue result ↔ IsTurned line.now turned.now }
 {
@@ -26,8 +26,7 @@ fn is_turned(line: &[Point], turned: &[Point]) -> bool
     true
 }
 
-/// The edge with the least number above that of an edge that is its twin, among the first arcs out
-/// of the node where it ends.
+/// The twin of an edge with the least number above its own, among the first arcs out of its end node.
 fn twin_of(net: &Network, edge: EdgeId) -> Option<EdgeId>
     requires { HasEdge net.now edge.0 }
     ensures { IsTwin net.now edge.0 result }
@@ -43,7 +42,7 @@ fn twin_of(net: &Network, edge: EdgeId) -> Option<EdgeId>
     None
 }
 
-/// Marks the twin of an edge, where there is one that is not marked yet.
+/// Marks the twin of an edge, if it has one that is not marked yet.
 pub(crate) fn take_twin(net: &Network, edge: EdgeId, marks: &mut Vec<bool>) -> Option<EdgeId>
     requires has { HasEdge net.now edge.0 }
     requires marks { length marks.old.items ≡ length net.now.edges }

@@ -7,3 +7,5 @@ pub mod Reading
 pub mod Taking
 pub mod Wholes
 pub mod Writing
+pub mod Asked
+pub mod Lines

@@ -26,6 +26,9 @@ noted_four : {lines : Table} {asked : Result Plan (List ℕ)} {shelf : ShelfStat
 noted_four {lines} {asked} {shelf} {out} {out'} {err} {err'} {status} shelf' name four notes p = record {
   outcome = p.outcome;
   prefix = p.prefix;
+  line_is = p.line_is;
+  quiet_err = p.quiet_err;
+  quiet_out = p.quiet_out;
   memory = p.memory;
   unread = λ three. absurd (not_three (sym three ∙ four));
   unwritten = p.unwritten;

@@ -3,3 +3,4 @@ pub mod Feeding
 pub mod Living
 pub mod Matching
 pub mod Reading
+pub mod Words

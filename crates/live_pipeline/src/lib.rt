@@ -6,6 +6,9 @@
 //! closed, and so the traces that were written are those that were read, in order and each once. Where no
 //! second thread can be had, both are done in turn.
 //!
+//! [`live`] is the whole program `fmm_live` over a shelf of files and two sinks: `follow` by such a reader. Its
+//! clause says that it writes what `follow` writes; `specs/Words.antt` has the plan that its words ask for.
+//!
 //! Read the clause of `live_traces` first, then `Brings` in `specs/Reading.antt`, `specs/Matching.antt`
 //! and `specs/Living.antt`.
 #![tactic(auto)]
@@ -17,6 +20,8 @@ mod matcher;
 mod pipeline;
 mod read_done;
 mod reader;
+mod top;
+mod words;
 
 pub use closing::close_whole;
 pub use ending::end_traces;
@@ -24,3 +29,4 @@ pub use matcher::match_parts;
 pub use pipeline::live_traces;
 pub use read_done::ReadDone;
 pub use reader::read_traces;
+pub use top::live;

@@ -22,13 +22,13 @@ use std::alloc::{AllocError, Global};
 use std::thread::Threads;
 use trace_reader::Trace;
 
-/// The matches of all traces, in their order, by one worker for each reader.
+/// The matches of all traces, in the same order, by one worker for each reader.
 ///
-/// There are 1 to 64 readers. The traces are cut into as many strips of the map, so that a worker mostly
-/// meets the rows that it found itself. Each worker draws the traces of its own strip, and then those that
-/// are left of the others, with its reader, in a thread of its own where there is one. `first` is the place
-/// of the first trace in the file, from 0, by which the gate is told of the traces. Err says that memory was
-/// refused; the readers are there all the same.
+/// There are 1 to 64 readers. The traces are partitioned into as many strips of the map, so that a worker
+/// mostly meets rows that it found itself. Each worker takes the traces of its own strip, then helps with
+/// the other strips, with its own reader, in a thread of its own if one is available. `first` is the index
+/// of the first trace in the file, from 0, which the gate receives. `Err` means out of memory; the readers
+/// are intact even then.
 pub fn match_all<'s, R: Threads + Sync, G: Gate>(
     rt: &R,
     alloc: Global,

@@ -22,10 +22,10 @@ use trace_reader::Trace;
 use trellis::Solved;
 use viterbi::match_trace;
 
-/// The match of a trace, and what it was found by.
+/// The match of a trace, and the intermediate results.
 #[derive(Drop)]
 pub struct Answer {
-    /// The fixes, with their candidates and times.
+    /// The positions, with their candidates and times.
     pub layers: List<Layer>,
     /// The ranks, pieces and cells.
     pub solved: Solved,
@@ -59,8 +59,7 @@ fn in_ids<R: Rows>(
 /// The match of a trace. Exactly the rows that it asks for become known.
 ///
 /// `grid` is of this network, with cells of at least the radius, and `rows` are of this network and
-/// the bound of these options. Err says that memory was refused; what was known is still known
-/// then.
+/// the bound of these options. `Err` means out of memory; what was known is still known then.
 pub fn match_one<R: Rows>(
     alloc: Global,
     net: &Network,

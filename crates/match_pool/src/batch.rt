@@ -1,4 +1,4 @@
-//! What a batch is, and what its traces are matched on. Serves `match_all`.
+//! A batch of traces, and what they are matched on. Serves `match_all`.
 ghost use Rattle.trace_match.specs.Ground.{IsGridFor};
 ghost use Rattle.match_pool.specs.Working.{AreJobTraces};
 
@@ -8,7 +8,7 @@ use road_network::Network;
 use std::alloc::Global;
 use trace_reader::Trace;
 
-/// Some traces in a row, the first of which stands at place `first` of the file, from 0, and the network,
+/// Consecutive traces, the first of which has index `first` in the file, from 0, and the network,
 /// its grid and the options by which they are matched.
 #[derive(Clone, Copy)]
 pub struct Batch<'a> {

@@ -12,8 +12,8 @@ use row_store::Reader;
 use std::alloc::AllocError;
 use tickets::{Claims, Ticket};
 
-/// Matches each trace of a strip whose rank in it the ticket draws, until there is none left. `numbers`
-/// are those of the strip's traces in the batch.
+/// Matches each trace of a strip whose rank in it the ticket draws, until none is left. `numbers`
+/// are the numbers of the strip's traces in the batch.
 pub fn draw_from<'s, G: Gate>(
     batch: &Batch,
     numbers: &[usize],

@@ -1,4 +1,4 @@
-//! Traces that lie far from the whole network, whose match is found without their layers. Serves `find_match`;
+//! Traces far from the whole network, whose match needs no layers. Serves `find_match`;
 //! decided by `unmatched`.
 ghost use Rattle.std.specs.Prelude.{◌≡◌, All, IfOk, IsTrue};
 ghost use Rattle.polyline_geometry.specs.Plane.{InRange};
@@ -13,7 +13,7 @@ use polyline_geometry::{List, Point};
 use std::alloc::{AllocError, Global};
 use trace_reader::{Fix, Trace};
 
-/// Whether a fix lies so far from the whole network that it has no candidate.
+/// Whether a position is so far from the whole network that it has no candidate.
 fn fix_lies_far(batch: &Batch, fix: &Fix) -> Result<bool, AllocError>
     requires { InRange (place_of fix.now) }
     ensures { IfOk result (λ far. IsTrue far
@@ -27,7 +27,7 @@ fn fix_lies_far(batch: &Batch, fix: &Fix) -> Result<bool, AllocError>
     Ok(found.len() == 0)
 }
 
-/// Whether all fixes of a trace do. Most traces are told by their first fix.
+/// Whether all positions of a trace are. The first position decides for most traces.
 pub(crate) fn lies_far(batch: &Batch, trace: &Trace) -> Result<bool, AllocError>
     requires { IsLawfulTrace trace.now }
     ensures { IfOk result (λ far. IsTrue far
@@ -41,7 +41,7 @@ pub(crate) fn lies_far(batch: &Batch, trace: &Trace) -> Result<bool, AllocError>
     Ok(true)
 }
 
-/// The match of a trace none of whose fixes has a candidate.
+/// The match of a trace in which no position has a candidate.
 pub(crate) fn unmatched(alloc: Global, trace: &Trace) -> Result<MatchedTrace, AllocError>
     ensures { IfOk result (λ matched. matched ≡ unmatched trace.now) }
 {

@@ -1,4 +1,4 @@
-//! The match of a trace by a reader, and of some traces without their layers. Serves `draw_from`; decided by
+//! The match of a trace by a reader, for some traces without their layers. Serves `draw_from`; decided by
 //! `match_of`.
 ghost use Rattle.std.specs.Prelude.{◌≡◌, true, IfOk};
 ghost use Rattle.bounded_search.specs.Rows.{AsksAs};

@@ -1,11 +1,11 @@
-//! Who is told of each trace that is matched. Serves tests of `work`.
+//! Observers of each trace that is matched. Serves tests of `work`.
 
 use row_store::RowStore;
 
-/// Is told of each trace before and after it is matched. Both calls return.
+/// Is called before and after each trace is matched. Both calls return.
 ///
-/// `trace` is the place of the trace in the file, from 0, and `store` is where the worker's rows come
-/// from. A gate may make readers of its own on it, and look and offer through them.
+/// `trace` is the index of the trace in the file, from 0, and `store` is the store of the worker's rows.
+/// A gate may make its own readers on it, and look and offer through them.
 pub trait Gate: Sync {
     fn begin(&self, trace: u64, store: &RowStore<'_>);
 

@@ -13,7 +13,7 @@ use match_text::MatchedTrace;
 use polyline_geometry::List;
 use std::alloc::{AllocError, Global};
 
-/// As many empty slots.
+/// This many empty slots.
 fn blank(alloc: Global, count: usize) -> Result<Vec<Option<MatchedTrace>>, AllocError>
     ensures { IfOk result (λ slots. slots.items ≡ replicate count None) }
 {
@@ -24,7 +24,7 @@ fn blank(alloc: Global, count: usize) -> Result<Vec<Option<MatchedTrace>>, Alloc
     Ok(slots)
 }
 
-/// Puts answers into the slots of their places, of which `first` is that of the first slot.
+/// Stores answers in the slots of their indices; `first` is the index of the first slot.
 fn place(slots: &mut Vec<Option<MatchedTrace>>, first: u64, done: List<Done>)
     requires { All (λ d. (first ≤ d.place) × (d.place < first + length slots.old.items)) done }
     ensures count { length slots.new.items ≡ length slots.old.items }
@@ -60,7 +60,7 @@ fn gather_strip(
     Ok(())
 }
 
-/// What stands in the slots.
+/// The contents of the slots.
 fn filled(alloc: Global, slots: Vec<Option<MatchedTrace>>) -> Result<List<MatchedTrace>, AllocError>
     requires { All IsSome slots.items }
     ensures { IfOk result (λ all. map Some all ≡ slots.items) }
@@ -73,7 +73,7 @@ fn filled(alloc: Global, slots: Vec<Option<MatchedTrace>>) -> Result<List<Matche
     Ok(List::from_vec(all))
 }
 
-/// The answers for the traces of the batch, in their order, by the turns at each strip.
+/// The answers for the traces of the batch, in order, from the results at each strip.
 pub fn gather(
     batch: &Batch,
     strips: Vec<Strip>,

@@ -1,19 +1,19 @@
 //! The match of one trace, and of many traces by several workers.
 //!
 //! - [`match_one`] matches one trace by the rows of any [`bounded_search::Rows`]: the candidates of its
-//!   fixes, their ranks and pieces, and the routes.
-//! - [`match_all`] matches many: it cuts them into strips of the map, one for each worker, each with a word
-//!   from which its traces are drawn. A worker has a [`row_store::Reader`] of one shared store. It draws from
-//!   its own strip until there is none left, and then from the others. No call waits.
-//! - [`work`] does the same for one worker and one word.
-//! - A [`Gate`] is told of each trace.
+//!   positions, their ranks and pieces, and the routes.
+//! - [`match_all`] matches many: it partitions them into strips of the map, one for each worker, each with
+//!   a counter from which its traces are drawn. A worker has a [`row_store::Reader`] of one shared store. It
+//!   draws from its own strip until none is left, and then from the others. No call waits.
+//! - [`work`] does the same for one worker and one counter.
+//! - A [`Gate`] is called for each trace.
 //!
-//! A trace of one fix is matched by these to its nearest edge, and one far from the whole network to nothing,
-//! without the layers and cells of [`match_one`].
+//! These match a trace of one position to its nearest edge, and a trace far from the whole network to
+//! nothing, without the layers and cells of [`match_one`].
 //!
-//! What the match is, `match_of` in trace_match's `specs/Match.antt` says, and `asks` there which rows
-//! a trace asks for: exactly those become known. The clauses to read first are `answer` and `asks` of
-//! [`match_one`], and those of [`match_all`].
+//! `match_of` in trace_match's `specs/Match.antt` defines the match, and `asks` there which rows a trace
+//! asks for: exactly those become known. Read first the clauses `answer` and `asks` of [`match_one`], and
+//! those of [`match_all`].
 #![tactic(auto)]
 
 mod all;

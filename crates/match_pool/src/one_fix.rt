@@ -1,4 +1,4 @@
-//! Traces of one fix, which are matched to their nearest edge. Serves `find_match`; decided by `match_of`.
+//! Traces of one position, which are matched to their nearest edge. Serves `find_match`; decided by `match_of`.
 ghost use Rattle.std.specs.Prelude.{◌≡◌, ◌*◌, ◌≤◌, [], ◌∷◌, IfOk, length};
 ghost use Rattle.polyline_geometry.specs.Plane.{InRange};
 ghost use Rattle.road_network.specs.Net.{HasEdge};
@@ -17,7 +17,7 @@ use std::alloc::{AllocError, Global};
 use trace_match::label_on;
 use trace_reader::{Fix, Trace};
 
-/// The edge that lies nearest to a fix, if one is within the radius.
+/// The edge nearest to a position, if one is within the radius.
 fn nearest_edge(batch: &Batch, fix: &Fix) -> Result<Option<Candidate>, AllocError>
     requires { InRange (place_of fix.now) }
     ensures { IfOk result (λ found.
@@ -43,7 +43,7 @@ where
     Ok(list)
 }
 
-/// The match of a trace of this id whose one fix lies on this edge.
+/// The match of a trace with this id whose one position lies on this edge.
 fn on_edge(batch: &Batch, id: u32, nearest: Candidate) -> Result<MatchedTrace, AllocError>
     requires edge { HasEdge batch.now.net.now nearest.edge.0 }
     requires within { nearest.d2 ≤ batch.now.params.now.radius * batch.now.params.now.radius }
@@ -64,7 +64,7 @@ fn on_edge(batch: &Batch, id: u32, nearest: Candidate) -> Result<MatchedTrace, A
     })
 }
 
-/// The match of a trace of one fix.
+/// The match of a trace of one position.
 pub(crate) fn match_fix(batch: &Batch, trace: &Trace) -> Result<MatchedTrace, AllocError>
     requires trace { IsLawfulTrace trace.now }
     requires one { length trace.now.fixes ≡ 1 }

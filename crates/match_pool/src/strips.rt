@@ -1,4 +1,4 @@
-//! The traces of a batch, cut into strips of the map. Serves `match_all`; decided by `AreStripsOf`.
+//! The traces of a batch, partitioned into strips of the map. Serves `match_all`; decided by `AreStripsOf`.
 ghost use Rattle.std.specs.Prelude.{◌≡◌, ◌≤◌, [], ◌∷◌, IfOk, length};
 ghost use Rattle.std.specs.List.{range_with_len};
 ghost use Rattle.match_pool.specs.Strips.{AreSpotsOf, AreStripsOf};
@@ -8,7 +8,7 @@ use polyline_geometry::List;
 use std::alloc::{AllocError, Global};
 use trace_reader::Trace;
 
-/// Where a trace lies: twice the middle of the least box round it, and the column of the map, which is
+/// Where a trace lies: twice the middle of its bounding box, and the column of the map, which is
 /// known once the traces are sorted from west to east.
 #[derive(Clone, Copy)]
 pub struct Spot {
@@ -38,7 +38,7 @@ fn spot_of(number: usize, trace: &Trace) -> Spot
     }
 }
 
-/// Where the traces lie, in their order.
+/// Where the traces lie, in the same order.
 fn spots_of(alloc: Global, traces: &[Trace]) -> Result<Vec<Spot>, AllocError>
     ensures { IfOk result (λ spots. AreSpotsOf (length traces.now) spots.items) }
 {
@@ -49,7 +49,7 @@ fn spots_of(alloc: Global, traces: &[Trace]) -> Result<Vec<Spot>, AllocError>
     Ok(spots)
 }
 
-/// Gives each spot its column: each has the next so many spots.
+/// Gives each spot its column: each column has the next `width` spots.
 fn set_columns(spots: &mut Vec<Spot>, width: usize)
     requires width { 1 ≤ width }
     ensures { (count : _) → AreSpotsOf count spots.old.items → AreSpotsOf count spots.new.items }
@@ -59,7 +59,7 @@ fn set_columns(spots: &mut Vec<Spot>, width: usize)
     }
 }
 
-/// The spots column by column, and in each from south to north, so that any that follow each other are near.
+/// The spots column by column, and in each from south to north, so that consecutive ones are near.
 fn sorted(alloc: Global, traces: &[Trace], columns: usize) -> Result<Vec<Spot>, AllocError>
     requires columns { 1 ≤ columns }
     ensures { IfOk result (λ spots. AreSpotsOf (length traces.now) spots.items) }
@@ -72,7 +72,7 @@ fn sorted(alloc: Global, traces: &[Trace], columns: usize) -> Result<Vec<Spot>, 
     Ok(spots)
 }
 
-/// The numbers below a count, in their order.
+/// The numbers below a count, in order.
 pub fn numbers_below(alloc: Global, count: usize) -> Result<List<usize>, AllocError>
     ensures { IfOk result (λ numbers. numbers ≡ range_with_len 0 count) }
 {
@@ -83,7 +83,7 @@ pub fn numbers_below(alloc: Global, count: usize) -> Result<List<usize>, AllocEr
     Ok(List::from_vec(numbers))
 }
 
-/// One strip of all numbers, in their order.
+/// One strip of all numbers, in order.
 fn one_strip(alloc: Global, count: usize) -> Result<Vec<List<usize>>, AllocError>
     ensures { IfOk result (λ strips. strips.items ≡ range_with_len 0 count ∷ []) }
 {
@@ -92,7 +92,7 @@ fn one_strip(alloc: Global, count: usize) -> Result<Vec<List<usize>>, AllocError
     Ok(strips)
 }
 
-/// The numbers of the traces in so many strips, each a part of the map. A single strip has them in their
+/// The numbers of the traces in `count` strips, each a part of the map. A single strip has them in
 /// order.
 pub fn cut(alloc: Global, traces: &[Trace], count: usize) -> Result<Vec<List<usize>>, AllocError>
     requires count { 1 ≤ count }

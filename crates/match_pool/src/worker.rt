@@ -1,4 +1,4 @@
-//! What one worker does. Serves `match_all`; decided by `Works`.
+//! The work of one worker. Serves `match_all`; decided by `Works`.
 ghost use Rattle.std.specs.Prelude.{◌≡◌, ◌≤◌, IfOk, length};
 ghost use Rattle.match_pool.specs.Working.{CanDraw, CanMatch, IsReaderFor, Stays, Works, job};
 
@@ -16,18 +16,18 @@ use std::alloc::{AllocError, Global};
 use tickets::{Claims, Ticket};
 use trace_reader::Trace;
 
-/// The match of the trace at a place of the file, from 0.
+/// The match of the trace at an index of the file, from 0.
 #[derive(Drop)]
 pub struct Done {
     pub place: u64,
     pub matched: MatchedTrace,
 }
 
-/// Matches each trace whose number the ticket draws, until there is none left. `first` is the place of
-/// the first trace in the file, from 0.
+/// Matches each trace whose number the ticket draws, until none is left. `first` is the index of the
+/// first trace in the file, from 0.
 ///
-/// The rows are those of the reader. The gate is told of each trace before and after it is matched.
-/// Err says that memory was refused.
+/// The rows are those of the reader. The gate is called before and after each trace. `Err` means out
+/// of memory.
 pub fn work<'s, G: Gate>(
     alloc: Global,
     net: &Network,

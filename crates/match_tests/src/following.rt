@@ -1,11 +1,12 @@
 //! A trace on two edges in a row, followed over own rows and over rows that refuse a call.
 ghost use Rattle.bounded_search.specs.Rows.{AreRowsOf};
 
-use crate::traces::{BEHIND, DEFAULTS, ROW, is_lawful, trace_at};
+use crate::traces::{BEHIND, DEFAULTS, is_lawful, trace_at};
 use bounded_search::{OwnRows, RefusingRows, Rows};
 use grid_index::Grid;
 use polyline_geometry::List;
 use road_network::{Network, read_network};
+use row_tests::small::TWO_EDGES;
 use std::alloc::{AllocError, Global};
 use std::test::Fail;
 use trace_reader::Trace;
@@ -50,7 +51,7 @@ fn is_refused(alloc: Global, net: &Network, call: u64) -> Result<bool, AllocErro
 
 #[test]
 fn two_fixes_one_behind_the_other(rt: HostRuntime) -> Result<(), Fail> {
-    let net = read_network(rt.alloc(), ROW)?;
+    let net = read_network(rt.alloc(), TWO_EDGES)?;
     let mut rows = OwnRows::open(rt.alloc(), &net, DEFAULTS.bound)?;
     let trace = trace_at(rt.alloc(), &BEHIND)?;
     assert!(rt; is_followed(rt.alloc(), &net, &mut rows, &trace)?);
@@ -60,7 +61,7 @@ fn two_fixes_one_behind_the_other(rt: HostRuntime) -> Result<(), Fail> {
 
 #[test]
 fn a_refused_row(rt: HostRuntime) -> Result<(), Fail> {
-    let net = read_network(rt.alloc(), ROW)?;
+    let net = read_network(rt.alloc(), TWO_EDGES)?;
     for call in 1..4 {
         assert!(rt; is_refused(rt.alloc(), &net, call)?);
     }

@@ -1,10 +1,19 @@
-//! Tests that cross crates: small traces, matched and followed over own rows and over rows that refuse
-//! a call, and a town's traces, matched by workers over one store. What the program alone can show,
-//! `tests/cases` has.
+//! Tests of traces that are matched and followed: small ones over own rows and over rows that refuse a call,
+//! those of a town by workers over one store, sessions and what they hand out, and the relay between two
+//! threads. They stand in a crate of their own, so that no other crate is proved a second time for them.
+//! What the program alone can show, `tests/cases` has.
 #![tactic(auto)]
 
 #[cfg(test)]
 mod following;
+#[cfg(test)]
+mod interleaved;
+#[cfg(test)]
+mod item_lines;
+#[cfg(test)]
+mod relay;
+#[cfg(test)]
+mod sessions;
 #[cfg(test)]
 mod traces;
 #[cfg(test)]

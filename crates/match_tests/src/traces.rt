@@ -14,23 +14,12 @@ use match_pool::{Answer, match_one};
 use match_text::{Label, MatchedTrace, Routed};
 use polyline_geometry::List;
 use road_network::{Network, read_network};
+use row_tests::small::TWO_EDGES;
 use std::alloc::{AllocError, Global};
 use std::test::Fail;
 use trace_reader::{Fix, Trace};
 
-pub const DEFAULTS: Params = Params {
-    k: 8,
-    radius: 10_000,
-    sigma: 1_000,
-    beta: 1_000,
-    bound: 300_000,
-    workers: 4,
-    back: 0,
-    gap: u32::MAX,
-};
-
-/// Two edges in a row.
-pub const ROW: &[u8] = b"edge,from,to,line\n10,1,2,0 0;10000 0\n11,2,3,10000 0;20000 0\n";
+pub const DEFAULTS: Params = Params::DEFAULT;
 
 /// The greatest coordinate of a fix, in cm.
 const GREATEST: u32 = 1_000_000_000;
@@ -128,7 +117,7 @@ fn is_refused(alloc: Global, net: &Network, call: u64) -> Result<bool, AllocErro
 
 #[test]
 fn two_fixes_on_one_edge(rt: HostRuntime) -> Result<(), Fail> {
-    let net = read_network(rt.alloc(), ROW)?;
+    let net = read_network(rt.alloc(), TWO_EDGES)?;
     let mut rows = OwnRows::open(rt.alloc(), &net, DEFAULTS.bound)?;
     let trace = trace_at(rt.alloc(), &ALONG)?;
     let answer = match_trace(rt.alloc(), &net, &mut rows, &trace)?.ok_or("no match")?;
@@ -139,7 +128,7 @@ fn two_fixes_on_one_edge(rt: HostRuntime) -> Result<(), Fail> {
 
 #[test]
 fn a_refused_row(rt: HostRuntime) -> Result<(), Fail> {
-    let net = read_network(rt.alloc(), ROW)?;
+    let net = read_network(rt.alloc(), TWO_EDGES)?;
     for call in 1..4 {
         assert!(rt; is_refused(rt.alloc(), &net, call)?);
     }

@@ -6,14 +6,15 @@ ghost use Rattle.match_pool.specs.Working.{CanDraw};
 ghost use Rattle.road_network.specs.Net.{HasNode};
 ghost use Rattle.trace_reader.specs.Trace.{IsLawfulTrace};
 
-use crate::traces::{ALONG, DEFAULTS, ROW, is_lawful, is_wanted, on_first, trace_at};
-use bounded_search::{Entry, Row};
+use crate::traces::{ALONG, DEFAULTS, is_lawful, is_wanted, on_first, trace_at};
+use bounded_search::Row;
 use grid_index::Grid;
 use match_pool::{OpenGate, match_all, work};
 use match_text::MatchedTrace;
 use polyline_geometry::List;
-use road_network::{EdgeId, Network, NodeId, read_network};
+use road_network::{Network, NodeId, read_network};
 use row_store::{Reader, RowStore, Sight};
+use row_tests::small::{TWO_EDGES, offered, wrong};
 use std::alloc::{AllocError, Global};
 use std::test::Fail;
 use std::thread::Threads;
@@ -210,36 +211,6 @@ fn are_numbered_from_5(
     Ok(first.place == 5 && second.place == 6)
 }
 
-fn entry(node: u32, distance: u32, last: Option<EdgeId>) -> Entry {
-    Entry {
-        node: NodeId(node),
-        distance,
-        last,
-    }
-}
-
-/// Entries after `1:0:-` with which a row is not that of node 1.
-fn wrong() -> [Option<Entry>; 4] {
-    [
-        None,
-        Some(entry(2, 10_000, Some(EdgeId(7)))),
-        Some(entry(9, 5, Some(EdgeId(0)))),
-        Some(entry(2, 4_294_967_295, Some(EdgeId(1)))),
-    ]
-}
-
-/// The row with `1:0:-` and this entry.
-fn offered(alloc: Global, more: Option<Entry>) -> Result<Option<Row>, AllocError>
-    ensures { IfOk result (λ o. IfSome o (λ row. row.origin ≡ 1)) }
-{
-    let mut entries = List::new(alloc);
-    entries.push(entry(1, 0, None))?;
-    if let Some(entry) = more {
-        entries.push(entry)?;
-    }
-    Ok(Row::of(NodeId(1), entries))
-}
-
 /// Puts a row into the empty cell of node 1.
 fn plant(store: &RowStore<'_>, row: Row) -> Result<(), AllocError>
     requires node { HasNode store.now.network 1 }
@@ -282,7 +253,7 @@ fn no_row_of_the_town_is_foreign(rt: HostRuntime) -> Result<(), Fail> {
 
 #[test]
 fn two_traces_are_matched_in_order(rt: HostRuntime) -> Result<(), Fail> {
-    let net = read_network(rt.alloc(), ROW)?;
+    let net = read_network(rt.alloc(), TWO_EDGES)?;
     let store = RowStore::open(rt.alloc(), &net, DEFAULTS.bound)?;
     assert!(rt; are_two_matched(&rt, rt.alloc(), &net, &store)?);
     assert!(rt; are_numbered_from_5(rt.alloc(), &net, &store)?);
@@ -291,7 +262,7 @@ fn two_traces_are_matched_in_order(rt: HostRuntime) -> Result<(), Fail> {
 
 #[test]
 fn a_foreign_row_misleads_nobody(rt: HostRuntime) -> Result<(), Fail> {
-    let net = read_network(rt.alloc(), ROW)?;
+    let net = read_network(rt.alloc(), TWO_EDGES)?;
     for more in wrong() {
         assert!(rt; 1 < net.node_count());
         let store = RowStore::open(rt.alloc(), &net, DEFAULTS.bound)?;

@@ -1,4 +1,4 @@
-//! What stands at the front of a text, and the rest of it. Serves the readers of lines, of this text
+//! What is at the front of a text, and the rest of the text. Serves the readers of lines, of this text
 //! and of others; decided by `number_at` and `after_bytes`.
 ghost use Rattle.std.specs.Prelude.{◌≡◌, ◌-◌, ◌^◌, ◌≤◌, length, IfSome};
 ghost use Rattle.std.specs.Option.{option_copied};
@@ -8,7 +8,7 @@ ghost use Rattle.match_text.specs.Reading.{seen, after_bytes, has_leading_zero, 
 
 use decimal_text::parse_unsigned;
 
-/// What stands after these bytes at the front, if they stand there.
+/// The text after these bytes, if it begins with them.
 pub fn after<'a>(text: &'a [u8], bytes: &[u8]) -> Option<&'a [u8]>
     ensures { option_copied result ≡ after_bytes bytes.now text.now }
 {
@@ -19,7 +19,7 @@ pub fn after<'a>(text: &'a [u8], bytes: &[u8]) -> Option<&'a [u8]>
     }
 }
 
-/// The number of at most `most` at the front, without leading zeros, and what stands after it.
+/// The number of at most `most` at the front, without leading zeros, and the text after it.
 #[tactic(auto, unfolding(crate::specs::Reading::number_at))]
 pub fn number(text: &[u8], most: u64) -> Option<(u64, &[u8])>
     ensures value { seen result ≡ number_at most text.now }
@@ -33,7 +33,7 @@ pub fn number(text: &[u8], most: u64) -> Option<(u64, &[u8])>
     Some((number, rest))
 }
 
-// How many digits stand at the front.
+// The number of digits at the front.
 fn digit_count(text: &[u8]) -> usize
     ensures value { result ≡ prefix_len is_ascii_digit text.now }
     ensures within { result ≤ length text.now }
@@ -47,7 +47,7 @@ fn has_leading_zero(digits: &[u8]) -> bool
     matches!(digits, [b'0', _, ..])
 }
 
-/// The number of at most `most` after these bytes at the front, and what stands after it.
+/// The number of at most `most` after these bytes at the front, and the text after it.
 #[tactic(auto, unfolding(crate::specs::Reading::number_after))]
 pub fn number_after<'a>(text: &'a [u8], bytes: &[u8], most: u64) -> Option<(u64, &'a [u8])>
     ensures value { seen result ≡ number_after bytes.now most text.now }
@@ -56,7 +56,7 @@ pub fn number_after<'a>(text: &'a [u8], bytes: &[u8], most: u64) -> Option<(u64,
     number(after(text, bytes)?, most)
 }
 
-/// The number of 32 bits after these bytes at the front, and what stands after it.
+/// The 32-bit number after these bytes at the front, and the text after it.
 pub fn short_number_after<'a>(text: &'a [u8], bytes: &[u8]) -> Option<(u32, &'a [u8])>
     ensures { seen result ≡ number_after bytes.now (2 ^ 32 - 1) text.now }
 {

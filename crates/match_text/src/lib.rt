@@ -1,18 +1,17 @@
 //! The match text of one trace, written and read.
 //!
 //! A [`MatchedTrace`] has the id of a trace, a [`Label`] for each of its points and the
-//! [`Routed`] pieces, with the ids of roads. Its text is one line `trace ID`, a line for each point
-//! (`at I edge E offset O d2 D` or `none I`), directly after the line of a piece's last point the
-//! line `piece F L cost C route E1 E2 ..`, and one line `end ID`.
+//! [`Routed`] pieces, with the ids of roads. Its text is one line `trace ID`, one line for each point
+//! (`at I edge E offset O d2 D` or `none I`), the line `piece F L cost C route E1 E2 ..` directly
+//! after the line of the piece's last point, and one line `end ID`.
 //!
-//! [`write_match`] appends the text, and [`read_match`] takes exactly the texts of lawful
-//! matched traces and names the first line that is not allowed in its place. For texts with the
-//! same lines there are calls that write one line ([`write_trace`], [`write_label`],
-//! [`write_piece`], [`write_end`]) or read one ([`read_trace`], [`read_piece`]), and [`front`]
-//! reads words and numbers.
+//! [`write_match`] appends the text. [`read_match`] accepts exactly the texts of lawful matched
+//! traces and names the first line that is not allowed at its place. Texts that share lines with it
+//! can write one line ([`write_trace`], [`write_label`], [`write_piece`], [`write_end`]) or read one
+//! ([`read_trace`], [`read_piece`]); [`front`] reads words and numbers.
 //!
-//! The text is defined once, by `text_of` in `specs/MatchText.antt`, and so is what is lawful, by
-//! `IsLawful`. Read the clauses of [`read_match`] first.
+//! `text_of` in `specs/MatchText.antt` defines the text, and `IsLawful` defines lawful. Read the
+//! clauses of [`read_match`] first.
 #![tactic(auto)]
 
 mod fault;
@@ -31,6 +30,3 @@ pub use place::Place;
 pub use reading::read_match;
 pub use scan::{read_piece, read_trace};
 pub use writing::write_match;
-
-#[cfg(test)]
-mod tests;

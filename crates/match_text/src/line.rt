@@ -10,10 +10,10 @@ use itoa::write_digits;
 use polyline_geometry::List;
 use std::alloc::AllocError;
 
-// Room for the longest line of fixed words, `at`, with four numbers of at most 20 digits.
+// Room for the longest line with a fixed number of words, `at`: four numbers of at most 20 digits.
 const ROOM: usize = 112;
 
-/// Appends the line `trace ID`. After Err `into` is as before.
+/// Appends the line `trace ID`. On `Err`, `into` is unchanged.
 pub fn write_trace(id: u32, into: &mut List<u8>) -> Result<(), AllocError>
     ensures ok { OnOk result (into.new ≡ into.old ++ trace_line id) }
     ensures err { OnErr result (into.new ≡ into.old) }
@@ -21,7 +21,7 @@ pub fn write_trace(id: u32, into: &mut List<u8>) -> Result<(), AllocError>
     write_word(b"trace ", u64::from(id), into)
 }
 
-/// Appends the line `end ID`. After Err `into` is as before.
+/// Appends the line `end ID`. On `Err`, `into` is unchanged.
 pub fn write_end(id: u32, into: &mut List<u8>) -> Result<(), AllocError>
     ensures ok { OnOk result (into.new ≡ into.old ++ end_line id) }
     ensures err { OnErr result (into.new ≡ into.old) }
@@ -30,7 +30,7 @@ pub fn write_end(id: u32, into: &mut List<u8>) -> Result<(), AllocError>
 }
 
 /// Appends the line of the point with this number: `at I edge E offset O d2 D` or `none I`.
-/// After Err `into` is as before.
+/// On `Err`, `into` is unchanged.
 pub fn write_label(point: u64, label: Label, into: &mut List<u8>) -> Result<(), AllocError>
     ensures ok { OnOk result (into.new ≡ into.old ++ label_line point label) }
     ensures err { OnErr result (into.new ≡ into.old) }
@@ -48,7 +48,7 @@ pub fn write_label(point: u64, label: Label, into: &mut List<u8>) -> Result<(), 
     }
 }
 
-/// Appends the line `piece F L cost C route E1 E2 ..`. After Err `into` is as before.
+/// Appends the line `piece F L cost C route E1 E2 ..`. On `Err`, `into` is unchanged.
 pub fn write_piece(piece: &Routed, into: &mut List<u8>) -> Result<(), AllocError>
     ensures ok { OnOk result (into.new ≡ into.old ++ piece_line piece.now) }
     ensures err { OnErr result (into.new ≡ into.old) }
@@ -61,7 +61,7 @@ pub fn write_piece(piece: &Routed, into: &mut List<u8>) -> Result<(), AllocError
     written
 }
 
-// Appends the line of a piece. After Err a part of it may stand at the end.
+// Appends the line of a piece. On `Err`, a part of it may remain at the end.
 fn append_piece(piece: &Routed, into: &mut List<u8>) -> Result<(), AllocError>
     ensures ok { OnOk result (into.new ≡ into.old ++ piece_line piece.now) }
     ensures err { OnErr result (take (length into.old) into.new ≡ into.old) }
@@ -71,7 +71,7 @@ fn append_piece(piece: &Routed, into: &mut List<u8>) -> Result<(), AllocError>
     into.extend_from_slice(b"\n")
 }
 
-// Appends the line of a piece up to its route. After Err `into` is as before.
+// Appends the line of a piece up to its route. On `Err`, `into` is unchanged.
 fn write_head(piece: &Routed, into: &mut List<u8>) -> Result<(), AllocError>
     ensures ok { OnOk result (into.new ≡ into.old ++ piece_head piece.now) }
     ensures err { OnErr result (into.new ≡ into.old) }
@@ -84,7 +84,7 @@ fn write_head(piece: &Routed, into: &mut List<u8>) -> Result<(), AllocError>
     into.extend_from_slice(&line[start..])
 }
 
-// Appends each number after a space. After Err some of them may stand at the end.
+// Appends each number after a space. On `Err`, some of them may remain at the end.
 #[tactic(auto, using(crate::proofs::Kept::kept))]
 fn append_numbers(numbers: &[u32], into: &mut List<u8>) -> Result<(), AllocError>
     ensures ok { OnOk result (into.new ≡ into.old ++ numbers_text numbers.now) }
@@ -96,7 +96,7 @@ fn append_numbers(numbers: &[u32], into: &mut List<u8>) -> Result<(), AllocError
     Ok(())
 }
 
-// Appends a space and the number. After Err `into` is as before.
+// Appends a space and the number. On `Err`, `into` is unchanged.
 fn write_number(number: u32, into: &mut List<u8>) -> Result<(), AllocError>
     ensures ok { OnOk result (into.new ≡ into.old ++ 32 ∷ decimal number) }
     ensures err { OnErr result (into.new ≡ into.old) }
@@ -117,7 +117,7 @@ fn write_word(word: &[u8], number: u64, into: &mut List<u8>) -> Result<(), Alloc
     into.extend_from_slice(&line[start..])
 }
 
-// Puts a word and a number before what stands from `end` on, and says where they start.
+// Writes a word and a number so that they end at `end`, and returns where they start.
 #[inline(always)]
 fn put_before(word: &[u8], number: u64, line: &mut [u8], end: usize) -> usize
     requires room { length word.now + 20 ≤ end }

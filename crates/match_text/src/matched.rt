@@ -1,4 +1,4 @@
-//! A trace with its match, in the ids of the network file. Serves all who write or read it.
+//! A trace with its match, in the ids of the network file. Serves all who write or read one.
 use polyline_geometry::List;
 
 /// What a point of a trace was matched to.
@@ -21,7 +21,7 @@ pub struct Routed {
     pub route: List<u32>,
 }
 
-/// A trace with a label for each point and the pieces in their order.
+/// A trace with a label for each point, and its pieces in order.
 #[derive(Drop)]
 pub struct MatchedTrace {
     pub id: u32,

@@ -1,5 +1,5 @@
-//! The lines of a match text after its first, and what decides which of them may come next. Serves
-//! `read_match`; decided by `IsAllowed`.
+//! The lines of a match text after its first, and the state that decides which line may come next.
+//! Serves `read_match`; decided by `IsAllowed`.
 ghost use Rattle.std.specs.Prelude.{◌≡◌};
 ghost use Rattle.match_text.specs.Grammar.{IsAllowed, place_after};
 
@@ -13,18 +13,18 @@ pub enum Line {
     End,
 }
 
-/// A place between two lines of a text: what decides which line may come next.
+/// The state between two lines of a text: it decides which line may come next.
 #[derive(Clone, Copy)]
 pub struct Place {
     /// The id of the trace.
     pub id: u32,
     /// The number of the next point.
     pub next: u32,
-    /// The first point with candidates that waits for its piece line.
+    /// The first point with candidates whose piece line has not come yet.
     pub waiting: Option<u32>,
 }
 
-/// The place after this line, which may stand at `place`.
+/// The state after this line, which is allowed at `place`.
 pub fn place_after(place: Place, line: &Line) -> Place
     requires { IsAllowed place line.now }
     ensures { result ≡ place_after place line.now }

@@ -1,4 +1,4 @@
-//! The match text of a trace, read. Serves all who take such texts; decided by `text_of` and
+//! Reads the match text of a trace. Serves all who take such texts; decided by `text_of` and
 //! `IsLawful`.
 ghost use Rattle.std.specs.Prelude.{◌≡◌, ℕ, IfOk, IsErrOf, MatchResult};
 ghost use Rattle.match_text.specs.declared.matched.MatchedTrace.{MatchedTrace};
@@ -14,12 +14,12 @@ use std::alloc::Global;
 
 /// The matched trace whose match text this is.
 ///
-/// A text that is no match text has a first line that is not allowed in its place or is missing;
+/// A text that is not a match text has a first line that is not allowed at its place or is missing;
 /// the fault has its number, from 1.
 pub fn read_match(alloc: Global, text: &[u8]) -> Result<MatchedTrace, TextFault>
-    // What is read is lawful, and the text is its text, each byte of it.
+    // The result is lawful, and the text is exactly its text.
     ensures found { IfOk result (λ m. IsLawful m × (text.now ≡ text_of m)) }
-    // What was written of a lawful matched trace is read as that one, unless memory is wanting.
+    // The text of a lawful matched trace reads back as that trace, unless memory runs out.
     ensures only { (m : MatchedTrace) → IsLawful m → Fits m → text.now ≡ text_of m
         → MatchResult result (λ read. read ≡ m) (λ fault. fault ≡ TextFault.Memory) }
     // Which line is bad.

@@ -14,7 +14,7 @@ use std::alloc::{AllocError, Global};
 /// The greatest number of a point.
 const LAST_POINT: u64 = 99_999;
 
-/// The id in the line `trace ID` at the front, and what stands after the line.
+/// The id in the line `trace ID` at the front, and the text after the line.
 #[tactic(auto, unfolding(crate::specs::Reading::trace_at))]
 pub fn read_trace(text: &[u8]) -> Option<(u32, &[u8])>
     ensures { seen result ≡ trace_at text.now }
@@ -24,7 +24,7 @@ pub fn read_trace(text: &[u8]) -> Option<(u32, &[u8])>
     Some((id, rest))
 }
 
-// The end line of the trace, and what stands after it.
+// The end line of the trace, and the text after it.
 #[tactic(auto, unfolding(crate::specs::Reading::end_at))]
 fn end_line(place: Place, text: &[u8]) -> Option<(Line, &[u8])>
     ensures value { seen result ≡ end_at place text.now }
@@ -38,7 +38,7 @@ fn end_line(place: Place, text: &[u8]) -> Option<(Line, &[u8])>
     Some((Line::End, rest))
 }
 
-// What stands after these bytes and the number of the next point.
+// The text after these bytes and the number of the next point.
 #[tactic(auto, unfolding(crate::specs::Reading::numbered_at))]
 fn numbered<'a>(text: &'a [u8], bytes: &[u8], next: u32) -> Option<&'a [u8]>
     ensures { option_copied result ≡ numbered_at bytes.now next text.now }
@@ -50,7 +50,7 @@ fn numbered<'a>(text: &'a [u8], bytes: &[u8], next: u32) -> Option<&'a [u8]>
     Some(rest)
 }
 
-// The line of the next point, which has no candidate, and what stands after it.
+// The line of the next point, which has no candidate, and the text after it.
 #[tactic(auto, unfolding(crate::specs::Reading::none_at))]
 fn none_line(place: Place, text: &[u8]) -> Option<(Line, &[u8])>
     ensures { seen result ≡ none_at place text.now }
@@ -63,7 +63,7 @@ fn none_line(place: Place, text: &[u8]) -> Option<(Line, &[u8])>
     Some((Line::Point(Label::Missing), rest))
 }
 
-// The line of the next point, which has candidates, and what stands after it.
+// The line of the next point, which has candidates, and the text after it.
 #[tactic(auto, unfolding(crate::specs::Reading::label_at))]
 fn label_line(place: Place, text: &[u8]) -> Option<(Line, &[u8])>
     ensures { seen result ≡ label_at place text.now }
@@ -101,7 +101,7 @@ fn piece_head(text: &[u8]) -> Option<Head>
     })
 }
 
-// The edges of a route up to the end of its line, and what stands after the line.
+// The edges of a route up to the end of its line, and the text after the line.
 fn route(alloc: Global, text: &[u8]) -> Result<Option<(List<u32>, &[u8])>, AllocError>
     ensures { IfOk result (λ read. ReadsRoute text.now (seen read)) }
 {
@@ -117,10 +117,10 @@ fn route(alloc: Global, text: &[u8]) -> Result<Option<(List<u32>, &[u8])>, Alloc
     Ok(Some((route, rest)))
 }
 
-/// The piece whose line is at the front, if it may stand at this place, and what stands after it.
+/// The piece whose line is at the front, if it is allowed at this place, and the text after it.
 ///
-/// A piece line may stand where points wait: it has the first of them and the last, and a route of
-/// one edge at least.
+/// A piece line is allowed where points wait: its first and last points are those that wait, and its
+/// route has at least one edge.
 pub fn read_piece(
     alloc: Global,
     place: Place,
@@ -156,7 +156,7 @@ fn is_open(place: Place, first: u32, last: u32) -> bool
     place.waiting == Some(first) && u64::from(last) + 1 == u64::from(place.next)
 }
 
-/// The line at the front of the text that may stand at this place, and what stands after it.
+/// The line at the front of the text, if it is allowed at this place, and the text after it.
 pub fn next_line(
     alloc: Global,
     place: Place,

@@ -1,4 +1,4 @@
-//! The match text of a trace, written. Serves the program; decided by `text_of`.
+//! Writes the match text of a trace. Serves the program; decided by `text_of`.
 ghost use Rattle.std.specs.Prelude.{◌≡◌, ◌++◌, length, take, OnOk, OnErr};
 ghost use Rattle.std.specs.List.{concat};
 ghost use Rattle.match_text.specs.MatchText.{text_of, point_lines, IsLawful};
@@ -8,7 +8,7 @@ use crate::matched::{Label, MatchedTrace, Routed};
 use polyline_geometry::List;
 use std::alloc::{AllocError, Global};
 
-/// Appends the match text of the trace. After Err `into` is as before.
+/// Appends the match text of the trace. On `Err`, `into` is unchanged.
 pub fn write_match(_alloc: Global, m: &MatchedTrace, into: &mut List<u8>) -> Result<(), AllocError>
     requires { IsLawful m.now }
     ensures ok { OnOk result (into.new ≡ into.old ++ text_of m.now) }
@@ -22,7 +22,7 @@ pub fn write_match(_alloc: Global, m: &MatchedTrace, into: &mut List<u8>) -> Res
     written
 }
 
-// Appends the match text of the trace. After Err some lines may stand at the end.
+// Appends the match text of the trace. On `Err`, some lines may remain at the end.
 fn append_match(m: &MatchedTrace, into: &mut List<u8>) -> Result<(), AllocError>
     ensures ok { OnOk result (into.new ≡ into.old ++ text_of m.now) }
     ensures err { OnErr result (take (length into.old) into.new ≡ into.old) }
@@ -32,7 +32,7 @@ fn append_match(m: &MatchedTrace, into: &mut List<u8>) -> Result<(), AllocError>
     write_end(m.id, into)
 }
 
-// Appends the lines of the points and of the pieces. After Err some may stand at the end.
+// Appends the lines of the points and of the pieces. On `Err`, some may remain at the end.
 fn append_points(labels: &[Label], pieces: &[Routed], into: &mut List<u8>) -> Result<(), AllocError>
     ensures ok { OnOk result (into.new ≡ into.old ++ concat (point_lines 0 labels.now pieces.now)) }
     ensures err { OnErr result (take (length into.old) into.new ≡ into.old) }

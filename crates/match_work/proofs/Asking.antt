@@ -1,10 +1,10 @@
 -- What traces that are matched make known.
 use Rattle.std.proofs.Common.{List, ◌++◌, inl, inr, ⊎_elim}
-use Rattle.matcher.proofs.Asking.{asked_parts}
+use Rattle.trace_match.proofs.Asking.{asked_parts}
 use Rattle.match_pool.specs.Learning.{LearnAsked}
 use Rattle.row_store.specs.Store.{Reading}
 use Rattle.trace_reader.specs.declared.trace.Trace.{Trace}
-use Rattle.matcher.specs.Setting.{Setting}
+use Rattle.trace_match.specs.Setting.{Setting}
 use Rattle.match_work.specs.MatchesDone.{KnowAsked}
 
 -- what more traces make known, behind those that made known what is

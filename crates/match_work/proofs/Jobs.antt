@@ -12,15 +12,17 @@ use Rattle.program_frame.proofs.Bounds.{lawful_back}
 use Rattle.row_store.specs.Store.{Reading, Stored, count_known}
 use Rattle.trace_match.specs.Match.{match_of}
 use Rattle.trace_reader.specs.declared.trace.Trace.{Trace}
-use Rattle.matcher.specs.Setting.{Setting}
+use Rattle.trace_match.specs.Setting.{Setting}
 use Rattle.match_work.specs.Sharing.{ShareStore, fresh_readers}
-use Rattle.matcher.specs.Totals.{pieces_of, total_of}
+use Rattle.program_frame.specs.Counts.{total_of}
+use Rattle.trace_match.specs.Totals.{pieces_of, rows_of}
 use Rattle.match_work.specs.Matches.{match_text, texts_of}
-use Rattle.matcher.specs.Counts.{ArePieces}
+use Rattle.program_frame.specs.Counts.{ArePieces}
 use Rattle.match_work.specs.MatchesDone.{HasMatched, KnowAsked}
 use Rattle.match_work.proofs.Asking.{asked_more}
-use Rattle.matcher.proofs.Counting.{counts_more}
+use Rattle.program_frame.proofs.Counting.{counts_more}
 use Rattle.match_work.proofs.Sharing.{know_nothing, rows_counted, share_on}
+use Rattle.trace_match.proofs.Traces.{pieces-append}
 
 -- no trace was matched
 pub begun : (on : Setting) (store : Stored) (readers : List Reading) (tally : Tally) → readers ≡ fresh_readers on store → ShareStore on readers → tally.traces ≡ 0 → tally.points ≡ 0 → tally.pieces ≡ 0 → HasMatched on readers tally []
@@ -39,11 +41,11 @@ can_match on before more readers tally has bounded batch = record {
 }
 
 -- more traces were matched and counted
-pub matched_more : (on : Setting) (before more : List Trace) (readers readers' : List Reading) (tally tally' : Tally) (pieces : ℕ) → HasMatched on readers tally before → ArePieces on more pieces → AllZip StaysReader readers readers' → LearnAsked on.network on.params more readers readers' → Adds more pieces tally tally' → HasMatched on readers' tally' (before ++ more)
+pub matched_more : (on : Setting) (before more : List Trace) (readers readers' : List Reading) (tally tally' : Tally) (pieces : ℕ) → HasMatched on readers tally before → ArePieces (pieces_of on) more pieces → AllZip StaysReader readers readers' → LearnAsked on.network on.params more readers readers' → Adds more pieces tally tally' → HasMatched on readers' tally' (before ++ more)
 matched_more on before more readers readers' tally tally' pieces has are stay learn adds = record {
   shared = share_on on readers readers' has.shared stay;
   asked = asked_more on before more readers readers' has.asked learn;
-  counts = counts_more on before more tally tally' pieces has.counts are adds;
+  counts = counts_more (pieces_of on) (pieces-append on) before more tally tally' pieces has.counts are adds;
 }
 
 pub text_grows : (on : Setting) (before more : List Trace) (old new : List ℕ) → new ≡ old ++ texts_of on more → Grows (match_text on) before more old new
@@ -54,7 +56,7 @@ text_grows on before more old new grown = record {
 }
 
 -- the total line of what was counted
-pub total_is : (on : Setting) (taken : List Trace) (readers : List Reading) (tally : Tally) (count : ℕ) → HasMatched on readers tally taken → count ≡ count_known readers → total_line tally.traces tally.points tally.pieces count ≡ total_of on taken
+pub total_is : (on : Setting) (taken : List Trace) (readers : List Reading) (tally : Tally) (count : ℕ) → HasMatched on readers tally taken → count ≡ count_known readers → total_line tally.traces tally.points tally.pieces count ≡ total_of (pieces_of on) (rows_of on) taken
 total_is on taken readers tally count has counted =
     ap (λ n. total_line n tally.points tally.pieces count) has.counts.traces_are
     ∙ ap (λ n. total_line (length taken) n tally.pieces count) has.counts.points_are

@@ -16,9 +16,9 @@ use Rattle.row_store.specs.Store.{Reading, Stored, count_known, is_known_to_any}
 use Rattle.trace_match.specs.Match.{match_of}
 use Rattle.trace_reader.specs.Trace.{IsLawfulTrace}
 use Rattle.trace_reader.specs.declared.trace.Trace.{Trace}
-use Rattle.matcher.specs.Setting.{Setting}
+use Rattle.trace_match.specs.Setting.{Setting}
 use Rattle.match_work.specs.Sharing.{IsStoreFor, MatchesBatch, ShareStore, fresh_reader, fresh_readers}
-use Rattle.matcher.specs.Totals.{is_asked_by, rows_of}
+use Rattle.trace_match.specs.Totals.{is_asked_by, rows_of}
 use Rattle.match_work.specs.MatchesDone.{KnowAsked}
 use Rattle.match_work.proofs.TraceMatches.{matches_found, matches_of}
 

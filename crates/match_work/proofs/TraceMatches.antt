@@ -13,10 +13,10 @@ use Rattle.trace_match.proofs.Lawful.{match_lawful}
 use Rattle.trace_reader.specs.Trace.{IsLawfulTrace}
 use Rattle.trace_reader.specs.declared.trace.Trace.{Trace}
 use Rattle.match_work.specs.Matched.{AreMatchesOf, pieces_in, text_of_matches}
-use Rattle.matcher.specs.Setting.{Setting}
-use Rattle.matcher.specs.Totals.{pieces_of}
+use Rattle.trace_match.specs.Setting.{Setting}
+use Rattle.trace_match.specs.Totals.{pieces_of}
 use Rattle.match_work.specs.Matches.{texts_of}
-use Rattle.matcher.specs.Counts.{ArePieces}
+use Rattle.program_frame.specs.Counts.{ArePieces}
 
 abbrev pub matches_of : Setting → List Trace → List MatchedTrace
 matches_of on traces = map (match_of on.network on.params) traces
@@ -53,7 +53,7 @@ matches_found on traces matches accepted lawful are = record {
 pub texts_written : (on : Setting) (traces : List Trace) (matches : List MatchedTrace) (old new : List ℕ) → AreMatchesOf on traces matches → new ≡ old ++ text_of_matches matches → new ≡ old ++ texts_of on traces
 texts_written on traces matches old new found grown = grown ∙ ap (λ t. old ++ t) (ap text_of_matches found.are ∙ texts_are on traces)
 
-pub pieces_found : (on : Setting) (traces : List Trace) (matches : List MatchedTrace) (pieces : ℕ) → AreMatchesOf on traces matches → pieces ≡ pieces_in matches → ArePieces on traces pieces
+pub pieces_found : (on : Setting) (traces : List Trace) (matches : List MatchedTrace) (pieces : ℕ) → AreMatchesOf on traces matches → pieces ≡ pieces_in matches → ArePieces (pieces_of on) traces pieces
 pieces_found on traces matches pieces found is = record {
   are = is ∙ ap pieces_in found.are ∙ pieces_are on traces;
   few = let few = found.few in omega (arith, is, few);

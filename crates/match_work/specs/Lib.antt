@@ -1,5 +1,5 @@
-pub mod Alone
 pub mod Matched
 pub mod Matches
 pub mod MatchesDone
 pub mod Sharing
+pub mod TableMatch

@@ -6,7 +6,7 @@ use Rattle.match_text.specs.declared.matched.MatchedTrace.{MatchedTrace}
 use Rattle.program_frame.specs.Jobs.{points_of}
 use Rattle.trace_match.specs.Match.{match_of}
 use Rattle.trace_reader.specs.declared.trace.Trace.{Trace}
-use Rattle.matcher.specs.Setting.{Setting}
+use Rattle.trace_match.specs.Setting.{Setting}
 
 -- the texts of matches, and how many pieces they have
 abbrev pub text_of_matches : List MatchedTrace → List ℕ

@@ -5,7 +5,8 @@ use Rattle.std.proofs.Common.{refl}
 use Rattle.std.proofs.lemmas.List.Concat.{flat_map-append}
 use Rattle.cost_model.specs.declared.params.Params.{Params}
 use Rattle.match_text.specs.MatchText.{text_of}
-use Rattle.matcher.specs.Totals.{no_line, no_refusal, total_of}
+use Rattle.program_frame.specs.Counts.{total_of}
+use Rattle.program_frame.specs.NoRefusal.{no_line, no_refusal}
 use Rattle.program_frame.specs.Jobs.{JobText}
 use Rattle.program_frame.specs.Plan.{Plan, loads}
 use Rattle.program_frame.specs.Refusals.{network_limit, network_said}
@@ -13,7 +14,8 @@ use Rattle.program_frame.specs.Stream.{works_traces}
 use Rattle.program_frame.specs.declared.stop.File.TheVariants.{Network}
 use Rattle.trace_match.specs.Match.{match_of}
 use Rattle.trace_reader.specs.declared.trace.Trace.{Trace}
-use Rattle.matcher.specs.Setting.{Setting}
+use Rattle.trace_match.specs.Setting.{Setting}
+use Rattle.trace_match.specs.Totals.{pieces_of, rows_of}
 
 -- the texts of traces, in their order
 abbrev pub texts_of : Setting → List Trace → List ℕ
@@ -24,7 +26,7 @@ abbrev pub match_text : Setting → JobText
 match_text on = record {
   texts = texts_of on;
   refusal = λ traces. no_refusal;
-  ending = total_of on;
+  ending = total_of (pieces_of on) (rows_of on);
   nothing = refl;
   allowed = refl;
   begins = λ front back. (texts_of on back, flat_map-append (λ trace. text_of (match_of on.network on.params trace)) front back);

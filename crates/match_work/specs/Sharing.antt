@@ -8,7 +8,7 @@ use Rattle.match_text.specs.declared.matched.MatchedTrace.{MatchedTrace}
 use Rattle.row_store.specs.Store.{Reading, Stored}
 use Rattle.trace_reader.specs.declared.trace.Trace.{Trace}
 use Rattle.match_work.specs.Matched.{AreMatchesOf}
-use Rattle.matcher.specs.Setting.{Setting}
+use Rattle.trace_match.specs.Setting.{Setting}
 use denote.Ref.{Bor, MutBor}
 use denote.Param.Members.{Shared}
 

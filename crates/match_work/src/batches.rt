@@ -1,5 +1,5 @@
-// Readers of one store, and batches of traces that are matched by them. Serves `match` and `town`; decided
-// by `MatchesBatch`.
+//! Readers of one store, and batches of traces that are matched by them. Serves `match` and `town`; decided
+//! by `MatchesBatch`.
 ghost use Rattle.std.specs.Prelude.{◌≡◌, IfOk};
 ghost use Rattle.match_pool.specs.Learning.{AreReadersFor};
 ghost use Rattle.match_pool.specs.Working.{AreJobTraces};
@@ -7,11 +7,11 @@ ghost use Rattle.match_work.specs.Sharing.{IsStoreFor, MatchesBatch, ShareStore,
 
 use match_pool::{Gate, match_all};
 use match_text::MatchedTrace;
-use matcher::Matcher;
 use polyline_geometry::List;
 use row_store::{Reader, RowStore};
 use std::alloc::{AllocError, Global};
 use std::thread::Threads;
+use trace_match::Matcher;
 use trace_reader::Trace;
 
 /// A store for the rows of the network within the bound of the options. No row is in it.

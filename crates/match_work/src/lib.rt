@@ -2,7 +2,9 @@
 //! one store, and the total line is written.
 //!
 //! - [`match_traces`] does it. Its plan is `match_plan` in `specs/Matches.antt`, which is to be read first.
-//!   [`match_file`] is its part behind the network, for whoever has a store already.
+//!   [`match_file`] is its part after the network, for callers that have a store already.
+//! - [`match_with_table`] offers the rows of a table file to the store before. Its plan is
+//!   `table_match_plan` in `specs/TableMatch.antt`.
 //! - [`open_store`], [`open_readers`] and [`match_batch`] are for whoever matches traces by workers: the
 //!   store, a reader of it for each worker, and the matches of some traces. What these leave is
 //!   `MatchesBatch` in `specs/Sharing.antt`.
@@ -10,6 +12,8 @@
 
 mod batches;
 mod matches;
+mod tabled;
 
 pub use batches::{match_batch, open_readers, open_store};
 pub use matches::{match_file, match_traces};
+pub use tabled::match_with_table;

@@ -1,4 +1,4 @@
-// `match NET TRACES`. Serves the programs; decided by `match_plan`.
+//! `match NET TRACES`. Serves the programs; decided by `match_plan`.
 ghost use Rattle.std.specs.Prelude.{◌≡◌, ◌≤◌, ◌^◌, ◌++◌, [], All, Ok, IfOk, OnOk};
 ghost use Rattle.cost_model.specs.Options.{IsAccepted};
 ghost use Rattle.match_pool.specs.Learning.{AreReadersFor};
@@ -16,12 +16,12 @@ use cost_model::Params;
 use edge_io::{Shelf, Sink};
 use match_pool::Gate;
 use match_text::{MatchedTrace, write_match};
-use matcher::Matcher;
 use polyline_geometry::List;
 use program_frame::{Job, Stop, Tally, load_network, work_traces};
 use row_store::{Reader, RowStore, known_count};
 use std::alloc::{AllocError, Global};
 use std::thread::Threads;
+use trace_match::Matcher;
 use trace_reader::Trace;
 
 // Matches traces batch by batch, and counts them. The readers are those of the workers, over all

@@ -17,7 +17,7 @@ use std::alloc::{AllocError, Global};
 use trellis::{Layer, Piece, least_cell};
 use viterbi::follow;
 
-/// The items of the points from `start` on, which have these ranks.
+/// The items of the points from `start` on, with these ranks.
 fn labelled(
     alloc: Global,
     first: u32,
@@ -52,7 +52,7 @@ fn as_some(alloc: Global, ranks: &[u32]) -> Result<Vec<Option<u32>>, AllocError>
     Ok(some)
 }
 
-/// The items that are left of the open piece, if there is one: those of its points, and the piece.
+/// The remaining items of the open piece, if there is one: those of its points, and the piece.
 pub fn closing_items<R: Rows>(
     alloc: Global,
     net: &Network,

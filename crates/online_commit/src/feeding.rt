@@ -1,4 +1,4 @@
-//! The open piece, and how it goes on with a new point. Serves `feed`; decided by `AreMasks` and
+//! The open piece, and how a new point continues it. Serves `feed`; decided by `AreMasks` and
 //! `AreSettled`.
 ghost use Rattle.std.specs.Prelude.{◌≡◌, ◌+◌, ◌<◌, ◌≤◌, ◌^◌, ◌∷◌, [], ◌++◌, ℕ, IsOk, IfOk, OnErr, OnOk, length, slice_index_or, vec_len, vec_capacity};
 ghost use Rattle.std.specs.List.{All};
@@ -20,8 +20,8 @@ use road_network::Network;
 use std::alloc::{AllocError, Global};
 use trellis::{Cell, Layer, Potentials, first_layer, is_near, least_cell, next_layer};
 
-/// The open piece, or where the next one may begin: its first point, how many of its points were handed
-/// out, and of each point the layer, the cells and the ranks that are still possible.
+/// The open piece, or the place where the next one may begin: its first point, how many of its points
+/// were returned, and for each point the layer, the cells and the ranks that are still possible.
 pub struct OpenPiece {
     pub first: u32,
     pub told: u32,
@@ -43,7 +43,7 @@ impl Drop for OpenPiece {
     }
 }
 
-/// A piece without points. Takes no memory.
+/// A piece without points. Allocates nothing.
 pub fn no_piece(alloc: Global, first: u32) -> OpenPiece
     ensures { piece_of result ≡ record { first = first; told = 0; layers = []; tables = []; masks = [] } }
 {
@@ -56,8 +56,8 @@ pub fn no_piece(alloc: Global, first: u32) -> OpenPiece
     }
 }
 
-/// The cells of the layer with which the open piece goes on, or None where it does not or there is
-/// none.
+/// The cells of the layer that continues the open piece, or `None` if it does not continue it or no
+/// piece is open.
 pub fn next_cells<R: Rows>(
     alloc: Global,
     net: &Network,
@@ -90,7 +90,7 @@ pub fn next_cells<R: Rows>(
     Ok(Some(cells))
 }
 
-/// Writes the masks of the last points, from the last of all back.
+/// Writes the masks of the last points, from the last one back.
 fn write_masks(masks: &mut [u32], changed: &[u32])
     requires { length changed.now ≤ length masks.old }
     ensures { (i : ℕ) → i < length masks.old
@@ -102,7 +102,7 @@ fn write_masks(masks: &mut [u32], changed: &[u32])
     }
 }
 
-/// Appends the point, for which there is room.
+/// Appends the point; there is room for it.
 fn append_point(
     piece: &mut OpenPiece,
     layer: Layer,
@@ -122,7 +122,7 @@ fn append_point(
     Ok(())
 }
 
-/// Makes room for one point more.
+/// Reserves room for one more point.
 fn make_room(piece: &mut OpenPiece) -> Result<(), AllocError>
     ensures same { piece_of piece.new ≡ piece_of piece.old }
     ensures room { OnOk result (HasRoom piece.new) }
@@ -133,8 +133,8 @@ fn make_room(piece: &mut OpenPiece) -> Result<(), AllocError>
     Ok(())
 }
 
-/// The masks that change where a point with these cells comes behind the piece, and the items of the
-/// points that are committed by it.
+/// The masks that change if a point with these cells follows the piece, and the items of the
+/// points that it commits.
 fn settle(
     alloc: Global,
     piece: &OpenPiece,
@@ -156,8 +156,8 @@ fn settle(
     Ok((changed, items))
 }
 
-/// Appends a point with its cells to the open piece, and gives the items of the points that are
-/// committed by it.
+/// Appends a point with its cells to the open piece, and returns the items of the points that it
+/// commits.
 pub fn extend(
     alloc: Global,
     piece: &mut OpenPiece,
@@ -175,8 +175,8 @@ pub fn extend(
     Ok(items)
 }
 
-/// The piece that begins with this point, or none where it has no candidate, and the item of the point
-/// where it is committed.
+/// The piece that begins with this point (or none, if it has no candidate), and the item of the point
+/// if it is committed.
 pub fn begin(
     alloc: Global,
     p: &Params,

@@ -57,7 +57,7 @@ fn with_pointer(behind: u32, mask: u32, rank: u32, cell: Cell) -> u32
     }
 }
 
-/// The ranks at the point before that the cells of these ranks point to.
+/// The ranks at the previous point to which the cells of these ranks point.
 pub fn ranks_behind(cells: &[Cell], mask: u32) -> u32
     requires { HasFewRanks cells.now }
     ensures { IsBehind cells.now mask result }
@@ -69,7 +69,7 @@ pub fn ranks_behind(cells: &[Cell], mask: u32) -> u32
     behind
 }
 
-/// The rank of a set of one.
+/// The only rank of a set of one.
 pub fn only_rank(mask: u32) -> Option<u32>
     ensures { MatchOption result (IsNotOne mask) (IsOnly mask) }
 {
@@ -80,7 +80,7 @@ pub fn only_rank(mask: u32) -> Option<u32>
     if mask == 1 << rank { Some(rank) } else { None }
 }
 
-/// The mask of a point, where those of the last points changed.
+/// The mask of a point, after those of the last points changed.
 pub fn mask_after(masks: &[u32], changed: &[u32], point: usize) -> u32
     requires point { point ≤ length masks.now }
     requires some { 0 < length changed.now }
@@ -94,7 +94,7 @@ pub fn mask_after(masks: &[u32], changed: &[u32], point: usize) -> u32
     }
 }
 
-/// The masks that change where a point with these cells comes behind the points of these tables: from
+/// The masks that change if a point with these cells follows the points of these tables: from
 /// the new point back to the last one that changes.
 pub fn changed_masks(
     alloc: Global,

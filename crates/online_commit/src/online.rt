@@ -17,11 +17,8 @@ use std::alloc::{AllocError, Global};
 use std::marker::Model;
 use trellis::Layer;
 
-#[cfg(test)]
-mod tests;
-
-/// A session of one trace. A contract sees the network, the options and what is kept of the points,
-/// and `StandsFor` says for which points it stands.
+/// A session of one trace. A contract sees the network, the options and what is kept of the points;
+/// `StandsFor` says which points the session represents.
 pub struct Online<'n> {
     alloc: Global,
     net: &'n Network,
@@ -63,7 +60,7 @@ fn append_items(items: &mut List<Item>, more: List<Item>) -> Result<(), AllocErr
 }
 
 impl<'n> Online<'n> {
-    /// A session of no points, with accepted options. Takes no memory.
+    /// A session of no points, with accepted options. Allocates nothing.
     pub fn open(alloc: Global, net: &'n Network, p: &Params) -> Online<'n>
         requires { IsAccepted p.now }
         ensures opened { result ≡ no_points_of net.now p.now }
@@ -77,17 +74,31 @@ impl<'n> Online<'n> {
         }
     }
 
-    /// How many points were taken since the session was opened or finished.
+    /// The network.
+    pub fn network(&self) -> &'n Network
+        ensures { result.now ≡ self.now.network }
+    {
+        self.net
+    }
+
+    /// The options.
+    pub fn params(&self) -> &Params
+        ensures { result.now ≡ self.now.params }
+    {
+        &self.params
+    }
+
+    /// The number of points taken since the session was opened or finished.
     pub fn count(&self) -> u32
         ensures { result ≡ points_of self.now }
     {
         self.piece.first + self.piece.layers.len() as u32
     }
 
-    /// Takes the next point, and gives the items that are committed by it, in the order of the points.
-    /// Err says that memory was refused; the point was not taken then.
+    /// Takes the next point, and returns the items that it commits, in the order of the points.
+    /// `Err` means out of memory; then the point was not taken.
     ///
-    /// The rows of the latest point before become known where the new point may follow it, and those
+    /// The rows of the previous point become known if the new point may follow it, and those
     /// of the route of a piece that is closed.
     pub fn feed<R: Rows>(&mut self, layer: Layer, rows: &mut R) -> Result<List<Item>, AllocError>
         requires rows { AreRowsOf (R.state rows.old) self.old.network self.old.params.bound }
@@ -111,7 +122,7 @@ impl<'n> Online<'n> {
         }
     }
 
-    /// Closes the open piece, if there is one, before a point with which it does not go on.
+    /// Closes the open piece, if there is one, before a point that does not continue it.
     fn begin_anew<R: Rows>(&mut self, layer: Layer, rows: &mut R) -> Result<List<Item>, AllocError>
         requires rows { AreRowsOf (R.state rows.old) self.old.network self.old.params.bound }
         requires before { EndsBefore self.old layer }
@@ -129,8 +140,8 @@ impl<'n> Online<'n> {
         Ok(items)
     }
 
-    /// Ends the trace, and gives the items that are left. Then the session is as newly opened. Err says
-    /// that memory was refused; the session is as before then.
+    /// Ends the trace, and returns the remaining items. Then the session is as newly opened. `Err` means
+    /// out of memory; then the session is unchanged.
     pub fn finish<R: Rows>(&mut self, rows: &mut R) -> Result<List<Item>, AllocError>
         requires rows { AreRowsOf (R.state rows.old) self.old.network self.old.params.bound }
         ensures finished { IfOk result (IsFinished self.old self.new) }

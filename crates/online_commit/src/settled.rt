@@ -26,7 +26,7 @@ pub fn candidate(layer: &Layer, rank: u32) -> Candidate
     }
 }
 
-/// A piece that begins with point `first`: the layers of its points, and a new layer behind them, with
+/// A piece that begins with point `first`: the layers of its points, and a new layer after them, with
 /// the masks before and those that changed.
 #[derive(Drop)]
 pub struct Growing<'a> {
@@ -50,7 +50,7 @@ fn candidate_at(piece: &Growing, point: usize, rank: u32) -> Candidate
     }
 }
 
-/// The items of the points from `start` on that are committed with the new layer.
+/// The items of the points from `start` on that the new layer commits.
 pub fn settled_items(alloc: Global, piece: &Growing, start: usize) -> Result<List<Item>, AllocError>
     requires few { piece.now.first + length piece.now.layers.now < 2 ^ 32 }
     requires masks { length piece.now.masks.now ≡ length piece.now.layers.now }

@@ -1,20 +1,20 @@
-//! The plane in whole centimetres, and the list that every other crate uses.
+//! The plane in whole centimetres, and the list type that all crates use.
 //!
-//! - [`Point`] is a place; [`straight`] is the straight distance of two places, rounded down.
-//! - A line is a slice of points; [`line_length`] adds up its segments, and [`extend_offsets`] keeps
+//! - [`Point`] is a position; [`straight`] is the straight distance of two points, rounded down.
+//! - A line is a slice of points; [`line_length`] adds up its segments, and [`extend_offsets`] records
 //!   how far along the line each point lies.
-//! - [`snap_segment`] and [`snap_line`] bring a point onto a segment or a line, and answer a
-//!   [`Snap`]: the squared distance to the snapped point, and how far along the line that lies.
+//! - [`snap_segment`] and [`snap_line`] project a point onto a segment or a line and return a
+//!   [`Snap`]: the squared distance to the projected point, and how far along the line that point lies.
 //! - [`nearest_segment`] and [`snap_on`] are the two halves of a snap to a line, for callers that
-//!   look at a part of a line or keep the lengths of its fronts. [`offset_on`] is the second half for
-//!   those that keep the squared distance and the offsets of the line's points.
-//! - [`nearest_segments`] tells the first and the last of the nearest, for callers that need the
-//!   nearest segment of the line from its end to its start too.
-//! - [`nearest_in_box`] is the place of a box that is nearest to a point.
+//!   search a part of a line or store the lengths before its segments. [`offset_on`] is the second half
+//!   for callers that store the squared distance and the offsets of the line's points.
+//! - [`nearest_segments`] returns the first and the last of the nearest segments, for callers that also
+//!   need the nearest segment of the reversed line.
+//! - [`nearest_in_box`] is the point of a box that is nearest to a point.
 //! - [`List`] is a vector that contracts see as the plain list of its items.
 //!
-//! Numbers never wrap, and only [`List`] takes memory. The definitions are in
-//! `specs/Plane.antt`; the clause to read first is that of [`snap_line`].
+//! No arithmetic wraps, and only [`List`] allocates. The definitions are in `specs/Plane.antt`; read
+//! the clause of [`snap_line`] first.
 #![tactic(auto)]
 
 mod laws;
@@ -26,8 +26,6 @@ mod plane;
 mod quotient;
 mod segment;
 mod square_root;
-#[cfg(test)]
-mod tests;
 
 pub use laws::snap_is_the_nearest;
 pub use line::{

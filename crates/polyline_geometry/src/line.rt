@@ -1,4 +1,4 @@
-//! Lines: their length, their segments that are nearest to a point, and the snap of a point to them.
+//! Lines: their length, the segments nearest to a point, and the snap of a point to a line.
 //! Decided by `line_length`, `IsNearest`, `AreNearest` and `snap_line`.
 ghost use Rattle.std.specs.Prelude.{◌≡◌, suc, ◌+◌, ◌^◌, ◌<◌, ◌≤◌, All, length, take, MatchOption};
 ghost use Rattle.polyline_geometry.specs.Plane.{AreEnds, InRange, IsLine, after, line_length, snap_line, snap_segment};
@@ -21,7 +21,7 @@ fn sum_of_segments(line: &[Point]) -> u64
     total
 }
 
-/// The length of a line in cm: the sum over its segments. A line of no or one point has length 0.
+/// The length of a line in cm: the sum over its segments. A line of fewer than two points has length 0.
 #[tactic(auto, using(crate::proofs::Lengths::line_length_small))]
 pub fn line_length(line: &[Point]) -> u64
     requires in_range { All InRange line.now }
@@ -31,8 +31,8 @@ pub fn line_length(line: &[Point]) -> u64
     sum_of_segments(line)
 }
 
-/// The squared distance of a point and the box of the segment from a to b: the snapped point
-/// is in it.
+/// The squared distance from a point to the box of the segment from a to b. The snapped point
+/// is in that box.
 fn box_distance2(a: Point, b: Point, p: Point) -> u64
     requires ends { AreEnds a b }
     requires p_in { InRange p }
@@ -41,8 +41,8 @@ fn box_distance2(a: Point, b: Point, p: Point) -> u64
     distance2(p, nearest_in_box(a, b, p))
 }
 
-/// The squared distance of a point and the point of a segment that it snaps to, where that is
-/// below the limit. Most segments are told by their box alone.
+/// The squared distance from a point to its snapped point on a segment, if it is below the limit.
+/// The box of a segment alone rules out most segments.
 fn distance2_below(a: Point, b: Point, p: Point, limit: u64) -> Option<u64>
     requires ends { AreEnds a b }
     requires p_in { InRange p }
@@ -57,16 +57,16 @@ fn distance2_below(a: Point, b: Point, p: Point, limit: u64) -> Option<u64>
     }
 }
 
-/// A segment of a line, by its number from 0, with the squared distance of a point and the point
-/// of the segment that it snaps to, in cm².
+/// A segment of a line, by its number from 0, with the squared distance in cm² from a point to its
+/// snapped point on the segment.
 #[derive(Clone, Copy, PartialEq, Eq, Debug)]
 pub struct NearSegment {
     pub segment: usize,
     pub d2: u64,
 }
 
-/// The first of the nearest among the segments from `first` up to before `end`, where one is
-/// nearer than the limit. Most segments are told by their box alone.
+/// The first of the nearest segments in `first..end`, if one is nearer than the limit. The box of a
+/// segment alone rules out most segments.
 pub fn nearest_segment(
     line: &[Point],
     first: usize,
@@ -92,18 +92,17 @@ pub fn nearest_segment(
     nearest
 }
 
-/// The first and the last of the nearest among the segments of a part of a line, by their numbers
-/// from 0.
+/// The first and the last of the nearest segments in a part of a line, by their numbers from 0.
 #[derive(Clone, Copy, PartialEq, Eq, Debug)]
 pub struct NearSegments {
     pub first: usize,
     pub last: usize,
-    /// The squared distance of the point and those that it snaps to on them, in cm².
+    /// The squared distance from the point to its snapped points on them, in cm².
     pub d2: u64,
 }
 
-/// The first and the last of the nearest among the segments from `first` up to before `end`, where
-/// one is nearer than the limit. One pass; most segments are told by their box alone.
+/// The first and the last of the nearest segments in `first..end`, if one is nearer than the limit.
+/// One pass; the box of a segment alone rules out most segments.
 pub fn nearest_segments(
     line: &[Point],
     first: usize,
@@ -131,7 +130,7 @@ pub fn nearest_segments(
                 last: i,
                 d2,
             });
-            // A later segment that is as near is found too.
+            // A later segment at the same distance also counts.
             below = d2 + 1;
         }
     }
@@ -148,8 +147,7 @@ fn length_before(line: &[Point], segment: usize) -> u32
     sum_of_segments(&line[..segment + 1]) as u32
 }
 
-/// The snap of a point to one segment of a line whose earlier segments have the length `before`
-/// together.
+/// The snap of a point to one segment of a line. `before` is the total length of the earlier segments.
 pub fn snap_on(line: &[Point], before: u32, p: Point, segment: usize) -> Snap
     requires line { IsLine line.now }
     requires length { line_length line.now ≤ 100_000_000 }
@@ -165,8 +163,8 @@ pub fn snap_on(line: &[Point], before: u32, p: Point, segment: usize) -> Snap
     }
 }
 
-/// How far along a line a point snaps to, by the segment that it snaps to and the offsets of the
-/// line's points. Takes no root.
+/// How far along a line a point snaps to, given the segment and the offsets of the line's points.
+/// Needs no square root.
 pub fn offset_on(line: &[Point], offsets: &[u32], p: Point, segment: usize) -> u32
     requires line { IsLine line.now }
     requires length { line_length line.now ≤ 100_000_000 }

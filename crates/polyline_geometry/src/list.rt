@@ -1,10 +1,10 @@
-//! A growing list over a vector. Contracts see the list of its items.
+//! A growable list over a vector. Contracts see the list of its items.
 ghost use Rattle.std.specs.Prelude.{◌≡◌, ◌++◌, [], ◌∷◌, ◌<◌, ◌↔◌, length, take, slice_get, option_copied, OnOk, OnErr, IsSome, IfSome, IfNone};
 
 use std::alloc::{AllocError, Global};
 use std::marker::Model;
 
-/// A growing list. It keeps the allocator that it was made with.
+/// A growable list. It keeps the allocator with which it was made.
 #[derive(Drop)]
 pub struct List<T> {
     items: Vec<T>,
@@ -22,7 +22,7 @@ impl<T> List<T> {
     ghost use Rattle.std.specs.Borrow.{sem};
     ghost use Rattle.polyline_geometry.specs.Lends.{lends_items};
 
-    /// The empty list. Takes no memory.
+    /// The empty list. Allocates nothing.
     pub fn new(alloc: Global) -> Self
         ensures { result ≡ [] }
     {
@@ -31,21 +31,21 @@ impl<T> List<T> {
         }
     }
 
-    /// The list of a vector's items. Takes no memory.
+    /// The list of a vector's items. Allocates nothing.
     pub fn from_vec(items: Vec<T>) -> Self
         ensures { result ≡ items.items }
     {
         List { items }
     }
 
-    /// The vector of the list's items. Takes no memory.
+    /// The vector of the list's items. Allocates nothing.
     pub fn into_vec(self) -> Vec<T>
         ensures { result.items ≡ self }
     {
         self.items
     }
 
-    /// Appends the item, which is dropped where memory is wanting.
+    /// Appends the item; drops the item when out of memory.
     pub fn push(&mut self, item: T) -> Result<(), AllocError>
     where
         T: Drop,
@@ -56,7 +56,7 @@ impl<T> List<T> {
         Ok(())
     }
 
-    /// Appends the items of the slice, in one copy.
+    /// Appends the items of the slice in one copy.
     pub fn extend_from_slice(&mut self, items: &[T]) -> Result<(), AllocError>
     where
         T: Copy,
@@ -66,7 +66,7 @@ impl<T> List<T> {
         self.items.extend_from_slice(items)
     }
 
-    /// Takes the last item out.
+    /// Removes and returns the last item.
     pub fn pop(&mut self) -> Option<T>
         ensures some { IfSome result (λ item. self.old ≡ self.new ++ item ∷ []) }
         ensures none { IfNone result (self.new ≡ self.old) }
@@ -75,7 +75,7 @@ impl<T> List<T> {
         self.items.pop()
     }
 
-    /// Drops the items from place `len` on, if there are any.
+    /// Drops the items from index `len` on.
     pub fn truncate(&mut self, len: usize)
     where
         T: Drop,
@@ -91,7 +91,7 @@ impl<T> List<T> {
         self.items.len()
     }
 
-    /// The item at a place, from 0.
+    /// The item at an index, from 0.
     pub fn get(&self, place: usize) -> Option<&T>
         ensures value { option_copied result ≡ slice_get self.now place }
         ensures variant { IsSome result ↔ (place < length self.now) }
@@ -106,7 +106,7 @@ impl<T> List<T> {
         self.items.as_slice()
     }
 
-    /// Lends the items for writing.
+    /// The items, mutable.
     pub fn as_mut_slice(&mut self) -> &mut [T]
         ensures* writes_back { sem 𝓛 (lends_items T.row self.entry result) }
         ensures value { result.now ≡ self.old }

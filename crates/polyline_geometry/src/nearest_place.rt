@@ -1,4 +1,4 @@
-//! The box of two opposite corners, and its place that is nearest to a point. Serves
+//! The box of two opposite corners, and the point of it that is nearest to a point. Serves
 //! `nearest_segment`, and grids that keep boxes of their own; decided by `InBox`.
 ghost use Rattle.std.specs.Prelude.{◌≡◌, ℤ, ◌-ℤ◌, ◌≤◌};
 ghost use Rattle.std.specs.Int.RustNames.{unsigned_abs};
@@ -26,7 +26,7 @@ fn nearest_between(a: i32, b: i32, z: i32) -> i32
     }
 }
 
-/// The place in the box with the corners a and b that is nearest to p.
+/// The point in the box with the corners a and b that is nearest to p.
 pub fn nearest_in_box(a: Point, b: Point, p: Point) -> Point
     requires a_in { InRange a }
     requires b_in { InRange b }

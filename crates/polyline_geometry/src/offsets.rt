@@ -1,4 +1,4 @@
-//! Serves `extend_offsets`; decided by `line_offsets`.
+//! The offsets of a line's points. Serves `extend_offsets`; decided by `line_offsets`.
 ghost use Rattle.std.specs.Prelude.{◌≡◌, ◌++◌, ◌+◌, ◌-◌, ◌<◌, ◌≤◌, IfOk, List as ListOf, OnErr, IsNone, IsSome, length, slice_index, take};
 ghost use Rattle.std.specs.List.{All};
 ghost use Rattle.polyline_geometry.specs.declared.plane.Point.{Point as PointOf};
@@ -9,7 +9,7 @@ use crate::list::List;
 use crate::plane::{Point, straight};
 use std::alloc::AllocError;
 
-/// The straight distance of a point of a line from the one before it. The first has none.
+/// The straight distance from the previous point of a line; 0 for the first point.
 fn distance_before(line: &[Point], i: usize) -> u32
     requires in_range { All InRange line.now }
     requires inside { i < length line.now }
@@ -30,8 +30,7 @@ pub fn last_offset_is_the_length()
 {}
 
 /// Appends the offset of each point of a line from its start, in cm, and returns the length of the
-/// line. None is the answer for a line that is longer than the limit. One pass with one square root
-/// for each segment.
+/// line. Returns `None` if the line is longer than the limit. One pass, one square root a segment.
 pub fn extend_offsets(
     line: &[Point],
     limit: u32,

@@ -1,11 +1,11 @@
-//! Points, and how far apart they are.
+//! Points and their distances.
 ghost use Rattle.std.specs.Prelude.{◌≡◌, ◌≤◌, ◌-ℤ◌};
 ghost use Rattle.std.specs.Int.RustNames.{unsigned_abs};
 ghost use Rattle.polyline_geometry.specs.Plane.{InRange, distance2, straight};
 
 use crate::square_root::root;
 
-/// A place in the plane, in centimetres. Calls ask for coordinates within ±1,000,000,000.
+/// A point of the plane, in centimetres. Calls require coordinates within ±1,000,000,000.
 #[derive(Clone, Copy, PartialEq, Eq, Debug)]
 pub struct Point {
     pub x: i32,
@@ -15,13 +15,13 @@ pub struct Point {
 /// The snap of a point to a segment or a line.
 #[derive(Clone, Copy, PartialEq, Eq, Debug)]
 pub struct Snap {
-    /// The squared distance of the point and the snapped point, in cm².
+    /// The squared distance from the point to the snapped point, in cm².
     pub d2: u64,
     /// How far along the line the snapped point lies, in cm.
     pub offset: u32,
 }
 
-/// How far apart two coordinates are.
+/// The distance of two coordinates.
 fn gap(a: i32, b: i32) -> u64
     requires a_in { unsigned_abs a ≤ 1_000_000_000 }
     requires b_in { unsigned_abs b ≤ 1_000_000_000 }

@@ -1,9 +1,10 @@
-//! Serves the snap of a point to a segment; decided by the quotient of natural numbers.
+//! Quotients guessed by floats. Serves the snap of a point to a segment; decided by the quotient of
+//! natural numbers.
 ghost use Rattle.std.specs.Prelude.{◌≡◌, ◌/◌, ◌<◌, ◌≤◌, ◌^◌};
 
 use std::num::saturating_f64_to_i64;
 
-/// A guess at a quotient: that of the numbers as floats, rounded down.
+/// A guess at a quotient: the quotient of the numbers as floats, rounded down.
 fn guess_quotient(m: u64, n: u64) -> u64
     requires m_in { m ≤ 2 ^ 53 }
     requires n_in { n ≤ 2 ^ 53 }
@@ -13,8 +14,8 @@ fn guess_quotient(m: u64, n: u64) -> u64
     saturating_f64_to_i64(machine).clamp(0, 1 << 32) as u64
 }
 
-/// The quotient, rounded down. The guess is taken where its product shows that it is the quotient;
-/// a division in whole numbers, which is slower, decides elsewhere.
+/// The quotient, rounded down. The guess is used if its product shows that it is right; otherwise a
+/// slower division of whole numbers decides.
 #[tactic(auto, using(crate::proofs::Parts::is_quotient))]
 pub(crate) fn quotient(m: u64, n: u64) -> u64
     requires { 0 < n }

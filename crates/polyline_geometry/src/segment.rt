@@ -9,12 +9,12 @@ ghost use Rattle.polyline_geometry.specs.Parts.{IsPartOf, IsShare};
 use crate::plane::{Point, Snap, distance2, straight};
 use crate::quotient::quotient;
 
-/// Below this length a difference of coordinates, times a share below [`FEW`], fits 64 bits.
+/// For a coordinate difference below this, its product with a share below [`FEW`] fits 64 bits.
 const SHORT: u64 = 1 << 21;
 
 const FEW: u64 = 1 << 42;
 
-/// How far the first coordinate is above the second.
+/// The first coordinate minus the second.
 fn difference(a: i32, b: i32) -> i64
     requires a_in { unsigned_abs a ≤ 1_000_000_000 }
     requires b_in { unsigned_abs b ≤ 1_000_000_000 }
@@ -55,7 +55,7 @@ fn dot(a: Point, b: Point, p: Point) -> i64
     sum(across, up)
 }
 
-/// How far along the segment from a to b the point is: so much of the squared length.
+/// How far along the segment from a to b the point lies, as a share of the squared length.
 fn share(a: Point, b: Point, p: Point) -> u64
     requires a_in { InRange a }
     requires b_in { InRange b }
@@ -79,7 +79,7 @@ fn narrow_product(z: i64, t: u64) -> i64
     z * t as i64
 }
 
-/// A number from 0 on, and how far another is below -1.
+/// Maps x to itself if x ≥ 0, and else to how far x is below -1.
 fn folded(x: i64) -> u64
     ensures above { pos 0 ≤ℤ x → result ≡ unsigned_abs x }
     ensures below { x ≤ℤ negsuc 0 → result ≡ unsigned_abs x - 1 }
@@ -87,7 +87,7 @@ fn folded(x: i64) -> u64
     if x < 0 { (-1 - x) as u64 } else { x as u64 }
 }
 
-/// `t` of `n` of `z`, rounded towards minus infinity, in 64 bits.
+/// `z * t / n`, rounded towards minus infinity, in 64 bits.
 #[tactic(auto, using(crate::proofs::Parts::floor_above, crate::proofs::Parts::floor_below))]
 fn narrow_part(z: i64, t: u64, n: u64) -> i64
     requires z_small { unsigned_abs z ≤ 2 ^ 21 }
@@ -108,7 +108,7 @@ fn wide_product(z: i64, t: u64) -> i128
     i128::from(z) * i128::from(t)
 }
 
-/// `t` of `n` of `z`, rounded towards minus infinity, in 128 bits.
+/// `z * t / n`, rounded towards minus infinity, in 128 bits.
 fn wide_part(z: i64, t: u64, n: u64) -> i128
     requires z_small { unsigned_abs z ≤ 2_000_000_000 }
     requires t_in { t ≤ n }
@@ -126,7 +126,7 @@ fn narrow(q: i128) -> i64
     q as i64
 }
 
-/// `t` of `n` of `z`, rounded towards minus infinity.
+/// `z * t / n`, rounded towards minus infinity.
 #[tactic(auto, using(crate::proofs::Parts::part_between, crate::proofs::Parts::part_small))]
 fn part(z: i64, t: u64, n: u64) -> i64
     requires z_small { unsigned_abs z ≤ 2_000_000_000 }
@@ -141,7 +141,7 @@ fn part(z: i64, t: u64, n: u64) -> i64
     }
 }
 
-/// The coordinate that is a part of a difference after a.
+/// The coordinate at a part of a difference after a.
 fn shifted(a: i32, z: i64, part: i64) -> i32
     requires a_in { unsigned_abs a ≤ 1_000_000_000 }
     requires end_in { unsigned_abs (a +ℤ z) ≤ 1_000_000_000 }
@@ -152,7 +152,7 @@ fn shifted(a: i32, z: i64, part: i64) -> i32
     (i64::from(a) + part) as i32
 }
 
-/// The coordinate that is `t` of `n` along from a to b.
+/// The coordinate at `t / n` of the way from a to b.
 fn along(a: i32, b: i32, t: u64, n: u64) -> i32
     requires a_in { unsigned_abs a ≤ 1_000_000_000 }
     requires b_in { unsigned_abs b ≤ 1_000_000_000 }
@@ -164,7 +164,7 @@ fn along(a: i32, b: i32, t: u64, n: u64) -> i32
     shifted(a, whole, part(whole, t, n))
 }
 
-/// The point of the segment from a to b that is `t` of `n` along.
+/// The point at `t / n` of the way from a to b.
 #[tactic(auto, using(crate::proofs::Ends::first_end, crate::proofs::Ends::last_end))]
 fn snapped(a: Point, b: Point, t: u64, n: u64) -> Point
     requires a_in { InRange a }
@@ -185,7 +185,7 @@ fn snapped(a: Point, b: Point, t: u64, n: u64) -> Point
     }
 }
 
-/// The squared distance of a point and the point that it snaps to.
+/// The squared distance from a point to its snapped point.
 #[tactic(auto, using(crate::proofs::Boxes::is_share))]
 pub(crate) fn snap_distance2(a: Point, b: Point, p: Point) -> u64
     requires ends { AreEnds a b }
@@ -195,7 +195,7 @@ pub(crate) fn snap_distance2(a: Point, b: Point, p: Point) -> u64
     distance2(p, snapped(a, b, share(a, b, p), distance2(b, a)))
 }
 
-/// `t` of `n` of a length, rounded down.
+/// `length * t / n`, rounded down.
 #[tactic(auto, using(crate::proofs::Parts::div_le))]
 fn part_of_length(length: u32, t: u64, n: u64) -> u32
     requires { IsShare t n }
@@ -209,7 +209,7 @@ fn part_of_length(length: u32, t: u64, n: u64) -> u32
     }
 }
 
-/// How far along the segment from a to b a point snaps to, in cm, by the length of the segment.
+/// How far along the segment from a to b a point snaps to, in cm, given the segment's length.
 #[tactic(auto, using(crate::proofs::Boxes::is_share))]
 pub(crate) fn offset_along(a: Point, b: Point, p: Point, length: u32) -> u32
     requires ends { AreEnds a b }

@@ -1,14 +1,14 @@
-//! Serves `straight`, and every caller that asks for a whole square root; decided by `root`.
+//! Whole square roots. Serves `straight`; decided by `root`.
 ghost use Rattle.std.specs.Prelude.{◌≡◌, ◌≤◌, ◌^◌};
 ghost use Rattle.polyline_geometry.specs.Plane.{root};
 
-/// The bits of a float that are its fraction, and the exponent of 2^52, as the bits above them say it.
+/// The number of fraction bits of a float, and the exponent of 2^52 as the bits above them encode it.
 const FRACTION_BITS: u64 = 52;
 
 const WHOLE_EXPONENT: u64 = 1_075;
 
-/// A guess at the whole square root: the machine's root of the number as a float, rounded down by
-/// its bits.
+/// A guess at the whole square root: the machine's square root of the number as a float, rounded down
+/// by its bits.
 fn guess_root(n: u64) -> u64
     requires { n ≤ 2 ^ 53 }
     ensures { result ≤ 2 ^ 53 }
@@ -23,8 +23,8 @@ fn guess_root(n: u64) -> u64
     fraction >> WHOLE_EXPONENT.saturating_sub(bits >> FRACTION_BITS).min(63)
 }
 
-/// The greatest r with `r * r <= n`, for 64 bits. The guess is taken where its square shows that it
-/// is the root, as it is for each n up to 2^53; halving decides elsewhere.
+/// The greatest r with `r * r <= n`, for 64 bits. The guess is used if its square shows that it is
+/// right, as for each n up to 2^53; otherwise bisection decides.
 #[tactic(auto, using(crate::proofs::Roots::is_root))]
 fn narrow_root(n: u64) -> u64
     ensures { result ≡ root n }

@@ -1,4 +1,4 @@
-//! The proof of a match, made by copying its parts. Serves all who write certificates.
+//! The proof of a match, made by copying. Serves all who write certificates.
 ghost use Rattle.std.specs.Prelude.{◌≡◌, IfOk};
 
 use crate::proof::TraceProof;
@@ -7,7 +7,7 @@ use polyline_geometry::List;
 use std::alloc::{AllocError, Global};
 use trellis::{Potentials, Solved};
 
-/// The proof of the trace with this id: a copy of the ranks and the tables of its match and of its
+/// The proof of the trace with this id: a copy of the ranks and tables of its match and of its
 /// routed pieces.
 pub fn certify(
     alloc: Global,

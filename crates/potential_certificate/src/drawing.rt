@@ -1,4 +1,4 @@
-// The parts of a text, read side by side by workers that draw them. Serves the reader of blocks; decided by `AreReadsOf`.
+//! The parts of a text, read in parallel by workers that draw them. Serves the reader of blocks; decided by `AreReadsOf`.
 ghost use Rattle.std.specs.Prelude.{◌≡◌, ◌<◌, ◌≤◌, All, IfOk, length};
 ghost use Rattle.tickets.specs.Tickets.{IsOpenTicket};
 ghost use Rattle.potential_certificate.specs.Gathering.{AreEachReadOf, AreReadsOf, IsPlacedIn, put_at_places};
@@ -11,20 +11,20 @@ use std::thread;
 use std::thread::Threads;
 use tickets::{Claims, Ticket};
 
-/// The most workers, for each of which there is a ticket.
+/// The most workers; each has a ticket.
 const MOST_WORKERS: usize = 64;
 
-/// The most numbers that there are to draw. Parts from that place on stay unread.
+/// The most numbers to draw. Parts from that index on stay unread.
 const MOST_DRAWN: u64 = 4_294_967_296;
 
-/// What was read of the part at a place.
+/// The result of reading the part at an index.
 #[derive(Drop)]
 pub struct PlacedRead<'a> {
     pub place: usize,
     pub read: PartRead<'a>,
 }
 
-// Reads each part whose place the ticket draws, until there is none left.
+// Reads each part whose index the ticket draws, until none is left.
 fn draw_parts<'a>(
     alloc: Global,
     parts: &[&'a [u8]],
@@ -45,7 +45,7 @@ fn draw_parts<'a>(
     Ok(done)
 }
 
-// What each worker read. Each has a ticket, and a thread of its own where there is one.
+// What each worker read. Each has a ticket, and a thread of its own if one is available.
 fn draw_all<'a, R: Threads + Sync>(
     rt: &R,
     alloc: Global,
@@ -76,7 +76,7 @@ fn unread_parts<'a>(alloc: Global, parts: &[&'a [u8]]) -> Result<Vec<PartRead<'a
     Ok(reads)
 }
 
-// Puts what was read of parts at their places.
+// Stores the results at the indices of their parts.
 fn put_in<'a>(reads: &mut [PartRead<'a>], done: List<PlacedRead<'a>>)
     requires { All (λ placed. placed.place < length reads.old) done }
     ensures { reads.new ≡ put_at_places reads.old done.entry }
@@ -86,7 +86,7 @@ fn put_in<'a>(reads: &mut [PartRead<'a>], done: List<PlacedRead<'a>>)
     }
 }
 
-// What is read of each part, side by side. A part that no worker drew stays unread, which costs time alone.
+// What is read of each part, in parallel. A part that no worker drew stays unread, which only costs time.
 fn read_each<'a, R: Threads + Sync>(
     rt: &R,
     alloc: Global,
@@ -101,7 +101,7 @@ fn read_each<'a, R: Threads + Sync>(
     Ok(reads)
 }
 
-/// What is read of the parts of a text, side by side.
+/// What is read of the parts of a text, in parallel.
 pub fn read_parts<'a, R: Threads + Sync>(
     rt: &R,
     alloc: Global,

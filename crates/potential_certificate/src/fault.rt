@@ -1,19 +1,19 @@
-// Why a certificate was not read or not written. Serves all calls; decided by `certificate_of`.
+//! Why a certificate was not read or not written. Serves all calls; decided by `certificate_of`.
 ghost use Rattle.std.specs.Prelude.{◌≡◌};
 
 use std::alloc::AllocError;
 
-/// Why a certificate was not read.
+/// Why a certificate was rejected.
 #[derive(Clone, Copy, Debug, PartialEq, Eq)]
 pub enum CertFault {
-    /// The number, from 1, of the first complete line that is not allowed in its place, or the
-    /// number after that of the last line, where a byte stands behind it.
+    /// The number, from 1, of the first complete line that is not allowed at its place, or the
+    /// number after that of the last line, if a byte follows it.
     BadLine(u64),
-    /// Every complete line is allowed, and the last one has not come.
+    /// Every complete line is allowed, and the last line is missing.
     Cut,
     /// The text has more than `TEXT_LIMIT` bytes.
     TooLong,
-    /// There was no memory for what the text says.
+    /// Out of memory for the content of the text.
     Memory,
 }
 
@@ -22,7 +22,7 @@ pub enum CertFault {
 pub enum WriteFault {
     /// The text would have more than `TEXT_LIMIT` bytes.
     TooLong,
-    /// There was no memory for the text.
+    /// Out of memory for the text.
     Memory,
 }
 

@@ -1,4 +1,4 @@
-// A text whose proofs and rows are kept as they were read. Serves the reader of blocks; decided by `gathered_text`.
+//! A text stored as the proofs and rows read from it. Serves the reader of blocks; decided by `gathered_text`.
 ghost use Rattle.std.specs.Prelude.{◌≡◌, ◌<◌, ◌++◌, [], IfOk, IsErrOf, IsTrue, OnOk, length};
 ghost use Rattle.potential_certificate.specs.CertificateText.{certificate_text, text_limit};
 ghost use Rattle.potential_certificate.specs.Gathering.{GoesOn, Grows, IsGathered, IsPartRead, gathered_text, least_after, lines_text, rises_from};
@@ -16,7 +16,7 @@ use std::alloc::{AllocError, Global};
 use std::mem;
 use std::thread::Threads;
 
-/// A text so far: its first line, proofs, rows, and what stands behind them as it is.
+/// A text so far: its first line, proofs, rows, and the unread text after them.
 #[derive(Drop)]
 pub struct Gathered {
     pub alloc: Global,
@@ -24,11 +24,11 @@ pub struct Gathered {
     pub proofs: Vec<TraceProof>,
     pub rows: Vec<Row>,
     pub behind: Vec<u8>,
-    /// Whether what stands behind is no proof or row that goes on.
+    /// Whether the text after them is not a further proof or row.
     pub is_stuck: bool,
 }
 
-// The least origin of a row behind these.
+// The least origin of a row after these.
 fn least_after(rows: &[Row]) -> u64
     ensures { result ≡ least_after 0 rows.now }
 {
@@ -38,7 +38,7 @@ fn least_after(rows: &[Row]) -> u64
     }
 }
 
-// Whether these rows may stand behind others, where their first origin is to be `least` or above.
+// Whether these rows may follow others, if their first origin must be `least` or above.
 fn rises_from(least: u64, rows: &[Row]) -> bool
     ensures { result ≡ rises_from least rows.now }
 {
@@ -63,7 +63,7 @@ impl Gathered {
         }
     }
 
-    // Whether what was read of a part goes on with proofs and rows.
+    // Whether a part that was read continues the proofs and rows.
     fn goes_on(&self, read: &PartRead<'_>) -> bool
         ensures { IsTrue result → GoesOn self.now read.now }
     {
@@ -86,7 +86,7 @@ impl Gathered {
         self.behind.extend_from_slice(read.left)
     }
 
-    // Reads what stands behind, whose last line is whole.
+    // Reads the remaining text, whose last line is complete.
     pub fn settle(&mut self) -> Result<(), AllocError>
         requires { IsGathered self.old }
         ensures { OnOk result (Grows self.old [] self.new) }
@@ -96,7 +96,7 @@ impl Gathered {
         self.add(read)
     }
 
-    // Adds proofs and rows, which are read side by side.
+    // Adds proofs and rows, which are read in parallel.
     fn add_items<R: Threads + Sync>(&mut self, rt: &R, items: &[u8]) -> Result<(), AllocError>
         requires { IsGathered self.old }
         ensures { OnOk result (Grows self.old items.now self.new) }
@@ -108,7 +108,7 @@ impl Gathered {
         Ok(())
     }
 
-    // Whether the first line is not whole.
+    // Whether the first line is incomplete.
     fn is_in_first(&self) -> bool
         ensures { IsTrue result → lines_text self.now.proofs.items self.now.rows.items self.now.behind.items ≡ [] }
     {
@@ -141,7 +141,7 @@ impl Gathered {
         self.behind.extend_from_slice(begun)
     }
 
-    /// Adds more of the text. After Err nothing is known of it.
+    /// Adds more of the text. After `Err` its state is unspecified.
     pub fn push<R: Threads + Sync>(&mut self, rt: &R, block: &[u8]) -> Result<(), AllocError>
         requires { IsGathered self.old }
         ensures { OnOk result (Grows self.old block.now self.new) }

@@ -1,12 +1,12 @@
-//! Laws of the texts of certificates. Each function is there for its clause and does nothing.
+//! Laws of the texts of certificates. Each function exists for its clause and does nothing.
 ghost use Rattle.potential_certificate.specs.Laws.{CertificatesHaveOneText, CertificatesReadBack};
 
-/// What was written of a certificate that has a text, within the limit, is read as this one.
+/// A certificate that has a text, written within the limit, reads back as the same certificate.
 pub fn certificates_read_back()
     ensures { CertificatesReadBack }
 {}
 
-/// What is read as a certificate has a text, and that is it, each byte of it, and within the limit.
+/// A certificate that was read has a text; it is exactly the text that was read, within the limit.
 pub fn certificates_have_one_text()
     ensures { CertificatesHaveOneText }
 {}

@@ -1,4 +1,4 @@
-// The line of a point with candidates, read. Serves `next_line`; decided by `layer_at`.
+//! The line of a point with candidates, read. Serves `next_line`; decided by `layer_at`.
 ghost use Rattle.std.specs.Prelude.{◌≡◌, ◌^◌, ◌-◌, IfOk, length};
 ghost use Rattle.std.specs.Option.{option_copied};
 ghost use Rattle.match_text.specs.Reading.{most32, number_after, numbered_at, seen};
@@ -17,7 +17,7 @@ const LAST_POINT: u64 = 99_999;
 /// The most cells of a point.
 const MOST_CELLS: usize = 32;
 
-/// What stands behind these bytes and the number of the next point.
+/// The text after these bytes and the number of the next point.
 #[tactic(auto, unfolding(match_text::specs::Reading::numbered_at))]
 pub fn numbered<'a>(text: &'a [u8], bytes: &[u8], next: u32) -> Option<&'a [u8]>
     ensures { option_copied result ≡ numbered_at bytes.now next text.now }
@@ -29,7 +29,7 @@ pub fn numbered<'a>(text: &'a [u8], bytes: &[u8], next: u32) -> Option<&'a [u8]>
     Some(rest)
 }
 
-/// The line of the next point with its rank and its cells, and what stands behind it.
+/// The line of the next point with its rank and its cells, and the text after it.
 #[tactic(auto, unfolding(crate::specs::Reading::layer_at))]
 pub fn layer_line(
     alloc: Global,
@@ -51,7 +51,7 @@ pub fn layer_line(
     Ok(Some((ProofLine::Layer { rank, cells }, rest)))
 }
 
-// The rank of the next point, and what stands behind the word `cells`.
+// The rank of the next point, and the text after the word `cells`.
 #[tactic(auto, unfolding(crate::specs::Reading::ranked_at))]
 fn ranked(place: Place, text: &[u8]) -> Option<(u32, &[u8])>
     ensures { seen result ≡ ranked_at place text.now }
@@ -62,14 +62,14 @@ fn ranked(place: Place, text: &[u8]) -> Option<(u32, &[u8])>
     Some((rank, rest))
 }
 
-// Whether the rank is that of a cell, and there are not too many.
+// Whether the rank is that of a cell, and there are not too many cells.
 fn is_layer(rank: u32, cells: &[Cell]) -> bool
     ensures { result ≡ is_layer rank cells.now }
 {
     (rank as usize) < cells.len() && cells.len() <= MOST_CELLS
 }
 
-// The cells up to the end of the line, and what stands behind the line.
+// The cells up to the end of the line, and the text after the line.
 fn cells(alloc: Global, text: &[u8]) -> Result<Option<(List<Cell>, &[u8])>, AllocError>
     ensures { IfOk result (λ read. seen read ≡ all_words_at cell_at text.now) }
 {
@@ -85,7 +85,7 @@ fn cells(alloc: Global, text: &[u8]) -> Result<Option<(List<Cell>, &[u8])>, Allo
     Ok(Some((cells, rest)))
 }
 
-// The cell behind a space, and what stands behind it.
+// The cell after a space, and the text after it.
 #[tactic(auto, unfolding(crate::specs::Reading::cell_at))]
 fn cell(text: &[u8]) -> Option<(Cell, &[u8])>
     ensures { seen result ≡ cell_at text.now }
@@ -100,7 +100,7 @@ fn cell(text: &[u8]) -> Option<(Cell, &[u8])>
     cost(text)
 }
 
-// The cell with a cost behind a space, and what stands behind it.
+// The cell with a cost after a space, and the text after it.
 #[tactic(auto, unfolding(crate::specs::Reading::cost_at))]
 fn cost(text: &[u8]) -> Option<(Cell, &[u8])>
     ensures { seen result ≡ cost_at text.now }
@@ -114,7 +114,7 @@ fn cost(text: &[u8]) -> Option<(Cell, &[u8])>
     Some((cell, rest))
 }
 
-// The rank behind `<`, where that stands, and what stands behind it.
+// The rank after `<`, if there is one, and the text after it.
 fn pointer(text: &[u8]) -> Option<(Option<u32>, &[u8])>
     ensures { seen result ≡ pointer_at text.now }
 {

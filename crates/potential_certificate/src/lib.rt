@@ -1,20 +1,21 @@
-//! What a match proves itself with: certificates, and their text written and read.
+//! The evidence for a match: certificates, and their text written and read.
 //!
 //! A [`TraceProof`] has the chosen ranks of a trace, the cells of each point and the routed pieces;
-//! a [`Certificate`] has the proofs of all traces and the rows of the bounded table that they rest
-//! on. [`certify`] makes the proof of a match by copying its parts. Nothing of a certificate is known
-//! to be right: that is for the checker.
+//! a [`Certificate`] has the proofs of all traces and the rows of the bounded table that they rely
+//! on. [`certify`] makes the proof of a match by copying. Nothing in a certificate is assumed to be
+//! right: the checker decides that.
 //!
-//! The text is a first line with the options, for each trace the line `trace ID`, a line for each point
-//! (`none I` or `layer I rank R cells X0 X1 ..`), directly after that of a piece's last point the line
-//! of the piece, and `end ID`, then a line for each row (`row_text`) by rising origin, and the line
+//! The text is a first line with the options; for each trace the line `trace ID`, a line for each point
+//! (`none I` or `layer I rank R cells X0 X1 ..`), the line of a piece directly after that of its last
+//! point, and `end ID`; then a line for each row (`row_text`) by ascending origin, and the line
 //! `certified traces T rows R`. It has at most [`TEXT_LIMIT`] bytes. [`write_certificate`] appends it,
-//! and [`read_certificate`] takes exactly the texts of certificates for one set of options. A
-//! [`CertificateReader`] takes them in blocks, and reads each by as many threads as there are processors.
+//! and [`read_certificate`] accepts exactly the texts of certificates for one set of options. A
+//! [`CertificateReader`] takes the text in blocks, and reads each with as many threads as there are
+//! processors.
 //!
-//! The text is defined by `certificate_text` in `specs/CertificateText.antt`, which certificates have
-//! one by `HasText`, and what is read by `certificate_of` in `specs/Reading.antt`. Read these and the
-//! laws in [`laws`] first.
+//! `certificate_text` in `specs/CertificateText.antt` defines the text, `HasText` which certificates
+//! have one, and `certificate_of` in `specs/Reading.antt` what is read. Read these and the laws in
+//! [`laws`] first.
 #![tactic(auto)]
 
 mod copying;

@@ -1,5 +1,5 @@
-// The first and the last line of a certificate. Serves the writer and the reader; decided by
-// `first_line` and `last_line`.
+//! The first and the last line of a certificate. Serves the writer and the reader; decided by
+//! `first_line` and `last_line`.
 ghost use Rattle.std.specs.Prelude.{◌≡◌, ◌++◌, OnOk};
 ghost use Rattle.decimal_text.specs.Number.{decimal};
 ghost use Rattle.potential_certificate.specs.CertificateText.{back_words, first_line, form, gap_words, last_line, option_words};
@@ -10,7 +10,7 @@ use decimal_text::write_unsigned;
 use polyline_geometry::List;
 use std::alloc::AllocError;
 
-/// Appends the first line. After Err a part of it may stand at the end.
+/// Appends the first line. On `Err`, a part of it may remain at the end.
 pub fn append_first(p: &Params, into: &mut List<u8>) -> Result<(), AllocError>
     ensures { OnOk result (into.new ≡ into.old ++ first_line p.now) }
 {
@@ -22,7 +22,7 @@ pub fn append_first(p: &Params, into: &mut List<u8>) -> Result<(), AllocError>
     into.extend_from_slice(b"\n")
 }
 
-// Which of its three forms the first line has.
+// The form of the first line, 1 to 3.
 fn form(p: &Params) -> u32
     ensures { result ≡ form p.now }
 {
@@ -35,7 +35,7 @@ fn form(p: &Params) -> u32
     }
 }
 
-// Appends the options that every form names.
+// Appends the options that every form has.
 fn append_options(p: &Params, into: &mut List<u8>) -> Result<(), AllocError>
     ensures { OnOk result (into.new ≡ into.old ++ words_text (option_words p.now)) }
 {
@@ -64,7 +64,7 @@ fn append_gap(p: &Params, into: &mut List<u8>) -> Result<(), AllocError>
     Ok(())
 }
 
-// Appends bytes and a number behind them.
+// Appends bytes and a number after them.
 fn append_number(bytes: &[u8], number: u32, into: &mut List<u8>) -> Result<(), AllocError>
     ensures { OnOk result (into.new ≡ into.old ++ (bytes.now ++ decimal number)) }
 {
@@ -72,7 +72,7 @@ fn append_number(bytes: &[u8], number: u32, into: &mut List<u8>) -> Result<(), A
     write_unsigned(u64::from(number), into)
 }
 
-/// Appends the last line. After Err a part of it may stand at the end.
+/// Appends the last line. On `Err`, a part of it may remain at the end.
 pub fn append_last(traces: u64, rows: u64, into: &mut List<u8>) -> Result<(), AllocError>
     ensures { OnOk result (into.new ≡ into.old ++ last_line traces rows) }
 {

@@ -1,4 +1,4 @@
-// Parts of a certificate's text: where they begin, and one read. Serves the reader of blocks; decided by `IsPartRead`.
+//! Parts of a certificate's text: where they begin, and reading one. Serves the reader of blocks; decided by `IsPartRead`.
 ghost use Rattle.std.specs.Prelude.{◌≡◌, ◌<◌, ◌≤◌, IfOk, length};
 ghost use Rattle.std.specs.List.{flat_map};
 ghost use Rattle.potential_certificate.specs.Gathering.{IsReadOf};
@@ -11,13 +11,13 @@ use bounded_search::Row;
 use polyline_geometry::List;
 use std::alloc::{AllocError, Global};
 
-/// Into about so many parts a block is cut.
+/// About how many parts a block is divided into.
 const PARTS: usize = 32;
 
-/// Each part but the last has at least so many bytes.
+/// The least number of bytes of a part, except the last.
 const PART_BYTES: usize = 65_536;
 
-/// A part of a text: proofs and then rows at its front, and what stands behind them.
+/// A part of a text: the proofs and rows at its front, and the text after them.
 #[derive(Drop)]
 pub struct PartRead<'a> {
     pub part: &'a [u8],
@@ -31,7 +31,7 @@ fn begins_item(byte: u8) -> bool {
     byte == b't' || byte == b'r'
 }
 
-/// Where the first line behind the place `from` begins that may begin a proof or a row. It is the end where none does.
+/// The start of the first line after `from` that may begin a proof or a row, or the end of the text.
 pub fn next_item(text: &[u8], from: usize) -> usize
     requires { from ≤ length text.now }
     ensures behind { 0 < length text.now → 0 < result }
@@ -47,7 +47,7 @@ pub fn next_item(text: &[u8], from: usize) -> usize
     text.len()
 }
 
-/// Where the last line begins that may begin a proof or a row. It is the start where none does behind it.
+/// The start of the last line that may begin a proof or a row, or the start of the text.
 pub fn last_item(text: &[u8]) -> usize
     ensures { result ≤ length text.now }
 {
@@ -61,7 +61,7 @@ pub fn last_item(text: &[u8]) -> usize
     0
 }
 
-/// The text cut into parts before lines that may begin a proof or a row.
+/// The text divided into parts before lines that may begin a proof or a row.
 pub fn cut(alloc: Global, text: &[u8]) -> Result<List<&[u8]>, AllocError>
     ensures { IfOk result (λ parts. flat_map (λ part. part.now) parts ≡ text.now) }
 {
@@ -88,7 +88,7 @@ pub fn unread(alloc: Global, part: &[u8]) -> PartRead<'_>
     }
 }
 
-/// What is read of a part. Where a proof has a bad line, nothing is read.
+/// What is read of a part. If a proof has a bad line, nothing is read.
 pub fn read_part(alloc: Global, part: &[u8]) -> Result<PartRead<'_>, AllocError>
     ensures { IfOk result (IsReadOf part.now) }
 {

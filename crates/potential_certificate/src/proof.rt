@@ -1,19 +1,19 @@
-//! What a certificate is made of. Serves everyone.
+//! The parts of a certificate.
 use bounded_search::Row;
 use match_text::Routed;
 use polyline_geometry::List;
 use trellis::Potentials;
 
-/// What the match of one trace proves itself with, right or not.
+/// The evidence for the match of one trace, right or not.
 #[derive(Drop)]
 pub struct TraceProof {
     /// The id of the trace.
     pub id: u32,
-    /// The chosen rank of each point; None where the point has no candidate.
+    /// The chosen rank of each point; `None` if the point has no candidate.
     pub ranks: List<Option<u32>>,
-    /// The cells of each point within its piece; empty where the point has no candidate.
+    /// The cells of each point within its piece; empty if the point has no candidate.
     pub tables: List<Potentials>,
-    /// The pieces in their order, with the ids of their edges.
+    /// The pieces in order, with the ids of their edges.
     pub pieces: List<Routed>,
 }
 

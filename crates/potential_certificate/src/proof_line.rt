@@ -1,4 +1,4 @@
-// A line of a proof, read. Serves `read_certificate`; decided by `line_at`.
+//! A line of a proof, read. Serves `read_certificate`; decided by `line_at`.
 ghost use Rattle.std.specs.Prelude.{◌≡◌, ◌<◌, ◌+◌, ◌^◌, IfOk, length};
 ghost use Rattle.std.specs.Option.{option_copied, option_map};
 ghost use Rattle.match_text.specs.Grammar.{IsAllowed, place_after};
@@ -12,7 +12,7 @@ use polyline_geometry::List;
 use std::alloc::{AllocError, Global};
 use trellis::Potentials;
 
-/// A line of a proof behind its first one.
+/// A line of a proof after its first one.
 #[derive(Drop)]
 pub enum ProofLine {
     /// The point has no candidate.
@@ -23,7 +23,7 @@ pub enum ProofLine {
     End,
 }
 
-/// The place behind this line, which may stand at `place`.
+/// The state after this line, which is allowed at `place`.
 pub fn place_after(place: Place, line: &ProofLine) -> Place
     requires { IsAllowed place (in_match line.now) }
     ensures { result ≡ place_after place (in_match line.now) }
@@ -46,7 +46,7 @@ pub fn place_after(place: Place, line: &ProofLine) -> Place
     }
 }
 
-/// The line at the front that may stand at this place, and what stands behind it.
+/// The line at the front, if it is allowed at this place, and the text after it.
 pub fn next_line(
     alloc: Global,
     place: Place,
@@ -69,7 +69,7 @@ pub fn next_line(
     Ok(Some((ProofLine::End, rest)))
 }
 
-// What stands behind the line of the next point, which has no candidate.
+// The text after the line of the next point, which has no candidate.
 #[tactic(auto, unfolding(match_text::specs::Reading::none_at))]
 fn none_line<'a>(place: Place, text: &'a [u8]) -> Option<&'a [u8]>
     ensures { option_copied result ≡ option_map (λ read. read.1) (none_at place text.now) }
@@ -81,7 +81,7 @@ fn none_line<'a>(place: Place, text: &'a [u8]) -> Option<&'a [u8]>
     after(rest, b"\n")
 }
 
-// What stands behind the end line of the trace, where no point waits.
+// The text after the end line of the trace, if no point waits.
 #[tactic(auto, unfolding(match_text::specs::Reading::end_at))]
 fn end_line<'a>(place: Place, text: &'a [u8]) -> Option<&'a [u8]>
     ensures { option_copied result ≡ option_map (λ read. read.1) (end_at place text.now) }

@@ -1,4 +1,4 @@
-// The lines of a proof, written. Serves `write_certificate`; decided by `proof_text`.
+//! The lines of a proof, written. Serves `write_certificate`; decided by `proof_text`.
 ghost use Rattle.std.specs.Prelude.{◌≡◌, ◌++◌, length, take, OnErr, OnOk};
 ghost use Rattle.std.specs.List.{concat, flat_map};
 ghost use Rattle.potential_certificate.specs.CertificateText.{cell_word, layer_line, point_line, point_lines, pointer_word, proof_text};
@@ -11,7 +11,7 @@ use polyline_geometry::List;
 use std::alloc::AllocError;
 use trellis::{Cell, Potentials};
 
-/// Appends the lines of the proof. After Err some of them may stand at the end.
+/// Appends the lines of the proof. On `Err`, some of them may remain at the end.
 pub fn append_proof(proof: &TraceProof, into: &mut List<u8>) -> Result<(), AllocError>
     ensures ok { OnOk result (into.new ≡ into.old ++ proof_text proof.now) }
     ensures err { OnErr result (take (length into.old) into.new ≡ into.old) }
@@ -26,7 +26,7 @@ pub fn append_proof(proof: &TraceProof, into: &mut List<u8>) -> Result<(), Alloc
     write_end(proof.id, into)
 }
 
-// Appends the lines of the points and of the pieces. After Err some may stand at the end.
+// Appends the lines of the points and of the pieces. On `Err`, some may remain at the end.
 fn append_points(
     ranks: &[Option<u32>],
     tables: &[Potentials],
@@ -53,7 +53,7 @@ fn append_points(
     Ok(())
 }
 
-// Appends the line of a point. After Err a part of it may stand at the end.
+// Appends the line of a point. On `Err`, a part of it may remain at the end.
 fn append_point(
     point: u64,
     rank: Option<u32>,
@@ -69,7 +69,7 @@ fn append_point(
     }
 }
 
-// Appends the line of a point with candidates. After Err a part of it may stand at the end.
+// Appends the line of a point with candidates. On `Err`, a part of it may remain at the end.
 fn append_layer(
     point: u64,
     rank: u32,
@@ -88,7 +88,7 @@ fn append_layer(
     into.extend_from_slice(b"\n")
 }
 
-// Appends each cell after a space. After Err some of them may stand at the end.
+// Appends each cell after a space. On `Err`, some of them may remain at the end.
 fn append_cells(cells: &[Cell], into: &mut List<u8>) -> Result<(), AllocError>
     ensures ok { OnOk result (into.new ≡ into.old ++ cells_text cells.now) }
     ensures err { OnErr result (take (length into.old) into.new ≡ into.old) }
@@ -100,7 +100,7 @@ fn append_cells(cells: &[Cell], into: &mut List<u8>) -> Result<(), AllocError>
     Ok(())
 }
 
-// Appends a cell. After Err a part of it may stand at the end.
+// Appends a cell. On `Err`, a part of it may remain at the end.
 fn append_cell(cell: Cell, into: &mut List<u8>) -> Result<(), AllocError>
     ensures ok { OnOk result (into.new ≡ into.old ++ cell_word cell) }
     ensures err { OnErr result (take (length into.old) into.new ≡ into.old) }
@@ -112,7 +112,7 @@ fn append_cell(cell: Cell, into: &mut List<u8>) -> Result<(), AllocError>
     append_pointer(cell.from, into)
 }
 
-// Appends the rank of the point before after `<`. After Err a part of it may stand at the end.
+// Appends `<` and the rank at the previous point. On `Err`, a part of it may remain at the end.
 fn append_pointer(pointer: Option<u32>, into: &mut List<u8>) -> Result<(), AllocError>
     ensures ok { OnOk result (into.new ≡ into.old ++ pointer_word pointer) }
     ensures err { OnErr result (take (length into.old) into.new ≡ into.old) }

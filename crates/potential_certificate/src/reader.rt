@@ -1,4 +1,4 @@
-// A certificate whose text comes in blocks. Serves who reads a file; decided by `certificate_of`.
+//! Reads a certificate whose text comes in blocks. Serves readers of files; decided by `certificate_of`.
 ghost use Rattle.std.specs.Prelude.{◌≡◌, ◌⊎◌, ◌++◌, [], IfErr, IfOk, Ok, Err};
 ghost use Rattle.potential_certificate.specs.Reading.{certificate_of};
 ghost use Rattle.potential_certificate.specs.declared.fault.CertFault.TheVariants.{Memory};
@@ -14,10 +14,10 @@ use std::alloc::{AllocError, Global};
 use std::marker::Model;
 use std::thread::Threads;
 
-/// The text of a certificate that comes in blocks, cut anywhere.
+/// The text of a certificate that comes in blocks of any size.
 ///
-/// Proofs and rows are kept as they were read, and their text is dropped, since each has one text. Where the text is
-/// not that of a certificate, it is written out again and read from its start.
+/// Proofs and rows are stored as read and their text is dropped, since each has exactly one text. If the
+/// text is not that of a certificate, it is written out again and read from its start.
 #[derive(Drop)]
 pub struct CertificateReader {
     gathered: Gathered,
@@ -37,7 +37,7 @@ impl Model for CertificateReader {
 }
 
 impl CertificateReader {
-    /// Nothing of a text.
+    /// An empty text.
     pub fn new(alloc: Global) -> CertificateReader
         ensures { result ≡ [] }
     {
@@ -47,7 +47,7 @@ impl CertificateReader {
         }
     }
 
-    /// Takes more of the text. The proofs and rows in it are read by as many threads as there are processors.
+    /// Takes more of the text. As many threads as there are processors read the proofs and rows in it.
     pub fn push<R: Threads + Sync>(
         self,
         rt: &R,
@@ -66,7 +66,7 @@ impl CertificateReader {
         })
     }
 
-    /// The certificate whose text for these options was taken, as [`read_certificate`] gives it.
+    /// The certificate whose text for these options was taken, as [`read_certificate`] returns it.
     pub fn finish(self, p: &Params) -> Result<Certificate, CertFault>
         ensures ok { IfOk result (λ c. certificate_of p.now self ≡ Ok c) }
         ensures err { IfErr result (λ fault. (fault ≡ Memory)

@@ -1,4 +1,4 @@
-// The text of a certificate, read line by line. Serves all who take one; decided by `certificate_of`.
+//! The text of a certificate, read line by line. Serves all who take one; decided by `certificate_of`.
 ghost use Rattle.std.specs.Prelude.{◌≡◌, ◌⊎◌, ◌<◌, ◌+◌, ◌^◌, ◌==◌, length, IfErr, IfOk, Ok, Err};
 ghost use Rattle.std.specs.List.{count_by, list_any};
 ghost use Rattle.potential_certificate.specs.CertificateText.{text_limit};
@@ -20,8 +20,8 @@ use trellis::Potentials;
 
 /// The certificate whose text for these options this is.
 ///
-/// It reads the text once, from its start to its end or to its first bad line. What is read has a text
-/// (`HasText`); whether it is right is not asked.
+/// It reads the text once, from its start to its end or to its first bad line. The result has a text
+/// (`HasText`); whether it is right is not checked.
 pub fn read_certificate(alloc: Global, p: &Params, text: &[u8]) -> Result<Certificate, CertFault>
     ensures ok { IfOk result (λ c. certificate_of p.now text.now ≡ Ok c) }
     ensures err { IfErr result (λ fault. (fault ≡ Memory)
@@ -32,7 +32,7 @@ pub fn read_certificate(alloc: Global, p: &Params, text: &[u8]) -> Result<Certif
     end_certificate(alloc, text, Certificate { proofs, rows }, rest)
 }
 
-// The proofs, where they stand behind the first line, and what stands behind them.
+// The proofs after the first line, and the text after them.
 fn read_front<'a>(
     alloc: Global,
     p: &Params,
@@ -54,7 +54,7 @@ fn read_front<'a>(
     read_proofs(alloc, text, rest)
 }
 
-// The certificate, where its last line and nothing behind it is left.
+// The certificate, if the rest is its last line.
 fn end_certificate(
     alloc: Global,
     whole: &[u8],
@@ -76,7 +76,7 @@ fn end_certificate(
     Err(CertFault::BadLine(line_number(whole, behind)))
 }
 
-// The fault where the line that begins `left` is not allowed.
+// The fault of a text whose line at the start of `left` is not allowed.
 fn fault_at(whole: &[u8], left: &[u8]) -> CertFault
     ensures { result ≡ fault_at whole.now left.now }
 {
@@ -94,14 +94,14 @@ fn has_line(text: &[u8]) -> bool
     text.iter().any(|byte| *byte == b'\n')
 }
 
-// The number of the line that begins `left`.
+// The number of the line at the start of `left`.
 fn line_number(whole: &[u8], left: &[u8]) -> u64
     ensures { result ≡ line_number whole.now left.now }
 {
     (line_count(whole) as u64).saturating_sub(line_count(left) as u64) + 1
 }
 
-// How many complete lines there are.
+// The number of complete lines.
 fn line_count(text: &[u8]) -> usize
     ensures value { result ≡ line_count text.now }
     ensures few { result < 2 ^ 63 }
@@ -109,7 +109,7 @@ fn line_count(text: &[u8]) -> usize
     text.iter().filter(|byte| **byte == b'\n').count()
 }
 
-/// The proofs at the front, and what stands behind them.
+/// The proofs at the front, and the text after them.
 pub fn read_proofs<'a>(
     alloc: Global,
     whole: &[u8],
@@ -129,7 +129,7 @@ pub fn read_proofs<'a>(
     Ok((proofs, rest))
 }
 
-// The proof in the lines behind the first one of a trace, and what stands behind its end line.
+// The proof in the lines after the first one of a trace, and the text after its end line.
 fn read_proof<'a>(
     alloc: Global,
     whole: &[u8],

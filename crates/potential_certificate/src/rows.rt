@@ -1,4 +1,4 @@
-// The rows of a certificate, read one after the other. Serves the reader; decided by `rows_at`.
+//! The rows of a certificate, read one after the other. Serves the reader; decided by `rows_at`.
 ghost use Rattle.std.specs.Prelude.{◌≡◌, ◌+◌, ◌++◌, IfOk, length};
 ghost use Rattle.match_text.specs.Reading.{seen};
 ghost use Rattle.potential_certificate.specs.Reading.{all_rows_at, row_from, rows_at};
@@ -8,14 +8,14 @@ use polyline_geometry::List;
 use row_text::read_row;
 use std::alloc::{AllocError, Global};
 
-/// The rows at the front by rising origin, and what stands behind them.
+/// The rows at the front by ascending origin, and the text after them.
 pub fn read_rows(alloc: Global, text: &[u8]) -> Result<(List<Row>, &[u8]), AllocError>
     ensures { IfOk result (λ read. all_rows_at text.now ≡ (read.0, read.1.now)) }
 {
     more_rows(alloc, List::new(alloc), 0, text)
 }
 
-/// These rows and those at the front by rising origin from `least` on, and what stands behind them.
+/// These rows followed by those at the front by ascending origin from `least` on, and the text after them.
 pub fn more_rows(
     alloc: Global,
     front: List<Row>,
@@ -38,7 +38,7 @@ pub fn more_rows(
     Ok((rows, rest))
 }
 
-// The row at the front, where its origin is not below `least`, and what stands behind its line.
+// The row at the front, if its origin is not below `least`, and the text after its line.
 fn next_row(alloc: Global, least: u64, text: &[u8]) -> Result<Option<(Row, &[u8])>, AllocError>
     ensures { IfOk result (λ read. seen read ≡ row_from least text.now) }
 {

@@ -1,4 +1,4 @@
-// The text of a certificate, written. Serves all who write one; decided by `certificate_text`.
+//! The text of a certificate, written. Serves all who write one; decided by `certificate_text`.
 ghost use Rattle.std.specs.Prelude.{◌≡◌, ◌+◌, ◌<◌, ◌≤◌, ◌++◌, length, take, OnErr, OnOk, IsErrOf, nat_lt};
 ghost use Rattle.std.specs.List.{flat_map};
 ghost use Rattle.row_text.specs.RowLine.{row_line};
@@ -15,11 +15,11 @@ use polyline_geometry::List;
 use row_text::write_row;
 use std::alloc::{AllocError, Global};
 
-/// Appends the text of the certificate for these options. After Err `into` is as before.
+/// Appends the text of the certificate for these options. On `Err`, `into` is unchanged.
 ///
-/// That text can be read again where the certificate has a text (`HasText`): as many ranks as
+/// That text can be read again if the certificate has a text (`HasText`): as many ranks as
 /// tables, at most 100,000, a rank below the number of 1 to 32 cells or neither, no pointer without
-/// a cost, pieces over exactly the points with a rank, each with a route, and rising origins.
+/// a cost, pieces over exactly the points with a rank, each with a route, and ascending origins.
 pub fn write_certificate(
     alloc: Global,
     p: &Params,
@@ -40,7 +40,7 @@ pub fn write_certificate(
     written
 }
 
-// Appends the text that begins at `start`. After Err a part of it may stand at the end.
+// Appends the text that begins at `start`. On `Err`, a part of it may remain at the end.
 fn append_certificate(
     alloc: Global,
     p: &Params,
@@ -93,8 +93,8 @@ fn is_long(start: usize, into: &List<u8>) -> bool
     (into.len() - start) as u64 > TEXT_LIMIT
 }
 
-/// Appends the lines of each proof to the text that begins at `start`. After Err a part of them may
-// stand at the end.
+/// Appends the lines of each proof to the text that begins at `start`. On `Err`, a part of them may
+/// remain at the end.
 pub fn append_proofs(
     proofs: &[TraceProof],
     start: usize,
@@ -115,8 +115,8 @@ pub fn append_proofs(
     Ok(())
 }
 
-/// Appends the line of each row to the text that begins at `start`. After Err some of them may stand
-// at the end.
+/// Appends the line of each row to the text that begins at `start`. On `Err`, some of them may remain
+/// at the end.
 pub fn append_rows(rows: &[Row], start: usize, into: &mut List<u8>) -> Result<(), WriteFault>
     requires { start ≤ length into.old }
     ensures ok { OnOk result (into.new ≡ into.old ++ flat_map row_line rows.now) }

@@ -1,5 +1,5 @@
 -- What the write of a batch leaves.
-use Rattle.std.proofs.Common.{◌≡◌, ℕ, List, [], ◌++◌, length, Some, None, Result, Ok, Err, sym, ◌∙◌, ap, subst, inl, inr, arith, append-nil, append_assoc}
+use Rattle.std.proofs.Common.{◌≡◌, ℕ, List, [], ◌++◌, length, Some, None, Result, Ok, Err, refl, sym, ◌∙◌, ap, subst, inl, inr, arith, append-nil, append_assoc}
 use Rattle.std.specs.Io.KnownBytes.{Appends}
 use Rattle.edge_io.specs.Sink.{AppendsPrefix, Rose}
 use Rattle.edge_io.specs.State.{SinkState}
@@ -78,7 +78,7 @@ refused_put {job} {has} {base} {out} {traces} {waiting} out' given line holds re
   is = refused_later job traces line (ap job.refusal holds.are ∙ refused);
   written = subst (λ t. Appends base.written out'.written (job.texts t)) (sym holds.are) (whole_text out' given holds took grown);
   faults_are = same ∙ holds.faults_are;
-  other = λ e. cc;
+  is_traces = refl;
 }
 
 same_kind : (X : Type 0) (expected : X → Outcome) (out out' : SinkState) (refusal : Refusal) (line : List ℕ) → refusal ≡ refusals.Traces → StopsAs X expected out out' (Refused refusals.Traces line) → StopsAs X expected out out' (Refused refusal line)
@@ -101,14 +101,14 @@ all_taken holds none = holds.are ∙ ap (λ w. holds.taken ++ w) none ∙ append
 
 -- a stop whatever comes later is one with this that comes
 pub stops_with : {X : Type 0} (expected : X → Outcome) (base out : SinkState) (x : X) (outcome : Outcome) (stop : Stop) → expected x ≡ outcome → StopsAs X expected base out stop → StopsAs (Unit {0}) (λ _. outcome) base out stop
-stops_with expected base out x outcome (Refused refusal line) is stops = record { text = stops.text; is = λ _. sym is ∙ stops.is x; written = stops.written; faults_are = stops.faults_are; other = stops.other }
+stops_with expected base out x outcome (Refused refusal line) is stops = record { text = stops.text; is = λ _. sym is ∙ stops.is x; written = stops.written; faults_are = stops.faults_are; is_traces = stops.is_traces }
 stops_with expected base out x outcome NoMemory is stops = (λ _. subst (λ o. AppendsPrefix base.written out.written o.out) is (stops.0 x), stops.1)
 stops_with expected base out x outcome (Unread file) is stops = absurd stops
 stops_with expected base out x outcome Unwritten is stops = (λ _. subst (λ o. AppendsPrefix base.written out.written o.out) is (stops.0 x), stops.1)
 
 -- and a stop whatever comes is one for each part of it
 pub stops_for : {X Y : Type 0} (expected : X → Outcome) (wider : Y → Outcome) (base out : SinkState) (stop : Stop) → ((y : Y) → (x : X) × (wider y ≡ expected x)) → StopsAs X expected base out stop → StopsAs Y wider base out stop
-stops_for expected wider base out (Refused refusal line) to stops = record { text = stops.text; is = λ y. (to y).1 ∙ stops.is (to y).0; written = stops.written; faults_are = stops.faults_are; other = stops.other }
+stops_for expected wider base out (Refused refusal line) to stops = record { text = stops.text; is = λ y. (to y).1 ∙ stops.is (to y).0; written = stops.written; faults_are = stops.faults_are; is_traces = stops.is_traces }
 stops_for expected wider base out NoMemory to stops = (λ y. subst (λ o. AppendsPrefix base.written out.written o.out) (sym (to y).1) (stops.0 (to y).0), stops.1)
 stops_for expected wider base out (Unread file) to stops = absurd stops
 stops_for expected wider base out Unwritten to stops = (λ y. subst (λ o. AppendsPrefix base.written out.written o.out) (sym (to y).1) (stops.0 (to y).0), stops.1)
@@ -123,7 +123,7 @@ refused_all {job} {has} {base} {out} {traces} fault (Refused refusal line) holds
       is = λ _. ap (λ r. given_by r (Some fault) (job.texts traces) (job.ending traces)) allowed ∙ ap (refused_behind (job.texts traces)) (sym refuses.1);
       written = subst (λ t. Appends base.written out.written (job.texts t)) (sym all) holds.written;
       faults_are = holds.faults_are;
-      other = λ e. cc;
+      is_traces = refl;
     })
 refused_all {job} {has} {base} {out} {traces} fault NoMemory holds none refuses =
     (λ _. subst (λ t. AppendsPrefix base.written out.written (traces_give job t (Some fault)).out) (append-nil traces) (held_front holds (record { more = []; fault = Some fault })), holds.faults_are)

@@ -41,3 +41,10 @@ bounded_front front back all = record {
 
 pub lawful_back : (front back : List Trace) → All IsLawfulTrace (front ++ back) → All IsLawfulTrace back
 lawful_back front back all = All-same IsLawfulTrace back (drop (length front) (front ++ back)) (sym (drop-append_seam front back)) (All-drop IsLawfulTrace (length front) (front ++ back) all)
+
+pub bounded_back : (front back : List Trace) → IsBounded (front ++ back) → IsBounded back
+bounded_back front back all = record {
+  few = let few = all.few in omega (arith, few, length-append front back);
+  few_points = let few = all.few_points in omega (arith, few, points-append front back);
+  lawful = lawful_back front back all.lawful;
+}

@@ -1,5 +1,5 @@
 -- What a chunk of a trace file leaves.
-use Rattle.std.proofs.Common.{◌≡◌, ◌≢◌, ℕ, ◌+◌, ◌<◌, ◌≤◌, ◌^◌, ◌⊎◌, zero, suc, IsSome, ◌==◌, Bool, true, false, List, [], ◌∷◌, ◌++◌, length, take, drop, Some, None, Ok, refl, sym, ◌∙◌, ap, subst, inl, inr, arith, append_assoc, append-nil, length-append}
+use Rattle.std.proofs.Common.{◌≡◌, ◌≢◌, ℕ, ◌+◌, ◌<◌, ◌≤◌, ◌^◌, ◌⊎◌, zero, suc, IsSome, ◌==◌, Bool, true, false, List, [], ◌∷◌, ◌++◌, length, take, drop, Some, None, Ok, Err, Result, refl, sym, ◌∙◌, ap, subst, inl, inr, arith, append_assoc, append-nil, length-append}
 use Rattle.std.specs.declared.option.Option.{Option}
 use Rattle.std.specs.Io.KnownBytes.{Appends}
 use Rattle.std.proofs.lemmas.Bool.Decides.{nat_tests}
@@ -14,7 +14,7 @@ use Rattle.trace_reader.specs.declared.fault.TraceFault.{TraceFault}
 use Rattle.trace_reader.specs.declared.fault.TraceFault.TheVariants as faults
 use Rattle.trace_reader.proofs.Laws.{closed-none, file_fault_known, file_traces_known, fault_in_long, fault_in-StandsFor}
 use Rattle.edge_io.proofs.KnownBytes.{appends_nothing}
-use Rattle.program_frame.specs.Batches.{Holds, IsBetween, Later, RefusesAt, WritesFull, with_later}
+use Rattle.program_frame.specs.Batches.{Holds, IsBetween, Later, RefusesAt, TakesChunk, WritesBatch, WritesFull, with_later}
 use Rattle.program_frame.specs.Jobs.{IsBatch, IsBounded, JobText, bytes_give, traces_give}
 use Rattle.program_frame.specs.Streams.{HasFront, StopsAs, StopsAt}
 use Rattle.program_frame.specs.declared.stop.Stop.{Stop}
@@ -129,6 +129,14 @@ stops_in job base out fed chunk n stop stops =
 -- some bytes of a chunk were taken, and what waited was written where it made a batch
 pub some_taken : (job : JobText) (has : Has) (base out : SinkState) (fed chunk : List ℕ) (n : ℕ) (reader : TraceReader) (waiting : List Trace) → StandsFor reader (fed ++ take n chunk) → WritesFull job has base out (closed (fed ++ take n chunk)) waiting (Ok tt) → IsBetween job has base out (fed ++ take n chunk) reader waiting
 some_taken job has base out fed chunk n reader waiting stands writes = record { stands = stands; holds = writes.0; room = writes.1 }
+
+-- the traces that waited between two chunks were written
+pub between_written : (job : JobText) (has has' : Has) (base out out' : SinkState) (fed : List ℕ) (reader after : TraceReader) (waiting left : List Trace) (ended : Result (Unit {0}) Stop) → IsBetween job has base out fed reader waiting → after ≡ reader → WritesBatch job has' base out' (closed fed) left ended → TakesChunk job has' base out' fed after left ended
+between_written job has has' base out out' fed reader after waiting left (Ok done) between same writes =
+    let none : length left ≡ 0 = ap length writes.1 in
+    record { stands = subst (λ r. StandsFor r fed) (sym same) between.stands; holds = writes.0; room = omega (arith, none) }
+between_written job has has' base out out' fed reader after waiting left (Err stop) between same writes =
+    stops_for (with_later job (closed fed)) (λ rest. bytes_give job (fed ++ rest)) base out' stop (rest_later job fed) writes
 
 -- some of a chunk was taken
 pub record IsUnderway (job : JobText) (has has' : List Trace → Type 0) (chunk rest : List ℕ) (first out : SinkState) (reader reader' : TraceReader) (waiting waiting' : List Trace) : Type 0 where

@@ -2,10 +2,13 @@ pub mod Asked
 pub mod BatchEnds
 pub mod Bounds
 pub mod ChunkEnds
+pub mod ChunkReads
+pub mod Counting
 pub mod FileEnds
 pub mod Giving
 pub mod NetworkLoad
 pub mod PointCounts
+pub mod PromiseLaws
 pub mod Reading
 pub mod RefusalLines
 pub mod RunEnds

@@ -1,26 +1,25 @@
 -- A trace file that is read chunk by chunk.
 use Rattle.std.proofs.Common.{◌≡◌, ◌≢◌, ℕ, ◌+◌, ◌≤◌, List, [], ◌∷◌, ◌++◌, length, Result, Ok, Err, refl, sym, ◌∙◌, ap, subst, arith, length-append}
-use Rattle.std.specs.declared.option.Option.{Option}
 use Rattle.std.specs.Io.KnownBytes.{Appends}
-use Rattle.edge_io.specs.Shelf.{Reads}
 use Rattle.edge_io.specs.State.{ShelfState, SinkState}
-use Rattle.edge_io.specs.declared.shelf.Taken.{Taken}
-use Rattle.edge_io.specs.declared.shelf.Taken.TheVariants.{End, Got}
 use Rattle.trace_reader.specs.Reading.{closed}
 use Rattle.trace_reader.specs.declared.reader.TraceReader.{TraceReader}
 use Rattle.trace_reader.specs.declared.trace.Trace.{Trace}
 use Rattle.trace_reader.proofs.Laws.{closed-none}
 use Rattle.program_frame.specs.Batches.{Holds, IsBetween}
+use Rattle.program_frame.specs.Chunks.{AreRead, IsChunk}
 use Rattle.program_frame.specs.Jobs.{JobText, bytes_give}
 use Rattle.program_frame.specs.Performs.{Performs}
 use Rattle.program_frame.specs.Refusals.{trace_limit}
+use Rattle.program_frame.specs.Read.{FailsToRead, ReadsWhole}
 use Rattle.program_frame.specs.Stream.{IsReading, IsTaken, works_traces}
 use Rattle.program_frame.specs.Streams.{EndsWith, IsStreaming, StopsAt}
 use Rattle.program_frame.specs.declared.stop.File.TheVariants.{Traces}
 use Rattle.program_frame.specs.declared.stop.Stop.{Stop}
+use Rattle.program_frame.specs.declared.stop.Stop.TheVariants.{Refused, NoMemory, Unread, Unwritten}
 use Rattle.program_frame.proofs.BatchEnds.{Has}
 use Rattle.program_frame.proofs.ChunkEnds.{held_rest}
-use Rattle.program_frame.proofs.Streaming.{front_begun, read_end, read_full, read_more, stream_ends, stream_stops}
+use Rattle.program_frame.proofs.Streaming.{front_begun, stream_ends, stream_starved, stream_stops, stream_unread}
 
 -- before the first read
 pub nothing_read : (job : JobText) (has : Has) (name : List ℕ) (shelf : ShelfState) (base : SinkState) (reader : TraceReader) (waiting : List Trace) → IsBetween job has base base [] reader waiting → IsReading job has name shelf base base 0 reader waiting
@@ -47,34 +46,18 @@ streaming shelf' reading same within = record {
   faults_are = reading.between.holds.faults_are;
 }
 
--- a read into an empty buffer, behind what was read so far
-pub reads_as : (told told' : Option (List ℕ → Option (List ℕ))) (name : List ℕ) (at at' : ℕ) (old chunk taken : List ℕ) (t : Taken) → told ≡ told' → at' ≡ at → old ≡ [] → taken ≡ chunk → Reads told name at old chunk t → Reads told' name at' [] taken t
-reads_as told told' name at at' old chunk taken t same place empty is reads =
-    subst (λ x. Reads told' name at' [] x t) (sym is) (subst (λ o. Reads told' name at' o chunk t) empty (subst (λ a. Reads told' name a old chunk t) (sym place) (subst (λ x. Reads x name at old chunk t) same reads)))
+-- the bytes that were read so far
+pub are_read : {job : JobText} {has : Has} {name : List ℕ} {shelf : ShelfState} {base out : SinkState} {at : ℕ} {reader : TraceReader} {waiting : List Trace} → (reading : IsReading job has name shelf base out at reader waiting) → at ≤ trace_limit + 1 → AreRead name shelf at reading.fed
+are_read reading within = record { place = reading.place; front = reading.front; within = within }
 
--- the end of the file, or the first byte above the limit
-pub taken_end : {job : JobText} {has : Has} {name : List ℕ} {shelf : ShelfState} {base out : SinkState} {at : ℕ} {reader : TraceReader} {waiting : List Trace} (shelf' : ShelfState) (chunk : List ℕ) → (reading : IsReading job has name shelf base out at reader waiting) → shelf' ≡ shelf → at ≤ trace_limit → Reads shelf.holds name (length reading.fed) [] chunk End → IsTaken job has name shelf shelf' base out reader waiting
-taken_end {job} {has} {name} {shelf} shelf' chunk reading same within reads = record {
-  bytes = reading.fed;
-  whole = (read_end trace_limit shelf.holds name reading.fed chunk reading.front (omega (arith, reading.place, within)) reads, same);
-  between = reading.between;
-}
-
-pub taken_full : {job : JobText} {has : Has} {name : List ℕ} {shelf : ShelfState} {base out : SinkState} {at : ℕ} {reader : TraceReader} {waiting : List Trace} (shelf' : ShelfState) → (reading : IsReading job has name shelf base out at reader waiting) → shelf' ≡ shelf → at ≡ trace_limit + 1 → IsTaken job has name shelf shelf' base out reader waiting
-taken_full {job} {has} {name} {shelf} shelf' reading same full = record {
-  bytes = reading.fed;
-  whole = (read_full trace_limit shelf.holds name reading.fed reading.front (reading.place ∙ full), same);
-  between = reading.between;
-}
+-- the file was read whole
+pub all_read : {job : JobText} {has : Has} {name : List ℕ} {shelf : ShelfState} {base out : SinkState} {at : ℕ} {reader : TraceReader} {waiting : List Trace} (shelf' : ShelfState) → (reading : IsReading job has name shelf base out at reader waiting) → ReadsWhole name trace_limit shelf shelf' reading.fed → IsTaken job has name shelf shelf' base out reader waiting
+all_read shelf' reading whole = record { bytes = reading.fed; whole = whole; between = reading.between }
 
 -- one more chunk was taken
-pub reading_more : {job : JobText} {has : Has} {name : List ℕ} {shelf : ShelfState} {base out : SinkState} {at : ℕ} {reader : TraceReader} {waiting : List Trace} (has' : Has) (out' : SinkState) (n : ℕ) (chunk : List ℕ) (reader' : TraceReader) (waiting' : List Trace) → (reading : IsReading job has name shelf base out at reader waiting) → length chunk ≡ n → Reads shelf.holds name (length reading.fed) [] chunk (Got n) → IsBetween job has' base out' (reading.fed ++ chunk) reader' waiting' → IsReading job has' name shelf base out' (at + n) reader' waiting'
-reading_more {job} {has} {name} {shelf} has' out' n chunk reader' waiting' reading long reads between = record {
-  fed = reading.fed ++ chunk;
-  place = omega (arith, length-append reading.fed chunk, reading.place, long);
-  front = read_more shelf.holds name reading.fed chunk n reading.front reads;
-  between = between;
-}
+pub reading_more : {job : JobText} {has : Has} {name : List ℕ} {shelf : ShelfState} {base out : SinkState} {at : ℕ} {reader : TraceReader} {waiting : List Trace} (has' : Has) (out' : SinkState) (at' : ℕ) (chunk : List ℕ) (reader' : TraceReader) (waiting' : List Trace) → (reading : IsReading job has name shelf base out at reader waiting) → AreRead name shelf at' (reading.fed ++ chunk) → IsBetween job has' base out' (reading.fed ++ chunk) reader' waiting' → IsReading job has' name shelf base out' at' reader' waiting'
+reading_more has' out' at' chunk reader' waiting' reading read between =
+    record { fed = reading.fed ++ chunk; place = read.place; front = read.front; between = between }
 
 -- bytes behind bytes are some
 some_bytes : (fed chunk : List ℕ) → 1 ≤ length chunk → fed ++ chunk ≢ []
@@ -83,9 +66,17 @@ some_bytes fed chunk some none =
     omega (arith, length-append fed chunk, long, some)
 
 -- the work stopped in a chunk
-pub reading_stop : {job : JobText} {has : Has} {name : List ℕ} {shelf : ShelfState} {base out : SinkState} {at : ℕ} {reader : TraceReader} {waiting : List Trace} (shelf' : ShelfState) (out' : SinkState) (n : ℕ) (chunk : List ℕ) (stop : Stop) → (reading : IsReading job has name shelf base out at reader waiting) → shelf' ≡ shelf → length chunk ≡ n → 1 ≤ n → at + n ≤ trace_limit + 1 → Reads shelf.holds name (length reading.fed) [] chunk (Got n) → StopsAt (bytes_give job) base out' (reading.fed ++ chunk) stop → Performs (Ok (works_traces name job)) shelf shelf' base out' (Err stop)
-reading_stop {job} {has} {name} {shelf} shelf' out' n chunk stop reading same long some within reads stops =
-    stream_stops Traces name trace_limit (bytes_give job) (reading.fed ++ chunk) same (read_more shelf.holds name reading.fed chunk n reading.front reads) (some_bytes reading.fed chunk (omega (arith, long, some))) (omega (arith, length-append reading.fed chunk, reading.place, long, within)) stops
+pub reading_stop : {job : JobText} {has : Has} {name : List ℕ} {shelf : ShelfState} {base out : SinkState} {at : ℕ} {reader : TraceReader} {waiting : List Trace} (shelf' : ShelfState) (out' : SinkState) (at' : ℕ) (chunk : List ℕ) (stop : Stop) → (reading : IsReading job has name shelf base out at reader waiting) → shelf' ≡ shelf → IsChunk at at' chunk → AreRead name shelf at' (reading.fed ++ chunk) → StopsAt (bytes_give job) base out' (reading.fed ++ chunk) stop → Performs (Ok (works_traces name job)) shelf shelf' base out' (Err stop)
+reading_stop {job} {has} {name} {shelf} shelf' out' at' chunk stop reading same is read stops =
+    stream_stops Traces name trace_limit (bytes_give job) (reading.fed ++ chunk) same read.front (some_bytes reading.fed chunk is.some) (omega (arith, read.place, read.within)) stops
+
+-- the next chunk was not read
+pub reading_fails : {job : JobText} {has : Has} {name : List ℕ} {shelf : ShelfState} {base out : SinkState} {at : ℕ} {reader : TraceReader} {waiting : List Trace} (shelf' shelf'' : ShelfState) (stop : Stop) → (reading : IsReading job has name shelf base out at reader waiting) → shelf' ≡ shelf → at ≤ trace_limit + 1 → FailsToRead Traces name shelf' shelf'' stop → Performs (Ok (works_traces name job)) shelf shelf'' base out (Err stop)
+reading_fails shelf' shelf'' (Refused refusal line) reading same within fails = absurd fails
+reading_fails shelf' shelf'' NoMemory reading same within fails = stream_starved Traces (streaming shelf'' reading (fails ∙ same) within)
+reading_fails {job} {has} {name} {shelf} {base} {out} shelf' shelf'' (Unread file) reading same within fails =
+    subst (λ f. Performs (Ok (works_traces name job)) shelf shelf'' base out (Err (Unread f))) (sym fails.0) (stream_unread (streaming shelf' reading same within) fails.1)
+reading_fails shelf' shelf'' Unwritten reading same within fails = absurd fails
 
 -- the end of the file was taken
 pub work_ends : {job : JobText} {has : Has} {name : List ℕ} {shelf shelf' : ShelfState} {base out : SinkState} {reader : TraceReader} {waiting : List Trace} (out' : SinkState) (ended : Result (Unit {0}) Stop) → (taken : IsTaken job has name shelf shelf' base out reader waiting) → EndsWith (bytes_give job taken.bytes) base out' ended → Performs (Ok (works_traces name job)) shelf shelf' base out' ended

@@ -12,10 +12,10 @@ use Rattle.edge_io.specs.declared.sink.Put.TheVariants as puts
 use Rattle.program_frame.specs.Stops.{stop_line, line_of, refusal_status, status_after, unread_line}
 use Rattle.program_frame.specs.Lines.{memory_line, write_line}
 use Rattle.program_frame.specs.Outcome.{Outcome, out_text}
-use Rattle.program_frame.specs.Performs.{IsWhole, IsPartial, IsQuiet, IsUnread, Leaves, Performs, RefusesWords}
+use Rattle.program_frame.specs.Performs.{IsWhole, IsPartial, IsQuiet, IsSaid, IsUnread, Leaves, Performs, RefusesWords}
 use Rattle.program_frame.specs.Promises.{Covers, IsSettled, IsOutcome, SaysAtMost, IsErrLine, SaysPartOfLine, faults_of, HasRisen, IsFaultless, IsAnswered, AreCountsSame, IsStarved, Promises}
 use Rattle.edge_io.specs.State.{ShelfState, SinkState}
-use Rattle.program_frame.specs.Plan.{Plan, AreRefused, IsFileOf, outcome_of, plan_of}
+use Rattle.program_frame.specs.Plan.{Plan, AreRefused, IsFileOf, IsLineOf, outcome_of, plan_of}
 use Rattle.program_frame.specs.declared.stop.File.{File}
 use Rattle.program_frame.specs.declared.stop.Refusal.{Refusal}
 use Rattle.program_frame.specs.declared.stop.Refusal.TheVariants as refusals
@@ -50,11 +50,21 @@ memory_answers : (asked : Result Plan (List ℕ)) (told : Option (List ℕ → O
 memory_answers asked None failed = tt
 memory_answers asked (Some files) failed = memory_of 1 refl (outcome_of (plan_of asked) files)
 
+-- a settled status and its line: one of the plan's lines, or none where all was done; and text only
+-- before a refusal of the traces
+record IsEnding (asked : Result Plan (List ℕ)) (out out' : SinkState) (line : List ℕ) (status : ℕ) : Type 0 where
+  of_plan : status ≢ 0 → IsLineOf (plan_of asked) status line
+  none : status ≡ 0 → line ≡ []
+  nothing_out : status ≢ 0 → status ≢ 6 → Appends out.written out'.written []
+
 -- a settled status: the outcome's texts were written whole
-settled : {lines : Table} (asked : Result Plan (List ℕ)) (shelf shelf' : ShelfState) (out out' err err' : SinkState) (line : List ℕ) (status : ℕ) → IsPartial (plan_of asked) shelf.holds out out' → IsWhole (plan_of asked) shelf.holds out out' line status → IsQuiet shelf shelf' out out' → IsSettled status → Appends err.written err'.written line → err'.faults ≡ err.faults → (status ≡ 2 → RefusesWords asked out out' line) → (AreRefused asked → status ≡ 2) → Promises lines asked shelf shelf' out out' err err' status
-settled asked shelf shelf' out out' err err' line status partial whole quiet is said same words refused = record {
+settled : {lines : Table} (asked : Result Plan (List ℕ)) (shelf shelf' : ShelfState) (out out' err err' : SinkState) (line : List ℕ) (status : ℕ) → IsPartial (plan_of asked) shelf.holds out out' → IsWhole (plan_of asked) shelf.holds out out' line status → IsQuiet shelf shelf' out out' → IsSettled status → Appends err.written err'.written line → err'.faults ≡ err.faults → (status ≡ 2 → RefusesWords asked out out' line) → (AreRefused asked → status ≡ 2) → IsEnding asked out out' line status → Promises lines asked shelf shelf' out out' err err' status
+settled asked shelf shelf' out out' err err' line status partial whole quiet is said same words refused ending = record {
   outcome = λ _. whole_outcome asked shelf.holds shelf.failed out out' err err' line status whole said;
   prefix = partial;
+  line_is = λ _ some. (line, ending.of_plan some, said);
+  quiet_err = λ zero. subst (Appends err.written err'.written) (ending.none zero) said;
+  quiet_out = λ _ some other. ending.nothing_out some other;
   memory = λ e. absurd (is.0 e);
   unread = λ e. absurd (is.1 e);
   unwritten = λ e. absurd (is.2 e);
@@ -74,6 +84,9 @@ starved : {lines : Table} (asked : Result Plan (List ℕ)) (shelf shelf' : Shelf
 starved asked shelf shelf' out out' err err' partial counts said noted holds = record {
   outcome = λ s. absurd (s.0 refl);
   prefix = partial;
+  line_is = λ s _. absurd (s.0 refl);
+  quiet_err = λ e. cc;
+  quiet_out = λ s _ _. absurd (s.0 refl);
   memory = λ _. said;
   unread = λ e. cc;
   unwritten = λ e. cc;
@@ -109,6 +122,9 @@ unread_said : {lines : Table} (asked : Result Plan (List ℕ)) (shelf shelf' : S
 unread_said asked shelf shelf' out out' err err' file partial is counts said = record {
   outcome = λ s. absurd (s.1 refl);
   prefix = partial;
+  line_is = λ s _. absurd (s.1 refl);
+  quiet_err = λ e. cc;
+  quiet_out = λ s _ _. absurd (s.1 refl);
   memory = λ e. cc;
   unread = λ _. record { file = file; risen = unread_risen asked shelf shelf' out out' file is; line = said; nothing_out = is.nothing_out; before = is.before };
   unwritten = λ e. cc;
@@ -132,6 +148,9 @@ unwritten_said : {lines : Table} (asked : Result Plan (List ℕ)) (shelf shelf' 
 unwritten_said asked shelf shelf' out out' err err' partial holds rose says part = record {
   outcome = λ s. absurd (s.2 refl);
   prefix = partial;
+  line_is = λ s _. absurd (s.2 refl);
+  quiet_err = λ e. cc;
+  quiet_out = λ s _ _. absurd (s.2 refl);
   memory = λ e. cc;
   unread = λ e. cc;
   unwritten = λ _. rose;
@@ -185,6 +204,14 @@ refusal_not_done refusals.Certificate e = cc
 refusal_not_done refusals.TooLong e = cc
 refusal_not_done refusals.Table e = cc
 
+-- a refusal has a line of the plan
+refusal_ends : (asked : Result Plan (List ℕ)) (shelf shelf' : ShelfState) (out out' : SinkState) (refusal : Refusal) (line : List ℕ) → IsSaid asked shelf shelf' out out' refusal line → IsEnding asked out out' line (refusal_status refusal)
+refusal_ends asked shelf shelf' out out' refusal line is = record {
+  of_plan = λ _. is.is_line;
+  none = λ zero. absurd (refusal_not_done refusal zero);
+  nothing_out = λ _ other. is.nothing_out (λ traces. other (ap refusal_status traces));
+}
+
 -- the line of an early ending is a line
 line_is : (lines : Table) (asked : Result Plan (List ℕ)) (shelf shelf' : ShelfState) (out out' : SinkState) (stop : Stop) → Covers lines asked → Leaves asked shelf shelf' out out' (Err stop) → IsErrLine lines (stop_line stop)
 line_is lines asked shelf shelf' out out' (Refused refusal line) covers leaves = inl (refusal_status refusal, covers (refusal_status refusal) line (refusal_not_done refusal) leaves.is_line)
@@ -202,7 +229,7 @@ not_noted shelf shelf' same changed = absurd (changed (ap (λ s. s.failed) same)
 stopped : {lines : Table} (asked : Result Plan (List ℕ)) (shelf shelf' : ShelfState) (out out' err err' : SinkState) (stop : Stop) (put : Put) → Covers lines asked → Performs asked shelf shelf' out out' (Err stop) → Puts err err' (stop_line stop) put → Promises lines asked shelf shelf' out out' err err' (status_after (Err stop) put)
 stopped {lines} asked shelf shelf' out out' err err' (Refused refusal line) puts.All covers performs said =
     let is = performs.leaves in
-    settled asked shelf shelf' out out' err err' line (refusal_status refusal) performs.partial is.whole is.quiet (refusal_settled refusal) said.0 said.1 (λ two. is.words (two_is_words refusal two)) (words_is_two refusal asked is.others)
+    settled asked shelf shelf' out out' err err' line (refusal_status refusal) performs.partial is.whole is.quiet (refusal_settled refusal) said.0 said.1 (λ two. is.words (two_is_words refusal two)) (words_is_two refusal asked is.others) (refusal_ends asked shelf shelf' out out' refusal line is)
 stopped {lines} asked shelf shelf' out out' err err' NoMemory puts.All covers performs said =
     starved asked shelf shelf' out out' err err' performs.partial (counts shelf shelf' out out' err err' performs.leaves said.1) (inr said.0) (not_noted shelf shelf' performs.leaves.shelf_is) (same_files asked shelf shelf' out out' NoMemory performs.leaves)
 stopped {lines} asked shelf shelf' out out' err err' (Unread file) puts.All covers performs said =
@@ -222,7 +249,7 @@ stopped {lines} asked shelf shelf' out out' err err' Unwritten puts.NoMemory cov
 
 done : {lines : Table} (asked : Result Plan (List ℕ)) (shelf shelf' : ShelfState) (out out' err err' : SinkState) → Performs asked shelf shelf' out out' (Ok tt) → Appends err.written err'.written [] → err'.faults ≡ err.faults → Promises lines asked shelf shelf' out out' err err' 0
 done asked shelf shelf' out out' err err' performs said same =
-    settled asked shelf shelf' out out' err err' [] 0 performs.partial performs.leaves.whole performs.leaves.quiet (λ e. cc, λ e. cc, λ e. cc) said same (λ e. cc) (λ refused. absurd (performs.leaves.accepted refused))
+    settled asked shelf shelf' out out' err err' [] 0 performs.partial performs.leaves.whole performs.leaves.quiet (λ e. cc, λ e. cc, λ e. cc) said same (λ e. cc) (λ refused. absurd (performs.leaves.accepted refused)) (record { of_plan = λ other. absurd (other refl); none = λ _. refl; nothing_out = λ other _. absurd (other refl) })
 
 -- the promises of a run, from what its work leaves and the put of its line
 pub promises : {lines : Table} (asked : Result Plan (List ℕ)) (shelf shelf' : ShelfState) (out out' err err' : SinkState) (ended : Result (Unit {0}) Stop) (put : Put) → Covers lines asked → Performs asked shelf shelf' out out' ended → Puts err err' (line_of ended) put → (IsOk ended → put ≡ puts.All) → Promises lines asked shelf shelf' out out' err err' (status_after ended put)

@@ -45,7 +45,7 @@ leaves_on : (plan rest : Plan) (shelf shelf' : ShelfState) (out out' : SinkState
 leaves_on plan rest shelf shelf' out out' (Ok done) on leaves =
     record { whole = whole_on plan rest shelf.holds out out' [] 0 on.agrees leaves.whole; quiet = leaves.quiet; accepted = leaves.accepted }
 leaves_on plan rest shelf shelf' out out' (Err (Refused refusal line)) on leaves =
-    record { whole = whole_on plan rest shelf.holds out out' line (refusal_status refusal) on.agrees leaves.whole; quiet = leaves.quiet; is_line = on.lines (refusal_status refusal) line leaves.is_line; words = λ same. absurd (leaves.words same).refused; others = leaves.others }
+    record { whole = whole_on plan rest shelf.holds out out' line (refusal_status refusal) on.agrees leaves.whole; quiet = leaves.quiet; is_line = on.lines (refusal_status refusal) line leaves.is_line; words = λ same. absurd (leaves.words same).refused; others = leaves.others; nothing_out = leaves.nothing_out }
 leaves_on plan rest shelf shelf' out out' (Err NoMemory) on leaves = leaves
 leaves_on plan rest shelf shelf' out out' (Err (Unread file)) on leaves =
     record { name = leaves.name; named = on.named file leaves.name leaves.named; noted = leaves.noted; nothing_out = leaves.nothing_out; before = before_on plan rest shelf.holds file on.agrees leaves.before; faults_are = leaves.faults_are }
@@ -75,7 +75,7 @@ refused_whole (Some files) out line status = ([], refl, appends_nothing out.writ
 pub words_refused : (line : List ℕ) (shelf : ShelfState) (out : SinkState) → Performs (Err line) shelf shelf out out (Err (Refused Words line))
 words_refused line shelf out = record {
   partial = partial_same (plan_of (Err line)) shelf.holds out;
-  leaves = record { whole = refused_whole shelf.holds out line 2; quiet = quiet_same shelf out; is_line = (refl, refl); words = λ _. record { refused = refl; nothing_out = appends_nothing out.written }; others = λ other. absurd (other refl) };
+  leaves = record { whole = refused_whole shelf.holds out line 2; quiet = quiet_same shelf out; is_line = (refl, refl); words = λ _. record { refused = refl; nothing_out = appends_nothing out.written }; others = λ other. absurd (other refl); nothing_out = λ _. appends_nothing out.written };
 }
 
 abbrev pub refused_as : List ℕ → Result (Unit {0}) (List ℕ)
@@ -131,7 +131,7 @@ accepts_performs {A} {said} {value} {shelf} {shelf'} {out} {out'} {ended} status
 refused_performs : (refusal : Refusal) (line : List ℕ) (shelf : ShelfState) (out : SinkState) → refusal ≢ Words → Performs (Ok (ends (refused_with (refusal_status refusal) line))) shelf shelf out out (Err (Refused refusal line))
 refused_performs refusal line shelf out other = record {
   partial = partial_same (ends (refused_with (refusal_status refusal) line)) shelf.holds out;
-  leaves = record { whole = refused_whole shelf.holds out line (refusal_status refusal); quiet = quiet_same shelf out; is_line = (refl, refl); words = λ same. absurd (other same); others = λ _ no. no };
+  leaves = record { whole = refused_whole shelf.holds out line (refusal_status refusal); quiet = quiet_same shelf out; is_line = (refl, refl); words = λ same. absurd (other same); others = λ _ no. no; nothing_out = λ _. appends_nothing out.written };
 }
 
 refusal_performs : {A : Type 0} (refusal : Refusal) (said : Result A (List ℕ)) (next : A → Plan) (shelf : ShelfState) (out : SinkState) (stop : Stop) → refusal ≢ Words → Refuses refusal said stop → Performs (Ok (accepts (refusal_status refusal) said next)) shelf shelf out out (Err stop)

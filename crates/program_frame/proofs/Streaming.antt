@@ -19,6 +19,8 @@ use Rattle.program_frame.proofs.Stages.{reads_performs}
 use Rattle.program_frame.specs.Plan.{Comes, IsLineOf, and_then}
 use Rattle.program_frame.specs.declared.stop.File.{File}
 use Rattle.program_frame.specs.declared.stop.File.TheVariants.{Traces}
+use Rattle.program_frame.specs.declared.stop.Refusal.{Refusal}
+use Rattle.program_frame.specs.declared.stop.Refusal.TheVariants as refusals
 use Rattle.program_frame.specs.declared.stop.Stop.{Stop}
 use Rattle.program_frame.specs.declared.stop.Stop.TheVariants.{Refused, NoMemory, Unread, Unwritten}
 
@@ -71,6 +73,9 @@ stream_unread {name} {limit} {expected} {shelf} {shelf'} {shelf''} {out} {out'} 
 
 -- the work stopped in a chunk
 
+traces_not_words : (refusal : Refusal) → refusal ≡ refusals.Traces → refusal ≡ refusals.Words → ⊥
+traces_not_words refusal traces words = let same : refusals.Traces ≡ refusals.Words = sym traces ∙ words in cc
+
 whole_file : (limit : ℕ) (expected : List ℕ → Outcome) (o : Outcome) (fed : List ℕ) (held : Option (List ℕ)) → IsFront fed held → fed ≢ [] → length fed ≤ limit + 1 → ((rest : List ℕ) → expected (fed ++ rest) ≡ o) → and_then (seen limit held) (λ bytes. Some (expected bytes)) ≡ Some o
 whole_file limit expected o fed None front some within is = absurd (some front)
 whole_file limit expected o fed (Some file) front some within is =
@@ -92,8 +97,9 @@ chunk_stops file name limit expected shelf out out' fed (Refused refusal line) f
     whole = stream_whole file name limit expected shelf.holds out out' fed is.text line (refusal_status refusal) front some within is.is is.written;
     quiet = record { shelf_is = refl; faults_are = is.faults_are };
     is_line = (fed, subst (λ b. IsLineOf (ends (expected b)) (refusal_status refusal) line) (append-nil fed) (line_at (is.is [])));
-    words = λ same. absurd (is.other same);
+    words = λ same. absurd (traces_not_words refusal is.is_traces same);
     others = λ _ no. no;
+    nothing_out = λ other. absurd (other is.is_traces);
   };
 }
 chunk_stops file name limit expected shelf out out' fed NoMemory front some within is = record {
@@ -127,7 +133,7 @@ outcome_performs o shelf out out' (Ok done) is = record {
 }
 outcome_performs o shelf out out' (Err (Refused refusal line)) is = record {
   partial = outcome_partial o shelf.holds out out' (subst (λ x. AppendsPrefix out.written out'.written x.out) (sym (is.is tt)) (prefix_whole out.written out'.written is.text is.written));
-  leaves = record { whole = outcome_whole o shelf.holds out out' is.text line (refusal_status refusal) (is.is tt) is.written; quiet = record { shelf_is = refl; faults_are = is.faults_are }; is_line = line_at (is.is tt); words = λ same. absurd (is.other same); others = λ _ no. no };
+  leaves = record { whole = outcome_whole o shelf.holds out out' is.text line (refusal_status refusal) (is.is tt) is.written; quiet = record { shelf_is = refl; faults_are = is.faults_are }; is_line = line_at (is.is tt); words = λ same. absurd (traces_not_words refusal is.is_traces same); others = λ _ no. no; nothing_out = λ other. absurd (other is.is_traces) };
 }
 outcome_performs o shelf out out' (Err NoMemory) is = record { partial = outcome_partial o shelf.holds out out' (is.0 tt); leaves = record { shelf_is = refl; faults_are = is.1 } }
 outcome_performs o shelf out out' (Err (Unread file)) is = absurd is

@@ -2,9 +2,7 @@
 use Rattle.std.proofs.Common.{◌≡◌, ◌≢◌, ℕ, ◌+◌, ◌≤◌, List, [], ◌++◌, length, take, drop, Some, None, Result, Ok, Err, refl, sym, ◌∙◌, ap, subst, arith, length-append}
 use Rattle.std.proofs.lemmas.List.{take-append-drop, take-take}
 use Rattle.std.specs.declared.option.Option.{Option}
-use Rattle.edge_io.specs.Shelf.{Reads}
 use Rattle.edge_io.specs.State.{ShelfState}
-use Rattle.edge_io.specs.declared.shelf.Taken.TheVariants.{End, Got}
 use Rattle.trace_reader.specs.Reader.{Closes, EndsFaulty, Ends, Fails, StandsFor}
 use Rattle.trace_reader.specs.Reading.{file_fault, file_traces}
 use Rattle.trace_reader.specs.declared.fault.TraceFault.{TraceFault}
@@ -12,50 +10,41 @@ use Rattle.trace_reader.specs.declared.fault.TraceFault.TheVariants.{Memory}
 use Rattle.trace_reader.specs.declared.reader.TraceReader.{TraceReader}
 use Rattle.trace_reader.specs.declared.trace.Trace.{Trace}
 use Rattle.trace_reader.proofs.Laws.{closed-none, file_fault_known}
+use Rattle.program_frame.specs.Chunks.{AreRead, IsChunk}
 use Rattle.program_frame.specs.Loads.{FailsToLoad, Loads}
 use Rattle.program_frame.specs.Outcome.{seen}
-use Rattle.program_frame.specs.Read.{IsFront, IsReadSoFar, IsReadWhole, Notes}
+use Rattle.program_frame.specs.Read.{IsFront, IsReadSoFar, IsReadWhole, ReadsWhole}
 use Rattle.program_frame.specs.Refusals.{RefusesTraces, trace_limit}
 use Rattle.program_frame.specs.WholeTraces.{IsFed, IsHolding, traces_or_line, traces_said}
 use Rattle.program_frame.specs.declared.stop.File.TheVariants.{Traces}
 use Rattle.program_frame.specs.declared.stop.Refusal.TheVariants.{Traces as OfTraces}
 use Rattle.program_frame.specs.declared.stop.Stop.{Stop}
 use Rattle.program_frame.specs.declared.stop.Stop.TheVariants.{Refused, NoMemory, Unread, Unwritten}
-use Rattle.program_frame.proofs.Streaming.{front_begun, read_end, read_full, read_more}
+use Rattle.program_frame.proofs.Streaming.{front_begun}
 
 -- before the first read
 pub holds_nothing : (name : List ℕ) (shelf : ShelfState) (reader : TraceReader) (traces : List Trace) → StandsFor reader [] → traces ≡ [] → IsHolding name shelf 0 reader traces
 holds_nothing name shelf reader traces stands none =
     record { fed = []; place = refl; front = front_begun shelf.holds name; stands = stands; are = none ∙ sym closed-none }
 
+-- the bytes that were read so far
+pub has_read : {name : List ℕ} {shelf : ShelfState} {at : ℕ} {reader : TraceReader} {traces : List Trace} → (holds : IsHolding name shelf at reader traces) → at ≤ trace_limit + 1 → AreRead name shelf at holds.fed
+has_read holds within = record { place = holds.place; front = holds.front; within = within }
+
 -- one more chunk was fed
-pub holds_more : (name : List ℕ) (shelf : ShelfState) (at n : ℕ) (reader reader' : TraceReader) (traces traces' : List Trace) (chunk : List ℕ) → (holds : IsHolding name shelf at reader traces) → length chunk ≡ n
-    → Reads shelf.holds name (length holds.fed) [] chunk (Got n) → StandsFor reader' (holds.fed ++ chunk) → Closes holds.fed chunk traces traces' → IsHolding name shelf (at + n) reader' traces'
-holds_more name shelf at n reader reader' traces traces' chunk holds long reads stands closes = record {
+pub holds_more : (name : List ℕ) (shelf : ShelfState) (at at' : ℕ) (reader reader' : TraceReader) (traces traces' : List Trace) (chunk : List ℕ) → (holds : IsHolding name shelf at reader traces)
+    → AreRead name shelf at' (holds.fed ++ chunk) → StandsFor reader' (holds.fed ++ chunk) → Closes holds.fed chunk traces traces' → IsHolding name shelf at' reader' traces'
+holds_more name shelf at at' reader reader' traces traces' chunk holds read stands closes = record {
   fed = holds.fed ++ chunk;
-  place = omega (arith, length-append holds.fed chunk, holds.place, long);
-  front = read_more shelf.holds name holds.fed chunk n holds.front reads;
+  place = read.place;
+  front = read.front;
   stands = stands;
   are = closes.grown ∙ ap (λ (t : List Trace). t ++ closes.more) holds.are ∙ sym closes.due;
 }
 
--- the end of the file, or the first byte above the limit
-pub fed_to_end : (name : List ℕ) (shelf shelf' : ShelfState) (at : ℕ) (reader : TraceReader) (traces : List Trace) (chunk : List ℕ) → (holds : IsHolding name shelf at reader traces) → shelf' ≡ shelf → at ≤ trace_limit
-    → Reads shelf.holds name (length holds.fed) [] chunk End → IsFed name shelf shelf' reader traces
-fed_to_end name shelf shelf' at reader traces chunk holds same within reads = record {
-  bytes = holds.fed;
-  whole = (read_end trace_limit shelf.holds name holds.fed chunk holds.front (omega (arith, holds.place, within)) reads, same);
-  stands = holds.stands;
-  are = holds.are;
-}
-
-pub fed_to_limit : (name : List ℕ) (shelf shelf' : ShelfState) (at : ℕ) (reader : TraceReader) (traces : List Trace) → (holds : IsHolding name shelf at reader traces) → shelf' ≡ shelf → at ≡ trace_limit + 1 → IsFed name shelf shelf' reader traces
-fed_to_limit name shelf shelf' at reader traces holds same full = record {
-  bytes = holds.fed;
-  whole = (read_full trace_limit shelf.holds name holds.fed holds.front (holds.place ∙ full), same);
-  stands = holds.stands;
-  are = holds.are;
-}
+-- the file was read whole
+pub fed_whole : {name : List ℕ} {shelf : ShelfState} {at : ℕ} {reader : TraceReader} {traces : List Trace} (shelf' : ShelfState) → (holds : IsHolding name shelf at reader traces) → ReadsWhole name trace_limit shelf shelf' holds.fed → IsFed name shelf shelf' reader traces
+fed_whole shelf' holds whole = record { bytes = holds.fed; whole = whole; stands = holds.stands; are = holds.are }
 
 -- ---- refusals
 
@@ -99,12 +88,12 @@ by_memory : (name : List ℕ) (shelf shelf' : ShelfState) (fault : TraceFault) (
 by_memory name shelf shelf' Memory stop same stops refused = subst (λ (s : Stop). FailsTraces name shelf shelf' s) (sym (stops.memory refl)) (record { fault = same })
 by_memory name shelf shelf' fault stop same stops refused = refused (λ h. absurd cc)
 
-pub chunk_refused : (name : List ℕ) (shelf shelf' : ShelfState) (at n : ℕ) (reader : TraceReader) (traces traces' : List Trace) (chunk : List ℕ) (fault : TraceFault) (stop : Stop) → (holds : IsHolding name shelf at reader traces)
-    → shelf' ≡ shelf → length chunk ≡ n → 1 ≤ n → at + n ≤ trace_limit + 1 → Reads shelf.holds name (length holds.fed) [] chunk (Got n) → Fails holds.fed chunk traces traces' fault → StopsReading fault stop → FailsTraces name shelf shelf' stop
-chunk_refused name shelf shelf' at n reader traces traces' chunk fault stop holds same long some within reads fails stops =
+pub chunk_refused : (name : List ℕ) (shelf shelf' : ShelfState) (at at' : ℕ) (reader : TraceReader) (traces traces' : List Trace) (chunk : List ℕ) (fault : TraceFault) (stop : Stop) → (holds : IsHolding name shelf at reader traces)
+    → shelf' ≡ shelf → IsChunk at at' chunk → AreRead name shelf at' (holds.fed ++ chunk) → Fails holds.fed chunk traces traces' fault → StopsReading fault stop → FailsTraces name shelf shelf' stop
+chunk_refused name shelf shelf' at at' reader traces traces' chunk fault stop holds same is read fails stops =
     by_memory name shelf shelf' fault stop same stops (λ other.
     let fed = holds.fed ++ chunk in
-    let whole = whole_of_front trace_limit shelf.holds name fed (read_more shelf.holds name holds.fed chunk n holds.front reads) (some_bytes holds.fed chunk (omega (arith, long, some))) (omega (arith, length-append holds.fed chunk, holds.place, long, within)) in
+    let whole = whole_of_front trace_limit shelf.holds name fed read.front (some_bytes holds.fed chunk is.some) (omega (arith, read.place, read.within)) in
     refused_at name shelf shelf' (fed ++ whole.0) fault stop whole.1 same (file_fault_known fed whole.0 fault (fails.known other).1) (stops.refused other))
 
 -- ---- the end of the file
@@ -121,9 +110,3 @@ end_accepted name shelf shelf' reader reader' traces traces' fed ends =
       whole = fed.whole;
       is = ap (traces_or_line (file_traces fed.bytes)) ends.faultless ∙ ap (λ (t : List Trace). let y : Result (List Trace) (List ℕ) = Ok t in y) (sym are);
     }
-
-pub no_memory : (name : List ℕ) (shelf shelf' : ShelfState) → shelf' ≡ shelf → FailsTraces name shelf shelf' NoMemory
-no_memory name shelf shelf' same = record { fault = same }
-
-pub not_read : (name : List ℕ) (shelf shelf' shelf'' : ShelfState) → shelf' ≡ shelf → Notes shelf' shelf'' name → FailsTraces name shelf shelf'' (Unread Traces)
-not_read name shelf shelf' shelf'' same notes = record { fault = (refl, subst (λ s. Notes s shelf'' name) same notes) }

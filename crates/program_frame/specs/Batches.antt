@@ -154,6 +154,14 @@ Takes text has old new out out' chunk result =
     → IsBetween (text old.job) (has old.job) base out fed old.reader old.waiting
     → TakesChunk (text old.job) (has new.job) base out' (fed ++ chunk) new.reader new.waiting result
 
+-- the traces that wait between two chunks are written or not
+abbrev pub WritesRead : {J : Type 0} → (J → JobText) → (J → List Trace → Type 0) → (old new : Batches J)
+    → (out out' : SinkState) → Result (Unit {0}) Stop → Type 0
+WritesRead text has old new out out' result =
+    (base : SinkState) (fed : List ℕ)
+    → IsBetween (text old.job) (has old.job) base out fed old.reader old.waiting
+    → TakesChunk (text old.job) (has new.job) base out' fed new.reader new.waiting result
+
 -- what stands behind the text of all traces is put, whichever traces were taken
 abbrev pub PutsEnding : JobText → (List Trace → Type 0) → (out out' : SinkState)
     → Result (Unit {0}) Stop → Type 0

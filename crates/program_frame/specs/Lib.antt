@@ -1,11 +1,15 @@
 pub mod Asked
 pub mod Batches
+pub mod Chunks
+pub mod Counts
 pub mod Jobs
 pub mod Lines
 pub mod Loads
+pub mod NoRefusal
 pub mod Outcome
 pub mod Performs
 pub mod Plan
+pub mod PromiseLaws
 pub mod Promises
 pub mod Read
 pub mod Refusals

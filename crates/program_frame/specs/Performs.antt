@@ -11,7 +11,7 @@ use Rattle.program_frame.specs.Stops.{refusal_status}
 use Rattle.program_frame.specs.declared.stop.File.{File}
 use Rattle.program_frame.specs.declared.stop.File.TheVariants.{Traces}
 use Rattle.program_frame.specs.declared.stop.Refusal.{Refusal}
-use Rattle.program_frame.specs.declared.stop.Refusal.TheVariants.{Words}
+use Rattle.program_frame.specs.declared.stop.Refusal.TheVariants.{Words, Traces as OfTraces}
 use Rattle.program_frame.specs.declared.stop.Stop.{Stop}
 use Rattle.program_frame.specs.declared.stop.Stop.TheVariants.{Refused, NoMemory, Unread, Unwritten}
 
@@ -39,7 +39,8 @@ pub record RefusesWords (asked : Result Plan (List ℕ)) (out out' : SinkState) 
   pub refused : AreRefusedBy asked line
   pub nothing_out : Appends out.written out'.written []
 
--- the words or a file were refused with this line, and the text of the outcome was written whole
+-- the words or a file were refused with this line, and the text of the outcome was written whole; only
+-- a refusal of the traces comes after some text
 pub record IsSaid (asked : Result Plan (List ℕ)) (shelf shelf' : ShelfState)
     (out out' : SinkState) (refusal : Refusal) (line : List ℕ) : Type 0 where
   pub whole : IsWhole (plan_of asked) shelf.holds out out' line (refusal_status refusal)
@@ -47,6 +48,7 @@ pub record IsSaid (asked : Result Plan (List ℕ)) (shelf shelf' : ShelfState)
   pub is_line : IsLineOf (plan_of asked) (refusal_status refusal) line
   pub words : refusal ≡ Words → RefusesWords asked out out' line
   pub others : refusal ≢ Words → ¬ AreRefused asked
+  pub nothing_out : refusal ≢ OfTraces → Appends out.written out'.written []
 
 -- the text of the outcome was written whole
 pub record IsDone (asked : Result Plan (List ℕ)) (shelf shelf' : ShelfState) (out out' : SinkState)

@@ -95,12 +95,24 @@ pub record AreWordsRefused (asked : Result Plan (List ℕ)) (out out' err err' :
   pub nothing_out : Appends out.written out'.written []
   pub said : Appends err.written err'.written line
 
+-- err has gained one line, with which and with this status the plan may end
+abbrev pub SaysItsLine : Result Plan (List ℕ) → SinkState → SinkState → ℕ → Type 0
+SaysItsLine asked err err' status =
+    (line : List ℕ)
+    × IsLineOf (plan_of asked) status line
+    × Appends err.written err'.written line
+
 -- what a run promises, where `lines` is the table of the lines of its refusals
 pub record Promises (lines : ℕ → List ℕ → Type 0) (asked : Result Plan (List ℕ))
     (shelf shelf' : ShelfState) (out out' err err' : SinkState) (status : ℕ) : Type 0 where
   -- what is written is a function of the words and the files
   pub outcome : IsSettled status → IsOutcome asked shelf out out' err err' status
   pub prefix : IsPartial (plan_of asked) shelf.holds out out'
+  -- whether the shelf tells its bytes or not: a refusal has one line, which is a line of the plan with
+  -- this status, and only a refusal of the traces comes after some text
+  pub line_is : IsSettled status → status ≢ 0 → SaysItsLine asked err err' status
+  pub quiet_err : status ≡ 0 → Appends err.written err'.written []
+  pub quiet_out : IsSettled status → status ≢ 0 → status ≢ 6 → Appends out.written out'.written []
   -- why it may end early, and what err then has
   pub memory : status ≡ 1 → SaysAtMost memory_line err err'
   pub unread : status ≡ 3 → IsReadFault asked shelf shelf' out out' err err'

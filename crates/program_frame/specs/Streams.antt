@@ -1,5 +1,5 @@
 -- A last stage that writes while its file is read in chunks.
-use Rattle.std.specs.Prelude.{◌≡◌, ◌≢◌, ℕ, ◌+◌, ◌≤◌, List, [], ◌++◌, length, Result, Ok, Err}
+use Rattle.std.specs.Prelude.{◌≡◌, ℕ, ◌+◌, ◌≤◌, List, [], ◌++◌, length, Result, Ok, Err}
 use Rattle.std.specs.Io.KnownBytes.{Appends}
 use Rattle.edge_io.specs.Sink.{AppendsPrefix, Rose}
 use Rattle.edge_io.specs.State.{ShelfState, SinkState}
@@ -10,7 +10,7 @@ use Rattle.program_frame.specs.Read.{IsReadSoFar}
 use Rattle.program_frame.specs.Stops.{refusal_status}
 use Rattle.program_frame.specs.declared.stop.File.{File}
 use Rattle.program_frame.specs.declared.stop.Refusal.{Refusal}
-use Rattle.program_frame.specs.declared.stop.Refusal.TheVariants.{Words}
+use Rattle.program_frame.specs.declared.stop.Refusal.TheVariants.{Traces}
 use Rattle.program_frame.specs.declared.stop.Stop.{Stop}
 use Rattle.program_frame.specs.declared.stop.Stop.TheVariants.{Refused, NoMemory, Unread, Unwritten}
 
@@ -30,7 +30,7 @@ pub record IsStreaming (name : List ℕ) (limit : ℕ) (expected : List ℕ → 
   pub nothing : fed ≡ [] → Appends out.written out'.written []
   pub faults_are : out'.faults ≡ out.faults
 
--- whatever x is, the outcome is this refusal, and out has its text
+-- whatever x is, the outcome is this refusal of the traces, and out has its text
 pub record IsRefusedAs (X : Type 0) (expected : X → Outcome) (out out' : SinkState)
     (refusal : Refusal) (line : List ℕ) : Type 0 where
   pub text : List ℕ
@@ -38,7 +38,7 @@ pub record IsRefusedAs (X : Type 0) (expected : X → Outcome) (out out' : SinkS
       → expected x ≡ record { out = text; err = line; status = refusal_status refusal }
   pub written : Appends out.written out'.written text
   pub faults_are : out'.faults ≡ out.faults
-  pub other : refusal ≢ Words
+  pub is_traces : refusal ≡ Traces
 
 -- whatever x is, out has a prefix of the text
 abbrev pub HasFront : (X : Type 0) → (X → Outcome) → SinkState → SinkState → Type 0

@@ -1,12 +1,11 @@
-// Whole files of a shelf, up to a limit.
+//! Whole files of a shelf, up to a limit.
 ghost use Rattle.std.specs.Prelude.{◌<◌, ◌^◌, IfOk, IfErr};
 ghost use Rattle.program_frame.specs.Read.{FailsToRead, ReadsWhole};
 
+use crate::chunks::CHUNK;
 use crate::stop::{File, Stop};
 use edge_io::{Shelf, Taken};
 use std::alloc::Global;
-
-const PIECE: u64 = 65_536;
 
 /// Reads a file from its start to its end or to the first byte above the limit.
 pub fn read_file<S: Shelf>(
@@ -25,7 +24,7 @@ pub fn read_file<S: Shelf>(
     let mut bytes = Vec::new(alloc);
     while bytes.len() as u64 <= limit {
         let at = bytes.len() as u64;
-        let most = (limit + 1 - at).min(PIECE) as u32;
+        let most = (limit + 1 - at).min(CHUNK) as u32;
         match shelf.read(name, at, &mut bytes, most) {
             Taken::Got(_) => {}
             Taken::End => return Ok(bytes),

@@ -1,20 +1,15 @@
-// The traces of a file, read chunk by chunk. Serves the commands; decided by `works_traces`.
+//! The traces of a file, read chunk by chunk. Serves the commands; decided by `works_traces`.
 ghost use Rattle.std.specs.Prelude.{◌≡◌, ◌≤◌, ◌+◌, ◌-◌, [], Ok};
 ghost use Rattle.program_frame.specs.Batches.{IsBetween};
 ghost use Rattle.program_frame.specs.Performs.{Performs};
 ghost use Rattle.program_frame.specs.Stream.{TakesFile, works_traces};
 
 use crate::batches::Batches;
+use crate::chunks::Chunks;
 use crate::jobs::Job;
-use crate::stop::{File, Stop};
-use edge_io::{Shelf, Sink, Taken};
+use crate::stop::Stop;
+use edge_io::{Shelf, Sink};
 use std::alloc::Global;
-
-/// The most bytes of a trace file.
-pub const TRACE_LIMIT: u64 = 1_099_511_627_776;
-
-/// The most bytes of one read.
-pub const CHUNK: u64 = 65_536;
 
 // Reads a file to its end, to the first byte above the limit or to its first fault.
 fn take_file<J: Job + Drop, S: Shelf, K: Sink>(
@@ -30,26 +25,15 @@ fn take_file<J: Job + Drop, S: Shelf, K: Sink>(
     ensures takes { TakesFile J.text J.has batches.old batches.new name.now
         (S.state shelf.old) (S.state shelf.new) (K.state out.old) (K.state out.new) result }
 {
-    let mut chunk = Vec::new(alloc);
-    let mut at: u64 = 0;
-    while at <= TRACE_LIMIT {
-        chunk.truncate(0);
-        let most = (TRACE_LIMIT + 1 - at).min(CHUNK) as u32;
-        match shelf.read(name, at, &mut chunk, most) {
-            Taken::Got(count) => {
-                batches.take_chunk(alloc, &chunk, out)?;
-                at += u64::from(count);
-            }
-            Taken::End => return Ok(()),
-            Taken::Failed => return Err(Stop::Unread(File::Traces)),
-            Taken::NoMemory => return Err(Stop::NoMemory),
-        }
+    let mut chunks = Chunks::open(alloc);
+    while chunks.next(shelf, name)? {
+        batches.take_chunk(alloc, &chunks.bytes, out)?;
     }
     Ok(())
 }
 
-/// Hands the traces of a file to a job, and writes their text. No more of the file is held than a
-/// chunk and a batch of traces, and none is read behind the chunk of its first fault.
+/// Passes the traces of a file to a job, and writes their text. Memory holds one chunk and one batch of
+/// traces, and nothing is read after the chunk of the first fault.
 pub fn work_traces<J: Job + Drop, S: Shelf, K: Sink>(
     alloc: Global,
     job: J,

@@ -7,9 +7,9 @@ use Rattle.bounded_search.specs.RowValue.{row_of, rows_where}
 use Rattle.bounded_search.specs.Rows.{RowsState, no_rows}
 use Rattle.bounded_search.proofs.Counting.{rising_from}
 use Rattle.bounded_search.proofs.KnownNodes.{head_or_tail, in_head, in_tail}
-use Rattle.matcher.specs.Asked.{AsksTraces}
-use Rattle.matcher.specs.Setting.{Setting}
-use Rattle.matcher.specs.Totals.{is_asked_by}
+use Rattle.trace_match.specs.Asked.{AsksTraces}
+use Rattle.trace_match.specs.Setting.{Setting}
+use Rattle.trace_match.specs.Totals.{is_asked_by}
 use Rattle.road_network.specs.Net.{Net}
 use Rattle.trace_reader.specs.declared.trace.Trace.{Trace}
 

@@ -2,7 +2,7 @@
 use Rattle.std.proofs.Common.{◌≡◌, ℕ, ◌+◌, ◌<◌, List, [], ◌∷◌, ◌++◌, map, take, get_or, length, sym, ◌∙◌, ap}
 use Rattle.std.proofs.lemmas.List.{map-append}
 use Rattle.cost_model.specs.declared.params.Params.{Params}
-use Rattle.matcher.proofs.Traces.{next_trace}
+use Rattle.trace_match.proofs.Traces.{next_trace}
 use Rattle.match_pool.specs.Answers.{IsAnswerTo}
 use Rattle.match_pool.specs.declared.answer.Answer.{Answer}
 use Rattle.match_text.specs.declared.matched.MatchedTrace.{MatchedTrace}

@@ -4,7 +4,7 @@ use Rattle.program_frame.specs.Loads.{Refuses}
 use Rattle.program_frame.specs.declared.stop.Refusal.TheVariants.{TooLong}
 use Rattle.program_frame.specs.declared.stop.Stop.{Stop}
 use Rattle.trace_reader.specs.declared.trace.Trace.{Trace}
-use Rattle.matcher.specs.Setting.{Setting}
+use Rattle.trace_match.specs.Setting.{Setting}
 use Rattle.prove_work.specs.Prove.{prove_said}
 
 -- what is said of the traces that were taken

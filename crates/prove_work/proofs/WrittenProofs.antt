@@ -9,7 +9,7 @@ use Rattle.potential_certificate.specs.declared.proof.Certificate.{Certificate}
 use Rattle.prove_work.specs.Certificates.{certificate_of}
 use Rattle.road_network.specs.Net.{Net}
 use Rattle.trace_reader.specs.declared.trace.Trace.{Trace}
-use Rattle.matcher.specs.Setting.{Setting}
+use Rattle.trace_match.specs.Setting.{Setting}
 use Rattle.prove_work.specs.Prove.{text_of_proofs}
 use Rattle.prove_work.specs.ProveDone.{WritesProofs}
 

@@ -3,8 +3,8 @@ use Rattle.std.specs.Prelude.{List, map}
 use Rattle.bounded_search.specs.RowValue.{rows_where}
 use Rattle.bounded_search.specs.Table.{TableRow}
 use Rattle.cost_model.specs.declared.params.Params.{Params}
-use Rattle.matcher.specs.Setting.{Setting}
-use Rattle.matcher.specs.Totals.{is_asked_by}
+use Rattle.trace_match.specs.Setting.{Setting}
+use Rattle.trace_match.specs.Totals.{is_asked_by}
 use Rattle.potential_certificate.specs.declared.proof.Certificate.{Certificate}
 use Rattle.potential_certificate.specs.declared.proof.TraceProof.{TraceProof}
 use Rattle.road_network.specs.Net.{Net}

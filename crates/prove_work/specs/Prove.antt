@@ -10,7 +10,7 @@ use Rattle.program_frame.specs.WholeTraces.{traces_said}
 use Rattle.program_frame.specs.declared.stop.File.TheVariants.{Network, Traces}
 use Rattle.prove_work.specs.Certificates.{certificate_of}
 use Rattle.trace_reader.specs.declared.trace.Trace.{Trace}
-use Rattle.matcher.specs.Setting.{Setting}
+use Rattle.trace_match.specs.Setting.{Setting}
 
 abbrev pub certificate_too_long : List ℕ
 certificate_too_long = codes "fmm: certificate too long" ++ 10 ∷ []

@@ -4,7 +4,7 @@ use Rattle.potential_certificate.specs.CertificateText.{text_limit}
 use Rattle.potential_certificate.specs.declared.fault.WriteFault.{WriteFault}
 use Rattle.potential_certificate.specs.declared.fault.WriteFault.TheVariants.{TooLong, Memory}
 use Rattle.trace_reader.specs.declared.trace.Trace.{Trace}
-use Rattle.matcher.specs.Setting.{Setting}
+use Rattle.trace_match.specs.Setting.{Setting}
 use Rattle.prove_work.specs.Prove.{text_of_proofs}
 
 -- the text of the certificate of these traces, which is within the limit or is not

@@ -1,7 +1,7 @@
-// The proofs of traces. Serves `prove`; decided by `certificate_of`.
+//! The proofs of traces. Serves `prove`; decided by `certificate_of`.
 ghost use Rattle.std.specs.Prelude.{◌≡◌, All, IfOk, OnOk, map, true};
 ghost use Rattle.bounded_search.specs.Rows.{AreRowsOf, AsksAs};
-ghost use Rattle.matcher.specs.Asked.{AsksTraces};
+ghost use Rattle.trace_match.specs.Asked.{AsksTraces};
 ghost use Rattle.trace_match.specs.Ground.{IsGridFor};
 ghost use Rattle.trace_match.specs.Match.{asks};
 ghost use Rattle.trace_reader.specs.Trace.{IsLawfulTrace};
@@ -18,10 +18,10 @@ use std::alloc::{AllocError, Global};
 use trace_reader::Trace;
 
 /// The certificate of the matches of traces: their proofs, and the rows of the nodes that they ask
-/// for, by rising number.
+/// for, by ascending number.
 ///
-/// `grid` is of this network, with cells of at least the radius. All proofs and rows are held. Err says
-/// that memory was refused.
+/// `grid` is of this network, with cells of at least the radius. All proofs and rows are in memory. `Err`
+/// means out of memory.
 pub fn certify_traces(
     alloc: Global,
     net: &Network,
@@ -42,7 +42,7 @@ pub fn certify_traces(
     Ok(Certificate { proofs, rows })
 }
 
-// The proofs of traces in their order.
+// The proofs of traces, in the same order.
 fn prove_all(
     alloc: Global,
     net: &Network,

@@ -1,10 +1,10 @@
-//! The work of `prove`: the network and the traces are read, and the text of the certificate of their
-//! matches is written.
+//! The work of `prove`: reads the network and the traces, and writes the text of the certificate of their
+//! matches.
 //!
-//! - [`prove_traces`] does it. Its plan is `prove_plan` in `specs/Prove.antt`, which is to be read first.
-//! - `certifying` matches trace after trace with rows of its own, proves each match by its ranks, its cells
-//!   and its routed pieces, and adds the rows of the nodes that the traces ask for. What it gives is
-//!   `certificate_of` in `specs/Certificates.antt`.
+//! - [`prove_traces`] does it. Its plan is `prove_plan` in `specs/Prove.antt`: read it first.
+//! - `certifying` matches trace after trace with rows of its own, keeps the ranks, cells and routed pieces of
+//!   each match, and adds the rows of the nodes that the traces ask for. The result is `certificate_of` in
+//!   `specs/Certificates.antt`.
 #![tactic(auto)]
 
 mod certifying;

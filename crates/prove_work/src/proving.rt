@@ -1,4 +1,4 @@
-// `prove NET TRACES`. Serves the program; decided by `prove_plan`.
+//! `prove NET TRACES`. Serves the program; decided by `prove_plan`.
 ghost use Rattle.std.specs.Prelude.{All, Ok};
 ghost use Rattle.cost_model.specs.Options.{IsAccepted};
 ghost use Rattle.program_frame.specs.Loads.{Accepts};
@@ -10,11 +10,11 @@ ghost use Rattle.prove_work.specs.ProveDone.{WritesProofs};
 use crate::certifying::certify_traces;
 use cost_model::Params;
 use edge_io::{Shelf, Sink};
-use matcher::Matcher;
 use polyline_geometry::List;
 use potential_certificate::{WriteFault, write_certificate};
 use program_frame::{Refusal, Stop, load_network, load_traces, put_text, refuse};
 use std::alloc::Global;
+use trace_match::Matcher;
 use trace_reader::Trace;
 
 // The text of the certificate of traces, which are matched one after the other with own rows.
@@ -50,7 +50,7 @@ fn text_of_proofs(alloc: Global, matcher: &Matcher<'_>, traces: &[Trace]) -> Res
 }
 
 /// Reads the network and then all traces, and writes the certificate text of their matches. The
-/// traces, the certificate and its text are held whole, so that out stays empty where the text is
+/// traces, the certificate and its text are in memory at once, so that nothing is written if the text is
 /// too long.
 pub fn prove_traces<S: Shelf, K: Sink>(
     alloc: Global,

@@ -1,4 +1,4 @@
-//! A network as its edges are read, one after the other.
+//! A network under construction. Serves `read_network`; decided by `network_of` and its faults.
 ghost use Rattle.std.specs.Prelude.{◌≡◌, ◌≢◌, ◌+◌, ◌≤◌, None, Some, IfOk, IfErr, OnOk, length};
 ghost use Rattle.std.specs.List.{All};
 ghost use Rattle.polyline_geometry.specs.Plane.{InRange};
@@ -15,7 +15,7 @@ use indexmap::IndexSet;
 use polyline_geometry::{List, Point, extend_offsets};
 use std::alloc::Global;
 
-/// The first three fields of a record: an edge's id, and those of the nodes that it joins.
+/// The first three fields of a record: the id of an edge and the ids of its two nodes.
 #[derive(Clone, Copy)]
 pub(crate) struct RowHead {
     pub name: u32,
@@ -48,12 +48,12 @@ impl Drop for Draft {
     }
 }
 
-/// Ends two sets, so that the functions that end a draft call this.
+/// Drops two sets, so that the functions that drop a draft call this.
 fn leave_sets(nodes: IndexSet<u64>, names: Option<IndexSet<u32>>) {
     let _ = (nodes, names);
 }
 
-/// The place, from 1, of the first point that equals the one before it.
+/// The place, from 1, of the first point that equals the previous one.
 fn repeated_point(line: &[Point]) -> Option<u32>
     requires { length line.now ≤ 200_000_000 }
     ensures { result ≡ repeated_point line.now }
@@ -66,7 +66,7 @@ fn repeated_point(line: &[Point]) -> Option<u32>
     None
 }
 
-/// The length of an edge's line, in cm, if the line is faultless. Appends the offsets of its points.
+/// The length of an edge's line in cm, if the line has no fault. Appends the offsets of its points.
 fn check_line(rec: u32, line: &[Point], offsets: &mut List<u32>) -> Result<u32, NetworkFault>
     requires few { length line.now ≤ 200_000_000 }
     requires within { All InRange line.now }
@@ -87,7 +87,7 @@ fn check_line(rec: u32, line: &[Point], offsets: &mut List<u32>) -> Result<u32, 
     Ok(length)
 }
 
-/// The number of a node, which is new if no earlier record names it.
+/// The number of a node; a new number if no earlier record names the node.
 fn number_of(nodes: &mut IndexSet<u64>, name: u64) -> Result<NodeId, NetworkFault>
     requires { length nodes.old.keys ≤ 1_000_000 }
     ensures nodes { OnOk result (nodes.new.keys ≡ with_node nodes.old.keys name) }
@@ -98,7 +98,7 @@ fn number_of(nodes: &mut IndexSet<u64>, name: u64) -> Result<NodeId, NetworkFaul
     Ok(NodeId(place as u32))
 }
 
-/// Whether a network may have so many edges, nodes and points of all lines.
+/// Whether a network may have this many edges, nodes and points in total.
 fn check_limits(rec: u32, edges: usize, nodes: usize, points: usize) -> Result<(), NetworkFault>
     ensures ok { OnOk result (first_fault (limit_faults rec edges nodes points) ≡ None) }
     ensures fault { IfErr result (λ e. first_fault (limit_faults rec edges nodes points) ≡ Some e) }
@@ -139,7 +139,7 @@ impl Draft {
         self.edges.len() as u32 + 1
     }
 
-    /// Adds the edge of the next record. After an error the draft is of no use.
+    /// Adds the edge of the next record. After an error the draft cannot be used.
     pub fn add(&mut self, head: &RowHead, line: &[Point]) -> Result<(), NetworkFault>
         requires draft { IsDraft self.old }
         requires few { length line.now ≤ 200_000_000 }
@@ -177,7 +177,7 @@ impl Draft {
         Ok(())
     }
 
-    /// The network of all edges that were added.
+    /// The network of all added edges.
     pub fn finish(self, alloc: Global) -> Result<Network, NetworkFault>
         requires { IsDraft self }
         ensures network { IfOk result (λ n. n ≡ drafted self) }

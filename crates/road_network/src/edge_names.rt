@@ -1,4 +1,4 @@
-//! Serves `Draft::add`: which names of edges are new. Decided by `AreNames`.
+//! Which edge ids are new. Serves `Draft::add`; decided by `AreNames`.
 ghost use Rattle.std.specs.Prelude.{◌≡◌, ◌∷◌, ◌++◌, [], IfErr, IfOk, OnOk, nat_eq, not};
 ghost use Rattle.std.specs.List.{list_any};
 ghost use Rattle.road_network.specs.EdgeNames.{AreNames, HasNames, is_next, names_of};
@@ -8,7 +8,7 @@ use crate::fault::NetworkFault;
 use indexmap::IndexSet;
 use std::alloc::Global;
 
-/// Whether a name is greater than that of the last edge, or the first of all.
+/// Whether an id is greater than that of the last edge, or is the first.
 fn is_next(edges: &[StoredEdge], name: u32) -> bool
     ensures { result ≡ is_next (names_of edges.now) name }
 {
@@ -18,7 +18,7 @@ fn is_next(edges: &[StoredEdge], name: u32) -> bool
     }
 }
 
-/// The names of some edges as a set.
+/// The ids of these edges as a set.
 fn set_of_names(alloc: Global, edges: &[StoredEdge]) -> Result<IndexSet<u32>, NetworkFault>
     ensures set { IfOk result (λ set. HasNames set.keys (names_of edges.now)) }
     ensures memory { IfErr result (λ e. e ≡ NetworkFault.Memory) }
@@ -30,8 +30,8 @@ fn set_of_names(alloc: Global, edges: &[StoredEdge]) -> Result<IndexSet<u32>, Ne
     Ok(names)
 }
 
-/// Whether no edge has this name, which is kept where it is new. There is no set of the names while
-/// they ascend, since then the last of them decides.
+/// Whether no edge has this id; records it if so. While the ids ascend, no set of them is kept, since
+/// comparing with the last one decides.
 pub(crate) fn note_name(
     alloc: Global,
     names: &mut Option<IndexSet<u32>>,

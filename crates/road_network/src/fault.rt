@@ -1,4 +1,4 @@
-//! What may be wrong with a network file, and the line that says it.
+//! The faults of a network file, and the error line of each.
 ghost use Rattle.std.specs.Prelude.{◌≡◌, ◌≢◌, ◌++◌, OnOk, OnErr};
 ghost use Rattle.decimal_text.specs.Number.{decimal};
 ghost use Rattle.road_network.specs.FaultLine.{fault_line, fault_text, record_line};
@@ -9,13 +9,13 @@ use std::alloc::{AllocError, AllocFailed, Global};
 use std::fmt::{self, Debug, Display, Formatter, Write};
 use thiserror::Error;
 
-/// The first fault of a network file. A record, a field and a place are numbered from 1, and the
-/// header is no record.
+/// The first fault of a network file. Records, fields and places are numbered from 1; the
+/// header is not counted as a record.
 #[derive(Clone, Copy, Debug, Error)]
 pub enum NetworkFault {
-    /// The first record is missing or is not the four names.
+    /// The first record is missing or is not the header.
     BadHeader,
-    /// The record has not four fields.
+    /// The record does not have four fields.
     FieldCount(u32),
     /// A field of the record is misspelt.
     BadNumber(u32, u32),
@@ -41,7 +41,7 @@ pub enum NetworkFault {
     Memory,
 }
 
-// The program prints the line of `write_line`; the error trait's text is that of `Debug`.
+// The program prints the line of `write_line`; the error trait shows the `Debug` text.
 impl Display for NetworkFault {
     fn fmt<W: Write>(&self, f: &mut Formatter<W>) -> fmt::Result {
         Debug::fmt(self, f)
@@ -68,7 +68,7 @@ impl<T: Drop> From<AllocFailed<T>> for NetworkFault {
     }
 }
 
-/// Appends the number of a record and what is said of it.
+/// Appends the number of a record and the rest of the message.
 fn write_record(line: &mut List<u8>, rec: u32, rest: &[u8]) -> Result<(), AllocError>
     ensures { OnOk result (line.new ≡ line.old ++ record_line rec rest.now) }
 {
@@ -77,7 +77,7 @@ fn write_record(line: &mut List<u8>, rec: u32, rest: &[u8]) -> Result<(), AllocE
     line.extend_from_slice(rest)
 }
 
-/// Appends the number of a record, that of one of its parts, and what is said of it.
+/// Appends the number of a record, the number of one of its parts, and the rest of the message.
 fn write_part(
     line: &mut List<u8>,
     rec: u32,
@@ -94,7 +94,7 @@ fn write_part(
 }
 
 impl NetworkFault {
-    /// Appends what the fault's line says, without its LF.
+    /// Appends the message of the fault, without its LF.
     fn write_text(&self, line: &mut List<u8>) -> Result<(), AllocError>
         ensures { OnOk result (line.new ≡ line.old ++ fault_text self.now) }
     {
@@ -121,7 +121,7 @@ impl NetworkFault {
         }
     }
 
-    /// Appends the line that says the fault. Want of memory has no line.
+    /// Appends the error line of the fault. Out of memory has no line.
     pub fn write_line(&self, alloc: Global, into: &mut List<u8>) -> Result<(), AllocError>
         requires { self.now ≢ NetworkFault.Memory }
         ensures ok { OnOk result (into.new ≡ into.old ++ fault_line self.now) }

@@ -1,4 +1,4 @@
-//! What the four fields of a record say.
+//! The four fields of a record, read. Serves `read_records`; decided by `specs/NetworkFile.antt`.
 ghost use Rattle.std.specs.Prelude.{◌≡◌, ◌≢◌, ◌+◌, ◌<◌, ◌≤◌, ◌∷◌, [], true, IfOk, IfErr, OnOk, IfSome, MatchOption, length, take};
 ghost use Rattle.std.specs.List.{All, list_all, position_or_len, sum_by};
 ghost use Rattle.decimal_text.specs.Blank.{is_blank};
@@ -16,7 +16,7 @@ use decimal_text::{NumberFault, is_blank, parse_signed, parse_unsigned, signed_a
 use polyline_geometry::{List, Point};
 use std::alloc::AllocError;
 
-/// The fault of two readings: a misspelling stands before a value out of range.
+/// The fault of two readings: a misspelling takes precedence over a value out of range.
 fn worse(earlier: Option<NumberFault>, later: NumberFault) -> NumberFault
     ensures { result ≡ worse earlier later }
 {
@@ -41,7 +41,7 @@ fn make_point(
     }
 }
 
-/// Where the first blank stands, or the length of a text without one.
+/// The place of the first blank, or the length of the text if it has none.
 fn first_blank(text: &[u8]) -> usize
     ensures place { result ≡ position_or_len is_blank text.now }
     ensures within { result ≤ length text.now }
@@ -54,7 +54,7 @@ fn first_blank(text: &[u8]) -> usize
     text.len()
 }
 
-/// One part of a line: two coordinates with spaces or tabs between them.
+/// One part of a line: two coordinates separated by spaces or tabs.
 fn read_point(part: &[u8]) -> Result<Point, NumberFault>
     ensures value { result ≡ point_of part.now }
     ensures within { IfOk result InRange }
@@ -68,7 +68,7 @@ fn read_point(part: &[u8]) -> Result<Point, NumberFault>
     )
 }
 
-/// The first part of a line, and what stands behind its semicolon if there is one.
+/// The first part of a line, and the text after its semicolon if there is one.
 fn first_part(text: &[u8]) -> (&[u8], Option<&[u8]>)
     ensures line { MatchOption result.1 (line_of text.now ≡ with_point (point_of result.0.now) (Ok []))
         (λ rest. line_of text.now ≡ with_point (point_of result.0.now) (line_of rest.now)) }
@@ -82,7 +82,7 @@ fn first_part(text: &[u8]) -> (&[u8], Option<&[u8]>)
     (text, None)
 }
 
-/// A point at the front whose coordinates are short and have one space between them, and how many
+/// A point at the front with short coordinates and one space between them, and how many
 /// bytes it has.
 fn plain_point(text: &[u8]) -> Option<(Point, usize)>
     ensures few { IfSome result (λ read. read.1 ≤ length text.now) }
@@ -97,7 +97,7 @@ fn plain_point(text: &[u8]) -> Option<(Point, usize)>
     Some((Point { x, y }, count + 1 + more))
 }
 
-/// The same of a whole part, and what stands behind its semicolon if there is one.
+/// As `plain_point` for a whole part, with the text after its semicolon if there is one.
 fn plain_part(text: &[u8]) -> Option<(Point, Option<&[u8]>)>
     ensures line { IfSome result (λ read. MatchOption read.1 (line_of text.now ≡ with_point (Ok read.0) (Ok []))
         (λ rest. line_of text.now ≡ with_point (Ok read.0) (line_of rest.now))) }
@@ -115,7 +115,7 @@ fn plain_part(text: &[u8]) -> Option<(Point, Option<&[u8]>)>
     None
 }
 
-/// The point of the first part of a line, and what stands behind its semicolon if there is one.
+/// The point of the first part of a line, and the text after its semicolon if there is one.
 fn first_point(text: &[u8]) -> (Result<Point, NumberFault>, Option<&[u8]>)
     ensures line { MatchOption result.1 (line_of text.now ≡ with_point result.0 (Ok []))
         (λ rest. line_of text.now ≡ with_point result.0 (line_of rest.now)) }
@@ -129,7 +129,7 @@ fn first_point(text: &[u8]) -> (Result<Point, NumberFault>, Option<&[u8]>)
     (read_point(part), rest)
 }
 
-/// Puts a point to a line, or its fault to the faults of the points before it.
+/// Adds a point to a line, or its fault to the faults of the earlier points.
 fn put_point(
     point: Result<Point, NumberFault>,
     fault: Option<NumberFault>,
@@ -148,7 +148,7 @@ fn put_point(
     }
 }
 
-/// Reads a line into `line`, in place of the points that it has, and says what is wrong with it.
+/// Reads a line into `line`, replacing its points, and returns its fault.
 fn read_line(field: &[u8], line: &mut List<Point>) -> Result<Option<NumberFault>, AllocError>
     ensures value { IfOk result (λ fault. line_of field.now ≡ unless fault line.new) }
     ensures within { OnOk result (All InRange line.new) }
@@ -191,7 +191,7 @@ fn field_with(kind: NumberFault, readings: &[Option<NumberFault>]) -> Option<u32
     None
 }
 
-/// Whether all fields of a record were read. Every misspelling stands before every value out of
+/// Whether all fields of a record were read. Any misspelling takes precedence over any value out of
 /// range.
 fn check_fields(rec: u32, readings: &[Option<NumberFault>]) -> Result<(), NetworkFault>
     requires { length readings.now ≤ 4 }

@@ -16,7 +16,7 @@ use csv::{ByteRecord, Reader, ReaderBuilder};
 use polyline_geometry::{List, Point};
 use std::alloc::Global;
 
-/// Reads the next record into `row`, and says whether there was one.
+/// Reads the next record into `row`; false at the end of the file.
 fn read_next(reader: &mut Reader<&[u8]>, row: &mut ByteRecord) -> Result<bool, NetworkFault>
     requires { IsBetween reader.old }
     ensures next { IfOk result
@@ -30,7 +30,7 @@ fn read_next(reader: &mut Reader<&[u8]>, row: &mut ByteRecord) -> Result<bool, N
     Ok(found)
 }
 
-/// Adds the edge of one record. `line` lends its memory to the points of the record.
+/// Adds the edge of one record. `line` provides the memory for the points of the record.
 fn add_record(
     draft: &mut Draft,
     fields: &ByteRecord,
@@ -48,7 +48,7 @@ fn add_record(
     draft.add(&head, line.as_slice())
 }
 
-/// The network of the records that are left, or the fault of the first faulty one.
+/// The network of the remaining records, or the fault of the first faulty one.
 fn read_edges(
     alloc: Global,
     reader: &mut Reader<&[u8]>,
@@ -103,9 +103,9 @@ fn read_records(
     read_edges(alloc, reader, row)
 }
 
-/// The network of a file, or its first fault, or `Memory` where memory is wanting. The file is read
-/// once, a record at a time; nothing of it is kept but the ids and the points. A file above the
-/// limit takes no memory.
+/// The network of a file, or its first fault, or `Memory` when out of memory. The file is read
+/// once, a record at a time; only the ids and the points are kept. A file above the size limit is
+/// rejected without allocating.
 pub fn read_network(alloc: Global, bytes: &[u8]) -> Result<Network, NetworkFault>
     ensures network { IfOk result (λ n. network_of bytes.now ≡ Ok n) }
     ensures fault { IfErr result (λ e. e ≢ NetworkFault.Memory → network_of bytes.now ≡ Err e) }

@@ -1,8 +1,8 @@
-//! Laws on the definitions alone. Each function is there for its clause and does nothing.
+//! Laws of the definitions. Each function exists for its clause and does nothing.
 ghost use Rattle.road_network.specs.NearLaws.{CandidatesAreNearest, CandidatesDiffer};
 
-/// The candidates of a point are its k nearest edges within the radius, or all where there are
-/// fewer, each with its snap, by distance and then by edge number.
+/// The candidates of a point are its k nearest edges within the radius (all of them if there are
+/// fewer), each with its snap, ordered by distance and then by edge number.
 pub fn candidates_are_nearest()
     ensures { CandidatesAreNearest }
 {}

@@ -1,15 +1,15 @@
-//! The road network: read from its file, and handed out part by part.
+//! The road network: read from its file, and available part by part.
 //!
-//! - [`read_network`] reads a network file; [`NetworkFault`] says what is wrong with one, and
-//!   writes the line that says it.
-//! - [`Network`] hands out nodes and edges by their numbers, [`NodeId`] and [`EdgeId`]; an edge
-//!   has an id, two nodes, a line and a length in cm. [`Arc`] is an edge seen from the node where
-//!   it begins.
+//! - [`read_network`] reads a network file; [`NetworkFault`] is the fault of a file, and writes its
+//! error line.
+//! - [`Network`] gives access to nodes and edges by their numbers, [`NodeId`] and [`EdgeId`]; an edge
+//! has an id, two nodes, a line and a length in cm. [`Arc`] is an edge seen from the node where
+//! it begins.
 //! - [`Candidate`] is an edge with the snap of a point to it.
 //!
 //! Contracts see a network as the record `Net` of `specs/Net.antt`. Walks and their order are in
-//! `specs/Walk.antt`, the candidates of a point in `specs/Near.antt`, and what a file says in
-//! `specs/NetworkFile.antt`. The clauses to read first are those of [`read_network`].
+//! `specs/Walk.antt`, the candidates of a point in `specs/Near.antt`, and the meaning of a file in
+//! `specs/NetworkFile.antt`. Read the clauses of [`read_network`] first.
 #![tactic(auto)]
 
 ghost use Rattle.std.specs.Prelude.{◌≡◌, ◌<◌, ◌≤◌, length, map};
@@ -25,8 +25,6 @@ mod fields;
 mod file;
 mod laws;
 mod limits;
-#[cfg(test)]
-mod tests;
 
 use counting::Adjacency;
 pub use fault::NetworkFault;
@@ -44,9 +42,9 @@ pub struct NodeId(pub u32);
 #[derive(Clone, Copy, Debug, PartialEq, Eq, PartialOrd, Ord)]
 pub struct EdgeId(pub u32);
 
-/// An edge out of a node, with its length in cm and the node where it ends.
+/// An outgoing edge of a node, with its length in cm and the node where it ends.
 ///
-/// The edge and its length lie side by side, so that a search reads both as one number of eight bytes.
+/// The edge and its length are adjacent, so that a search reads both as one number of eight bytes.
 #[derive(Clone, Copy, Debug, PartialEq, Eq)]
 pub struct Arc {
     pub edge: EdgeId,
@@ -58,7 +56,7 @@ pub struct Arc {
 #[derive(Clone, Copy, Debug, PartialEq, Eq)]
 pub struct Candidate {
     pub edge: EdgeId,
-    /// The squared distance of the point from the edge, in cm².
+    /// The squared distance from the point to the edge, in cm².
     pub d2: u64,
     /// How far along the edge the snapped point lies, in cm.
     pub offset: u32,
@@ -75,8 +73,8 @@ struct StoredEdge {
     end: usize,
 }
 
-/// A network: nodes and directed edges with lines. All points lie in one list, the offsets of all
-/// points lie in the order of the points, and `adjacency` has the leaving edges of each node.
+/// A network: nodes and directed edges with lines. All points are in one list, their offsets in a
+/// second list in the same order, and `adjacency` has the outgoing edges of each node.
 pub struct Network {
     nodes: Vec<u64>,
     edges: Vec<StoredEdge>,
@@ -111,21 +109,21 @@ impl Model for Network {
 }
 
 impl Network {
-    /// Takes no memory and does nothing: its clause tells what every network meets.
+    /// Does nothing: its clause states the invariants of every network.
     pub fn known(&self)
         ensures { IsLawful self.now }
     {
         let _ = &self.edges;
     }
 
-    /// How many nodes there are.
+    /// The number of nodes.
     pub fn node_count(&self) -> u32
         ensures { result ≡ length self.now.nodes }
     {
         self.nodes.len() as u32
     }
 
-    /// How many edges there are.
+    /// The number of edges.
     pub fn edge_count(&self) -> u32
         ensures { result ≡ length self.now.edges }
     {
@@ -190,7 +188,7 @@ impl Network {
         self.nodes[n.0 as usize]
     }
 
-    /// The edges that begin at a node, by rising number.
+    /// The edges that begin at a node, by ascending number.
     pub fn out(&self, n: NodeId) -> &[EdgeId]
         requires { HasNode self.now n.0 }
         ensures list { result.now ≡ leaving self.now n.0 }
@@ -202,8 +200,8 @@ impl Network {
         &self.adjacency.leaving[first..end]
     }
 
-    /// The edges that begin at a node, by rising number, each with its length and where it ends.
-    /// They lie side by side, so that a search reads no edge by its number.
+    /// The edges that begin at a node, by ascending number, each with its length and its end. They are
+    /// adjacent in memory, so that a search need not look up an edge by its number.
     pub fn arcs(&self, n: NodeId) -> &[Arc]
         requires { HasNode self.now n.0 }
         ensures { result.now ≡ map (arc_of self.now) (leaving self.now n.0) }

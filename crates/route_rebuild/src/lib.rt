@@ -2,23 +2,21 @@
 //!
 //! - [`walk`] gives the least walk from a row's origin to a listed node.
 //! - [`route`] gives the edges of a matched piece in order of travel: the first point's edge,
-//!   then for each neighbouring pair nothing where its route is direct, and else its walk and the
+//!   then for each neighbouring pair nothing if its route is direct, and otherwise its walk and the
 //!   next point's edge. [`route_over`] gives the same for any points with chosen candidates.
 //!
-//! Neighbouring edges of a route join, and their lengths add up: `route` says so, and [`laws`] of
-//! whatever meets the definition. [`laws`] also has that the route is the value `route_of` in
-//! `specs/Routes.antt`, and nothing else is.
+//! Neighbouring edges of a route join, and their lengths add up; the clause of `route` says so, and
+//! [`laws`] says it of whatever meets the definition. [`laws`] also shows that the route is the value
+//! `route_of` in `specs/Routes.antt`, and nothing else is.
 //!
-//! Both hand out edges from the first to the last; the definitions keep walks from the last edge to
-//! the first, so the clauses say `reverse`. The clause to read first is `route` of [`route`]:
-//! `IsRouteOf` in `specs/Routes.antt`.
+//! Both return edges from first to last; the definitions keep walks from the last edge to the first,
+//! so the clauses say `reverse`. Read first the clause `route` of [`route`] and `IsRouteOf` in
+//! `specs/Routes.antt`.
 #![tactic(auto)]
 
 pub mod laws;
 mod routes;
 mod run;
-#[cfg(test)]
-mod tests;
 mod walks;
 
 pub use routes::{route, route_over};

@@ -20,12 +20,11 @@ use std::alloc::{AllocError, Global};
 use trellis::Solved;
 
 /// The route of a piece, in order of travel: the edge of the first point's chosen candidate,
-/// then for each neighbouring pair nothing where its route is direct, and else its walk and the
+/// then for each neighbouring pair nothing if its route is direct, and otherwise its walk and the
 /// next point's edge.
 ///
-/// It asks for the row of the node at the end of a chosen candidate's edge where the way on is not
-/// direct, and for no other, after Err too. `solved` is the match of these layers with the same
-/// options.
+/// It asks for the row of the end node of a chosen candidate's edge if the next leg is not direct,
+/// and for no other row, even on `Err`. `solved` is the match of these layers with the same options.
 pub fn route<R: Rows>(
     alloc: Global,
     net: &Network,
@@ -48,7 +47,7 @@ pub fn route<R: Rows>(
     route_over(alloc, net, p, rows, layers, solved.ranks.as_slice(), piece)
 }
 
-/// The route over points with chosen candidates, as [`route`] gives it for a piece of a match. It
+/// The route over points with chosen candidates, as [`route`] gives it for a matched piece. It
 /// asks for the same rows.
 pub fn route_over<R: Rows>(
     alloc: Global,
@@ -92,7 +91,7 @@ fn follow<R: Rows>(alloc: Global, rows: &mut R, run: &Run) -> Result<List<EdgeId
     Ok(edges)
 }
 
-/// Appends the edges by which the route goes on from a point of the run to the next.
+/// Appends the edges from a point of the run to the next.
 fn append_leg<R: Rows>(
     alloc: Global,
     rows: &mut R,

@@ -1,5 +1,5 @@
-//! A piece of a match with its chosen candidates, which `route` goes over. Decided by `IsChosenRun`,
-//! which is part of it.
+//! A matched piece with its chosen candidates, the input of `route`. Decided by `IsChosenRun`, which
+//! is part of the type.
 ghost use Rattle.std.specs.Prelude.{◌≡◌};
 ghost use Rattle.route_rebuild.specs.Chosen.{IsChosenPoint, IsChosenRun};
 ghost use Rattle.route_rebuild.specs.Routes.{chosen_at};
@@ -8,7 +8,7 @@ use cost_model::Params;
 use matching::{Layer, Piece};
 use road_network::{Candidate, Network};
 
-/// The chosen candidates of a piece, and what their routes are made of.
+/// The chosen candidates of a piece, and what is needed for their routes.
 #[derive(Drop)]
 pub struct Run<'a> {
     pub net: &'a Network,

@@ -11,9 +11,9 @@ use road_network::{EdgeId, Network, NodeId};
 use std::alloc::{AllocError, Global};
 
 /// The least walk from the row's origin to a listed node, in order of travel. It is empty exactly
-/// where the node is the origin.
+/// if the node is the origin.
 ///
-/// The row is the row of its origin for some bound. The call costs a look into the row for each
+/// The row is the row of its origin for some bound. The call costs one lookup in the row for each
 /// edge of the walk.
 pub fn walk(alloc: Global, net: &Network, row: &Row, n: NodeId) -> Result<List<EdgeId>, AllocError>
     requires row { (bound : ℕ) × IsRow net.now bound row.now.origin row.now }

@@ -17,8 +17,6 @@ mod place;
 mod reader;
 mod sight;
 mod store;
-#[cfg(test)]
-mod tests;
 
 pub use counting::known_count;
 pub use reader::{Reader, agree};

@@ -1,5 +1,5 @@
-// Entries as bytes, put together from their last byte to the first. Serves `write_row`; decided by
-// `entry_word`.
+//! Entries as bytes, written from the last byte to the first. Serves `write_row`; decided by
+//! `entry_word`.
 ghost use Rattle.std.specs.Prelude.{◌≡◌, ◌+◌, ◌≤◌, ◌∷◌, ◌++◌, drop, length};
 ghost use Rattle.decimal_text.specs.Number.{decimal};
 ghost use Rattle.row_text.specs.RowLine.{entry_word, last_word};
@@ -10,7 +10,7 @@ use road_network::EdgeId;
 /// The most bytes of an entry with the space before it: three numbers of ten digits.
 pub const ENTRY_BYTES: usize = 33;
 
-/// Puts the entry and the space before it behind which the bytes from place `end` on stand. Answers where it begins.
+/// Writes the entry and the space before it so that they end at `end`. Returns where they begin.
 pub fn put_entry(bytes: &mut [u8], end: usize, x: &Entry) -> usize
     requires room { 33 ≤ end }
     requires end { end ≤ length bytes.old }
@@ -36,7 +36,7 @@ fn put_last(bytes: &mut [u8], end: usize, last: Option<EdgeId>) -> usize
     }
 }
 
-// Puts a byte before place `end`.
+// Writes a byte before place `end`.
 fn put_byte(bytes: &mut [u8], end: usize, byte: u8) -> usize
     requires room { 1 ≤ end }
     requires end { end ≤ length bytes.old }
@@ -47,7 +47,7 @@ fn put_byte(bytes: &mut [u8], end: usize, byte: u8) -> usize
     end - 1
 }
 
-// Puts the digits of a number before place `end`.
+// Writes the digits of a number before place `end`.
 fn put_number(bytes: &mut [u8], end: usize, number: u32) -> usize
     requires room { 10 ≤ end }
     requires end { end ≤ length bytes.old }

@@ -1,14 +1,14 @@
-// Numbers at the front of a text, whose digits are looked at once. Serves `read_row`; decided by `number_after`.
+//! Numbers at the front of a text, read in one pass. Serves `read_row`; decided by `number_after`.
 ghost use Rattle.std.specs.Prelude.{◌≡◌, ◌∷◌, []};
 ghost use Rattle.match_text.specs.Reading.{has_leading_zero, most32, number_after, number_at, seen};
 
 use decimal_text::digits_at_front;
 use match_text::front::number;
 
-// Numbers of fewer digits are read here, others as `number` reads them.
+// Numbers with fewer digits are read here, others by `number`.
 const MANY_DIGITS: usize = 9;
 
-/// The number of 32 bits after this byte at the front, without leading zeros, and what stands after it.
+/// The 32-bit number after this byte at the front, without leading zeros, and the text after it.
 #[tactic(auto, unfolding(match_text::specs::Reading::number_after))]
 pub fn number_behind(text: &[u8], mark: u8) -> Option<(u32, &[u8])>
     ensures { seen result ≡ number_after (mark ∷ []) most32 text.now }
@@ -19,7 +19,7 @@ pub fn number_behind(text: &[u8], mark: u8) -> Option<(u32, &[u8])>
     short_number(&text[1..])
 }
 
-// The number of 32 bits at the front, without leading zeros, and what stands after it.
+// The 32-bit number at the front, without leading zeros, and the text after it.
 fn short_number(text: &[u8]) -> Option<(u32, &[u8])>
     ensures { seen result ≡ number_at most32 text.now }
 {

@@ -1,4 +1,4 @@
-// The line of a row, read. Serves all who take texts with such lines; decided by `row_at`.
+//! Reads the line of a row. Serves all who take texts with such lines; decided by `row_at`.
 ghost use Rattle.std.specs.Prelude.{◌≡◌, ◌+◌, IfOk, length};
 ghost use Rattle.match_text.specs.Reading.{seen};
 ghost use Rattle.row_text.specs.Reading.{entries_at, entry_at, last_at, row_at};
@@ -10,10 +10,10 @@ use polyline_geometry::List;
 use road_network::{EdgeId, NodeId};
 use std::alloc::{AllocError, Global};
 
-// Room for the entries of a usual row, which is given back where they are fewer.
+// Room for the entries of a usual row; the rest is given back if there are fewer.
 const USUAL_ENTRIES: usize = 256;
 
-// The last edge after a colon, and what stands after it.
+// The last edge after a colon, and the text after it.
 #[tactic(auto, unfolding(crate::specs::Reading::last_at))]
 fn last(text: &[u8]) -> Option<(Option<EdgeId>, &[u8])>
     ensures { seen result ≡ last_at text.now }
@@ -25,7 +25,7 @@ fn last(text: &[u8]) -> Option<(Option<EdgeId>, &[u8])>
     Some((Some(EdgeId(edge)), rest))
 }
 
-// The entry after a space, and what stands after it.
+// The entry after a space, and the text after it.
 #[tactic(auto, unfolding(crate::specs::Reading::entry_at))]
 fn entry(text: &[u8]) -> Option<(Entry, &[u8])>
     ensures { seen result ≡ entry_at text.now }
@@ -41,7 +41,7 @@ fn entry(text: &[u8]) -> Option<(Entry, &[u8])>
     Some((entry, rest))
 }
 
-// The entries up to the end of the line, and what stands after the line.
+// The entries up to the end of the line, and the text after the line.
 fn entries(alloc: Global, text: &[u8]) -> Result<Option<(List<Entry>, &[u8])>, AllocError>
     ensures { IfOk result (λ read. seen read ≡ entries_at (length text.now + 1) text.now) }
 {
@@ -57,7 +57,7 @@ fn entries(alloc: Global, text: &[u8]) -> Result<Option<(List<Entry>, &[u8])>, A
     Ok(Some((fitted(entries), rest)))
 }
 
-// The same entries, in no more memory than they take.
+// The same entries, in no more memory than they need.
 fn fitted(entries: List<Entry>) -> List<Entry>
     ensures { result ≡ entries }
 {
@@ -66,7 +66,7 @@ fn fitted(entries: List<Entry>) -> List<Entry>
     List::from_vec(items)
 }
 
-/// The row whose line is at the front of the text, and what stands after the line.
+/// The row whose line is at the front of the text, and the text after the line.
 #[tactic(auto, unfolding(crate::specs::Reading::row_at))]
 pub fn read_row(alloc: Global, text: &[u8]) -> Result<Option<(Row, &[u8])>, AllocError>
     ensures { IfOk result (λ read. seen read ≡ row_at text.now) }

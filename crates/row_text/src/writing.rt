@@ -1,4 +1,4 @@
-// The line of a row, written. Serves all texts with such lines; decided by `row_line`.
+//! Writes the line of a row. Serves all texts with such lines; decided by `row_line`.
 ghost use Rattle.std.specs.Prelude.{◌≡◌, [], ◌∷◌, ◌++◌, length, take, OnOk, OnErr};
 ghost use Rattle.row_text.specs.RowLine.{entries_text, row_line};
 
@@ -8,7 +8,7 @@ use decimal_text::write_unsigned;
 use polyline_geometry::List;
 use std::alloc::AllocError;
 
-/// Appends the line of the row. After Err `into` is as before.
+/// Appends the line of the row. On `Err`, `into` is unchanged.
 pub fn write_row(row: &Row, into: &mut List<u8>) -> Result<(), AllocError>
     ensures ok { OnOk result (into.new ≡ into.old ++ row_line row.now) }
     ensures err { OnErr result (into.new ≡ into.old) }
@@ -21,7 +21,7 @@ pub fn write_row(row: &Row, into: &mut List<u8>) -> Result<(), AllocError>
     written
 }
 
-// Appends the line of the row. After Err a part of it may stand at the end.
+// Appends the line of the row. On `Err`, a part of it may remain at the end.
 fn append_row(row: &Row, into: &mut List<u8>) -> Result<(), AllocError>
     ensures ok { OnOk result (into.new ≡ into.old ++ row_line row.now) }
     ensures err { OnErr result (take (length into.old) into.new ≡ into.old) }
@@ -32,7 +32,7 @@ fn append_row(row: &Row, into: &mut List<u8>) -> Result<(), AllocError>
     into.extend_from_slice(b"\n")
 }
 
-// Appends each entry after a space. After Err some of them may stand at the end.
+// Appends each entry after a space. On `Err`, some of them may remain at the end.
 fn append_entries(entries: &[Entry], into: &mut List<u8>) -> Result<(), AllocError>
     ensures ok { OnOk result (into.new ≡ into.old ++ entries_text entries.now) }
     ensures err { OnErr result (take (length into.old) into.new ≡ into.old) }

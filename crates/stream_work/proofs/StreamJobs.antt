@@ -22,7 +22,7 @@ use Rattle.trace_sessions.specs.Streaming.{AsksStream, CanStream, Streams, Takes
 use Rattle.trace_sessions.proofs.StreamLines.{told-few}
 use Rattle.trace_sessions.proofs.StreamPoints.{fixes_in-behind}
 use Rattle.trace_sessions.proofs.StreamTakes.{asks-no-points, asks-then, asks-wider, lawful-behind, none-taken, refused-then, takes-then}
-use Rattle.matcher.proofs.Traces.{next_trace}
+use Rattle.trace_match.proofs.Traces.{next_trace}
 
 -- ---- points of fragments
 

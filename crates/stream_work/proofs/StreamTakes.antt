@@ -27,7 +27,7 @@ use Rattle.trace_sessions.proofs.FollowedRows.{none_asked}
 use Rattle.trace_sessions.proofs.StreamLines.{told-few}
 use Rattle.trace_sessions.proofs.StreamPoints.{fixes_in-behind, full-append, lines-append, with-append}
 use Rattle.trace_sessions.proofs.StreamTakes.{asks-grow, lawful-behind}
-use Rattle.matcher.specs.Setting.{Setting}
+use Rattle.trace_match.specs.Setting.{Setting}
 use Rattle.stream_work.specs.Streams.{pairs_of, streams_job, too_long_line}
 use Rattle.stream_work.specs.StreamsDone.{HasStreamed, KnowsSome, StopsAtFault}
 use Rattle.stream_work.proofs.StreamJobs.{places-in, points-length}

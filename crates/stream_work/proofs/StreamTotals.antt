@@ -26,8 +26,9 @@ use Rattle.trace_sessions.specs.Sessions.{Keeps, Pair, SessionsState, fixes_of}
 use Rattle.trace_sessions.specs.StreamText.{closing_lines, trace_of}
 use Rattle.trace_sessions.specs.Streaming.{AsksSome, CanStream, EndsPairs, pieces_of_all, pieces_told}
 use Rattle.trace_sessions.proofs.StreamLines.{few-pieces}
-use Rattle.matcher.specs.Setting.{Setting}
-use Rattle.matcher.specs.Totals.{is_asked_by, pieces_of, rows_of, total_of}
+use Rattle.trace_match.specs.Setting.{Setting}
+use Rattle.program_frame.specs.Counts.{total_of}
+use Rattle.trace_match.specs.Totals.{is_asked_by, pieces_of, rows_of}
 use Rattle.stream_work.specs.Streams.{pairs_of, stream_ending, whole_traces}
 use Rattle.stream_work.specs.StreamsDone.{HasStreamed, KnowsSome}
 use Rattle.stream_work.proofs.StreamTakes.{at-setting, nothing-asked, pairs-count}
@@ -160,7 +161,7 @@ rows-counted on s rows rows' tally taken has asks listed =
 
 total-is : (on : Setting) (s : SessionsState) (rows rows' : RowsState) (tally : Tally) (taken : List Trace) (ids pieces count : ℕ) (old new : List ℕ) → HasStreamed on s rows tally taken
     → EndsPairs s (pairs_of taken) old new pieces → AsksOnly rows rows' (AsksSome s (pairs_of taken)) → IsKnownList rows'.network rows'.known → count ≡ length rows'.known → ids ≡ length (pairs_of taken)
-    → total_line ids tally.points (tally.pieces + pieces) count ≡ total_of on (whole_traces taken)
+    → total_line ids tally.points (tally.pieces + pieces) count ≡ total_of (pieces_of on) (rows_of on) (whole_traces taken)
 total-is on s rows rows' tally taken ids pieces count old new has ends asks listed counted ids_are =
     let whole = whole_traces taken in
     ap (λ n. total_line n tally.points (tally.pieces + pieces) count) (ids_are ∙ sym (length-map (pairs_of taken) trace_of))
@@ -177,4 +178,4 @@ ending-is on s rows rows' tally taken ids pieces count old new has ends asks lis
     let written = at-setting (λ m q. new ≡ old ++ concat (closing_lines m q (pairs_of taken))) on s has.network has.params ends.written in
     ap (λ t. t ++ total_line ids tally.points (tally.pieces + pieces) count) written
     ∙ ap (λ t. (old ++ lines) ++ t) (total-is on s rows rows' tally taken ids pieces count old new has ends asks listed counted ids_are)
-    ∙ append_assoc old lines (total_of on (whole_traces taken))
+    ∙ append_assoc old lines (total_of (pieces_of on) (rows_of on) (whole_traces taken))

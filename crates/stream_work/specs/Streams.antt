@@ -13,9 +13,10 @@ use Rattle.program_frame.specs.declared.stop.File.TheVariants.{Network}
 use Rattle.trace_reader.specs.declared.trace.Trace.{Trace}
 use Rattle.trace_sessions.specs.Sessions.{Pair}
 use Rattle.trace_sessions.specs.StreamText.{closing_lines, full_id, points_in, stream_lines, trace_of, with_points}
-use Rattle.matcher.specs.Setting.{Setting}
-use Rattle.matcher.specs.Totals.{total_of}
+use Rattle.trace_match.specs.Setting.{Setting}
+use Rattle.program_frame.specs.Counts.{total_of}
 use Rattle.stream_work.specs.StreamTexts.{refusal-stays, texts-begin}
+use Rattle.trace_match.specs.Totals.{pieces_of, rows_of}
 
 -- the ids of these fragments with all their fixes, in order of first appearance
 abbrev pub pairs_of : List Trace → List Pair
@@ -39,7 +40,7 @@ stream_refusal traces = option_map too_long_line (full_id [] (points_in traces))
 -- the last lines of each id, and the total line of the whole traces
 abbrev pub stream_ending : Setting → List Trace → List ℕ
 stream_ending on traces =
-    concat (closing_lines on.network on.params (pairs_of traces)) ++ total_of on (whole_traces traces)
+    concat (closing_lines on.network on.params (pairs_of traces)) ++ total_of (pieces_of on) (rows_of on) (whole_traces traces)
 
 abbrev pub streams_job : Setting → JobText
 streams_job on = record {

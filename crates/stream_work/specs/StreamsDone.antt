@@ -13,7 +13,7 @@ use Rattle.trace_reader.specs.declared.trace.Trace.{Trace}
 use Rattle.trace_sessions.specs.Sessions.{Keeps, Pair, SessionsState}
 use Rattle.trace_sessions.specs.StreamText.{full_id, points_in}
 use Rattle.trace_sessions.specs.Streaming.{AreLawful, AsksSome, CanStream, pieces_told}
-use Rattle.matcher.specs.Setting.{Setting}
+use Rattle.trace_match.specs.Setting.{Setting}
 use Rattle.stream_work.specs.Streams.{pairs_of, too_long_line}
 
 -- fragments of lawful traces, for whose points the sessions have room

@@ -1,19 +1,19 @@
-// Why a table was not read or not written. Serves all calls; decided by `table_of`.
+//! Why a table was not read or not written. Serves all calls; decided by `table_of`.
 ghost use Rattle.std.specs.Prelude.{◌≡◌};
 
 use std::alloc::AllocError;
 
-/// Why a table text was not read.
+/// Why a table text was rejected.
 #[derive(Clone, Copy, Debug, PartialEq, Eq)]
 pub enum TableFault {
-    /// The number, from 1, of the first complete line that is not allowed in its place, or the
-    /// number after that of the last line, where a byte stands behind it.
+    /// The number, from 1, of the first complete line that is not allowed at its place, or the
+    /// number after that of the last line, if a byte follows it.
     BadLine(u64),
-    /// Every complete line is allowed, and the last one has not come.
+    /// Every complete line is allowed, and the last line is missing.
     Cut,
     /// The text has more than `TEXT_LIMIT` bytes.
     TooLong,
-    /// There was no memory for what the text says.
+    /// Out of memory for the content of the text.
     Memory,
 }
 
@@ -22,7 +22,7 @@ pub enum TableFault {
 pub enum TableWriteFault {
     /// The text would have more than `TEXT_LIMIT` bytes.
     TooLong,
-    /// There was no memory for the text.
+    /// Out of memory for the text.
     Memory,
 }
 

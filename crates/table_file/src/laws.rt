@@ -1,17 +1,17 @@
-//! Laws of table texts. Each function is there for its clause and does nothing.
+//! Laws of table texts. Each function exists for its clause and does nothing.
 ghost use Rattle.table_file.specs.Laws.{DraftsAreTables, TablesHaveOneText, TablesReadBack};
 
-/// What was written of a table within the limit is read as this table.
+/// A table written within the limit reads back as the same table.
 pub fn tables_read_back()
     ensures { TablesReadBack }
 {}
 
-/// What is read as a table is its text, each byte of it, and within the limit.
+/// A table that was read has exactly the text that was read, and it is within the limit.
 pub fn tables_have_one_text()
     ensures { TablesHaveOneText }
 {}
 
-/// A writer that took these rows and no others has the table text of them.
+/// A writer that took exactly these rows has their table text.
 pub fn drafts_are_tables()
     ensures { DraftsAreTables }
 {}

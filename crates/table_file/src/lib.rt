@@ -1,23 +1,21 @@
-//! A table that was computed beforehand: its rows as one text, written and read.
+//! A table computed beforehand: its rows as one text, written and read.
 //!
 //! The text is the line `fmm-table 1 bound U nodes N edges M` with the bound in cm and the counts of the
-//! network, a line for each row (`row_text`) by rising origin, and the line `end rows R`. It has at
+//! network, a line for each row (`row_text`) by ascending origin, and the line `end rows R`. It has at
 //! most [`TEXT_LIMIT`] bytes.
 //!
-//! A [`TableWriter`] takes rows one by one, and [`read_table`] takes exactly the texts of one bound
+//! A [`TableWriter`] takes rows one by one, and [`read_table`] accepts exactly the texts for one bound
 //! and one pair of counts. A row that was read meets the rules of a row, and its numbers are below
-//! the counts; whether it is right is not asked, and `check_row` decides that.
+//! the counts; whether it is right is not checked here: `check_row` does that.
 //!
-//! The text is defined by `table_text` in `specs/TableText.antt`, and what is read by `table_of` in
-//! `specs/Reading.antt`. Read these and the laws in [`laws`] first.
+//! `table_text` in `specs/TableText.antt` defines the text, and `table_of` in `specs/Reading.antt` what
+//! is read. Read these and the laws in [`laws`] first.
 #![tactic(auto)]
 
 mod fault;
 pub mod laws;
 mod lines;
 mod reading;
-#[cfg(test)]
-mod tests;
 mod writing;
 
 pub use fault::{TableFault, TableWriteFault};

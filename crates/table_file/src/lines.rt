@@ -1,5 +1,5 @@
-// The first and the last line of a table text. Serves the writer and the reader; decided by
-// `first_line` and `end_line`.
+//! The first and the last line of a table text. Serves the writer and the reader; decided by
+//! `first_line` and `end_line`.
 ghost use Rattle.std.specs.Prelude.{◌≡◌, ◌++◌, OnOk, codes};
 ghost use Rattle.decimal_text.specs.Number.{decimal};
 ghost use Rattle.table_file.specs.TableText.{end_line, first_line};
@@ -8,7 +8,7 @@ use decimal_text::write_unsigned;
 use polyline_geometry::List;
 use std::alloc::AllocError;
 
-/// Appends the first line. After Err a part of it may stand at the end.
+/// Appends the first line. On `Err`, a part of it may remain at the end.
 pub fn append_first(
     bound: u32,
     nodes: u32,
@@ -23,7 +23,7 @@ pub fn append_first(
     into.extend_from_slice(b"\n")
 }
 
-/// Appends the last line. After Err a part of it may stand at the end.
+/// Appends the last line. On `Err`, a part of it may remain at the end.
 pub fn append_end(rows: u64, into: &mut List<u8>) -> Result<(), AllocError>
     ensures { OnOk result (into.new ≡ into.old ++ end_line rows) }
 {
@@ -31,7 +31,7 @@ pub fn append_end(rows: u64, into: &mut List<u8>) -> Result<(), AllocError>
     into.extend_from_slice(b"\n")
 }
 
-// Appends words and a number behind them.
+// Appends words and a number after them.
 fn append_worded(words: &[u8], number: u64, into: &mut List<u8>) -> Result<(), AllocError>
     ensures { OnOk result (into.new ≡ into.old ++ words.now ++ decimal number) }
 {

@@ -1,4 +1,4 @@
-// A table text, read line by line. Serves the program; decided by `table_of`.
+//! Reads a table text line by line. Serves the program; decided by `table_of`.
 ghost use Rattle.std.specs.Prelude.{◌≡◌, ◌≤◌, ◌==◌, length, IfOk, option_copied};
 ghost use Rattle.std.specs.List.{list_all, list_any};
 ghost use Rattle.match_text.specs.Reading.{after_bytes, seen};
@@ -14,14 +14,14 @@ use polyline_geometry::List;
 use row_text::read_row;
 use std::alloc::{AllocError, Global};
 
-/// What the rows of a table may be.
+/// The counts of nodes and edges that the rows of a table must respect.
 #[derive(Clone, Copy)]
 struct Counts {
     nodes: u32,
     edges: u32,
 }
 
-/// The rows whose table text for this bound, in cm, and these counts this is.
+/// The rows of the table text for this bound, in cm, and these counts.
 ///
 /// It reads the text once, from its start to its end or to its first bad line.
 pub fn read_table(
@@ -44,7 +44,7 @@ pub fn read_table(
     read_rows(alloc, Counts { nodes, edges }, rest)
 }
 
-// The fault where the line of this number is not allowed.
+// The fault of a text whose line with this number is not allowed.
 fn fault_at(text: &[u8], line: u64) -> TableFault
     ensures { result ≡ fault_at line text.now }
 {
@@ -87,7 +87,7 @@ fn read_rows(alloc: Global, counts: Counts, text: &[u8]) -> Result<List<Row>, Ta
     }
 }
 
-// What stands behind the last line of a table of so many rows, where it is at the front.
+// The text after the last line of a table with this many rows, if that line is at the front.
 fn after_end(alloc: Global, text: &[u8], rows: u64) -> Result<Option<&[u8]>, AllocError>
     ensures { IfOk result (λ behind. option_copied behind ≡ after_bytes (end_line rows) text.now) }
 {
@@ -96,7 +96,7 @@ fn after_end(alloc: Global, text: &[u8], rows: u64) -> Result<Option<&[u8]>, All
     Ok(after(text, end.as_slice()))
 }
 
-// The row at the front, where it may stand behind rows of lesser origins, and what stands behind its line.
+// The row at the front, if it is allowed after rows of lesser origins, and the text after its line.
 fn next_row(
     alloc: Global,
     counts: Counts,
@@ -114,7 +114,7 @@ fn next_row(
     Ok(Some((row, rest)))
 }
 
-// Whether the row may stand behind rows of lesser origins.
+// Whether the row is allowed after rows of lesser origins.
 fn is_row_allowed(counts: Counts, least: u64, row: &Row) -> bool
     ensures { result ≡ is_row_allowed counts least row.now }
 {

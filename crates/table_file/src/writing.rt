@@ -1,4 +1,4 @@
-// A table text, written row by row. Serves the program; decided by `table_text`.
+//! Writes a table text row by row. Serves the program; decided by `table_text`.
 ghost use Rattle.std.specs.Prelude.{◌≡◌, ◌<◌, ◌≤◌, ◌++◌, length, IfOk, OnErr, OnOk, IsErrOf};
 ghost use Rattle.table_file.specs.TableText.{end_line, text_limit};
 ghost use Rattle.table_file.specs.Draft.{no_rows, with_row};
@@ -12,10 +12,10 @@ use row_text::write_row;
 use std::alloc::{AllocError, Global};
 use std::marker::Model;
 
-/// A table text that is being written: its first line, and the lines of the rows that were added.
+/// A table text under construction: its first line, and the lines of the rows added so far.
 ///
-/// The text is that of a table where the origins of the rows rise, and their numbers are below the
-/// counts. It is held whole, and nothing beside it.
+/// It is the text of a table if the origins of the rows ascend and their numbers are below the
+/// counts. The writer stores only this text.
 #[derive(Drop)]
 pub struct TableWriter {
     text: List<u8>,
@@ -49,7 +49,7 @@ impl TableWriter {
         Ok(TableWriter { text, rows: 0 })
     }
 
-    /// Adds a row. After Err the writer is as before.
+    /// Adds a row. On `Err`, the writer is unchanged.
     pub fn add(&mut self, row: &Row) -> Result<(), TableWriteFault>
         ensures ok { OnOk result (self.new ≡ with_row self.old row.now) }
         ensures err { OnErr result (self.new ≡ self.old) }
@@ -67,7 +67,7 @@ impl TableWriter {
         Ok(())
     }
 
-    /// The table text of the rows that were added.
+    /// The table text of the added rows.
     pub fn finish(self) -> Result<List<u8>, TableWriteFault>
         ensures ok { IfOk result (λ text. text ≡ self.lines ++ end_line self.rows) }
         ensures within { IfOk result (λ text. length text ≤ text_limit) }

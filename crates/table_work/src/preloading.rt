@@ -1,5 +1,5 @@
-// `--table FILE` of `match`: a table that was computed beforehand, whose rows are tried one by one
-// and offered to a store. Serves the program; decided by `table_file_said`.
+//! `--table FILE` of `match`: a table computed beforehand, whose rows are checked one by one
+//! and offered to a store. Serves the program; decided by `table_file_said`.
 ghost use Rattle.std.specs.Prelude.{◌≡◌, ◌≤◌, ◌++◌, All, IfOk, OnOk};
 ghost use Rattle.program_frame.specs.Loads.{Accepts, Loads};
 ghost use Rattle.program_frame.specs.Stops.{IsRefusalOr};
@@ -18,7 +18,7 @@ use row_store::{Reader, RowStore};
 use std::alloc::{AllocError, Global};
 use table_file::{TEXT_LIMIT, TableFault, read_table};
 
-// Appends the line of a fault of the text.
+// Appends the error line of a fault of the text.
 fn append_fault(fault: TableFault, line: &mut List<u8>) -> Result<(), AllocError>
     ensures { OnOk result (line.new ≡ line.old ++ table_fault_line fault) }
 {
@@ -34,7 +34,7 @@ fn append_fault(fault: TableFault, line: &mut List<u8>) -> Result<(), AllocError
     }
 }
 
-// Appends the line of a row that is not right, with the id of its origin.
+// Appends the error line of a wrong row, with the id of its origin.
 fn append_wrong_row(id: u64, line: &mut List<u8>) -> Result<(), AllocError>
     ensures { OnOk result (line.new ≡ line.old ++ wrong_row_line id) }
 {
@@ -77,7 +77,7 @@ fn read_rows(alloc: Global, roads: &Network, bound: u32, text: Vec<u8>) -> Resul
     }
 }
 
-// Tries a row, and offers it where it is right.
+// Checks a row, and offers it if it is right.
 fn offer_row(
     alloc: Global,
     roads: &Network,
@@ -103,7 +103,7 @@ fn offer_row(
     }
 }
 
-// Tries all rows in their order, and offers each that is right.
+// Checks all rows in order, and offers each right one.
 fn offer_rows(
     alloc: Global,
     roads: &Network,
@@ -123,7 +123,7 @@ fn offer_rows(
     Ok(())
 }
 
-// Tries the rows of a text, and offers them by a reader of their own.
+// Checks the rows of a text, and offers them through a reader of their own.
 fn accept_table(
     alloc: Global,
     roads: &Network,
@@ -145,9 +145,9 @@ fn accept_table(
     offer_rows(alloc, roads, &mut searcher, &mut reader, rows)
 }
 
-/// Reads a table file, and accepts or refuses it. Of an accepted file all rows are offered to the store.
+/// Reads a table file, and accepts or refuses it. All rows of an accepted file are offered to the store.
 ///
-/// The text is held whole, and dropped once its rows are read. A row is moved into the store.
+/// The text is in memory at once, and dropped once its rows are read. A row is moved into the store.
 pub fn preload<S: Shelf>(
     alloc: Global,
     shelf: &mut S,

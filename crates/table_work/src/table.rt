@@ -1,4 +1,4 @@
-// `table NET`. Serves the program; decided by `table_plan`.
+//! `table NET`. Serves the program; decided by `table_plan`.
 ghost use Rattle.std.specs.Prelude.{◌≡◌, ◌≤◌, Ok, length};
 ghost use Rattle.cost_model.specs.Options.{IsAccepted};
 ghost use Rattle.program_frame.specs.Loads.{Accepts};
@@ -60,8 +60,8 @@ fn text_of_table(alloc: Global, network: &Network, bound: u32) -> Result<List<u8
     }
 }
 
-/// Reads the network, and writes the table text with the row of every node. The text is held whole,
-/// so that out stays empty where it is too long.
+/// Reads the network, and writes the table text with the row of every node. The text is in memory at once,
+/// so that nothing is written if it is too long.
 pub fn write_table<S: Shelf, K: Sink>(
     alloc: Global,
     network: &str,

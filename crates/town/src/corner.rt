@@ -1,5 +1,5 @@
-// The corners of a town and the ways between them. Serves `town_network` and `town_traces`; decided
-// by `specs/Corners.antt`.
+//! The corners of a town and the streets between them. Serves `town_network` and `town_traces`; decided
+//! by `specs/Corners.antt`.
 ghost use Rattle.std.specs.Prelude.{◌≡◌, ◌≤◌, ◌<◌, ◌*◌, false};
 ghost use Rattle.town.specs.Corners.{along, corner_at, heading_of, is_border, next_corner, node_id, opposite, turned};
 
@@ -20,7 +20,7 @@ pub struct Spot {
     pub y: u32,
 }
 
-/// The way along a street.
+/// A direction along the streets.
 #[derive(Clone, Copy)]
 pub enum Heading {
     East,
@@ -30,7 +30,7 @@ pub enum Heading {
 }
 
 impl Heading {
-    /// The way that a number below 4 names.
+    /// The direction with this number (0 to 3).
     pub fn from_number(number: u32) -> Heading
         ensures { result ≡ heading_of number }
     {
@@ -57,7 +57,7 @@ impl Heading {
 impl Corner {
     ghost use Rattle.town.specs.Corners.{IsInTown};
 
-    /// The corner of this number: they are numbered row by row.
+    /// The corner with this number: corners are numbered row by row.
     pub fn at(n: u32, number: u32) -> Corner
         requires { (1 ≤ n) × (number < n * n) }
         ensures corner { result ≡ corner_at n number }
@@ -77,7 +77,7 @@ impl Corner {
         self.row * n + self.column
     }
 
-    /// No street leads on this way.
+    /// Whether no street leads in this direction.
     pub fn is_border(self, n: u32, way: Heading) -> bool
         requires { IsInTown n self }
         ensures { result ≡ is_border n self way }
@@ -90,7 +90,7 @@ impl Corner {
         }
     }
 
-    /// The way, or the opposite one at the border.
+    /// The direction, or the opposite one at the border.
     pub fn turned(self, n: u32, way: Heading) -> Heading
         requires { (2 ≤ n) × IsInTown n self }
         ensures way { result ≡ turned n self way }
@@ -130,7 +130,7 @@ impl Corner {
         }
     }
 
-    /// The spot so far along the street, in cm.
+    /// The spot this far along the street, in cm.
     pub fn along(self, n: u32, way: Heading, far: u32) -> Spot
         requires inside { (n ≤ 100) × IsInTown n self × (is_border n self way ≡ false) }
         requires far { far ≤ 10_000 }
@@ -147,7 +147,7 @@ impl Corner {
         }
     }
 
-    /// Where the corner lies.
+    /// The position of the corner.
     pub fn spot(self, n: u32) -> Spot
         requires { (n ≤ 100) × IsInTown n self }
         ensures { result ≡ record { x = 10_000 * self.column; y = 10_000 * self.row } }

@@ -1,4 +1,4 @@
-// The generator of a town. Serves `town_traces`; decided by `draw` and `state_after`.
+//! The generator of a town. Serves `town_traces`; decided by `draw` and `state_after`.
 ghost use Rattle.std.specs.Prelude.{◌≡◌, ◌≤◌};
 ghost use Rattle.town.specs.Draws.{draw, state_after};
 
@@ -6,14 +6,14 @@ const FACTOR: u64 = 6_364_136_223_846_793_005;
 
 const SHIFT: u64 = 1_442_695_040_888_963_407;
 
-/// Numbers drawn one after the other, always the same from one seed. Takes no memory.
+/// A generator of numbers, always the same from one seed. Allocates nothing.
 #[derive(Clone, Copy, Debug, PartialEq, Eq)]
 pub struct Draw {
     state: u64,
 }
 
 impl Draw {
-    /// The generator that begins with this seed.
+    /// The generator with this seed.
     pub fn new(seed: u64) -> Draw
         ensures { result.state ≡ seed }
     {

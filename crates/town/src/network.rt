@@ -1,4 +1,4 @@
-// The network file of a town. Serves the command `town`; decided by `network_text`.
+//! The network file of a town. Serves the command `town`; decided by `network_text`.
 ghost use Rattle.std.specs.Prelude.{◌≡◌, ◌≤◌, ◌+◌, ◌*◌, ◌++◌, length, IfOk, OnOk};
 ghost use Rattle.decimal_text.specs.Number.{decimal};
 ghost use Rattle.town.specs.Corners.{IsInTown};
@@ -9,7 +9,7 @@ use decimal_text::write_unsigned;
 use polyline_geometry::List;
 use std::alloc::{AllocError, Global};
 
-// Appends a number and the byte behind it.
+// Appends a number and the byte after it.
 fn append_number(number: u32, behind: &[u8], into: &mut List<u8>) -> Result<(), AllocError>
     ensures { OnOk result (into.new ≡ into.old ++ decimal number ++ behind.now) }
 {
@@ -17,7 +17,7 @@ fn append_number(number: u32, behind: &[u8], into: &mut List<u8>) -> Result<(), 
     into.extend_from_slice(behind)
 }
 
-// Appends where a corner lies, and the byte behind it.
+// Appends the position of a corner, and the byte after it.
 fn append_place(
     n: u32,
     corner: Corner,
@@ -50,8 +50,8 @@ fn append_edge(
     append_place(n, to, b"\n", into)
 }
 
-// Appends the lines of the street this way, where there is one: an edge of this number, and the
-// next back. Says which number is then the next.
+// Appends the lines of the street in this direction, if there is one: an edge with this number, and
+// the next edge back. Returns the next free number.
 fn append_street(
     n: u32,
     edge: u32,
@@ -75,7 +75,7 @@ fn append_street(
 }
 
 /// The network file of a town of `n` rows and `n` columns: for each corner, row by row, the edge to
-/// the east and the one back, and then the same to the north. Ids count from 0.
+/// the east and the edge back, then the same to the north. Ids count from 0.
 pub fn town_network(alloc: Global, n: u32) -> Result<List<u8>, AllocError>
     requires { (2 ≤ n) × (n ≤ 100) }
     ensures { IfOk result (λ bytes. bytes ≡ network_text n) }

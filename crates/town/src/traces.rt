@@ -1,4 +1,4 @@
-// The trace file of a town. Serves the command `town`; decided by `traces_text`.
+//! The trace file of a town. Serves the command `town`; decided by `traces_text`.
 ghost use Rattle.std.specs.Prelude.{◌≡◌, ◌≤◌, ◌+◌, ◌-ℤ◌, ◌++◌, pos, false, IfOk, OnOk};
 ghost use Rattle.std.specs.List.{flat_map};
 ghost use Rattle.town.specs.Corners.{IsInTown, is_border};
@@ -11,18 +11,18 @@ use decimal_text::{write_signed, write_unsigned};
 use polyline_geometry::List;
 use std::alloc::{AllocError, Global};
 
-// How many streets a trace goes over.
+// How many streets a trace covers.
 const STREETS: u32 = 10;
 
-// How far along a street its two fixes lie, in cm.
+// How far along a street its two positions lie, in cm.
 const FIRST: u32 = 2_500;
 
 const SECOND: u32 = 7_500;
 
-// How far a fix may lie from its spot, in cm each way.
+// How far a position may lie from its spot, in cm in each direction.
 const SPREAD: u32 = 1_000;
 
-// The coordinate of a fix, of that of its spot and of the number drawn for it.
+// The coordinate of a position, from that of its spot and a drawn number.
 fn near(coordinate: u32, drawn: u32) -> i32
     requires { (coordinate ≤ 1_000_000) × (drawn ≤ 2_000) }
     ensures { result ≡ pos (coordinate + drawn) -ℤ pos 1_000 }
@@ -30,7 +30,7 @@ fn near(coordinate: u32, drawn: u32) -> i32
     (coordinate + drawn) as i32 - SPREAD as i32
 }
 
-// Appends the line of a fix near a spot.
+// Appends the line of a position near a spot.
 #[tactic(auto, unfolding(crate::specs::Draws::state_after))]
 fn append_fix(id: u32, spot: Spot, draw: &mut Draw, into: &mut List<u8>) -> Result<(), AllocError>
     requires { (spot.x ≤ 1_000_000) × (spot.y ≤ 1_000_000) }
@@ -48,7 +48,7 @@ fn append_fix(id: u32, spot: Spot, draw: &mut Draw, into: &mut List<u8>) -> Resu
     into.extend_from_slice(b"\n")
 }
 
-// Appends the lines of the two fixes of a street.
+// Appends the lines of the two positions of a street.
 #[tactic(auto, unfolding(crate::specs::Draws::state_after))]
 fn append_street(
     n: u32,
@@ -67,7 +67,7 @@ fn append_street(
     append_fix(id, corner.along(n, way, SECOND), draw, into)
 }
 
-// Draws the way on from a corner.
+// Draws the next direction at a corner.
 fn draw_way(n: u32, corner: Corner, draw: &mut Draw) -> Heading
     requires { (2 ≤ n) × IsInTown n corner }
     ensures way { result ≡ way_from n corner draw.old.state }
@@ -107,7 +107,7 @@ fn append_trace(n: u32, id: u32, draw: &mut Draw, into: &mut List<u8>) -> Result
 }
 
 /// A trace file of `t` walks through a town of `n` rows and `n` columns, over ten streets each. The
-/// seed decides all of it.
+/// seed determines all of it.
 pub fn town_traces(alloc: Global, n: u32, t: u32, seed: u32) -> Result<List<u8>, AllocError>
     requires side { (2 ≤ n) × (n ≤ 100) }
     requires count { (1 ≤ t) × (t ≤ 2_000) }

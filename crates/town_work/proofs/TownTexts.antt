@@ -26,15 +26,16 @@ use Rattle.trace_reader.specs.declared.reader.TraceReader.{TraceReader}
 use Rattle.trace_reader.specs.Trace.{IsLawfulTrace}
 use Rattle.trace_reader.specs.declared.trace.Trace.{Trace}
 use Rattle.match_work.specs.Matched.{AreMatchesOf}
-use Rattle.matcher.specs.Setting.{Setting}
+use Rattle.trace_match.specs.Setting.{Setting}
 use Rattle.match_work.specs.Sharing.{ShareStore, fresh_readers}
-use Rattle.matcher.specs.Totals.{total_of}
+use Rattle.program_frame.specs.Counts.{total_of}
 use Rattle.town_work.specs.Towns.{cost_line, cost_of, costs_of, network_in, town_text}
 use Rattle.town_work.specs.TownsDone.{AreCosts, IsCost}
 use Rattle.town_work.specs.declared.towns.Costs.{Costs}
-use Rattle.matcher.proofs.Counting.{fits_more}
+use Rattle.program_frame.proofs.Counting.{fits_more}
 use Rattle.match_work.proofs.Jobs.{begun, matched_more, total_is}
 use Rattle.match_work.proofs.TraceMatches.{matches_of, pieces_found, pieces_next}
+use Rattle.trace_match.specs.Totals.{pieces_of, rows_of}
 
 -- the network that was read
 pub network_read : (bytes : List ℕ) (net : Net) → network_of bytes ≡ Ok net → net ≡ network_in bytes
@@ -124,11 +125,11 @@ report_is on traces store fresh readers matches none tally costs count first sec
     let sum : costs.cost ≡ costs_of on traces = are.is ∙ ap (sum_by cost_of) found.are ∙ costs_are on traces in
     cost
     ∙ ap (λ t. t ++ cost_line costs.cost) (total ∙ ap (λ t. t ++ total_line tally.traces tally.points tally.pieces count) empty ∙ line)
-    ∙ ap (λ c. total_of on traces ++ cost_line c) sum
+    ∙ ap (λ c. total_of (pieces_of on) (rows_of on) traces ++ cost_line c) sum
 
 pub tally_fits : (on : Setting) (traces : List Trace) (matches : List MatchedTrace) (none : Tally) (costs : Costs) → IsBounded traces → AreMatchesOf on traces matches → AreCosts matches costs → none.traces ≡ 0 → none.points ≡ 0 → none.pieces ≡ 0 → Fits traces costs.pieces none
 tally_fits on traces matches none costs bounded found are no_traces no_points no_pieces =
-    fits_more on [] traces none costs.pieces bounded (record { traces_are = no_traces; points_are = no_points; pieces_are = record { are = no_pieces; few = omega (arith, no_pieces) } }) (pieces_found on traces matches costs.pieces found are.pieces_are)
+    fits_more (pieces_of on) [] traces none costs.pieces bounded (record { traces_are = no_traces; points_are = no_points; pieces_are = record { are = no_pieces; few = omega (arith, no_pieces) } }) (pieces_found on traces matches costs.pieces found are.pieces_are)
 
 -- the text of a town, by the values that were made on the way
 pub town_is : (side count seed : ℕ) (options : Params) (on : Setting) (net : Net) (traces given : List Trace) → on ≡ record { network = net; params = options } → net ≡ network_in (network_text side) → given ≡ traces → traces ≡ file_traces (traces_text side count seed)

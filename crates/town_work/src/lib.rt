@@ -1,7 +1,7 @@
-//! The work of `town`: a town is made from its numbers, and its traces are matched on its network.
+//! The work of `town`: makes a town from its numbers, and matches its traces on its network.
 //!
 //! [`match_town`] does it. Its plan is `town_plan` in `specs/Towns.antt`: the total line of `match`, and the
-//! sum of the costs of all pieces. The traces are matched by `match_work`.
+//! sum of the costs of all pieces. `match_work` matches the traces.
 #![tactic(auto)]
 
 mod towns;

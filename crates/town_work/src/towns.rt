@@ -1,4 +1,4 @@
-// `town N T SEED`. Serves the program; decided by `town_plan`.
+//! `town N T SEED`. Serves the program; decided by `town_plan`.
 ghost use Rattle.std.specs.Prelude.{◌≡◌, ◌≤◌, ◌<◌, ◌^◌, ◌++◌, length, Ok, IfOk, OnOk};
 ghost use Rattle.cost_model.specs.Options.{IsAccepted, IsWithin};
 ghost use Rattle.edge_io.specs.State.{ShelfState};
@@ -18,7 +18,6 @@ use itoa::Buffer;
 use match_pool::Gate;
 use match_text::MatchedTrace;
 use match_work::{match_batch, open_readers, open_store};
-use matcher::Matcher;
 use polyline_geometry::List;
 use program_frame::{Stop, Tally, put_text};
 use road_network::{Network, read_network};
@@ -26,9 +25,10 @@ use row_store::{RowStore, known_count};
 use std::alloc::{AllocError, Global};
 use std::thread::Threads;
 use town::{town_network, town_traces};
+use trace_match::Matcher;
 use trace_reader::{Trace, TraceReader};
 
-/// What the matches of some traces come to.
+/// The sums over the matches of some traces.
 #[derive(Clone, Copy)]
 struct Costs {
     pieces: u64,
@@ -36,7 +36,7 @@ struct Costs {
     cost: u128,
 }
 
-// Reads the network of a town. Its file has no fault, so that only memory can be wanting.
+// Reads the network of a town. Its file has no fault, so the only error is out of memory.
 fn open_network(alloc: Global, side: u32) -> Result<Network, AllocError>
     requires { IsWithin 2 100 side }
     ensures { IfOk result (λ network. network ≡ network_in (network_text side)) }
@@ -77,7 +77,7 @@ fn add_costs(matched: &MatchedTrace) -> u128
     cost
 }
 
-// What some matches come to.
+// The sums over some matches.
 fn add_up(matches: &[MatchedTrace]) -> Costs
     requires { pieces_in matches.now ≤ 2 ^ 62 }
     ensures { AreCosts matches.now result }
@@ -99,7 +99,7 @@ fn append_cost(cost: u128, into: &mut List<u8>) -> Result<(), AllocError>
     into.extend_from_slice(b"\n")
 }
 
-// The text of a town.
+// The output of a town.
 fn report<'s, R: Threads + Sync, G: Gate>(
     rt: &R,
     alloc: Global,
@@ -144,7 +144,7 @@ fn town_report<R: Threads + Sync, G: Gate>(
     report(rt, alloc, &matcher, &store, traces.as_slice(), gate)
 }
 
-/// Makes the files of a town, and matches its traces on its network. No file is read.
+/// Makes the files of a town, and matches its traces on its network. Reads no file.
 pub fn match_town<R: Threads + Sync, G: Gate, K: Sink>(
     rt: &R,
     alloc: Global,

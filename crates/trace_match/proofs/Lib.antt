@@ -6,3 +6,6 @@ pub mod RouteNames
 pub mod Lawful
 pub mod FirstLabels
 pub mod DifferentEdges
+pub mod Traces
+pub mod Asking
+pub mod AskedRows

@@ -2,3 +2,7 @@ pub mod Match
 pub mod Ranked
 pub mod Ground
 pub mod Laws
+pub mod Setting
+pub mod MatcherInside
+pub mod Totals
+pub mod Asked

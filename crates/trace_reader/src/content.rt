@@ -1,4 +1,4 @@
-// The lines of the file, one after the other: its header, the open trace and the closed ones.
+//! The lines of a trace file, in order: its header, the open trace and the closed ones.
 ghost use Rattle.std.specs.Prelude.{◌≡◌, ◌≢◌, ◌+◌, ◌<◌, ◌≤◌, ◌∷◌, ◌++◌, [], length, OnOk, OnErr, IfOk, IfErr, Some, None};
 ghost use Rattle.std.specs.List.{list_all};
 ghost use Rattle.decimal_text.specs.Blank.{is_blank};
@@ -11,7 +11,7 @@ use decimal_text::is_blank;
 use polyline_geometry::List;
 use std::alloc::Global;
 
-/// What the lines so far leave open.
+/// The state after the lines read so far.
 pub struct ContentReader {
     pub header: Option<Header>,
     pub open: Option<Trace>,
@@ -99,7 +99,7 @@ impl ContentReader {
         }
     }
 
-    /// Appends the trace that is open at the end of the file, and begins anew.
+    /// Appends the trace that is open at the end of the file, and starts over.
     pub fn end(&mut self, into: &mut List<Trace>) -> Result<(), TraceFault>
         ensures ok { OnOk result
             (EndsWith (content_of self.old into.old) self.old.header into.new None) }
@@ -130,7 +130,7 @@ fn begin_trace(alloc: Global, row: Row) -> Result<Trace, TraceFault>
     Ok(Trace { id: row.id, fixes })
 }
 
-// Adds a fix to the trace, in the line of this number.
+// Adds a position to the trace; `number` is the number of its line.
 fn extend_trace(trace: &mut Trace, number: u64, fix: Fix) -> Result<(), TraceFault>
     ensures ok { OnOk result ((length trace.old.fixes < point_limit)
         × (trace.new ≡ record { id = trace.old.id; fixes = trace.old.fixes ++ fix ∷ [] })) }
@@ -144,7 +144,7 @@ fn extend_trace(trace: &mut Trace, number: u64, fix: Fix) -> Result<(), TraceFau
     Ok(())
 }
 
-// Whether the line has no byte but spaces and tabs.
+// Whether the line has only spaces and tabs.
 fn is_skipped(text: &[u8]) -> bool
     ensures { result ≡ list_all is_blank text.now }
 {

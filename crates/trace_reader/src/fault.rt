@@ -1,4 +1,4 @@
-// Why a trace file is refused, and the line that says so.
+//! Why a trace file is refused, and the error line of each fault.
 ghost use Rattle.std.specs.Prelude.{◌≡◌, ◌≢◌, ◌++◌, IfOk, OnOk, OnErr};
 ghost use Rattle.std.specs.String.{string_bytes};
 
@@ -8,24 +8,24 @@ use std::fmt::{self, Display, Formatter, Write};
 use thiserror::Error;
 
 /// The first fault of a trace file. The first number is the line and the second the field, both
-/// numbered from 1.
+/// counted from 1.
 #[derive(Clone, Copy, Debug, Error)]
 pub enum TraceFault {
     /// The first line is not the header.
     BadHeader,
-    /// A row has another number of fields than the header.
+    /// A row does not have as many fields as the header.
     FieldCount(u64),
-    /// A field is no decimal number.
+    /// A field is not a decimal number.
     BadNumber(u64, u32),
-    /// A number is beyond what its field takes.
+    /// A number is outside the range of its field.
     OutOfRange(u64, u32),
-    /// A trace has more points than a trace may have.
+    /// A trace has more points than the limit.
     TraceTooLong(u64),
-    /// A line has more bytes than a line may have.
+    /// A line has more bytes than the limit.
     LineTooLong(u64),
-    /// The file has more bytes than a file may have.
+    /// The file has more bytes than the limit.
     FileTooLong,
-    /// Memory ran out.
+    /// Out of memory.
     Memory,
 }
 
@@ -53,7 +53,7 @@ impl From<AllocError> for TraceFault {
 impl TraceFault {
     ghost use Rattle.trace_reader.specs.Fault.{fault_line, place_of, what_of};
 
-    /// Appends the line that the program writes of the fault, with its LF.
+    /// Appends the error line of the fault, with its LF.
     pub fn write_line(&self, alloc: Global, into: &mut List<u8>) -> Result<(), AllocError>
         requires { self.now ≢ TraceFault.Memory }
         ensures ok { OnOk result (into.new ≡ into.old ++ fault_line self.now) }
@@ -63,7 +63,7 @@ impl TraceFault {
         into.extend_from_slice(line.as_bytes())
     }
 
-    // The line of the fault, with its LF.
+    // The error line of the fault, with its LF.
     fn line(&self, alloc: Global) -> Result<String, AllocError>
         requires { self.now ≢ TraceFault.Memory }
         ensures { IfOk result (λ line. string_bytes line ≡ fault_line self.now) }
@@ -78,7 +78,7 @@ impl TraceFault {
         }
     }
 
-    // What is wrong there.
+    // What is wrong.
     fn what(&self) -> &'static str
         ensures { result.now ≡ what_of self.now }
     {
@@ -94,7 +94,7 @@ impl TraceFault {
         }
     }
 
-    // Where it is.
+    // Where the fault is.
     fn place(&self) -> Place
         ensures { result ≡ place_of self.now }
     {

@@ -1,5 +1,5 @@
-// One field of a row. A short number without blanks is read in one pass, any other field by its
-// ends.
+//! One field of a row. A short number without blanks is read in one pass; any other field is
+//! delimited first.
 ghost use Rattle.std.specs.Prelude.{◌≡◌, ◌≤◌, ◌∷◌, [], true, Ok, length, take, IfSome, MatchOption};
 ghost use Rattle.std.specs.List.{list_all};
 ghost use Rattle.trace_reader.specs.FirstField.{first_of, is_within_field};
@@ -12,7 +12,7 @@ use memchr::memchr;
 
 const COORDINATE_LIMIT: u32 = 1_000_000_000;
 
-/// The number of 32 bits in the first field, and what stands behind its comma if there is one.
+/// The 32-bit number in the first field, and the text after its comma if there is one.
 pub fn unsigned_field(text: &[u8]) -> (Result<u32, NumberFault>, Option<&[u8]>)
     ensures number { result.0 ≡ u32_of (first_of text.now) }
     ensures rest { MatchOption result.1 (fields_of text.now ≡ first_of text.now ∷ [])
@@ -25,7 +25,7 @@ pub fn unsigned_field(text: &[u8]) -> (Result<u32, NumberFault>, Option<&[u8]>)
     (read_u32(field), rest)
 }
 
-/// The coordinate in the first field, and what stands behind its comma if there is one.
+/// The coordinate in the first field, and the text after its comma if there is one.
 pub fn coordinate_field(text: &[u8]) -> (Result<i32, NumberFault>, Option<&[u8]>)
     ensures number { result.0 ≡ coordinate_of (first_of text.now) }
     ensures rest { MatchOption result.1 (fields_of text.now ≡ first_of text.now ∷ [])
@@ -47,7 +47,7 @@ fn read_u32(field: &[u8]) -> Result<u32, NumberFault>
     }
 }
 
-// What stands before the first comma, and after it if there is one.
+// The text before the first comma, and the text after it if there is one.
 fn first_field(text: &[u8]) -> (&[u8], Option<&[u8]>)
     ensures field { result.0.now ≡ first_of text.now }
     ensures rest { MatchOption result.1 (fields_of text.now ≡ first_of text.now ∷ [])
@@ -59,7 +59,7 @@ fn first_field(text: &[u8]) -> (&[u8], Option<&[u8]>)
     }
 }
 
-// The same of a field of 1 to 9 digits after a `-` or none.
+// As `plain_number`, for a coordinate of 1 to 9 digits with an optional `-`.
 fn plain_coordinate(text: &[u8]) -> Option<(i32, Option<&[u8]>)>
     ensures number { IfSome result (λ read. coordinate_of (first_of text.now) ≡ Ok read.0) }
     ensures rest { IfSome result (λ read. MatchOption read.1 (fields_of text.now ≡ first_of text.now ∷ [])
@@ -69,7 +69,7 @@ fn plain_coordinate(text: &[u8]) -> Option<(i32, Option<&[u8]>)>
     Some((number, behind_field(text, count)?))
 }
 
-// The number in the first field and what stands behind its comma, if the field is 1 to 9 digits.
+// The number in the first field and the text after its comma, if the field is 1 to 9 digits.
 fn plain_number(text: &[u8]) -> Option<(u32, Option<&[u8]>)>
     ensures number { IfSome result (λ read. u32_of (first_of text.now) ≡ Ok read.0) }
     ensures rest { IfSome result (λ read. MatchOption read.1 (fields_of text.now ≡ first_of text.now ∷ [])
@@ -82,7 +82,7 @@ fn plain_number(text: &[u8]) -> Option<(u32, Option<&[u8]>)>
     Some((number, behind_field(text, count)?))
 }
 
-// What stands behind the comma, if the first field is as many bytes and a comma or the end follows.
+// The text after the comma, if the first field has this many bytes and a comma or the end follows.
 fn behind_field(text: &[u8], count: usize) -> Option<Option<&[u8]>>
     requires few { count ≤ length text.now }
     requires within { list_all is_within_field (take count text.now) ≡ true }

@@ -1,11 +1,11 @@
-//! Laws on what the bytes of a trace file bring. Each function is there for its clause and does
+//! Laws of what the bytes of a trace file contain. Each function exists for its clause and does
 //! nothing.
 ghost use Rattle.std.specs.Prelude.{◌≡◌, ℕ, List as ListOf, Some};
 ghost use Rattle.trace_reader.specs.Reading.{fault_in};
 ghost use Rattle.trace_reader.specs.ReadingLaws.{ClosedTracesStay, KnownFaultsStay, TracesAreLawful};
 ghost use Rattle.trace_reader.specs.declared.fault.TraceFault.{TraceFault as Fault};
 
-/// The traces that are closed in the beginning of a file stay, whatever follows.
+/// Traces that are closed in the beginning of a file stay, whatever follows.
 pub fn closed_traces_stay()
     ensures { (bytes later : ListOf ℕ) → ClosedTracesStay bytes later }
 {}
@@ -16,7 +16,7 @@ pub fn known_faults_stay()
         → fault_in bytes ≡ Some fault → KnownFaultsStay bytes later fault }
 {}
 
-/// Each trace that is read has 1 to 100,000 fixes, with coordinates in range.
+/// Each trace that is read has 1 to 100,000 positions, with coordinates in range.
 pub fn traces_are_lawful()
     ensures { (bytes : ListOf ℕ) → TracesAreLawful bytes }
 {}

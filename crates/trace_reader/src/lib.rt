@@ -1,14 +1,13 @@
-//! Reads the trace file in pieces of any cutting. [`TraceReader::feed`] hands out each [`Trace`] as
+//! Reads a trace file in chunks of any size. [`TraceReader::feed`] returns each [`Trace`] as
 //! soon as it is closed, and the file's first [`TraceFault`] as soon as it is known.
 //!
-//! A file is a header, `trace,x,y` or `trace,x,y,time`, and a row for each [`Fix`]; rows of one id
-//! that follow each other form a trace. `specs/Reading.antt` says what the bytes of a file bring:
-//! `closed`, the traces that are closed in them; `fault_in`, the fault that is known in them,
-//! whatever follows; `file_traces` and `file_fault`, the same at the end of the file.
+//! A file is a header, `trace,x,y` or `trace,x,y,time`, and a row for each [`Fix`]; consecutive rows
+//! with one id form a trace. `specs/Reading.antt` defines what the bytes of a file contain: `closed`,
+//! the traces that are closed in them; `fault_in`, the fault that is known from them whatever
+//! follows; `file_traces` and `file_fault`, the same at the end of the file.
 //!
-//! A reader stands for the bytes that it was fed (`StandsFor` in `specs/Reader.antt`), of which it
-//! keeps the open trace and the line that has begun. The clause to read first is that of
-//! [`TraceReader::feed`].
+//! A reader represents the bytes fed so far (`StandsFor` in `specs/Reader.antt`); it stores only the
+//! open trace and the unfinished line. Read the clause of [`TraceReader::feed`] first.
 #![tactic(auto)]
 
 mod content;
@@ -23,6 +22,3 @@ pub use fault::TraceFault;
 pub use laws_of_reading::{closed_traces_stay, known_faults_stay, traces_are_lawful};
 pub use reader::TraceReader;
 pub use trace::{Fix, Trace};
-
-#[cfg(test)]
-mod tests;

@@ -1,4 +1,4 @@
-// The reader: bytes in pieces of any cutting, closed traces and the first fault out.
+//! The reader: chunks of any size in, closed traces and the first fault out.
 ghost use Rattle.std.specs.Prelude.{◌≡◌, ◌≢◌, ◌+◌, ◌<◌, ◌≤◌, ◌^◌, ℕ, [], ◌∷◌, ◌++◌, List as ListOf, length, IfOk, IfErr, OnOk, OnErr};
 ghost use Rattle.trace_reader.specs.Parts.{HasNoEnd, is_reached};
 
@@ -13,10 +13,10 @@ const FILE_LIMIT: u64 = 1_099_511_627_776;
 
 const LINE_LIMIT: usize = 4_096;
 
-/// Reads a trace file that is fed in pieces. It keeps the open trace and the line that has begun,
+/// Reads a trace file that is fed in chunks. It stores the open trace and the unfinished line,
 /// of at most 4,096 bytes.
 ///
-/// After a fault every later call answers the same fault and appends nothing.
+/// After a fault every later call returns the same fault and appends nothing.
 pub struct TraceReader {
     content: ContentReader,
     line: List<u8>,
@@ -46,7 +46,7 @@ impl TraceReader {
     ghost use Rattle.trace_reader.specs.Reader.{StandsFor, HasFailed, Feeds, FeedsSome, Finishes, content_of};
     ghost use Rattle.trace_reader.specs.Steps.{Exceeds, HasRoom, KeepsCounts, Reaches, Refuses, EndsLine, ReadsLine, RefusesLine, TakesLine, TakesLines, FailsLines, EndsFile, FailsEnd};
 
-    /// A reader that was fed nothing. Takes no memory.
+    /// A reader that was fed nothing. Allocates nothing.
     pub fn open(alloc: Global) -> Self
         ensures { StandsFor result [] }
     {
@@ -59,7 +59,7 @@ impl TraceReader {
         }
     }
 
-    /// Appends the traces that this piece closes; where it holds a fault, those closed before it.
+    /// Appends the traces that this chunk closes. On a fault, the traces closed before it are appended.
     pub fn feed(&mut self, piece: &[u8], into: &mut List<Trace>) -> Result<(), TraceFault>
         ensures fed { (fed : ListOf ℕ) → StandsFor self.old fed
             → Feeds fed piece.now self.new into.old into.new result }
@@ -73,8 +73,8 @@ impl TraceReader {
         }
     }
 
-    /// Takes the whole piece, or its bytes up to the one that closes the `most`-th trace of this
-    /// call, and answers how many.
+    /// Takes the whole chunk, or its bytes up to the one that closes the `most`-th trace of this
+    /// call, and returns how many bytes it took.
     pub fn feed_some(
         &mut self,
         piece: &[u8],
@@ -115,7 +115,7 @@ impl TraceReader {
         }
     }
 
-    // Takes bytes unless the reader has failed, and keeps the fault.
+    // Takes bytes unless the reader has failed, and records a fault.
     fn take(
         &mut self,
         piece: &[u8],
@@ -142,7 +142,7 @@ impl TraceReader {
         }
     }
 
-    // Takes lines, and the beginning of a line, until so many traces are closed.
+    // Takes lines, and the beginning of a line, until this many traces are closed.
     fn take_lines(
         &mut self,
         piece: &[u8],
@@ -163,7 +163,7 @@ impl TraceReader {
         Ok(taken)
     }
 
-    // Takes the bytes to the end of a line, or all where none ends.
+    // Takes the bytes to the end of a line, or all of them if no line ends.
     fn take_line(&mut self, bytes: &[u8], into: &mut List<Trace>) -> Result<usize, TraceFault>
         requires { 0 < length bytes.now }
         ensures ok { IfOk result (λ n. TakesLine self.old bytes.now into.old n self.new into.new) }
@@ -183,7 +183,7 @@ impl TraceReader {
         }
     }
 
-    // Takes the last bytes of a line, and its LF.
+    // Takes the last bytes of a line and its LF.
     fn end_line(&mut self, part: &[u8], into: &mut List<Trace>) -> Result<(), TraceFault>
         requires { HasNoEnd part.now }
         ensures ok { OnOk result (EndsLine self.old part.now into.old self.new into.new) }
@@ -202,7 +202,7 @@ impl TraceReader {
         Ok(())
     }
 
-    // Reads the line that has begun, with its last bytes. A line that lies whole in the piece is
+    // Reads the unfinished line, with its last bytes. A line that is entirely in the chunk is
     // not copied.
     fn read_line(&mut self, part: &[u8], into: &mut List<Trace>) -> Result<(), TraceFault>
         requires { HasRoom self.old (length part.now) }
@@ -221,7 +221,7 @@ impl TraceReader {
         Ok(())
     }
 
-    // Keeps bytes of a line that does not end yet.
+    // Stores the bytes of an unfinished line.
     fn keep(&mut self, part: &[u8]) -> Result<(), TraceFault>
         requires { HasNoEnd part.now }
         ensures ok { OnOk result
@@ -236,7 +236,7 @@ impl TraceReader {
         Ok(())
     }
 
-    // Whether the line that has begun may have so many bytes more.
+    // Whether the unfinished line may have this many more bytes.
     fn check_limits(&self, more: usize) -> Result<(), TraceFault>
         ensures ok { OnOk result (HasRoom self.now more) }
         ensures err { IfErr result (Exceeds self.now more) }
@@ -268,7 +268,7 @@ impl TraceReader {
     }
 }
 
-// Whether as many traces are closed as were asked for.
+// Whether the requested number of traces is closed.
 fn is_reached(most: Option<u32>, closed: usize) -> bool
     ensures { result ≡ is_reached most closed }
 {

@@ -1,4 +1,4 @@
-// One line of the file: a header, or a row of numbers.
+//! One line of the file: a header, or a row of numbers.
 ghost use Rattle.std.specs.Prelude.{◌≡◌, ◌<◌, ◌^◌, length, position, is_some, IfSome};
 ghost use Rattle.trace_reader.specs.Row.{header_of, fields_of, row_of, row_fault, is_misspelt, numbers_of};
 
@@ -7,21 +7,21 @@ use crate::field::{coordinate_field, unsigned_field};
 use crate::trace::Fix;
 use decimal_text::NumberFault;
 
-/// Which header a file has: `trace,x,y`, or `trace,x,y,time`.
+/// The header of a file: `trace,x,y`, or `trace,x,y,time`.
 #[derive(Clone, Copy)]
 pub enum Header {
     Untimed,
     Timed,
 }
 
-/// One fix and the id of its trace.
+/// One position and the id of its trace.
 #[derive(Clone, Copy)]
 pub struct Row {
     pub id: u32,
     pub fix: Fix,
 }
 
-/// The header that the line is.
+/// The header in this line, if it is one.
 pub fn read_header(text: &[u8]) -> Option<Header>
     ensures { result ≡ header_of text.now }
 {
@@ -34,7 +34,7 @@ pub fn read_header(text: &[u8]) -> Option<Header>
     }
 }
 
-/// The row that the line of this number is under a header.
+/// The row in the line of this number, under a header.
 pub fn read_row(header: Header, line: u64, text: &[u8]) -> Result<Row, TraceFault>
     ensures { result ≡ row_of header line (fields_of text.now) }
 {
@@ -84,7 +84,7 @@ fn gather(
     }
 }
 
-// The fault of a row, of whose fields some are faulty.
+// The fault of a row with these faults of its fields.
 fn row_fault(line: u64, faults: &[Option<NumberFault>]) -> TraceFault
     requires { length faults.now < 2 ^ 31 }
     ensures { result ≡ row_fault line faults.now }

@@ -1,7 +1,7 @@
-// What the file holds.
+//! The content of a trace file.
 use polyline_geometry::List;
 
-/// A measured place in centimetres, and its time in seconds (0 under a header without times).
+/// A measured position in centimetres, and its time in seconds (0 under a header without times).
 #[derive(Clone, Copy, Debug, PartialEq, Eq)]
 pub struct Fix {
     pub x: i32,
@@ -9,7 +9,7 @@ pub struct Fix {
     pub time: u32,
 }
 
-/// The fixes of consecutive rows of one id.
+/// The positions of consecutive rows with one id.
 #[derive(Drop)]
 pub struct Trace {
     pub id: u32,

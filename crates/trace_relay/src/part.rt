@@ -1,4 +1,4 @@
-// What is handed on.
+//! The parts that are handed on.
 use trace_reader::{Trace, TraceFault};
 
 /// What goes from the reader of a trace file to its matcher. Each part but a trace is a last part.

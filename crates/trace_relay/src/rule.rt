@@ -1,4 +1,4 @@
-// The rule of the queue, and its steps.
+//! The rule of the queue, and its steps.
 use crate::part::Part;
 use crossbeam_queue::protocol::{Join, Lesson, Outcome, Protocol, Split};
 use std::collections::LinkedList;

@@ -21,12 +21,12 @@ use std::alloc::{AllocError, Global};
 use trace_match::layer;
 use trace_reader::Trace;
 
-/// Appends the follow text of a trace, and answers how many pieces its match has. Exactly the rows
+/// Appends the follow text of a trace, and returns the number of pieces of its match. Exactly the rows
 /// that the trace asks for become known.
 ///
 /// `rows` are of this network and the bound of these options. Each point is matched as it comes: the
-/// candidates of one point at a time are found, and those of the points of the open piece are kept.
-/// Err says that memory was refused; `into` is as before then, and what was known is still known.
+/// candidates are found for one point at a time, and kept for the points of the open piece. `Err` means
+/// out of memory; then `into` is unchanged, and what was known is still known.
 pub fn follow_trace<R: Rows>(
     alloc: Global,
     on: &Basis,
@@ -50,7 +50,7 @@ pub fn follow_trace<R: Rows>(
     followed
 }
 
-// Appends the follow text of a trace. After Err a part of it may stand at the end.
+// Appends the follow text of a trace. On `Err`, a part of it may remain at the end.
 fn append_followed<R: Rows>(
     alloc: Global,
     on: &Basis,
@@ -83,7 +83,7 @@ fn append_followed<R: Rows>(
 }
 
 /// Appends the line `fix I` of a point and the lines of its items, each after the lead and a space if
-/// there is a lead. After Err a part of them may stand at the end.
+/// there is a lead. On `Err`, a part of them may remain at the end.
 pub fn write_step(
     alloc: Global,
     net: &Network,
@@ -102,8 +102,8 @@ pub fn write_step(
     write_items(alloc, net, lead, items, into)
 }
 
-/// Appends the line `finish`, the lines of the items that were left, and the line that ends the trace,
-/// each after the lead and a space if there is a lead. After Err a part of them may stand at the end.
+/// Appends the line `finish`, the lines of the remaining items, and the line that ends the trace,
+/// each after the lead and a space if there is a lead. On `Err`, a part of them may remain at the end.
 pub fn write_rest(
     alloc: Global,
     net: &Network,
@@ -124,7 +124,7 @@ pub fn write_rest(
     write_end(id, into)
 }
 
-// Appends the line `fix I`. After Err a part of it may stand at the end.
+// Appends the line `fix I`. On `Err`, a part of it may remain at the end.
 fn write_fix(point: u32, into: &mut List<u8>) -> Result<(), AllocError>
     ensures ok { OnOk result (into.new ≡ into.old ++ fix_line point) }
     ensures err { OnErr result (Stays into.old into.new) }

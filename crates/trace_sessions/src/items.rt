@@ -1,4 +1,4 @@
-//! The lines of what is handed out. Serves those who follow traces; decided by `item_lines`.
+//! The lines of the output of a session. Serves those who follow traces; decided by `item_lines`.
 ghost use Rattle.std.specs.Prelude.{◌≡◌, ◌++◌, OnOk, OnErr};
 ghost use Rattle.std.specs.List.{concat};
 ghost use Rattle.trace_sessions.specs.ItemText.{AreItemsOf, IsItemOf, Stays, item_line, item_lines, lead_of};
@@ -11,13 +11,10 @@ use road_network::Network;
 use std::alloc::{AllocError, Global};
 use trace_match::{label_on, routed};
 
-#[cfg(test)]
-mod tests;
-
-/// Appends the lines of these items, each after the id and a space if there is an id. After Err `into`
-/// is as before.
+/// Appends the lines of these items, each after the id and a space if there is an id. On `Err`, `into`
+/// is unchanged.
 ///
-/// A line takes one append, or two with an id, and that of a piece one for each edge of its route.
+/// A line takes one append, or two with an id; that of a piece takes one more for each edge of its route.
 pub fn write_items(
     alloc: Global,
     net: &Network,
@@ -37,7 +34,7 @@ pub fn write_items(
     written
 }
 
-// Appends the lines of these items. After Err some of them may stand at the end.
+// Appends the lines of these items. On `Err`, some of them may remain at the end.
 fn append_items(
     alloc: Global,
     net: &Network,
@@ -56,7 +53,7 @@ fn append_items(
     Ok(())
 }
 
-/// Appends the id and a space, or nothing. After Err `into` is as before.
+/// Appends the id and a space, or nothing. On `Err`, `into` is unchanged.
 pub fn write_lead(id: Option<u32>, into: &mut List<u8>) -> Result<(), AllocError>
     ensures ok { OnOk result (into.new ≡ into.old ++ lead_of id) }
     ensures err { OnErr result (into.new ≡ into.old) }
@@ -69,7 +66,7 @@ pub fn write_lead(id: Option<u32>, into: &mut List<u8>) -> Result<(), AllocError
     into.extend_from_slice(&lead[start..])
 }
 
-// Appends the line of the item. After Err `into` is as before.
+// Appends the line of the item. On `Err`, `into` is unchanged.
 fn write_item(
     alloc: Global,
     net: &Network,

@@ -1,4 +1,4 @@
-//! Laws of what is written of traces and of calls on sessions. Each function is there for its clause and does nothing.
+//! Laws of the lines of traces and of calls on sessions. Each function exists for its clause and does nothing.
 ghost use Rattle.trace_sessions.specs.Calls.{IdsAreAnsweredAlone};
 ghost use Rattle.trace_sessions.specs.FollowText.{FollowIsMatch, WrittenLinesStay};
 ghost use Rattle.trace_sessions.specs.StreamText.{IdsAreFollowedAlone};
@@ -8,7 +8,7 @@ pub fn follow_is_match()
     ensures { FollowIsMatch }
 {}
 
-/// The lines that were written of some points stay, whatever points follow.
+/// Lines written for some points stay, whatever points follow.
 pub fn written_lines_stay()
     ensures { WrittenLinesStay }
 {}
@@ -18,7 +18,7 @@ pub fn ids_are_followed_alone()
     ensures { IdsAreFollowedAlone }
 {}
 
-/// What calls of `feed` and `close` hand out for an id is what its own calls alone hand out.
+/// What calls of `feed` and `close` return for an id is what its own calls alone return.
 pub fn ids_are_answered_alone()
     ensures { IdsAreAnsweredAlone }
 {}

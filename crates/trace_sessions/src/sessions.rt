@@ -26,17 +26,15 @@ use trace_match::layer;
 use trace_reader::Fix;
 
 mod streaming;
-#[cfg(test)]
-mod tests;
 
 /// Why a call of [`Sessions`] changed nothing.
 #[derive(Clone, Copy, Debug, PartialEq, Eq)]
 pub enum SessionFault {
-    /// The id has 100,000 points.
+    /// The id already has 100,000 points.
     TooLong(u32),
     /// The id has no session.
     NotOpen(u32),
-    /// There was no memory for what was asked.
+    /// Out of memory.
     Memory,
 }
 
@@ -49,7 +47,7 @@ impl From<AllocError> for SessionFault {
 }
 
 /// The sessions of traces whose points are interleaved, one for each id. A contract sees the sessions
-/// by id, and `Keeps` says for which ids and fixes they stand.
+/// by id; `Keeps` says which ids and positions they represent.
 pub struct Sessions<'n> {
     alloc: Global,
     net: &'n Network,
@@ -82,7 +80,7 @@ impl<'n> Model for Sessions<'n> {
     ghost invariant = { IsKept };
 }
 
-// Feeds the session of the id, or else this newly opened one, which is kept where it took the point.
+// Feeds the session of the id, or else this newly opened one, which is kept if it took the point.
 fn feed_session<'n, R: Rows>(
     sessions: &mut IndexMap<u32, Online<'n>>,
     id: u32,
@@ -109,7 +107,7 @@ fn feed_session<'n, R: Rows>(
     }
 }
 
-// Finishes the session of the id and takes it out.
+// Finishes the session of the id and removes it.
 fn finish_session<'n, R: Rows>(
     sessions: &mut IndexMap<u32, Online<'n>>,
     id: u32,
@@ -133,7 +131,7 @@ fn finish_session<'n, R: Rows>(
 }
 
 impl<'n> Sessions<'n> {
-    /// No sessions. `grid` is of this network, with cells of at least the radius. Takes no memory.
+    /// No sessions. `grid` is of this network, with cells of at least the radius. Allocates nothing.
     pub fn open(alloc: Global, net: &'n Network, grid: &'n Grid<'n>, p: &Params) -> Sessions<'n>
         requires { IsGridFor net.now p.now grid.now }
         ensures network { result.network ≡ net.now }
@@ -149,14 +147,28 @@ impl<'n> Sessions<'n> {
         }
     }
 
-    /// How many ids have a session.
+    /// The network.
+    pub fn network(&self) -> &'n Network
+        ensures { result.now ≡ self.now.network }
+    {
+        self.net
+    }
+
+    /// The options.
+    pub fn params(&self) -> &Params
+        ensures { result.now ≡ self.now.params }
+    {
+        &self.params
+    }
+
+    /// The number of ids with a session.
     pub fn count(&self) -> u64
         ensures { (pairs : List Pair) → Keeps self.now pairs → result ≡ length pairs }
     {
         self.sessions.len() as u64
     }
 
-    /// The id whose session stands at this place, from 0, in order of first appearance.
+    /// The id whose session is at this index, from 0, in order of first appearance.
     pub fn id_at(&self, place: u64) -> Option<u32>
         ensures { (pairs : List Pair) → Keeps self.now pairs
             → result ≡ slice_get (keys_of pairs) place }
@@ -167,7 +179,7 @@ impl<'n> Sessions<'n> {
         }
     }
 
-    /// How many points the id has, or None where it has no session.
+    /// The number of points of the id, or `None` if it has no session.
     pub fn length(&self, id: u32) -> Option<u32>
         ensures { (pairs : List Pair) → Keeps self.now pairs → result ≡ length_of pairs id }
     {
@@ -177,7 +189,7 @@ impl<'n> Sessions<'n> {
         }
     }
 
-    // What always holds of sessions.
+    // The invariants of sessions.
     fn known(&self)
         ensures lawful { IsLawful self.now.network }
         ensures accepted { IsAccepted self.now.params }
@@ -185,7 +197,7 @@ impl<'n> Sessions<'n> {
         self.net.known();
     }
 
-    // How many points the id has, 0 where it has no session.
+    // The number of points of the id, 0 if it has no session.
     fn points(&self, id: u32) -> u32
         ensures { result ≡ points_of (session_in self.now id) }
     {
@@ -195,9 +207,9 @@ impl<'n> Sessions<'n> {
         }
     }
 
-    /// Takes the next point of the id, whose session is opened with its first point, and gives the
-    /// items that are committed by it. `TooLong` says that the id has 100,000 points; after a fault
-    /// the sessions are as before.
+    /// Takes the next point of the id, whose session is opened by its first point, and returns the
+    /// items that it commits. `TooLong` means that the id already has 100,000 points; on a fault
+    /// the sessions are unchanged.
     ///
     /// Rows become known as by [`Online::feed`] on the points of this id.
     pub fn feed<R: Rows>(
@@ -221,9 +233,9 @@ impl<'n> Sessions<'n> {
         Ok(items)
     }
 
-    /// Ends the trace of the id, gives the items that are left, and takes its session out; the others
-    /// keep their order. `NotOpen` says that the id has no session; after a fault the sessions are as
-    /// before. Takes time for each session that stands behind that of the id.
+    /// Ends the trace of the id, returns the remaining items, and removes its session; the others
+    /// keep their order. `NotOpen` means that the id has no session; on a fault the sessions are
+    /// unchanged. Takes time for each session after that of the id.
     ///
     /// Rows become known as by [`Online::finish`] on the points of this id.
     pub fn close<R: Rows>(&mut self, id: u32, rows: &mut R) -> Result<List<Item>, SessionFault>

@@ -1,5 +1,5 @@
-//! A memory of what rows say of pairs of nodes, so that a pair that comes again is not looked up
-//! again. Serves `link_by_pair`; decided by `distance_in`.
+//! A memory of lookups in rows, so that a pair of nodes is not looked up again. Serves `link_by_pair`;
+//! decided by `distance_in`.
 ghost use Rattle.std.specs.Prelude.{◌≡◌, IfSome};
 ghost use Rattle.bounded_search.specs.Table.{IsRow};
 ghost use Rattle.trellis.specs.Pairs.{TellsPair, distance_in, pairs_of};
@@ -9,7 +9,7 @@ use road_network::{Network, NodeId};
 use std::alloc::{AllocError, Global};
 use std::marker::Model;
 
-/// How many pairs are remembered. The last of those that share a place stays.
+/// How many pairs are remembered. If several pairs share a place, the last one stays.
 const PLACES: usize = 2_048;
 
 /// What the row of one node says of another: its distance, or that it is not listed.
@@ -50,7 +50,7 @@ impl<'n> Model for PairMemory<'n> {
 }
 
 impl<'n> PairMemory<'n> {
-    /// A memory without room, which remembers nothing. Takes no memory.
+    /// An empty memory without room. Allocates nothing.
     pub fn new(alloc: Global, network: &'n Network, bound: u32) -> PairMemory<'n>
         ensures { result ≡ pairs_of network.now bound }
     {
@@ -61,7 +61,7 @@ impl<'n> PairMemory<'n> {
         }
     }
 
-    /// Makes room, where there is none yet.
+    /// Allocates the room, if there is none yet.
     pub fn make_room(&mut self, alloc: Global) -> Result<(), AllocError>
         ensures { self.new ≡ self.old }
     {
@@ -104,7 +104,7 @@ impl<'n> PairMemory<'n> {
     }
 }
 
-/// The distance of a node in this row, by a look into it.
+/// The distance of a node in this row, by a lookup.
 fn look(row: &Row, node: NodeId) -> Option<u32>
     ensures { result ≡ distance_in row.now node.0 }
 {

@@ -1,4 +1,4 @@
-// `match NET TRACES [--table FILE]`. Serves `read_work` and `program`; decided by `match_kind`.
+//! `match NET TRACES [--table FILE]`. Serves `read_work` and `program`; decided by `match_kind`.
 ghost use Rattle.std.specs.Prelude.{◌≡◌, IfOk};
 ghost use Rattle.std.specs.Result.{result_map_both};
 ghost use Rattle.command_line.specs.Given.{given_for};
@@ -11,14 +11,14 @@ use crate::syntax::Form;
 use crate::work::Work;
 use clap::ArgMatches;
 
-/// The command as words give it.
+/// The syntax of the command.
 pub const FORM: Form = Form {
     name: "match",
     options: &["table"],
     arguments: &["NET", "TRACES"],
 };
 
-/// The work, with the names that the words give.
+/// The work, with the names from the command line.
 pub fn read_match<'a>(found: &ArgMatches<'a>) -> Result<Work<'a>, WordsFault>
     ensures value { result_map_both plain_work (λ fault. fault) result
         ≡ match_kind.work (given_for found.now) }

@@ -1,4 +1,4 @@
-// `table NET`. Serves `read_work` and `program`; decided by `table_kind`.
+//! `table NET`. Serves `read_work` and `program`; decided by `table_kind`.
 ghost use Rattle.std.specs.Prelude.{◌≡◌};
 ghost use Rattle.std.specs.Result.{result_map_both};
 ghost use Rattle.command_line.specs.Given.{given_for};
@@ -11,14 +11,14 @@ use crate::syntax::Form;
 use crate::work::Work;
 use clap::ArgMatches;
 
-/// The command as words give it.
+/// The syntax of the command.
 pub const FORM: Form = Form {
     name: "table",
     options: &[],
     arguments: &["NET"],
 };
 
-/// The work, with the name that the words give.
+/// The work, with the name from the command line.
 pub fn read_table<'a>(found: &ArgMatches<'a>) -> Result<Work<'a>, WordsFault>
     ensures { result_map_both plain_work (λ fault. fault) result
         ≡ table_kind.work (given_for found.now) }

@@ -1,4 +1,4 @@
-// `town N T SEED`. Serves `read_work` and `program`; decided by `town_kind`.
+//! `town N T SEED`. Serves `read_work` and `program`; decided by `town_kind`.
 ghost use Rattle.std.specs.Prelude.{◌≡◌, IfOk};
 ghost use Rattle.std.specs.Result.{result_map_both};
 ghost use Rattle.cost_model.specs.Options.{IsWithin};
@@ -14,7 +14,7 @@ use crate::value::ValueName;
 use crate::work::Work;
 use clap::ArgMatches;
 
-/// The command as words give it.
+/// The syntax of the command.
 pub const FORM: Form = Form {
     name: "town",
     options: &[],
@@ -32,7 +32,7 @@ fn read_argument(found: &ArgMatches, name: ValueName) -> Result<u32, WordsFault>
     }
 }
 
-/// The work, with the numbers that the words give.
+/// The work, with the numbers from the command line.
 #[tactic(auto, unfolding(crate::specs::works::Town::town_of))]
 pub fn read_town<'a>(found: &ArgMatches<'a>) -> Result<Work<'a>, WordsFault>
     ensures value { result_map_both plain_work (λ fault. fault) result

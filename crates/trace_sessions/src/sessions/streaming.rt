@@ -26,7 +26,7 @@ use std::alloc::{AllocError, Global};
 use trace_reader::{Fix, Trace};
 
 impl<'n> Sessions<'n> {
-    // Appends the lines of a point that was taken behind so many others of its id.
+    // Appends the lines of a point that follows this many others of its id.
     fn write_point(
         &self,
         id: u32,
@@ -67,9 +67,9 @@ impl<'n> Sessions<'n> {
     }
 
     /// Takes the points of a fragment of a trace, each as by [`Sessions::feed`], appends their lines,
-    /// and answers how many pieces they closed. `TooLong` says that the id had 100,000 points before
-    /// one of them; the lines of those before it are appended then. After `Memory` what stood in `into`
-    /// still stands, and a part of the lines may stand behind it.
+    /// and returns how many pieces they closed. `TooLong` means that the id had 100,000 points before
+    /// one of them; the lines of the points before it are appended then. After `Memory`, the old content
+    /// of `into` is intact, and a part of the lines may follow it.
     pub fn stream<R: Rows>(
         &mut self,
         trace: &Trace,
@@ -93,9 +93,9 @@ impl<'n> Sessions<'n> {
         Ok(pieces)
     }
 
-    /// Ends all traces, in order of first appearance: appends their last lines, and answers how many
-    /// pieces they closed. Then there are no sessions, after Err too. After Err what stood in `into`
-    /// still stands, and a part of the lines may stand behind it. Takes the time of the items of each.
+    /// Ends all traces, in order of first appearance: appends their last lines, and returns how many
+    /// pieces they closed. Afterwards there are no sessions, even on `Err`. On `Err`, the old content of
+    /// `into` is intact, and a part of the lines may follow it. Takes the time of the items of each trace.
     pub fn close_all<R: Rows>(
         &mut self,
         rows: &mut R,

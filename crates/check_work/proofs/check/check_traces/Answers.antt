@@ -6,7 +6,7 @@ use Rattle.program_frame.specs.declared.stop.File.TheVariants.{Certificate}
 use Rattle.program_frame.specs.declared.stop.Refusal.TheVariants as refusals
 use Rattle.program_frame.proofs.Stages.{ends_performs, loads_fails, loads_performs}
 use Rattle.trace_reader.specs.Trace.{IsLawfulTrace}
-use Rattle.matcher.specs.Setting.{Setting}
+use Rattle.trace_match.specs.Setting.{Setting}
 use Rattle.check_work.specs.Check.{check_said}
 use Rattle.program_frame.proofs.TakenTraces.{taken_lawful}
 use Rattle.check_work.proofs.check.check_traces.Goals as goal

@@ -1,55 +1,57 @@
-use Rattle.std.proofs.Common.{◌≡◌, length, refl, ◌∙◌, ap, arith}
-use Rattle.edge_io.specs.declared.shelf.Taken.TheVariants.{End, Got}
-use Rattle.program_frame.proofs.Reading.{reads_as}
-use Rattle.program_frame.proofs.WholeReading.{chunk_refused, fed_to_end, fed_to_limit, holds_more, holds_nothing, no_memory, not_read}
+use Rattle.std.proofs.Common.{refl, sym, subst, arith}
+use Rattle.std.proofs.lemmas.Result.{err_from_is_err_and}
+use Rattle.program_frame.specs.Read.{FailsToRead}
+use Rattle.program_frame.specs.WholeTraces.{IsHolding}
+use Rattle.program_frame.specs.declared.stop.File.TheVariants.{Traces}
+use Rattle.program_frame.proofs.ChunkReads.{next_read, next_whole}
+use Rattle.program_frame.proofs.Stages.{load_unread}
+use Rattle.program_frame.proofs.WholeReading.{chunk_refused, fed_whole, has_read, holds_more, holds_nothing}
 use Rattle.program_frame.proofs.whole_traces.feed_file.Goals as goal
 
-pub loop-at-init : goal.loop-at-init
-loop-at-init g c = record {
-  holding = holds_nothing c.args.name.now (g.S.Shelf.state c.args.shelf.now) c.args.reader.now c.args.traces.now c.requires.stands c.requires.none;
-  within = omega arith;
+pub loop-chunks-init : goal.loop-chunks-init
+loop-chunks-init g c = record {
+  holding = subst (λ at. IsHolding c.args.name.now (g.S.Shelf.state c.args.shelf.now) at c.args.reader.now c.args.traces.now) (sym c.open-chunks.ensures)
+      (holds_nothing c.args.name.now (g.S.Shelf.state c.args.shelf.now) c.args.reader.now c.args.traces.now c.requires.stands c.requires.none);
+  within = omega (arith, c.open-chunks.ensures);
   same = refl;
 }
 
-pub returns-in-NoMemory : goal.returns-in-NoMemory
-returns-in-NoMemory g c =
-    no_memory c.args.name.now (g.S.Shelf.state c.args.shelf.now) (g.S.Shelf.state c.read.new.self) (c.in-NoMemory.ensures.state ∙ c.loop-at.invariant.same)
+pub next-requires : goal.next-requires
+next-requires g c = c.loop-chunks.invariant.within
 
-pub returns-in-Failed : goal.returns-in-Failed
-returns-in-Failed g c =
-    not_read c.args.name.now (g.S.Shelf.state c.args.shelf.now) (g.S.Shelf.state c.loop-at.shelf) (g.S.Shelf.state c.read.new.self) c.loop-at.invariant.same c.in-Failed.ensures.state
-
-pub returns-in-End : goal.returns-in-End
-returns-in-End g c =
-    let inv = c.loop-at.invariant in
-    let reads = reads_as _ (g.S.Shelf.state c.args.shelf.now).holds c.args.name.now _ _ _ c.read.new.into.items _ End (ap (λ s. s.holds) inv.same) inv.holding.place c.truncate.ensures.items refl c.in-End.ensures.bytes in
-    fed_to_end c.args.name.now (g.S.Shelf.state c.args.shelf.now) (g.S.Shelf.state c.read.new.self) c.loop-at.at c.loop-at.reader c.loop-at.traces c.read.new.into.items inv.holding (c.in-End.ensures.state ∙ inv.same) c.loop-at-test.true reads
-
-pub returns : goal.returns
-returns g c =
-    let inv = c.loop-at.invariant in
-    let full : c.loop-at.at ≡ 1_099_511_627_777 = omega (arith, inv.within) in
-    fed_to_limit c.args.name.now (g.S.Shelf.state c.args.shelf.now) (g.S.Shelf.state c.loop-at.shelf) c.loop-at.at c.loop-at.reader c.loop-at.traces inv.holding inv.same full
-
-pub loop-at-preserved : goal.loop-at-preserved
-loop-at-preserved g c =
-    let inv = c.loop-at.invariant in
-    let grows = c.in-Got.ensures.grows in
-    let long : length c.deref.result.now ≡ c.in-Got.count = omega (arith, grows.longer, ap length c.deref.ensures.value, ap length c.truncate.ensures.items) in
-    let reads = reads_as _ (g.S.Shelf.state c.args.shelf.now).holds c.args.name.now _ _ _ c.read.new.into.items c.deref.result.now (Got c.in-Got.count) (ap (λ s. s.holds) inv.same) inv.holding.place c.truncate.ensures.items c.deref.ensures.value c.in-Got.ensures.bytes in
-    let feeds = c.in_default.ensures.fed inv.holding.fed inv.holding.stands in
-    record {
-      holding = rw c.from-at.ensures (holds_more c.args.name.now (g.S.Shelf.state c.args.shelf.now) c.loop-at.at c.in-Got.count c.loop-at.reader c.feed.new.self c.loop-at.traces c.feed.new.into c.deref.result.now inv.holding long reads feeds.0 feeds.1);
-      within = omega (arith, grows.within, c.min-most.ensures, inv.within);
-      same = c.in-Got.ensures.state ∙ inv.same;
-    }
+pub returns-in_err-next : goal.returns-in_err-next
+returns-in_err-next g c =
+    let p = err_from_is_err_and c.from_residual.result c.from_residual.ensures.1 in
+    let fails = subst (λ s. FailsToRead Traces c.args.name.now s (g.S.Shelf.state c.next.new.shelf) c.in_err-next.field-0.0) c.loop-chunks.invariant.same c.in_err-next.ensures in
+    rw (p.1, p.2) (load_unread Traces c.args.name.now (g.S.Shelf.state c.args.shelf.now) (g.S.Shelf.state c.next.new.shelf) c.in_err-next.field-0.0 fails)
 
 pub returns-in-Err : goal.returns-in-Err
 returns-in-Err g c =
-    let inv = c.loop-at.invariant in
-    let grows = c.in-Got.ensures.grows in
-    let long : length c.deref.result.now ≡ c.in-Got.count = omega (arith, grows.longer, ap length c.deref.ensures.value, ap length c.truncate.ensures.items) in
-    let reads = reads_as _ (g.S.Shelf.state c.args.shelf.now).holds c.args.name.now _ _ _ c.read.new.into.items c.deref.result.now (Got c.in-Got.count) (ap (λ s. s.holds) inv.same) inv.holding.place c.truncate.ensures.items c.deref.ensures.value c.in-Got.ensures.bytes in
-    chunk_refused c.args.name.now (g.S.Shelf.state c.args.shelf.now) (g.S.Shelf.state c.read.new.self) c.loop-at.at c.in-Got.count c.loop-at.reader c.loop-at.traces c.feed.new.into c.deref.result.now c.in-Err.fault c.stop_reading.result inv.holding
-    (c.in-Got.ensures.state ∙ inv.same) long (omega (arith, grows.some)) (omega (arith, grows.within, c.min-most.ensures, inv.within)) reads (c.in-Err.ensures.fed inv.holding.fed inv.holding.stands)
+    let inv = c.loop-chunks.invariant in
+    let next = next_read c.args.name.now (g.S.Shelf.state c.args.shelf.now) (g.S.Shelf.state c.loop-chunks.shelf) (g.S.Shelf.state c.next.new.shelf) c.loop-chunks.chunks.at c.next.new.self.at c.next.new.self.bytes.items c.deref.result.now c.in_ok-next.field-0 c.loop-chunks.invariant.same c.deref.ensures.value c.if-branch.true c.in_ok-next.ensures in
+    chunk_refused c.args.name.now (g.S.Shelf.state c.args.shelf.now) (g.S.Shelf.state c.next.new.shelf) c.loop-chunks.chunks.at c.next.new.self.at c.loop-chunks.reader c.loop-chunks.traces c.feed.new.into c.deref.result.now c.in-Err.fault
+    c.stop_reading.result inv.holding next.1 next.0 (next.2 inv.holding.fed (has_read inv.holding inv.within)) (c.in-Err.ensures.fed inv.holding.fed inv.holding.stands)
     (record { memory = c.stop_reading.ensures.memory; refused = c.stop_reading.ensures.refused })
+
+pub loop-chunks-smaller : goal.loop-chunks-smaller
+loop-chunks-smaller g c =
+    let next = next_read c.args.name.now (g.S.Shelf.state c.args.shelf.now) (g.S.Shelf.state c.loop-chunks.shelf) (g.S.Shelf.state c.next.new.shelf) c.loop-chunks.chunks.at c.next.new.self.at c.next.new.self.bytes.items c.deref.result.now c.in_ok-next.field-0 c.loop-chunks.invariant.same c.deref.ensures.value c.if-branch.true c.in_ok-next.ensures in
+    omega (arith, next.0.place, next.0.some, next.0.within)
+
+pub loop-chunks-preserved : goal.loop-chunks-preserved
+loop-chunks-preserved g c =
+    let inv = c.loop-chunks.invariant in
+    let next = next_read c.args.name.now (g.S.Shelf.state c.args.shelf.now) (g.S.Shelf.state c.loop-chunks.shelf) (g.S.Shelf.state c.next.new.shelf) c.loop-chunks.chunks.at c.next.new.self.at c.next.new.self.bytes.items c.deref.result.now c.in_ok-next.field-0 c.loop-chunks.invariant.same c.deref.ensures.value c.if-branch.true c.in_ok-next.ensures in
+    let feeds = c.in_default.ensures.fed inv.holding.fed inv.holding.stands in
+    record {
+      holding = holds_more c.args.name.now (g.S.Shelf.state c.args.shelf.now) c.loop-chunks.chunks.at c.next.new.self.at c.loop-chunks.reader c.feed.new.self c.loop-chunks.traces c.feed.new.into c.deref.result.now inv.holding
+          (next.2 inv.holding.fed (has_read inv.holding inv.within)) feeds.0 feeds.1;
+      within = next.0.within;
+      same = next.1;
+    }
+
+pub returns : goal.returns
+returns g c =
+    let inv = c.loop-chunks.invariant in
+    let whole = next_whole c.args.name.now (g.S.Shelf.state c.args.shelf.now) (g.S.Shelf.state c.loop-chunks.shelf) (g.S.Shelf.state c.next.new.shelf) c.loop-chunks.chunks.at c.next.new.self.at c.next.new.self.bytes.items c.in_ok-next.field-0 c.loop-chunks.invariant.same c.if-branch.false c.in_ok-next.ensures in
+    fed_whole (g.S.Shelf.state c.next.new.shelf) inv.holding (whole inv.holding.fed (has_read inv.holding inv.within))

@@ -1,8 +1,8 @@
 use Rattle.std.proofs.Common.{◌≡◌, ◌∙◌, map, subst}
 use Rattle.std.proofs.lemmas.List.{take_all}
-use Rattle.matcher.specs.Asked.{AsksTraces}
-use Rattle.matcher.specs.Setting.{Setting}
-use Rattle.matcher.proofs.AskedRows.{asks_next, asks_none}
+use Rattle.trace_match.specs.Asked.{AsksTraces}
+use Rattle.trace_match.specs.Setting.{Setting}
+use Rattle.trace_match.proofs.AskedRows.{asks_next, asks_none}
 use Rattle.prove_work.specs.Certificates.{proof_of}
 use Rattle.prove_work.proofs.TraceProofs.{proved_next}
 use Rattle.prove_work.proofs.certifying.prove_all.Goals as goal

@@ -3,7 +3,7 @@ use Rattle.std.proofs.lemmas.Result.{err_from_is_err_and}
 use Rattle.program_frame.specs.declared.stop.Refusal.TheVariants.{TooLong}
 use Rattle.program_frame.proofs.Stages.{accepts_performs, accepts_refuses, ends_performs, loads_fails, loads_performs, memory_performs}
 use Rattle.trace_reader.specs.Trace.{IsLawfulTrace}
-use Rattle.matcher.specs.Setting.{Setting}
+use Rattle.trace_match.specs.Setting.{Setting}
 use Rattle.prove_work.specs.Prove.{prove_said}
 use Rattle.program_frame.proofs.TakenTraces.{taken_lawful}
 use Rattle.prove_work.proofs.WholeTraces.{said_of_taken, taken_refused}

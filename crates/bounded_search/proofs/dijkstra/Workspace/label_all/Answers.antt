@@ -3,7 +3,6 @@ use Rattle.std.proofs.lemmas.List.Sorted.{IsPermutation-refl}
 use Rattle.std.specs.List.Sorted.{IsPermutation}
 use Rattle.bounded_search.specs.declared.queue.Waiting.{Waiting}
 use Rattle.bounded_search.specs.LabelWords.{origin_word}
-use Rattle.bounded_search.specs.Underway.{IsUnderway, NonePending}
 use Rattle.bounded_search.proofs.Leaving.{all_marked, fewer_wait, marked_begun, node_taken, taken_inside}
 use Rattle.bounded_search.proofs.MarkedNodes.{keeps_both}
 use Rattle.bounded_search.proofs.Underway.{begun, closed_at_end}

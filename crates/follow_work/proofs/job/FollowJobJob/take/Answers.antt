@@ -1,9 +1,10 @@
 use Rattle.std.proofs.Common.{refl}
-use Rattle.matcher.proofs.Counting.{fits_more}
-use Rattle.matcher.proofs.Traces.{bounded_back}
+use Rattle.program_frame.proofs.Counting.{fits_more}
+use Rattle.program_frame.proofs.Bounds.{bounded_back}
 use Rattle.follow_work.proofs.Follows.{followed_grows}
 use Rattle.follow_work.proofs.FollowJobs.{followed_more}
 use Rattle.follow_work.proofs.job.FollowJobJob.take.Goals as goal
+use Rattle.trace_match.specs.Totals.{pieces_of}
 
 pub write_followed-requires-clause-rows : goal.write_followed-requires-clause-rows
 write_followed-requires-clause-rows c = c.requires.1.rows_are
@@ -13,7 +14,7 @@ write_followed-requires-clause-traces c = bounded_back c.requires.0 c.args.trace
 
 pub add-requires : goal.add-requires
 add-requires c =
-    fits_more c.args.self.now.matcher c.requires.0 c.args.traces.now c.args.self.now.tally c.in-Ok.pieces c.requires.2 c.requires.1.counts c.in-Ok.ensures.pieces
+    fits_more (pieces_of c.args.self.now.matcher) c.requires.0 c.args.traces.now c.args.self.now.tally c.in-Ok.pieces c.requires.2 c.requires.1.counts c.in-Ok.ensures.pieces
 
 pub returns-in-Ok-clause-takes : goal.returns-in-Ok-clause-takes
 returns-in-Ok-clause-takes c before has bounded = (

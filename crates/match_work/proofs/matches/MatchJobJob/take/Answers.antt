@@ -1,10 +1,11 @@
 use Rattle.std.proofs.Common.{◌++◌, ap, refl, ◌∙◌, arith}
 use Rattle.program_frame.proofs.PointCounts.{points-append}
 use Rattle.match_work.specs.Matched.{pieces_in, text_of_matches}
-use Rattle.matcher.proofs.Counting.{fits_more}
+use Rattle.program_frame.proofs.Counting.{fits_more}
 use Rattle.match_work.proofs.Jobs.{can_match, matched_more, text_grows}
 use Rattle.match_work.proofs.TraceMatches.{pieces_found, texts_written}
 use Rattle.match_work.proofs.matches.MatchJobJob.take.Goals as goal
+use Rattle.trace_match.specs.Totals.{pieces_of}
 
 pub match_by-requires : goal.match_by-requires
 match_by-requires g c lifetimes = (
@@ -31,7 +32,7 @@ write_matches-requires-clause-few g c =
 pub add-requires : goal.add-requires
 add-requires g c =
     let on = c.args.self.now.matcher.now in
-    fits_more on c.requires.0 c.args.traces.now c.args.self.now.tally c.in-Ok-write_matches.pieces c.requires.2 c.requires.1.0.counts
+    fits_more (pieces_of on) c.requires.0 c.args.traces.now c.args.self.now.tally c.in-Ok-write_matches.pieces c.requires.2 c.requires.1.0.counts
     (pieces_found on c.args.traces.now c.in-Ok.matches c.in-Ok-write_matches.pieces c.in-Ok.ensures.matched (c.in-Ok-write_matches.ensures.pieces ∙ ap pieces_in c.as_slice.ensures))
 
 pub returns-clause-takes : goal.returns-clause-takes

@@ -1,5 +1,5 @@
 use Rattle.stream_work.specs.StreamsDone.{HasStreamed}
-use Rattle.matcher.proofs.Traces.{bounded_back}
+use Rattle.program_frame.proofs.Bounds.{bounded_back}
 use Rattle.stream_work.proofs.StreamTakes.{accepted-in, can-stream, fits, not-refused, rows-are, stopped, streamed-grows, streamed-more}
 use Rattle.stream_work.proofs.streams.StreamJobJob.take.Goals as goal
 

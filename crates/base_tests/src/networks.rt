@@ -1,0 +1,216 @@
+//! Networks, and the faults of their files.
+use polyline_geometry::{List, Point};
+use road_network::{Arc, EdgeId, FILE_LIMIT, NetworkFault, NodeId, read_network};
+use std::alloc::Global;
+use std::test::Fail;
+
+const TWO_EDGES: &[u8] = b"edge,from,to,line\n10,1,2,0 0;10000 0\n11,2,3,10000 0;20000 0\n";
+
+const LONG_NAMES: &[u8] =
+    b"edge,from,to,line\n20,12000000000,2,0 0;10000 0\n5,12000000000,2,0 0;10000 0\n";
+
+// Whether this is the line of the fault. Want of memory has none.
+fn has_line(alloc: Global, fault: NetworkFault, line: &[u8]) -> bool {
+    if let NetworkFault::Memory = fault {
+        return false;
+    }
+    let mut text = List::new(alloc);
+    fault.write_line(alloc, &mut text).is_ok() && text.as_slice() == line
+}
+
+// Whether the first fault of a file has this line.
+fn is_refused(alloc: Global, bytes: &[u8], line: &[u8]) -> bool {
+    match read_network(alloc, bytes) {
+        Ok(_) => false,
+        Err(fault) => has_line(alloc, fault, line),
+    }
+}
+
+#[test]
+fn a_network_has_its_edges(rt: HostRuntime) -> Result<(), Fail> {
+    let net = read_network(rt.alloc(), TWO_EDGES)?;
+    assert_eq!(rt; net.edge_count(), 2);
+    assert_eq!(rt; net.name(EdgeId(0)), 10);
+    assert_eq!(rt; net.length(EdgeId(1)), 10_000);
+    let line = [Point { x: 10_000, y: 0 }, Point { x: 20_000, y: 0 }];
+    assert_eq!(rt; net.line(EdgeId(1)), line.as_slice());
+    assert_eq!(rt; net.offsets(EdgeId(1)), [0, 10_000].as_slice());
+    Ok(())
+}
+
+#[test]
+fn a_network_has_its_nodes(rt: HostRuntime) -> Result<(), Fail> {
+    let net = read_network(rt.alloc(), TWO_EDGES)?;
+    assert_eq!(rt; (net.edge_count(), net.node_count()), (2, 3));
+    assert_eq!(rt;
+        (net.from(EdgeId(1)), net.to(EdgeId(1))),
+        (NodeId(1), NodeId(2))
+    );
+    assert_eq!(rt; net.node_name(NodeId(2)), 3);
+    assert_eq!(rt; net.out(NodeId(1)), [EdgeId(1)].as_slice());
+    assert_eq!(rt; net.out(NodeId(2)), [].as_slice());
+    Ok(())
+}
+
+#[test]
+fn a_node_has_its_arcs(rt: HostRuntime) -> Result<(), Fail> {
+    let net = read_network(rt.alloc(), TWO_EDGES)?;
+    assert_eq!(rt; (net.edge_count(), net.node_count()), (2, 3));
+    let arc = Arc {
+        edge: EdgeId(1),
+        length: 10_000,
+        to: NodeId(2),
+    };
+    assert_eq!(rt; net.arcs(NodeId(1)), [arc].as_slice());
+    Ok(())
+}
+
+#[test]
+fn two_edges_between_the_same_nodes(rt: HostRuntime) -> Result<(), Fail> {
+    let net = read_network(rt.alloc(), LONG_NAMES)?;
+    assert_eq!(rt; (net.edge_count(), net.node_count()), (2, 2));
+    assert_eq!(rt; net.name(EdgeId(1)), 5);
+    assert_eq!(rt; net.node_name(NodeId(0)), 12_000_000_000);
+    assert_eq!(rt; net.out(NodeId(0)), [EdgeId(0), EdgeId(1)].as_slice());
+    Ok(())
+}
+
+#[test]
+fn blanks_and_quotes_in_a_line(rt: HostRuntime) -> Result<(), Fail> {
+    let file = b"edge,from,to,line\n10,1,2,\" 0 0 ; 5000\t0;10000 0\"\n";
+    let net = read_network(rt.alloc(), file)?;
+    assert_eq!(rt; net.edge_count(), 1);
+    assert_eq!(rt; net.length(EdgeId(0)), 10_000);
+    assert_eq!(rt; net.offsets(EdgeId(0)), [0, 5_000, 10_000].as_slice());
+    Ok(())
+}
+
+#[test]
+fn the_longest_edge_and_no_edge(rt: HostRuntime) -> Result<(), Fail> {
+    let net = read_network(rt.alloc(), b"edge,from,to,line\n10,1,2,0 0;100000000 0\n")?;
+    assert_eq!(rt; net.edge_count(), 1);
+    assert_eq!(rt; net.length(EdgeId(0)), 100_000_000);
+    let net = read_network(rt.alloc(), b"edge,from,to,line\n")?;
+    assert_eq!(rt; (net.edge_count(), net.node_count()), (0, 0));
+    Ok(())
+}
+
+// One part in one pass, and parts with blanks, of ten digits and of many zeros.
+#[test]
+fn coordinates_of_many_spellings(rt: HostRuntime) -> Result<(), Fail> {
+    let file =
+        b"edge,from,to,line\n10,1,2,-123456789 -7;-0123456789 0;-123450000\t0;-123400000 12345678 \n";
+    let net = read_network(rt.alloc(), file)?;
+    assert_eq!(rt; net.edge_count(), 1);
+    let line = [
+        Point {
+            x: -123_456_789,
+            y: -7,
+        },
+        Point {
+            x: -123_456_789,
+            y: 0,
+        },
+        Point {
+            x: -123_450_000,
+            y: 0,
+        },
+        Point {
+            x: -123_400_000,
+            y: 12_345_678,
+        },
+    ];
+    assert_eq!(rt; net.line(EdgeId(0)), line.as_slice());
+    Ok(())
+}
+
+// Each file, and its first fault.
+#[test]
+fn the_first_fault_of_a_file(rt: HostRuntime) {
+    let files: [(&[u8], &[u8]); 6] = [
+        (b"", b"network: bad header\n"),
+        (
+            b"edge,from,to,line\n10,1,2,0 0\n11,2,3,10000 0;20000 0\n",
+            b"network record 1: line too short\n",
+        ),
+        (
+            b"edge,from,to,line\n10,1,2,0 0;100000001 0\n",
+            b"network record 1: edge too long\n",
+        ),
+        (
+            b"edge,from,to,line\n4294967296,1,2,0 0;+1 0\n",
+            b"network record 1 field 4: bad number\n",
+        ),
+        (
+            b"edge,from,to,line\n10,1,2,0 0;10000 0\n11,2,3,10000 0;20000 0\n10,3,4,5 5;5 5\n",
+            b"network record 3: edge id repeated\n",
+        ),
+        (
+            b"edge,from,to,line\n10,1,2,0 0;10000 0\n11,2,3,10000 0;20000 0\n12,3,4,5 5;5 5\n",
+            b"network record 3 point 2: point repeated\n",
+        ),
+    ];
+    for (file, line) in files {
+        assert!(rt; is_refused(rt.alloc(), file, line));
+    }
+}
+
+#[test]
+fn a_file_above_the_limit(rt: HostRuntime) -> Result<(), Fail> {
+    let bytes = vec![in rt.alloc(); b'0'; FILE_LIMIT + 1]?;
+    let line = b"network: file too long\n";
+    assert!(rt; is_refused(rt.alloc(), bytes.as_slice(), line));
+    Ok(())
+}
+
+// Each fault, and its line.
+#[test]
+fn the_lines_of_the_faults(rt: HostRuntime) {
+    let lines: [(NetworkFault, &[u8]); 12] = [
+        (NetworkFault::BadHeader, b"network: bad header\n"),
+        (
+            NetworkFault::FieldCount(1),
+            b"network record 1: wrong number of fields\n",
+        ),
+        (
+            NetworkFault::BadNumber(1, 2),
+            b"network record 1 field 2: bad number\n",
+        ),
+        (
+            NetworkFault::OutOfRange(1, 3),
+            b"network record 1 field 3: out of range\n",
+        ),
+        (
+            NetworkFault::DuplicateEdge(3),
+            b"network record 3: edge id repeated\n",
+        ),
+        (
+            NetworkFault::ShortLine(4),
+            b"network record 4: line too short\n",
+        ),
+        (
+            NetworkFault::RepeatedPoint(3, 2),
+            b"network record 3 point 2: point repeated\n",
+        ),
+        (
+            NetworkFault::EdgeTooLong(1),
+            b"network record 1: edge too long\n",
+        ),
+        (
+            NetworkFault::TooManyEdges(150_001),
+            b"network record 150001: too many edges\n",
+        ),
+        (
+            NetworkFault::TooManyNodes(30_001),
+            b"network record 30001: too many nodes\n",
+        ),
+        (
+            NetworkFault::TooManyPoints(9),
+            b"network record 9: too many points\n",
+        ),
+        (NetworkFault::FileTooLong, b"network: file too long\n"),
+    ];
+    for (fault, line) in lines {
+        assert!(rt; has_line(rt.alloc(), fault, line));
+    }
+}

@@ -1,0 +1,40 @@
+-- The plan of the words is that of `follow`.
+use Rattle.std.proofs.Common.{◌≡◌, ◌≢◌, ◌⊎◌, ℕ, List, None, Result, Ok, Err, refl, sym, ap, subst, inl}
+use Rattle.command_line.specs.Work.{plain, plain_work}
+use Rattle.command_line.specs.Words.{command_of}
+use Rattle.command_line.specs.declared.fault.WordsFault.{WordsFault}
+use Rattle.command_line.specs.declared.fault.WordsFault.TheVariants.{Memory, Usage}
+use Rattle.command_line.specs.declared.work.Command.{Command}
+use Rattle.command_line.specs.declared.work.Work.{Work}
+use Rattle.command_line.specs.declared.work.Work.TheVariants.{Match, Follow, Streams, Prove, Check, Table, Town}
+use Rattle.edge_io.specs.State.{ShelfState, SinkState}
+use Rattle.follow_work.specs.Alone.{follow_alone, followed}
+use Rattle.follow_work.specs.Follow.{follow_plan}
+use Rattle.live_pipeline.specs.Living.{LivePerforms}
+use Rattle.live_pipeline.specs.Words.{asked_by, with_follow}
+use Rattle.program_frame.specs.Plan.{Plan}
+use Rattle.program_frame.specs.Refusals.{RefusesWords}
+use Rattle.program_frame.specs.declared.stop.Stop.{Stop}
+use Rattle.program_frame.proofs.Asked as frame
+
+pub words_refuse : (words : List (List ℕ)) (fault : WordsFault) (shelf : ShelfState) (out : SinkState) (stop : Stop) → (fault ≡ Memory) ⊎ (command_of (with_follow words) ≡ Err fault) → RefusesWords fault stop → LivePerforms (asked_by words) shelf shelf out out (Err stop)
+words_refuse words fault shelf out stop known refuses = inl (frame.words_refuse follow_alone (with_follow words) fault shelf out stop known refuses)
+
+-- the words ask for another work
+no_follow : (work : Work) (options : _) → ((network traces : _) → work ≢ Follow network traces) → followed (plain_work work) options ≡ None
+no_follow (Match network traces table) options other = refl
+no_follow (Follow network traces) options other = absurd (other network traces refl)
+no_follow (Streams network traces) options other = refl
+no_follow (Prove network traces) options other = refl
+no_follow (Check network traces certificate) options other = refl
+no_follow (Table network) options other = refl
+no_follow (Town side traces seed) options other = refl
+
+pub other_refuse : (words : List (List ℕ)) (command : Command) (shelf : ShelfState) (out : SinkState) (stop : Stop) → command_of (with_follow words) ≡ Ok (plain command) → ((network traces : _) → command.work ≢ Follow network traces) → RefusesWords Usage stop → LivePerforms (asked_by words) shelf shelf out out (Err stop)
+other_refuse words command shelf out stop is other refuses =
+    inl (frame.others_refuse follow_alone (with_follow words) (plain command) shelf out stop is (no_follow command.work command.options other) refuses)
+
+-- the words ask for `follow`
+pub asked_follow : (words : List (List ℕ)) (command : Command) (network traces : _) (shelf shelf' : ShelfState) (out out' : SinkState) (ended : Result (Unit {0}) Stop) → command_of (with_follow words) ≡ Ok (plain command) → command.work ≡ Follow network traces → LivePerforms (Ok (follow_plan network.now traces.now command.options)) shelf shelf' out out' ended → LivePerforms (asked_by words) shelf shelf' out out' ended
+asked_follow words command network traces shelf shelf' out out' ended known is performs =
+    subst (λ (a : Result Plan (List ℕ)). LivePerforms a shelf shelf' out out' ended) (sym (frame.asked_is follow_alone (with_follow words) (plain command) (follow_plan network.now traces.now command.options) known (ap (λ (w : Work). followed (plain_work w) command.options) is))) performs

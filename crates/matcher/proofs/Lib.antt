@@ -1,4 +1,0 @@
-pub mod AskedRows
-pub mod Asking
-pub mod Counting
-pub mod Traces

@@ -1,0 +1,11 @@
+pub mod AcceptedOptions
+pub mod Asked
+pub mod Lines
+pub mod LiveProgram
+pub mod ProvedTexts
+pub mod TableFiles
+pub mod Workers
+pub mod ReadIds
+pub mod ReadNetworks
+pub mod ProvedFiles
+pub mod ProvedRuns

@@ -1,0 +1,158 @@
+"""What tools/package reads from the sources: the commands, options and ranges of the programs, and the recipes.
+
+Commands and options come from crates/command_line/src, defaults from crates/cost_model/src, descriptions from docs/fmm.1. If these
+do not agree, `Wrong` says how, so that no option is left out of the completions.
+"""
+import functools
+import os
+import re
+import subprocess
+
+WIDEST = 4_294_967_295
+KINDS = {"NET": "file", "TRACES": "file", "CERT": "file", "N": "number", "T": "number", "SEED": "number"}
+SHOWN = {"NET": "NETWORK", "CERT": "CERTIFICATE"}
+
+
+class Wrong(Exception):
+    """A fault that ends tools/package. The text says what is wrong."""
+
+
+class Argument:
+    """An argument of a command: its name in the manual page, whether it is a file, and the range if it is a number."""
+
+    def __init__(self, name, ranges):
+        if name not in KINDS:
+            raise Wrong(f"packaging/facts.py does not say whether the argument {name} is a file or a number")
+        self.name, self.is_file, self.range = SHOWN.get(name, name), KINDS[name] == "file", ranges.get(name)
+
+
+class Option:
+    """An option: its name, the name of its value, whether that is a file, its range, and its description."""
+
+    def __init__(self, name, value, range_, text):
+        self.name, self.value, self.is_file, self.range, self.text = name, value, range_ is None, range_, text
+
+
+class Command:
+    """A command: its name, its arguments in order, its options, and its description."""
+
+    def __init__(self, name, arguments, options, text):
+        self.name, self.arguments, self.options, self.text = name, arguments, options, text
+
+
+class Recipe:
+    """A recipe: the name of its script, and its description."""
+
+    def __init__(self, name, text):
+        self.name, self.text = name, text
+
+
+def read(*path):
+    try:
+        with open(os.path.join(*path), encoding="utf-8") as file:
+            return file.read()
+    except OSError as fault:
+        raise Wrong(f"{fault.filename}: {fault.strerror}") from None
+
+
+def found(pattern, text, what, flags=0):
+    match = re.search(pattern, text, re.S | flags)
+    if not match:
+        raise Wrong(f"{what} is not where packaging/facts.py looks for it")
+    return match
+
+
+def names(text):
+    """The texts of a list of literals, or the variants of ValueName in a list."""
+    return re.findall(r'"(\w+)"', text) or re.findall(r"ValueName::(\w+)", text)
+
+
+def number(text):
+    return WIDEST if text == "u32::MAX" else int(text.replace("_", ""))
+
+
+def manual(top):
+    """The manual page: its options as {name: (value, text)}, and the first sentence that begins with each command."""
+    options, texts = {}, {}
+    page = read(top, "docs", "fmm.1")
+    for name, value, text in re.findall(r'^\.TP\n\.BI \\-\\-(\w+) " (\w+)"\n(.*)$', page, re.M):
+        options[name] = value, text.replace("\\-", "-")
+    prose = found(r"^\.SH DESCRIPTION\n(.*?)^\.SH", page, "the description in docs/fmm.1", re.M)[1]
+    for sentence in re.split(r"\.\s|^\..*\n", prose.replace("\\-", "-"), flags=re.M):
+        name, _, text = " ".join(sentence.split()).partition(" ")
+        texts.setdefault(name, text)
+    return options, texts
+
+
+def commands(top):
+    """All commands of fmm, in the order of the manual page."""
+    source = os.path.join(top, "crates", "command_line", "src")
+    values, syntax = read(source, "value.rt"), read(source, "syntax.rt")
+    name_of = dict(re.findall(r'ValueName::(\w+) => "(\w+)"', values))
+    ranges = {name_of[variant]: (number(least), number(most)) for variant, least, most
+              in re.findall(r"ValueName::(\w+) => \(([\w:]+), ([\w:]+)\)", values)}
+    shared = found(r"OPTIONS: \[ValueName; (\d+)\] = \[(.*?)\];", values, "the list of options in value.rt")
+    shared_names = [name_of[variant] for variant in names(shared[2])]
+    count = int(found(r"FORMS: \[Form; (\d+)\]", syntax, "the number of commands in syntax.rt")[1])
+    if len(shared_names) != int(shared[1]):
+        raise Wrong("packaging/facts.py does not find all options in value.rt")
+
+    model = os.path.join(top, "crates", "cost_model", "src")
+    default = found(r"pub const DEFAULT: Params = Params \{(.*?)\};",
+                    "".join(read(model, name) for name in sorted(os.listdir(model))), "the default of the options")[1]
+    defaults = {name: number(value) for name, value in re.findall(r"(\w+): ([\w:]+),", default)}
+    described, texts = manual(top)
+
+    def option(name):
+        if name not in described:
+            raise Wrong(f"docs/fmm.1 does not describe --{name}")
+        value, text = described[name]
+        if name not in shared_names:
+            return Option(name, value, None, text)
+        if name not in ranges or name not in defaults:
+            raise Wrong(f"packaging/facts.py does not find the range and the default of --{name}")
+        least, most = ranges[name]
+        said = f"{least:,} to {most:,}"
+        if said not in text:
+            raise Wrong(f"docs/fmm.1 does not say of --{name}: {said}")
+        said = f"default {defaults[name]:,}"
+        if said not in text and not (defaults[name] == most and text.endswith("the default")):
+            raise Wrong(f"docs/fmm.1 does not say of --{name}: {said}")
+        return Option(name, value, ranges[name], text)
+
+    forms = {}
+    for path in sorted(os.listdir(os.path.join(source, "works"))):
+        form = re.search(r'FORM: Form = Form \{\s*name: "(\w+)",\s*options: &\[(.*?)\],\s*arguments: &\[(.*?)\],',
+                         read(source, "works", path), re.S)
+        if form:
+            forms[form[1]] = names(form[2]), names(form[3])
+    if len(forms) != count:
+        raise Wrong(f"packaging/facts.py finds {len(forms)} of {count} commands in {source}/works")
+    answer = []
+    for name in forms:
+        if name not in texts:
+            raise Wrong(f"docs/fmm.1 has no sentence that begins with the command {name}")
+    for name in sorted(forms, key=list(texts).index):
+        options, arguments = forms[name]
+        answer.append(Command(name, [Argument(each, ranges) for each in arguments],
+                              [option(each) for each in shared_names + options], texts[name]))
+    return answer
+
+
+@functools.cache
+def recipes(top):
+    """The scripts of the folder recipes that are called by name. The description is the first sentence of their help."""
+    folder, answer = os.path.join(top, "recipes"), []
+    for name in sorted(os.listdir(folder)):
+        kind = os.path.splitext(name)[1]
+        if kind not in (".awk", ".sh", ".py") or kind == ".py" and not read(folder, name).startswith("#!"):
+            continue
+        path, text = os.path.join(folder, name), ""
+        call = {".awk": ["awk", "-f", path, "--"], ".sh": ["bash", path], ".py": ["python3", "-B", path]}[kind]
+        run = subprocess.run([*call, "--help"], stdin=subprocess.DEVNULL, capture_output=True, text=True, timeout=30,
+                             env={**os.environ, "LC_ALL": "C.UTF-8", "COLUMNS": "132"})
+        if run.returncode == 0 and "\n\n" in run.stdout:
+            paragraph = " ".join(run.stdout.split("\n\n")[1].split())
+            text = re.match(r"(?:[A-Z].*?[^ .][.:](?= |$))?", paragraph)[0].replace(":", ".")
+        answer.append(Recipe(name, text))
+    return answer
