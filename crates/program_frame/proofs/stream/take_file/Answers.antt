@@ -44,7 +44,7 @@ loop-chunks-preserved g c =
     let inv = c.loop-chunks.invariant in
     let next = next_read c.args.name.now (g.S.Shelf.state c.args.shelf.now) (g.S.Shelf.state c.loop-chunks.shelf) (g.S.Shelf.state c.next.new.shelf) c.loop-chunks.chunks.at c.next.new.self.at c.next.new.self.bytes.items c.deref.result.now c.in_ok-next.field-0 c.loop-chunks.invariant.same c.deref.ensures.value c.if-branch.true c.in_ok-next.ensures in
     let takes = subst (λ j. IsBetween j (g.J.Job.has c.take_chunk.new.self.job) (g.K.Sink.state c.args.out.now) (g.K.Sink.state c.take_chunk.new.out) (inv.reading.fed ++ c.deref.result.now) c.take_chunk.new.self.reader c.take_chunk.new.self.waiting) inv.text
-        (c.in_ok-take_chunk.ensures.takes (g.K.Sink.state c.args.out.now) inv.reading.fed (subst (λ j. IsBetween j (g.J.Job.has c.loop-chunks.batches.job) (g.K.Sink.state c.args.out.now) (g.K.Sink.state c.loop-chunks.out) inv.reading.fed c.loop-chunks.batches.reader c.loop-chunks.batches.waiting) (sym inv.text) inv.reading.between)) in
+    (c.in_ok-take_chunk.ensures.takes (g.K.Sink.state c.args.out.now) inv.reading.fed (subst (λ j. IsBetween j (g.J.Job.has c.loop-chunks.batches.job) (g.K.Sink.state c.args.out.now) (g.K.Sink.state c.loop-chunks.out) inv.reading.fed c.loop-chunks.batches.reader c.loop-chunks.batches.waiting) (sym inv.text) inv.reading.between)) in
     record {
       text = c.take_chunk.ensures.text ∙ inv.text;
       reading = reading_more (g.J.Job.has c.take_chunk.new.self.job) (g.K.Sink.state c.take_chunk.new.out) c.next.new.self.at c.deref.result.now c.take_chunk.new.self.reader c.take_chunk.new.self.waiting inv.reading (next.2 inv.reading.fed (are_read inv.reading inv.within)) takes;
@@ -61,7 +61,7 @@ returns-in_err-take_chunk-clause-takes g c =
     let next = next_read c.args.name.now (g.S.Shelf.state c.args.shelf.now) (g.S.Shelf.state c.loop-chunks.shelf) (g.S.Shelf.state c.next.new.shelf) c.loop-chunks.chunks.at c.next.new.self.at c.next.new.self.bytes.items c.deref.result.now c.in_ok-next.field-0 c.loop-chunks.invariant.same c.deref.ensures.value c.if-branch.true c.in_ok-next.ensures in
     let p = err_from_is_err_and c.from_residual-in_err-take_chunk.result c.from_residual-in_err-take_chunk.ensures.1 in
     let stops = subst (λ j. StopsAt (bytes_give j) (g.K.Sink.state c.args.out.now) (g.K.Sink.state c.take_chunk.new.out) (inv.reading.fed ++ c.deref.result.now) c.in_err-take_chunk.field-0.0) inv.text
-        (c.in_err-take_chunk.ensures.takes (g.K.Sink.state c.args.out.now) inv.reading.fed (subst (λ j. IsBetween j (g.J.Job.has c.loop-chunks.batches.job) (g.K.Sink.state c.args.out.now) (g.K.Sink.state c.loop-chunks.out) inv.reading.fed c.loop-chunks.batches.reader c.loop-chunks.batches.waiting) (sym inv.text) inv.reading.between)) in
+    (c.in_err-take_chunk.ensures.takes (g.K.Sink.state c.args.out.now) inv.reading.fed (subst (λ j. IsBetween j (g.J.Job.has c.loop-chunks.batches.job) (g.K.Sink.state c.args.out.now) (g.K.Sink.state c.loop-chunks.out) inv.reading.fed c.loop-chunks.batches.reader c.loop-chunks.batches.waiting) (sym inv.text) inv.reading.between)) in
     rw (p.1, p.2) (reading_stop (g.S.Shelf.state c.next.new.shelf) (g.K.Sink.state c.take_chunk.new.out) c.next.new.self.at c.deref.result.now c.in_err-take_chunk.field-0.0 inv.reading next.1 next.0 (next.2 inv.reading.fed (are_read inv.reading inv.within)) stops)
 
 pub returns-clause-text : goal.returns-clause-text
