@@ -1,49 +1,78 @@
 #!/usr/bin/env python3
-"""csv_traces.py --ids IDS [--zone 32N] [--columns ID,LONGITUDE,LATITUDE,TIME] [FILE] > TRACES
+"""csv_traces.py --ids IDS [--zone 32N | --metres] [--columns ID,LONGITUDE,LATITUDE,TIME] [FILE] > TRACES
 
-Makes a trace file of a table of positions, or of the standard input. --columns names the four columns in the header
-(vehicle,longitude,latitude,time by default), or three where there is no time. Ids may be any text; IDS becomes a table of
-trace numbers and ids. With a zone the positions are degrees, without one metres. Times are ISO times or seconds.
+Turns a table of positions, or standard input, into a trace file. Ids may be any text; IDS gets the number and the id of each
+trace. Times are ISO times, in UTC if they name no zone, or seconds since 1970.
 
-The rows come out in the order of the table. Where a fleet is mixed, sort them by trace and time behind the script:
+  --columns   the names of the columns of id, x, y and time (vehicle,longitude,latitude,time by default); three if the table
+              has no times
+  --zone      the positions are degrees, and this is the UTM zone of the network
+  --metres    the positions are metres of the network's projection, even if they look like degrees
+
+Without --zone the positions are metres, and positions that look like degrees are refused. The rows keep the order of the
+table. If vehicles alternate in it, sort the rows by trace and time:
 
     csv_traces.py .. | { IFS= read -r header; echo "$header"; sort -s -t, -k1,1n -k4,4n; } > TRACES
 """
-import argparse
 import csv
-import sys
+import itertools
 
+from script import Files, Parser, Wrong, lines, number, project, run, zone
 from trace_rows import Ids, seconds
-from utm import Zone
+
+LOOK = 1000  # the number of positions that decide whether they look like degrees
+
+
+def places(args, name, rows, columns):
+    """The id, the place in centimetres and the time of each row."""
+    for row in rows:
+        if not row:
+            continue
+        if len(row) <= max(columns):
+            raise Wrong(f"{name} line {rows.line_num}: {len(row)} fields, and the header has more")
+        vehicle, x, y, *time = (row[column] for column in columns)
+        x, y = number(x, name, rows.line_num), number(y, name, rows.line_num)
+        if args.zone:
+            x, y = project(args.zone, x, y, name, rows.line_num)
+        elif max(abs(x), abs(y)) > 10_000_000:
+            raise Wrong(f"{name} line {rows.line_num}: {x} {y} is farther away than fmm takes: are these centimetres?")
+        else:
+            x, y = round(100 * x), round(100 * y)
+        try:
+            time = [seconds(text) for text in time]
+        except ValueError as fault:
+            raise Wrong(f"{name} line {rows.line_num}: {fault}") from None
+        yield vehicle, x, y, time
 
 
 def main():
-    parser = argparse.ArgumentParser()
+    parser = Parser(__doc__)
     parser.add_argument("--ids", required=True)
-    parser.add_argument("--zone", type=Zone)
+    parser.add_argument("--zone", type=zone)
+    parser.add_argument("--metres", action="store_true")
     parser.add_argument("--columns", default="vehicle,longitude,latitude,time")
     parser.add_argument("file", nargs="?")
     args = parser.parse_args()
-    file = open(args.file, encoding="utf-8-sig", newline="") if args.file else sys.stdin
-    rows = csv.reader(file)
-    header, wanted = next(rows, []), args.columns.split(",")
-    if len(wanted) not in (3, 4) or any(name not in header for name in wanted):
-        sys.exit(f"the header is {','.join(header)}; name its columns of id, x, y and time with --columns")
-    places = [header.index(name) for name in wanted]
-    ids, timed = Ids(), len(wanted) == 4
-    print("trace,x,y,time" if timed else "trace,x,y")
-    for row in rows:
-        name, x, y, *time = (row[place] for place in places)
-        try:
-            x, y = args.zone.project(float(x), float(y)) if args.zone else (round(100 * float(x)), round(100 * float(y)))
-        except ValueError:
-            sys.exit(f"line {rows.line_num}: {x} {y} is no position")
-        print(ids.of(name), x, y, *(seconds(t) for t in time), sep=",")
-    ids.write(args.ids, ["id"])
+    if args.zone and args.metres:
+        parser.error("--zone is for degrees; --metres excludes it")
+    name = args.file or "standard input"
+    rows = csv.reader(lines(args.file))
+    header, wanted = next(rows), args.columns.split(",")
+    missing = [column for column in wanted if column not in header]
+    if len(wanted) not in (3, 4) or missing:
+        raise Wrong(f"{name}: the header is {','.join(header)[:80]}; name its columns of id, x, y and time with --columns")
+    ids, found = Ids(), places(args, name, rows, [header.index(column) for column in wanted])
+    begin = list(itertools.islice(found, LOOK))
+    if not begin:
+        raise Wrong(f"{name} has a header and no positions")
+    if not (args.zone or args.metres) and all(abs(x) <= 18_000 and abs(y) <= 18_000 for _, x, y, _ in begin):
+        raise Wrong(f"{name}: the positions look like degrees; give the network's --zone, or --metres if these are metres")
+    print("trace,x,y,time" if len(wanted) == 4 else "trace,x,y")
+    for vehicle, x, y, time in itertools.chain(begin, found):
+        print(ids.of(vehicle), x, y, *time, sep=",")
+    with Files() as files:
+        ids.write(files, args.ids, ["id"])
 
 
 if __name__ == "__main__":
-    try:
-        main()
-    except OSError as fault:
-        sys.exit(str(fault))
+    run(main)

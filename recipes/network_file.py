@@ -1,5 +1,4 @@
-"""Writes a network file, and beside it a lookup table that says for each edge from where it came."""
-import csv
+"""Writes a network file, and a lookup table that shows the origin of each edge."""
 import sys
 
 LIMITS = {"edges": 150_000, "nodes": 60_000, "points": 1_000_000}
@@ -8,18 +7,16 @@ LIMITS = {"edges": 150_000, "nodes": 60_000, "points": 1_000_000}
 class NetworkFile:
     """Takes streets between crossings. A street that is open both ways becomes two edges."""
 
-    def __init__(self, network_path, lookup_path, columns):
-        self.network = open(network_path, "w", encoding="utf-8", newline="\n")
-        self.lookup = open(lookup_path, "w", encoding="utf-8", newline="")
-        self.rows = csv.writer(self.lookup, lineterminator="\n")
+    def __init__(self, files, network_path, lookup_path, columns):
+        self.network = files.open(network_path)
+        self.rows = files.table(lookup_path, ["edge", "direction", *columns])
         self.network.write("edge,from,to,line\n")
-        self.rows.writerow(["edge", "direction", *columns])
         self.edges, self.nodes, self.points = 0, set(), 0
 
     def add(self, begin, end, line, forward, backward, about):
-        """A street from node `begin` to node `end` along `line`, points in whole centimetres, open in the ways said."""
+        """Adds a street from node `begin` to node `end` along `line`, in whole centimetres, open forward, backward or both."""
         kept = line[:1] + [q for p, q in zip(line, line[1:]) if p != q]
-        if len(kept) == 1:  # the whole street lies within one centimetre: an edge needs two points
+        if len(kept) == 1:  # the whole street is within one centimetre, and an edge needs two points
             kept.append((kept[0][0] + 1, kept[0][1]))
         if forward:
             self._write(begin, end, kept, "forward", about)
@@ -33,12 +30,14 @@ class NetworkFile:
         self.network.write(f"{self.edges},{begin},{end}," + ";".join(f"{x} {y}" for x, y in line) + "\n")
         self.rows.writerow([self.edges, direction, *about])
 
-    def close(self):
-        """Ends both files, says what is in them, and warns where FMM will refuse the network."""
-        self.network.close()
-        self.lookup.close()
+    def report(self):
+        """Shows the size of the network, and warns if fmm will refuse it."""
         counts = {"edges": self.edges, "nodes": len(self.nodes), "points": self.points}
         print("network: " + ", ".join(f"{n} {what}" for what, n in counts.items()), file=sys.stderr)
         for what, limit in LIMITS.items():
             if counts[what] > limit:
                 print(f"warning: fmm takes at most {limit} {what}; cut the map or take fewer classes", file=sys.stderr)
+
+
+if __name__ == "__main__":
+    print(__doc__)

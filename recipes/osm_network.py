@@ -1,16 +1,22 @@
 #!/usr/bin/env python3
 """osm_network.py MAP.osm NETWORK LOOKUP [--roads main|cars|all] [--both-ways] [--zone 32N]
 
-Makes a network file of the streets of an OpenStreetMap XML file. Streets are split where they share a node. LOOKUP becomes
-a table of edge ids, OpenStreetMap way ids, classes and names. The zone of the projection (UTM) is told on the error output:
-the traces need the same one. By default it is that of the middle of the map.
+Turns the streets of an OpenStreetMap XML file into a network file. Streets are split at the nodes that they share. LOOKUP
+gets a row for each edge: its id, its direction along the way, and the id, class and name of the way. Standard error shows the
+UTM zone of the projection. The traces need the same zone.
+
+  --roads       main keeps motorways to tertiary roads, cars (the default) all streets for cars, all keeps paths too
+  --both-ways   opens every street in both directions, for pedestrians
+  --zone        the zone; by default that of the middle of the map
+
+If the map is a PBF file, make XML of its roads first: osmium tags-filter map.osm.pbf w/highway -o roads.osm
 """
-import argparse
 import collections
 import sys
 import xml.parsers.expat
 
 from network_file import NetworkFile
+from script import Files, Parser, Wrong, number, open_bytes, progress_of, run, zone
 from utm import Zone
 
 MAIN = {"motorway", "trunk", "primary", "secondary", "tertiary"}
@@ -21,26 +27,52 @@ NO_ROADS = {"construction", "proposed", "planned", "abandoned", "razed", "disuse
 
 
 class Map:
-    """The nodes of the file as degrees, and its wanted ways as (id, node ids, tags)."""
+    """The nodes of the file in degrees, and the ways that are kept as (id, node ids, tags)."""
 
     def __init__(self, roads):
         self.roads, self.nodes, self.ways, self.way = roads, {}, [], None
 
     def read(self, path):
-        parser = xml.parsers.expat.ParserCreate()
-        parser.StartElementHandler, parser.EndElementHandler = self.begin, self.end
-        with open(path, "rb") as file:
-            parser.ParseFile(file)
+        self.path, self.root = path, None
+        self.parser = xml.parsers.expat.ParserCreate()
+        self.parser.StartElementHandler, self.parser.EndElementHandler = self.begin, self.end
+        file = open_bytes(path)
+        progress = progress_of(path, file)
+        try:
+            for block in iter(lambda: file.read1(1 << 16), b""):
+                self.parser.Parse(block, False)
+                progress.add(len(block))
+            self.parser.Parse(b"", True)
+        except xml.parsers.expat.ExpatError as fault:
+            cut = self.root and str(fault).startswith(("no element found", "unclosed token"))
+            raise Wrong(f"{path} is cut: its XML does not end (line {fault.lineno})" if cut else
+                        f"{path} is not the XML of OpenStreetMap: {fault}") from None
+        finally:
+            progress.end()
 
     def begin(self, name, attributes):
-        if name == "node" and "lat" in attributes:
-            self.nodes[attributes["id"]] = float(attributes["lon"]), float(attributes["lat"])
-        elif name == "way":
-            self.way = attributes["id"], [], {}
-        elif self.way and name == "nd":
-            self.way[1].append(attributes["ref"])
-        elif self.way and name == "tag":
-            self.way[2][attributes["k"]] = attributes["v"]
+        if self.root is None:
+            self.root = name
+            if name != "osm":
+                raise Wrong(f"{self.path} is not OpenStreetMap XML: its root is <{name}>, not <osm>")
+        try:
+            if name == "node" and "lat" in attributes:
+                self.nodes[attributes["id"]] = self.degrees(attributes)
+            elif name == "way":
+                self.way = attributes["id"], [], {}
+            elif self.way and name == "nd":
+                self.way[1].append(attributes["ref"])
+            elif self.way and name == "tag":
+                self.way[2][attributes["k"]] = attributes["v"]
+        except KeyError as fault:
+            raise Wrong(f"{self.path} line {self.parser.CurrentLineNumber}: <{name}> lacks {fault.args[0]}") from None
+
+    def degrees(self, attributes):
+        line = self.parser.CurrentLineNumber
+        longitude, latitude = (number(attributes[name], self.path, line) for name in ("lon", "lat"))
+        if abs(longitude) > 180 or abs(latitude) > 90:
+            raise Wrong(f"{self.path} line {line}: {longitude} {latitude} is not a longitude and a latitude")
+        return longitude, latitude
 
     def end(self, name):
         if name == "way":
@@ -70,7 +102,7 @@ def ways_open(tags):
 
 
 def parts(refs, nodes, crossings):
-    """The way cut at its crossings. What leads to a node that the file does not have is left out."""
+    """Splits a way at its crossings. Parts that lead to an unknown node are left out."""
     part = []
     for ref in refs:
         if ref not in nodes:
@@ -84,36 +116,39 @@ def parts(refs, nodes, crossings):
 
 
 def main():
-    parser = argparse.ArgumentParser()
+    parser = Parser(__doc__)
     for name in ("map", "network", "lookup"):
         parser.add_argument(name)
     parser.add_argument("--roads", choices=("main", "cars", "all"), default="cars")
-    parser.add_argument("--both-ways", action="store_true", help="for people on foot: every street is open both ways")
-    parser.add_argument("--zone", type=Zone)
+    parser.add_argument("--both-ways", action="store_true")
+    parser.add_argument("--zone", type=zone)
     args = parser.parse_args()
     streets = Map(args.roads)
     streets.read(args.map)
     uses = collections.Counter(ref for _, refs, _ in streets.ways for ref in refs if ref in streets.nodes)
+    if not streets.ways:
+        raise Wrong(f"{args.map} has no streets of --roads {args.roads}")
     if not uses:
-        sys.exit("no streets in this map")
+        raise Wrong(f"{args.map} has ways and not their nodes: export the nodes of the ways too")
     middle = [sorted(streets.nodes[ref][i] for ref in uses)[len(uses) // 2] for i in (0, 1)]
-    zone = args.zone or Zone.of(*middle)
-    print(f"zone: {zone.name} (EPSG:{zone.epsg})", file=sys.stderr)
-    file = NetworkFile(args.network, args.lookup, ["way", "class", "street"])
-    for way, refs, tags in streets.ways:
-        known = [ref in streets.nodes for ref in refs] + [False]
-        # a way also ends where the next node is unknown
-        ends = {ref for i, ref in enumerate(refs) if i == 0 or not known[i - 1] or not known[i + 1]}
-        crossings = ends | {ref for ref in refs if uses[ref] > 1}
-        forward, backward = (True, True) if args.both_ways else ways_open(tags)
-        for part in parts(refs, streets.nodes, crossings):
-            line = [zone.project(*streets.nodes[ref]) for ref in part]
-            file.add(part[0], part[-1], line, forward, backward, [way, tags["highway"], tags.get("name", "")])
-    file.close()
+    projection = args.zone or Zone.of(*middle)
+    print(f"zone: {projection.name} (EPSG:{projection.epsg})", file=sys.stderr)
+    with Files() as files:
+        file = NetworkFile(files, args.network, args.lookup, ["way", "class", "street"])
+        for way, refs, tags in streets.ways:
+            known = [ref in streets.nodes for ref in refs] + [False]
+            # a way also ends where the next node is unknown
+            ends = {ref for i, ref in enumerate(refs) if i == 0 or not known[i - 1] or not known[i + 1]}
+            crossings = ends | {ref for ref in refs if uses[ref] > 1}
+            forward, backward = (True, True) if args.both_ways else ways_open(tags)
+            for part in parts(refs, streets.nodes, crossings):
+                try:
+                    line = [projection.project(*streets.nodes[ref]) for ref in part]
+                except ValueError as fault:
+                    raise Wrong(f"{args.map} way {way}: {fault}") from None
+                file.add(part[0], part[-1], line, forward, backward, [way, tags["highway"], tags.get("name", "")])
+        file.report()
 
 
 if __name__ == "__main__":
-    try:
-        main()
-    except OSError as fault:
-        sys.exit(str(fault))
+    run(main)

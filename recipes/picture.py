@@ -51,22 +51,21 @@ class Picture:
         self.parts.append(f'<path d="M{MARGIN},{y - 6} v6 H{far:.1f} v-6" fill="none" stroke="#444"/>')
         self.text(far + 8, y, f"{metres} m")
 
-    def write(self, path):
-        with open(path, "w", encoding="utf-8") as file:
-            file.write(f'<svg xmlns="http://www.w3.org/2000/svg" width="{self.width}" height="{self.height}" '
-                       f'viewBox="0 0 {self.width} {self.height}">\n<rect width="100%" height="100%" fill="white"/>\n')
-            file.write("\n".join(self.parts) + "\n</svg>\n")
+    def write(self, file):
+        file.write(f'<svg xmlns="http://www.w3.org/2000/svg" width="{self.width}" height="{self.height}" '
+                   f'viewBox="0 0 {self.width} {self.height}">\n<rect width="100%" height="100%" fill="white"/>\n')
+        file.write("\n".join(self.parts) + "\n</svg>\n")
 
 
-def draw(path, network, drives):
+def draw(file, network, drives):
     """Draws drives, each a trace's id, its points, its labels and its pieces, on the roads near them."""
     matched = [place_on(network[label[0]], label[1]) for _, _, labels, _ in drives for label in labels if label]
     driven = [place for _, _, labels, pieces in drives for p in pieces for place in route_line(network, labels, p)]
     picture = Picture([(x, y) for _, points, _, _ in drives for x, y, _ in points] + matched + driven)
     road = min(10, max(1.5, 900 * picture.scale))
-    for edge, line in network.items():
-        if picture.shows(line):
-            picture.line(line, "#d9d9d9", road, f"edge {edge}")
+    for number, edge in network.items():
+        if picture.shows(edge.line):
+            picture.line(edge.line, "#d9d9d9", road, f"edge {number}")
     colours = [COLOURS[place % len(COLOURS)] for place in range(len(drives))]
     for place, (trace, points, labels, pieces) in enumerate(drives):
         picture.arrow(place, colours[place])
@@ -84,4 +83,8 @@ def draw(path, network, drives):
         x, y = picture.at(points[0][:2])
         picture.text(min(x + 8, picture.width - 80), y - 12, f"trace {trace}", colour)
     picture.scale_bar()
-    picture.write(path)
+    picture.write(file)
+
+
+if __name__ == "__main__":
+    print(__doc__)

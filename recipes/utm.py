@@ -18,7 +18,7 @@ class Zone:
     def __init__(self, name):
         found = re.fullmatch(r"([0-9]{1,2})([NS])", name.upper())
         if not found or not 1 <= int(found[1]) <= 60:
-            raise SystemExit(f"{name}: a zone is a number from 1 to 60 with N or S, such as 32N")
+            raise ValueError(f"{name}: a zone is a number from 1 to 60 with N or S, such as 32N")
         self.number, self.south = int(found[1]), found[2] == "S"
         self.name = f"{self.number}{found[2]}"
         self.epsg = (32700 if self.south else 32600) + self.number
@@ -29,7 +29,13 @@ class Zone:
         return cls(f"{int((longitude + 180) // 6) % 60 + 1}{'S' if latitude < 0 else 'N'}")
 
     def project(self, longitude, latitude):
-        """x and y in whole centimetres."""
+        """x and y in whole centimetres. Refuses what is no place, or lies so far from the zone that it is a mistake."""
+        if not (abs(longitude) <= 180 and abs(latitude) <= 90):  # also refuses NaN
+            raise ValueError(f"{longitude} {latitude} is not a longitude and a latitude in degrees")
+        away = abs((longitude - 6 * self.number + 363) % 360 - 180)
+        if away > 30 or abs(latitude) > 89:
+            raise ValueError(f"longitude {longitude}, latitude {latitude} is too far from zone {self.name}: "
+                             "the wrong zone, or longitude and latitude exchanged")
         sine = math.sin(math.radians(latitude))
         turn = math.radians(longitude) - self.middle
         t = math.sinh(math.atanh(sine) - ROUND * math.atanh(ROUND * sine))
@@ -49,3 +55,7 @@ class Zone:
         for _ in range(5):  # from the conformal latitude to the latitude
             sine = math.tanh(math.atanh(math.sin(wanted)) + ROUND * math.atanh(ROUND * sine))
         return math.degrees(self.middle + math.atan2(math.sinh(h), math.cos(s))), math.degrees(math.asin(sine))
+
+
+if __name__ == "__main__":
+    print(__doc__)

@@ -38,11 +38,6 @@ pub gains_keeps : (b : Bool) (x : Waiting) (old new : List Waiting) → Gains b 
 gains_keeps true x old new g y h = Contains-permutation (x ∷ old) new y g (behind x old y h)
 gains_keeps false x old new g y h = subst (λ (k : List Waiting). Contains k y) (sym g) h
 
--- one that was empty has that node alone
-pub gains_one : (b : Bool) (x : Waiting) (old new : List Waiting) → b ≡ true → old ≡ [] → Gains b x old new → IsPermutation (x ∷ []) new
-gains_one true x old new is none g = subst (λ (k : List Waiting). IsPermutation (x ∷ k) new) none g
-gains_one false x old new is none g = absurd (false≢true is)
-
 -- the node that it gains waits
 pub gains_there : (b : Bool) (x : Waiting) (old new : List Waiting) → b ≡ true → Gains b x old new → Contains new x
 gains_there true x old new is g = Contains-permutation (x ∷ old) new x g (in_front x old)

@@ -14,12 +14,12 @@ use crate::table_row::Entry;
 use road_network::{EdgeId, Network, NodeId};
 use std::alloc::{AllocError, Global};
 
-/// The labels of one search as words by node number, the nodes that have one, and the nodes that wait.
+/// The labels of one search as words by node number, the labelled nodes, and the waiting nodes.
 ///
-/// Each labelled node is marked by one bit when its edges are tried. So the entries come out by rising node
-/// number, and what has to be cleared is found, in a look at every 64 nodes.
+/// Each labelled node is marked by one bit when its edges are tried. The marks give the entries in
+/// ascending order, and show what to clear; reading them takes one look for every 64 nodes.
 ///
-/// All words are made for one bound: that of a node without a label is just beyond it.
+/// All words are made for one bound: the word of a node without a label is just beyond it.
 pub struct Workspace {
     pub(crate) bound: u32,
     pub(crate) reach: u32,
@@ -51,20 +51,20 @@ pub(crate) fn mean_length(net: &Network) -> u32 {
     mean.min(u64::from(u32::MAX)) as u32
 }
 
-/// By how much the limit of the queue rises, in cm. Few nodes become nearer after they were taken, and few nodes
-/// are set aside more than once.
+/// By how much the limit of the queue rises, in cm. With this width few nodes become nearer after they were
+/// taken, and few nodes are set aside more than once.
 fn window(net: &Network, bound: u32) -> u32 {
     mean_length(net).saturating_mul(3).max(bound / 64)
 }
 
-/// Up to which distance a node's row is merged, in cm. Within three mean lengths the rows of a few nodes label most
-/// nodes of a row; where the bound is low, a row is found as quickly by its edges.
+/// The distance up to which a node's row is merged, in cm. Within three mean lengths the rows of a few nodes
+/// label most nodes of a row; for a small bound, a row is found as quickly by its edges.
 fn reach(net: &Network, bound: u32) -> u32 {
     mean_length(net).saturating_mul(3).min(bound / 4)
 }
 
 impl Workspace {
-    /// Arrays for the nodes of a network and a bound, with nothing in them.
+    /// Empty arrays for the nodes of a network and a bound.
     pub fn new(alloc: Global, net: &Network, bound: u32) -> Result<Workspace, AllocError>
         requires { bound ≤ 10_000_000 }
         ensures bound { IfOk result (λ w. w.bound ≡ bound) }
@@ -91,7 +91,7 @@ impl Workspace {
         self.marks[node.0 as usize / 64] |= 1 << (node.0 % 64);
     }
 
-    /// Marks a node that waited and tries every edge out of it, unless it has become nearer since.
+    /// Marks a waiting node and tries every edge out of it, unless the node has become nearer since.
     pub(crate) fn leave(&mut self, net: &Network, next: Waiting) -> Result<(), AllocError>
         requires next { HasNode net.now next.node × (next.distance ≤ 10_000_000) }
         requires sized { IsSized (length net.now.nodes) self.old }
@@ -142,7 +142,7 @@ impl Workspace {
         count
     }
 
-    /// Takes the label of a node out, and appends the entry that it gives.
+    /// Removes the label of a node, and appends its entry.
     fn take_entry(&mut self, node: u32, entries: &mut Vec<Entry>) -> Result<(), AllocError>
         requires { (node < length self.old.words.items) × (self.old.bound ≤ 10_000_000) }
         ensures entries { OnOk result (entries.new.items
@@ -163,7 +163,7 @@ impl Workspace {
         Ok(())
     }
 
-    /// Takes out the labels of the nodes that one word marks, and appends their entries by rising node number.
+    /// Removes the labels of the nodes marked in one word, and appends their entries by ascending node number.
     fn take_marked(&mut self, place: usize, entries: &mut Vec<Entry>) -> Result<(), AllocError>
         requires place { (place < length self.old.marks.items) × (length self.old.words.items ≤ 60_000) }
         requires marked { AreMarked (length self.old.words.items) self.old }
@@ -181,7 +181,7 @@ impl Workspace {
         Ok(())
     }
 
-    /// Takes the labels out as entries, by rising node number.
+    /// Removes the labels and returns them as entries, by ascending node number.
     fn take_entries(&mut self, alloc: Global) -> Result<Vec<Entry>, AllocError>
         requires few { length self.old.words.items ≤ 60_000 }
         requires marked { AreMarked (length self.old.words.items) self.old }
@@ -196,7 +196,7 @@ impl Workspace {
         Ok(entries)
     }
 
-    /// The entries of the row of an origin. After Err the arrays have to be cleared.
+    /// The entries of the row of an origin. After `Err` the arrays must be cleared.
     pub fn entries<K: KnownRows>(
         &mut self,
         alloc: Global,
@@ -216,7 +216,7 @@ impl Workspace {
         self.take_entries(alloc)
     }
 
-    /// Empties the arrays after a search that was broken off, in as many steps as they have places.
+    /// Clears the arrays after an interrupted search, in time linear in the number of nodes.
     pub fn clear(&mut self)
         requires { IsSized (length self.old.words.items) self.old }
         ensures bound { self.new.bound ≡ self.old.bound }

@@ -1,4 +1,4 @@
-//! Rows that are known already, which a search may take over. Serves `Searcher::row_from`; decided by `IsRow`.
+//! Rows that are known already, which a search may use. Serves `Searcher::row_from`; decided by `IsRow`.
 ghost use Rattle.std.specs.Prelude.{◌≡◌, IfSome};
 ghost use Rattle.road_network.specs.Net.{HasNode};
 ghost use Rattle.bounded_search.specs.OwnInside.{HoldsRows};
@@ -8,18 +8,18 @@ use crate::table_row::Row;
 use road_network::{Network, NodeId};
 use std::marker::Model;
 
-/// Who knows rows of a network within a bound, so that a search need not find again what they say.
+/// An owner of known rows of a network within a bound, so that a search need not find them again.
 pub trait KnownRows {
-    /// Of which network and bound the rows are.
+    /// The network and the bound of the rows.
     ghost table: { Self → BoundedTable };
 
-    /// The row of a node, if it is known. Takes no memory.
+    /// The row of a node, if it is known. Allocates nothing.
     fn known_row(&self, n: NodeId) -> Option<&Row>
         requires { HasNode (table self.now).network n.0 }
         ensures { IfSome result (λ row. IsRow (table self.now).network (table self.now).bound n.0 row.now) };
 }
 
-/// No row of this network and bound is known.
+/// No known row of this network and bound.
 #[derive(Clone, Copy)]
 pub struct NoRows<'n> {
     pub network: &'n Network,
@@ -34,7 +34,7 @@ impl<'n> KnownRows for NoRows<'n> {
     }
 }
 
-/// The rows in a list with a place for each node.
+/// The rows in a list with one place for each node.
 pub struct HeldRows<'a> {
     network: &'a Network,
     bound: u32,

@@ -25,7 +25,7 @@ pub fn least_word(distance: u32) -> u64
 
 /// The word of a node without a label: the least of all words beyond the bound.
 ///
-/// So what is less than a node's word is both within the bound and better than the label that is there.
+/// So a word below a node's word is both within the bound and better than the node's label.
 pub fn no_label(bound: u32) -> u64
     requires { bound ≤ 10_000_000 }
     ensures { result ≡ no_label bound }
@@ -33,8 +33,8 @@ pub fn no_label(bound: u32) -> u64
     least_word(bound + 1)
 }
 
-/// The word of an arc's length and edge. With the least word of the distance where the arc begins, the sum is
-/// the word of the label that it gives.
+/// The word of an arc's length and edge. Its sum with the least word of the distance at the arc's start is
+/// the word of the new label.
 pub fn step_by(arc: Arc) -> u64
     ensures { result ≡ word_by arc.length arc.edge.0 }
 {
@@ -51,7 +51,7 @@ pub fn word_of(distance: u32, last: Option<EdgeId>) -> u64
     }
 }
 
-/// The distance in a word. That of no label is just beyond the bound.
+/// The distance in a word. For a node without a label it is just beyond the bound.
 pub fn distance_in(word: u64) -> u32
     ensures { result ≡ word / 2 ^ 32 }
 {

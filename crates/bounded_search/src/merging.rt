@@ -1,4 +1,4 @@
-//! How a search takes over what is known of a node: its row. Serves `Workspace::leave`; decided by `merged`.
+//! Uses the known row of a node in a search. Serves `Workspace::label_all`; decided by `merged`.
 ghost use Rattle.std.specs.Prelude.{◌≡◌, ◌<◌, ◌≤◌, ◌/◌, ◌⊎◌, ◌∷◌, [], length, IsTrue, OnOk};
 ghost use Rattle.std.specs.List.{All};
 ghost use Rattle.road_network.specs.Net.{HasNode};
@@ -15,8 +15,8 @@ use road_network::{Network, NodeId};
 use std::alloc::AllocError;
 
 impl Workspace {
-    /// Merges an entry of the row of a node at this distance: its node is marked, and has the entry's label,
-    /// so much farther, if that is better than its own.
+    /// Merges an entry of the row of a node at this distance: marks the entry's node, and gives it the entry's
+    /// label, `distance` farther, if that is better than its own.
     fn merge_entry(&mut self, entry: Entry, distance: u32)
         requires distance { (distance ≤ 10_000_000) × (entry.distance ≤ 10_000_000) }
         requires node { (entry.node.0 < length self.old.words.items) × (entry.node.0 / 64 < length self.old.marks.items) }
@@ -31,7 +31,8 @@ impl Workspace {
         self.words[place] = self.words[place].min(word);
     }
 
-    /// Merges the row of a node at this distance (in cm), entry by entry. Takes no memory, and lets nothing wait.
+    /// Merges the row of a node at this distance (in cm), entry by entry. Allocates nothing, and no node waits
+    /// because of it.
     pub(crate) fn merge(&mut self, row: &Row, distance: u32)
         requires distance { distance ≤ 10_000_000 }
         requires sized { IsSized (length self.old.words.items) self.old }
@@ -46,7 +47,7 @@ impl Workspace {
         }
     }
 
-    /// Leaves a node that waited by merging its row, where it is near and its row is known. False where it does not.
+    /// Leaves a waiting node by merging its row, if the node is near and its row is known. Otherwise false.
     fn leave_by_row<K: KnownRows>(&mut self, net: &Network, known: &K, next: Waiting) -> bool
         requires known { K.table known.now ≡ record { network = net.now; bound = self.old.bound } }
         requires next { HasNode net.now next.node × (next.distance ≤ 10_000_000) }
@@ -68,7 +69,7 @@ impl Workspace {
         true
     }
 
-    /// Leaves a node that waited: by its row, where it is near and its row is known, and else by its edges.
+    /// Leaves a waiting node: by its row, if it is near and its row is known, and otherwise by its edges.
     pub(crate) fn leave_or_merge<K: KnownRows>(
         &mut self,
         net: &Network,

@@ -1,4 +1,4 @@
-//! Rows that one owner finds and keeps. Serves all who ask for rows; decided by `Rows`.
+//! Rows with one owner. Serves all who ask for rows; decided by `Rows`.
 ghost use Rattle.std.specs.Prelude.{◌≡◌, ◌≤◌, ◌↔◌, length, map, Contains, IfOk, OnErr, IsTrue, IsOk};
 ghost use Rattle.road_network.specs.Net.{HasNode};
 ghost use Rattle.bounded_search.specs.Table.{IsRow};
@@ -55,14 +55,14 @@ impl<'n> OwnRows<'n> {
         })
     }
 
-    /// What the known nodes always meet.
+    /// The invariant of the known nodes.
     pub fn known(&self)
         ensures { IsKnownList self.now.network self.now.known }
     {
         let _ = &self.rows;
     }
 
-    /// How many nodes are known.
+    /// The number of known nodes.
     pub fn count(&self) -> u32
         ensures { result ≡ length self.now.known }
     {
@@ -77,7 +77,7 @@ impl<'n> OwnRows<'n> {
         self.rows[n.0 as usize].is_some()
     }
 
-    /// The rows of the known nodes, by rising number of the node. They are moved out, and none is copied.
+    /// The rows of the known nodes, by ascending node number. They are moved, not copied.
     pub fn into_rows(self, alloc: Global) -> Result<List<Row>, AllocError>
         ensures { IfOk result (λ found. found
             ≡ map (row_of self.entry.network self.entry.bound) self.entry.known) }
@@ -86,7 +86,7 @@ impl<'n> OwnRows<'n> {
         rows_in(alloc, self.rows, self.count)
     }
 
-    /// Finds the row of a node, where it is not known.
+    /// Finds the row of a node, if it is not known.
     pub(crate) fn fill(&mut self, n: NodeId) -> Result<(), AllocError>
         requires { HasNode self.old.network n.0 }
         ensures asks { AsksFor self.old (λ v. v ≡ n.0) result self.new }
@@ -112,7 +112,7 @@ impl<'n> OwnRows<'n> {
     }
 }
 
-// The row of a node, found with the help of the rows that stand in places.
+// The row of a node, found with the help of the rows in these places.
 fn find_from(
     searcher: &mut Searcher<'_>,
     places: &[Option<Row>],
@@ -127,8 +127,7 @@ fn find_from(
     searcher.row_from(&known, n)
 }
 
-// The rows that stand in places, of which `count` have one, in their order. They are moved out, and
-// none is copied.
+// The rows in places, of which `count` are filled, in order. They are moved, not copied.
 fn rows_in(alloc: Global, places: Vec<Option<Row>>, count: u32) -> Result<List<Row>, AllocError>
     ensures { IfOk result (AreHeldRows places.items) }
 {

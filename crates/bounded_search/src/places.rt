@@ -1,4 +1,4 @@
-//! Where a node stands among entries by rising node number. Serves `Row::find` and `check_row`; decided by `IsPlaceOf`.
+//! The place of a node among entries by ascending node number. Serves `Row::find` and `check_row`; decided by `IsPlaceOf`.
 ghost use Rattle.std.specs.Prelude.{◌≡◌, ◌<◌, ◌≤◌, ℕ, length, None, MatchOption};
 ghost use Rattle.bounded_search.specs.Finding.{AllAbove, AllBelow, IsPlaceOf};
 ghost use Rattle.bounded_search.specs.Table.{RisesFrom, entry_in};
@@ -6,7 +6,7 @@ ghost use Rattle.bounded_search.specs.Table.{RisesFrom, entry_in};
 use crate::table_row::Entry;
 use road_network::NodeId;
 
-/// The place of a node that stands nowhere before `first`, and nowhere from `past` on.
+/// The place of a node that is neither before `first` nor at `past` or later.
 pub fn place_between(entries: &[Entry], first: usize, past: usize, n: NodeId) -> Option<usize>
     requires rising { RisesFrom 0 entries.now }
     requires places { (first ≤ past) × (past ≤ length entries.now) }
@@ -34,9 +34,9 @@ pub fn place_between(entries: &[Entry], first: usize, past: usize, n: NodeId) ->
     Some(low)
 }
 
-/// The place of a node, looked for from another place: where nodes rise strictly, two nodes stand no
-/// farther from each other than their numbers differ. Where no number between them is missing, they
-/// stand just as far from each other: so the farthest place is looked at first.
+/// The place of a node, searched from another place: two entries are at most as far apart as their node
+/// numbers differ, and exactly so if no number between them is missing. So the farthest place is tried
+/// first.
 pub fn place_from(entries: &[Entry], start: usize, n: NodeId) -> Option<usize>
     requires rising { RisesFrom 0 entries.now }
     requires start { start < length entries.now }
@@ -58,7 +58,7 @@ pub fn place_from(entries: &[Entry], start: usize, n: NodeId) -> Option<usize>
     }
 }
 
-/// The place of a node, looked for from `middle` where that is a place.
+/// The place of a node, searched from `middle` if that is a place.
 pub fn place_near(entries: &[Entry], middle: usize, n: NodeId) -> Option<usize>
     requires { RisesFrom 0 entries.now }
     ensures { MatchOption result (entry_in entries.now n.0 ≡ None) (IsPlaceOf entries.now n.0) }

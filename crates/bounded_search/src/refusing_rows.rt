@@ -1,4 +1,4 @@
-//! Rows that fail at chosen calls, to see what a caller does then. Serves tests; decided by `FollowsCall`.
+//! Rows that fail at chosen calls, to test their callers. Serves tests; decided by `FollowsCall`.
 ghost use Rattle.std.specs.Prelude.{◌≡◌, ◌≤◌, ◌↔◌, Contains, IfOk, IsOk, IsErr};
 ghost use Rattle.std.specs.Borrow.{sem};
 ghost use Rattle.std.specs.Io.BufRead.{Rests};
@@ -16,7 +16,7 @@ use road_network::{Network, NodeId};
 use std::alloc::{AllocError, Global};
 use std::marker::Model;
 
-/// Own rows that answer want of memory at the calls whose numbers are listed.
+/// Own rows that are out of memory at the calls whose numbers are listed.
 #[derive(Drop)]
 pub struct RefusingRows<'n> {
     rows: OwnRows<'n>,
@@ -52,7 +52,7 @@ impl<'n> RefusingRows<'n> {
         })
     }
 
-    /// Counts a call, and refuses it where its number is listed.
+    /// Counts a call, and refuses it if its number is listed.
     fn admit(&mut self) -> Result<(), AllocError>
         ensures rows { self.new.rows ≡ self.old.rows }
         ensures refuse { self.new.refuse ≡ self.old.refuse }
@@ -66,7 +66,7 @@ impl<'n> RefusingRows<'n> {
         Ok(())
     }
 
-    /// Counts a call for the row of a node, and finds the row where the call is not refused.
+    /// Counts a call for the row of a node, and finds the row if the call is not refused.
     fn fill(&mut self, n: NodeId) -> Result<(), AllocError>
         requires { HasNode self.old.rows.network n.0 }
         ensures follows { FollowsCall self.old n.0 result self.new }
@@ -77,9 +77,8 @@ impl<'n> RefusingRows<'n> {
         self.rows.fill(n)
     }
 
-    /// The row of a node, as `row` of [`Rows`] gives it, and all that such a call does: it is counted, a
-    /// listed call is refused and makes nothing known, and at any other the row of a known node takes no
-    /// memory.
+    /// The row of a node, as `row` of [`Rows`] returns it. The call is counted; a listed call is refused and
+    /// makes nothing known, and at any other call the row of a known node needs no memory.
     pub fn ask(&mut self, n: NodeId) -> Result<&Row, AllocError>
         requires { HasNode self.old.rows.network n.0 }
         ensures value { IfOk result (λ row. IsRow self.old.rows.network self.old.rows.bound n.0 row.now) }
@@ -95,7 +94,7 @@ impl<'n> RefusingRows<'n> {
 impl<'n> Rows for RefusingRows<'n> {
     ghost state = { λ a. a.rows };
 
-    /// A listed call is refused; at any other the row of a known node takes no memory.
+    /// A listed call is refused; at any other call the row of a known node needs no memory.
     fn row(&mut self, n: NodeId) -> Result<&Row, AllocError>
         requires { HasNode self.old.rows.network n.0 }
         ensures value { IfOk result (λ row. IsRow self.old.rows.network self.old.rows.bound n.0 row.now) }

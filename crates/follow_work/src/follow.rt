@@ -1,4 +1,4 @@
-// `follow NET TRACES`. Serves the program that reads files in turn; decided by `follow_plan`.
+//! `follow NET TRACES`. Serves the program that reads files in turn; decided by `follow_plan`.
 ghost use Rattle.std.specs.Prelude.{Ok};
 ghost use Rattle.cost_model.specs.Options.{IsAccepted};
 ghost use Rattle.follow_work.specs.Follow.{follow_plan};

@@ -1,4 +1,4 @@
-// The job of `follow`. Serves the programs that follow traces; decided by `follow_job`.
+//! The job of `follow`. Serves the programs that follow traces; decided by `follow_job`.
 ghost use Rattle.std.specs.Prelude.{◌≡◌, ◌++◌, [], true, IfOk, OnErr, OnOk};
 ghost use Rattle.bounded_search.specs.Rows.{AreRowsOf, AsksAs};
 ghost use Rattle.cost_model.specs.Options.{IsAccepted};
@@ -40,8 +40,8 @@ impl<'n> Drop for FollowJob<'n> {
     }
 }
 
-// Appends the follow text of a trace, and says how many pieces its match has. After Err `into` is as
-// before.
+// Appends the follow text of a trace, and returns the number of pieces of its match. On `Err`, `into` is
+// unchanged.
 fn follow_one<'n>(
     alloc: Global,
     matcher: &Matcher<'n>,
@@ -65,7 +65,7 @@ fn follow_one<'n>(
     follow_trace(alloc, &on, rows, trace, into)
 }
 
-// Follows traces, appends their texts, and says how many pieces their matches have.
+// Follows traces, appends their texts, and returns the number of pieces of their matches.
 fn write_followed<'n>(
     alloc: Global,
     matcher: &Matcher<'n>,
@@ -88,7 +88,7 @@ fn write_followed<'n>(
 }
 
 impl<'n> FollowJob<'n> {
-    /// No trace was followed.
+    /// A job that has followed no trace yet.
     pub fn open(alloc: Global, roads: &'n Network, options: Params) -> Result<Self, AllocError>
         requires { IsAccepted options }
         ensures matcher { IfOk result

@@ -1,12 +1,13 @@
 -- A trace file that is read chunk by chunk and put on a relay.
 use Rattle.std.proofs.Common.{◌≡◌, ◌≢◌, ℕ, ◌+◌, ◌≤◌, List, [], ◌∷◌, ◌++◌, length, Some, None, Ok, Err, refl, sym, ◌∙◌, ap, subst, inl, inr, arith, append-nil, length-append}
 use Rattle.std.specs.declared.option.Option.{Option}
-use Rattle.edge_io.specs.Shelf.{Reads}
 use Rattle.edge_io.specs.State.{ShelfState}
-use Rattle.edge_io.specs.declared.shelf.Taken.TheVariants.{End, Got}
-use Rattle.program_frame.specs.Read.{IsFront, IsReadSoFar, Notes}
+use Rattle.program_frame.specs.Chunks.{AreRead, IsChunk}
+use Rattle.program_frame.specs.Read.{FailsToRead, IsFront, IsReadSoFar, Notes, ReadsWhole}
 use Rattle.program_frame.specs.Refusals.{trace_limit}
-use Rattle.program_frame.proofs.Streaming.{read_end, read_full, read_more}
+use Rattle.program_frame.specs.declared.stop.File.TheVariants.{Traces as OfTraces}
+use Rattle.program_frame.specs.declared.stop.Stop.{Stop}
+use Rattle.program_frame.specs.declared.stop.Stop.TheVariants.{Refused, NoMemory as OutOfMemory, Unread as NotRead, Unwritten}
 use Rattle.trace_reader.specs.Reading.{closed, file_traces}
 use Rattle.trace_reader.specs.declared.reader.TraceReader.{TraceReader}
 use Rattle.trace_reader.specs.declared.trace.Trace.{Trace}
@@ -17,7 +18,7 @@ use Rattle.trace_relay.specs.Pieces.{IsLast, parts_of}
 use Rattle.trace_relay.specs.declared.part.Part.{Part}
 use Rattle.trace_relay.specs.declared.part.Part.TheVariants as parts
 use Rattle.live_pipeline.specs.Feeding.{HasFed, IsFaultPart, PutsChunk, PutsFile}
-use Rattle.live_pipeline.specs.Reading.{Brings, HasPut, HasRead, IsFedWhole}
+use Rattle.live_pipeline.specs.Reading.{Brings, EndsAt, EndsRead, HasPut, HasRead, IsFedWhole}
 
 -- between two reads: the bytes so far were fed, and what they close was put
 pub record IsFeeding (name : List ℕ) (shelf : ShelfState) (at : ℕ) (reader : TraceReader) (put : List Part) : Type 0 where
@@ -37,16 +38,16 @@ front_begun (Some files) name = front_of (files name)
 pub nothing_fed : (name : List ℕ) (shelf : ShelfState) (reader : TraceReader) (put : List Part) → HasFed [] reader put → IsFeeding name shelf 0 reader put
 nothing_fed name shelf reader put has = record { fed = []; has = has; place = refl; front = front_begun shelf.holds name }
 
-pub feeding_more : {name : List ℕ} {shelf : ShelfState} {at : ℕ} {reader : TraceReader} {put : List Part} (n : ℕ) (chunk : List ℕ) (reader' : TraceReader) (put' : List Part) → (feeding : IsFeeding name shelf at reader put) → length chunk ≡ n → Reads shelf.holds name (length feeding.fed) [] chunk (Got n) → HasFed (feeding.fed ++ chunk) reader' put' → IsFeeding name shelf (at + n) reader' put'
-feeding_more {name} {shelf} n chunk reader' put' feeding long reads has = record {
-  fed = feeding.fed ++ chunk;
-  has = has;
-  place = omega (arith, length-append feeding.fed chunk, feeding.place, long);
-  front = read_more shelf.holds name feeding.fed chunk n feeding.front reads;
-}
+-- the bytes that were read so far
+pub fed_read : {name : List ℕ} {shelf : ShelfState} {at : ℕ} {reader : TraceReader} {put : List Part} → (feeding : IsFeeding name shelf at reader put) → at ≤ trace_limit + 1 → AreRead name shelf at feeding.fed
+fed_read feeding within = record { place = feeding.place; front = feeding.front; within = within }
+
+pub feeding_more : {name : List ℕ} {shelf : ShelfState} {at : ℕ} {reader : TraceReader} {put : List Part} (at' : ℕ) (chunk : List ℕ) (reader' : TraceReader) (put' : List Part) → (feeding : IsFeeding name shelf at reader put) → AreRead name shelf at' (feeding.fed ++ chunk) → HasFed (feeding.fed ++ chunk) reader' put' → IsFeeding name shelf at' reader' put'
+feeding_more at' chunk reader' put' feeding read has =
+    record { fed = feeding.fed ++ chunk; has = has; place = read.place; front = read.front }
 
 -- memory ran out before a read
-pub fed_starved : {name : List ℕ} {shelf : ShelfState} {at : ℕ} {reader : TraceReader} {put : List Part} (shelf' : ShelfState) → IsFeeding name shelf at reader put → shelf' ≡ shelf → at ≤ trace_limit + 1 → HasPut name shelf shelf' put parts.NoMemory
+fed_starved : {name : List ℕ} {shelf : ShelfState} {at : ℕ} {reader : TraceReader} {put : List Part} (shelf' : ShelfState) → IsFeeding name shelf at reader put → shelf' ≡ shelf → at ≤ trace_limit + 1 → HasPut name shelf shelf' put parts.NoMemory
 fed_starved shelf' feeding same within = record {
   traces = closed feeding.fed;
   put_are = feeding.has.put_are;
@@ -62,7 +63,7 @@ fed_starved shelf' feeding same within = record {
 }
 
 -- a read failed
-pub fed_unread : {name : List ℕ} {shelf : ShelfState} {at : ℕ} {reader : TraceReader} {put : List Part} (before after : ShelfState) → IsFeeding name shelf at reader put → before ≡ shelf → at ≤ trace_limit + 1 → Notes before after name → HasPut name shelf after put parts.ReadFailed
+fed_unread : {name : List ℕ} {shelf : ShelfState} {at : ℕ} {reader : TraceReader} {put : List Part} (before after : ShelfState) → IsFeeding name shelf at reader put → before ≡ shelf → at ≤ trace_limit + 1 → Notes before after name → HasPut name shelf after put parts.ReadFailed
 fed_unread {name} before after feeding same within notes = record {
   traces = closed feeding.fed;
   put_are = feeding.has.put_are;
@@ -76,20 +77,31 @@ fed_unread {name} before after feeding same within notes = record {
   );
 }
 
--- the end of the file, or the first byte above the limit
-pub fed_end : {name : List ℕ} {shelf : ShelfState} {at : ℕ} {reader : TraceReader} {put : List Part} (shelf' : ShelfState) (chunk : List ℕ) → (feeding : IsFeeding name shelf at reader put) → shelf' ≡ shelf → at ≤ trace_limit → Reads shelf.holds name (length feeding.fed) [] chunk End → IsFedWhole name shelf shelf' reader put
-fed_end {name} {shelf} shelf' chunk feeding same within reads = record {
-  bytes = feeding.fed;
-  whole = (read_end trace_limit shelf.holds name feeding.fed chunk feeding.front (omega (arith, feeding.place, within)) reads, same);
-  has = feeding.has;
-}
+-- why a chunk was not read
+pub part_ends : (name : List ℕ) (shelf shelf' : ShelfState) (stop : Stop) (last : Part) → EndsAt stop last → FailsToRead OfTraces name shelf shelf' stop → EndsRead name shelf shelf' last
+part_ends name shelf shelf' stop (parts.Trace trace) ends fails = absurd ends
+part_ends name shelf shelf' stop parts.End ends fails = absurd ends
+part_ends name shelf shelf' stop (parts.Fault fault) ends fails = absurd ends
+part_ends name shelf shelf' (Refused refusal line) parts.ReadFailed ends fails = absurd ends
+part_ends name shelf shelf' OutOfMemory parts.ReadFailed ends fails = absurd ends
+part_ends name shelf shelf' (NotRead file) parts.ReadFailed ends fails = fails.1
+part_ends name shelf shelf' Unwritten parts.ReadFailed ends fails = absurd ends
+part_ends name shelf shelf' (Refused refusal line) parts.NoMemory ends fails = absurd fails
+part_ends name shelf shelf' OutOfMemory parts.NoMemory ends fails = fails
+part_ends name shelf shelf' (NotRead file) parts.NoMemory ends fails = absurd (ends tt)
+part_ends name shelf shelf' Unwritten parts.NoMemory ends fails = absurd fails
 
-pub fed_full : {name : List ℕ} {shelf : ShelfState} {at : ℕ} {reader : TraceReader} {put : List Part} (shelf' : ShelfState) → (feeding : IsFeeding name shelf at reader put) → shelf' ≡ shelf → at ≡ trace_limit + 1 → IsFedWhole name shelf shelf' reader put
-fed_full {name} {shelf} shelf' feeding same full = record {
-  bytes = feeding.fed;
-  whole = (read_full trace_limit shelf.holds name feeding.fed feeding.front (feeding.place ∙ full), same);
-  has = feeding.has;
-}
+-- the next chunk was not read
+pub fed_ends : {name : List ℕ} {shelf : ShelfState} {at : ℕ} {reader : TraceReader} {put : List Part} (before after : ShelfState) (last : Part) → IsFeeding name shelf at reader put → before ≡ shelf → at ≤ trace_limit + 1 → EndsRead name before after last → HasPut name shelf after put last
+fed_ends before after (parts.Trace trace) feeding same within ends = absurd ends
+fed_ends before after parts.End feeding same within ends = absurd ends
+fed_ends before after (parts.Fault fault) feeding same within ends = absurd ends
+fed_ends before after parts.ReadFailed feeding same within ends = fed_unread before after feeding same within ends
+fed_ends before after parts.NoMemory feeding same within ends = fed_starved after feeding (ends ∙ same) within
+
+-- the file was read whole
+pub fed_all : {name : List ℕ} {shelf : ShelfState} {at : ℕ} {reader : TraceReader} {put : List Part} (shelf' : ShelfState) → (feeding : IsFeeding name shelf at reader put) → ReadsWhole name trace_limit shelf shelf' feeding.fed → IsFedWhole name shelf shelf' reader put
+fed_all shelf' feeding whole = record { bytes = feeding.fed; whole = whole; has = feeding.has }
 
 some_bytes : (fed chunk : List ℕ) → 1 ≤ length chunk → fed ++ chunk ≢ []
 some_bytes fed chunk some none =
@@ -103,10 +115,10 @@ all_due : (due traces rest : List Trace) → due ≡ traces ++ rest → rest ≡
 all_due due traces rest is none = is ∙ ap (λ (l : List Trace). traces ++ l) none ∙ append-nil traces
 
 -- a fault within a chunk
-pub fed_fault : {name : List ℕ} {shelf : ShelfState} {at : ℕ} {reader : TraceReader} {put : List Part} (shelf' : ShelfState) (n : ℕ) (chunk : List ℕ) (reader' : TraceReader) (put' : List Part) (fault : TraceFault) (last : Part) → (feeding : IsFeeding name shelf at reader put) → shelf' ≡ shelf → length chunk ≡ n → 1 ≤ n → at + n ≤ trace_limit + 1 → Reads shelf.holds name (length feeding.fed) [] chunk (Got n) → PutsChunk (feeding.fed ++ chunk) reader' put' (Err fault) → IsFaultPart fault last → HasPut name shelf shelf' put' last
-fed_fault shelf' n chunk reader' put' fault (parts.Trace trace) feeding same long some within reads puts is = absurd is
-fed_fault shelf' n chunk reader' put' fault parts.End feeding same long some within reads puts is = absurd is
-fed_fault {name} {shelf} shelf' n chunk reader' put' fault (parts.Fault known) feeding same long some within reads puts is =
+pub fed_fault : {name : List ℕ} {shelf : ShelfState} {at : ℕ} {reader : TraceReader} {put : List Part} (shelf' : ShelfState) (at' : ℕ) (chunk : List ℕ) (reader' : TraceReader) (put' : List Part) (fault : TraceFault) (last : Part) → (feeding : IsFeeding name shelf at reader put) → shelf' ≡ shelf → IsChunk at at' chunk → AreRead name shelf at' (feeding.fed ++ chunk) → PutsChunk (feeding.fed ++ chunk) reader' put' (Err fault) → IsFaultPart fault last → HasPut name shelf shelf' put' last
+fed_fault shelf' at' chunk reader' put' fault (parts.Trace trace) feeding same of_file read puts is = absurd is
+fed_fault shelf' at' chunk reader' put' fault parts.End feeding same of_file read puts is = absurd is
+fed_fault {name} {shelf} shelf' at' chunk reader' put' fault (parts.Fault known) feeding same of_file read puts is =
     let fed = feeding.fed ++ chunk in
     let of = puts.0 in
     record {
@@ -115,10 +127,10 @@ fed_fault {name} {shelf} shelf' n chunk reader' put' fault (parts.Fault known) f
       brings = (
         inl (record {
           fed = fed;
-          some = some_bytes feeding.fed chunk (omega (arith, long, some));
+          some = some_bytes feeding.fed chunk of_file.some;
           front_of = record {
-            front = read_more shelf.holds name feeding.fed chunk n feeding.front reads;
-            within = omega (arith, length-append feeding.fed chunk, feeding.place, long, within);
+            front = read.front;
+            within = omega (arith, read.place, read.within);
           };
           are = all_due (closed fed) of.traces of.rest of.due_are (of.all is.0);
           known = puts.1 is.0 ∙ ap (λ (f : TraceFault). Some f) (sym is.1);
@@ -127,8 +139,8 @@ fed_fault {name} {shelf} shelf' n chunk reader' put' fault (parts.Fault known) f
         same,
       );
     }
-fed_fault shelf' n chunk reader' put' fault parts.ReadFailed feeding same long some within reads puts is = absurd is
-fed_fault {name} {shelf} shelf' n chunk reader' put' fault parts.NoMemory feeding same long some within reads puts is =
+fed_fault shelf' at' chunk reader' put' fault parts.ReadFailed feeding same of_file read puts is = absurd is
+fed_fault {name} {shelf} shelf' at' chunk reader' put' fault parts.NoMemory feeding same of_file read puts is =
     let of = puts.0 in
     record {
       traces = of.traces;
@@ -137,8 +149,8 @@ fed_fault {name} {shelf} shelf' n chunk reader' put' fault parts.NoMemory feedin
         inl (record {
           fed = feeding.fed ++ chunk;
           front_of = record {
-            front = read_more shelf.holds name feeding.fed chunk n feeding.front reads;
-            within = omega (arith, length-append feeding.fed chunk, feeding.place, long, within);
+            front = read.front;
+            within = omega (arith, read.place, read.within);
           };
           rest = of.rest;
           are = of.due_are;

@@ -1,8 +1,11 @@
 -- What a reader of a trace file brings.
-use Rattle.std.specs.Prelude.{◌≡◌, ◌≢◌, ◌⊎◌, ℕ, ◌+◌, ◌≤◌, List, [], ◌++◌, length, Result, Ok, Err, Some, None}
+use Rattle.std.specs.Prelude.{◌≡◌, ◌≢◌, ◌⊎◌, ℕ, ◌+◌, ◌≤◌, List, [], ◌++◌, length, Bool, Result, Ok, Err, Some, None}
 use Rattle.edge_io.specs.State.{ShelfState}
+use Rattle.program_frame.specs.Chunks.{NextChunk}
 use Rattle.program_frame.specs.Read.{IsReadSoFar, Notes, ReadsWhole}
 use Rattle.program_frame.specs.Refusals.{trace_limit}
+use Rattle.program_frame.specs.declared.stop.Stop.{Stop}
+use Rattle.program_frame.specs.declared.stop.Stop.TheVariants.{Refused, NoMemory as OutOfMemory, Unread as NotRead, Unwritten}
 use Rattle.trace_reader.specs.Reading.{closed, fault_in, file_fault, file_traces}
 use Rattle.trace_reader.specs.declared.reader.TraceReader.{TraceReader}
 use Rattle.trace_reader.specs.declared.trace.Trace.{Trace as ATrace}
@@ -65,6 +68,13 @@ pub record IsRead (name : List ℕ) (shelf : ShelfState) (traces : List ATrace) 
   pub front_of : IsFrontOf name shelf fed
   pub are : closed fed ≡ traces
 
+-- a read failed
+abbrev pub IsUnread : Stop → Type 0
+IsUnread (Refused refusal line) = ⊥
+IsUnread OutOfMemory = ⊥
+IsUnread (NotRead file) = Unit {0}
+IsUnread Unwritten = ⊥
+
 -- what a last part says of a file, of which these traces were put before it
 abbrev pub Brings : List ℕ → ShelfState → ShelfState → List ATrace → Part → Type 0
 Brings name shelf shelf' traces (parts.Trace trace) = ⊥
@@ -91,6 +101,27 @@ pub record IsFedWhole (name : List ℕ) (shelf shelf' : ShelfState) (reader : Tr
   pub bytes : List ℕ
   pub whole : ReadsWhole name trace_limit shelf shelf' bytes
   pub has : HasFed bytes reader put
+
+-- the last part for why a chunk was not read
+abbrev pub EndsAt : Stop → Part → Type 0
+EndsAt stop (parts.Trace trace) = ⊥
+EndsAt stop parts.End = ⊥
+EndsAt stop (parts.Fault fault) = ⊥
+EndsAt stop parts.ReadFailed = IsUnread stop
+EndsAt stop parts.NoMemory = ¬ IsUnread stop
+
+-- what is left where a chunk was not read, and this last part says so
+abbrev pub EndsRead : List ℕ → ShelfState → ShelfState → Part → Type 0
+EndsRead name shelf shelf' (parts.Trace trace) = ⊥
+EndsRead name shelf shelf' parts.End = ⊥
+EndsRead name shelf shelf' (parts.Fault fault) = ⊥
+EndsRead name shelf shelf' parts.ReadFailed = Notes shelf shelf' name
+EndsRead name shelf shelf' parts.NoMemory = shelf' ≡ shelf
+
+-- the next chunk was read, or the file was at its end, or the reading ended early
+abbrev pub ReadsNext : List ℕ → ShelfState → ShelfState → ℕ → ℕ → List ℕ → Result Bool Part → Type 0
+ReadsNext name shelf shelf' at at' chunk (Ok more) = NextChunk name shelf shelf' at at' chunk (Ok more)
+ReadsNext name shelf shelf' at at' chunk (Err last) = EndsRead name shelf shelf' last
 
 -- the whole file was fed, or the reading ended early
 abbrev pub PutsChunks : List ℕ → ShelfState → ShelfState → TraceReader → List Part

@@ -1,4 +1,4 @@
-// The end of a relay. Serves `live_traces`; decided by the rule of the relay.
+//! The end of a relay. Serves `live_traces`; decided by the rule of the relay.
 ghost use Rattle.std.specs.Prelude.{◌≡◌, ◌⊎◌, []};
 ghost use Rattle.trace_relay.specs.Pieces.{IsWhole};
 

@@ -1,4 +1,4 @@
-// The end of a run, after the last part. Serves `live_traces`; decided by `EndsTraces`.
+//! The end of a run, after the last part. Serves `live_traces`; decided by `EndsTraces`.
 ghost use Rattle.std.specs.Prelude.{Ok};
 ghost use Rattle.live_pipeline.specs.Ending.{EndsTraces};
 ghost use Rattle.live_pipeline.specs.Matching.{EndsWithPart, MayEnd, NeverRefuses};

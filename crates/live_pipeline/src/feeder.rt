@@ -1,5 +1,5 @@
-// Traces that are put as they close. Serves `read_traces`; decided by `Feeds` and `Finishes` of the
-// trace reader.
+//! Traces that are put as they close. Serves `read_traces`; decided by `Feeds` and `Finishes` of the
+//! trace reader.
 ghost use Rattle.std.specs.Prelude.{◌≡◌, ◌++◌, ◌<◌, ◌^◌, ℕ, List as ListOf, length};
 ghost use Rattle.trace_relay.specs.Order.{AreBounded};
 ghost use Rattle.trace_relay.specs.Pieces.{parts_of};

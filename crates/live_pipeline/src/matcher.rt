@@ -1,4 +1,4 @@
-// The matcher: traces from the relay, their text on out. Serves `live_traces`; decided by `HasMatched`.
+//! The matcher: traces from the relay, their text on out. Serves `live_traces`; decided by `HasMatched`.
 ghost use Rattle.std.specs.Prelude.{◌≡◌, ◌∷◌, []};
 ghost use Rattle.program_frame.specs.Batches.{WritesWaiting};
 ghost use Rattle.program_frame.specs.Jobs.{CanTake};

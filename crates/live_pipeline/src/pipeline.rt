@@ -1,4 +1,4 @@
-// Reader and matcher, in two threads or in turn. Serves the programs; decided by `works_traces`.
+//! Reader and matcher, in two threads or in turn. Serves the programs; decided by `works_traces`.
 ghost use Rattle.std.specs.Prelude.{◌≡◌, Ok, string_bytes};
 ghost use Rattle.program_frame.specs.Stream.{works_traces};
 ghost use Rattle.trace_relay.specs.Order.{no_parts};

@@ -1,5 +1,5 @@
-// What the reader's thread gives back, and what it promises of it. Serves `live_traces`; decided by
-// `Keeps`.
+//! What the reader's thread gives back, and what it promises of it. Serves `live_traces`; decided by
+//! `Keeps`.
 use edge_io::Shelf;
 use std::snapshot::Snapshot;
 use std::thread::Promise;

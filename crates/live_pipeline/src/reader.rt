@@ -1,19 +1,39 @@
-// The reader: a trace file in chunks, its traces one by one on the relay. Serves `live_traces`; decided
-// by `HasRead`.
-ghost use Rattle.std.specs.Prelude.{◌≡◌, []};
+//! The reader: a trace file in chunks, its traces one by one on the relay. Serves `live_traces`; decided
+//! by `HasRead`.
+ghost use Rattle.std.specs.Prelude.{◌≡◌, ◌+◌, ◌≤◌, []};
+ghost use Rattle.program_frame.specs.Refusals.{trace_limit};
 ghost use Rattle.live_pipeline.specs.Feeding.{HasFed};
-ghost use Rattle.live_pipeline.specs.Reading.{HasPut, HasRead, PutsChunks};
+ghost use Rattle.live_pipeline.specs.Reading.{EndsAt, HasPut, HasRead, PutsChunks, ReadsNext};
 
 use crate::feeder::{part_of_fault, put_chunk, put_end};
-use edge_io::{Shelf, Taken};
+use edge_io::Shelf;
+use program_frame::{Chunks, Stop};
 use std::alloc::Global;
 use std::sync::Wait;
 use trace_reader::TraceReader;
 use trace_relay::{Part, PutPass, Relay};
 
-const TRACE_LIMIT: u64 = 1_099_511_627_776;
+// The last part for a chunk that was not read.
+fn part_of_stop(stop: Stop) -> Part
+    ensures { EndsAt stop result }
+{
+    match stop {
+        Stop::Unread(_) => Part::ReadFailed,
+        Stop::NoMemory | Stop::Refused(_, _) | Stop::Unwritten => Part::NoMemory,
+    }
+}
 
-const CHUNK: u64 = 65_536;
+// Reads the next chunk of a file. Err has the last part if the chunk was not read.
+fn next_chunk<S: Shelf>(chunks: &mut Chunks, shelf: &mut S, name: &str) -> Result<bool, Part>
+    requires { chunks.old.at ≤ trace_limit + 1 }
+    ensures { ReadsNext name.now (S.state shelf.old) (S.state shelf.new)
+        chunks.old.at chunks.new.at chunks.new.bytes.items result }
+{
+    match chunks.next(shelf, name) {
+        Ok(more) => Ok(more),
+        Err(stop) => Err(part_of_stop(stop)),
+    }
+}
 
 // Reads a file to its end, to the first byte above the limit or to its first fault, and puts the traces
 // that close. Err has the last part where the reading ends early.
@@ -32,21 +52,10 @@ fn put_chunks<R: Wait, S: Shelf>(
     ensures puts { PutsChunks name.now (S.state shelf.old) (S.state shelf.new)
         reader.new pass.new.parts result }
 {
-    let mut chunk = Vec::new(alloc);
-    let mut at: u64 = 0;
-    while at <= TRACE_LIMIT {
-        chunk.truncate(0);
-        let most = (TRACE_LIMIT + 1 - at).min(CHUNK) as u32;
-        match shelf.read(name, at, &mut chunk, most) {
-            Taken::Got(count) => {
-                if let Err(fault) = put_chunk(rt, alloc, relay, reader, &chunk, pass) {
-                    return Err(part_of_fault(fault));
-                }
-                at += u64::from(count);
-            }
-            Taken::End => return Ok(()),
-            Taken::Failed => return Err(Part::ReadFailed),
-            Taken::NoMemory => return Err(Part::NoMemory),
+    let mut chunks = Chunks::open(alloc);
+    while next_chunk(&mut chunks, shelf, name)? {
+        if let Err(fault) = put_chunk(rt, alloc, relay, reader, &chunks.bytes, pass) {
+            return Err(part_of_fault(fault));
         }
     }
     Ok(())

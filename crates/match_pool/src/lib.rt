@@ -1,10 +1,10 @@
 //! The match of one trace, and of many traces by several workers.
 //!
 //! - [`match_one`] matches one trace by the rows of any [`bounded_search::Rows`]: the candidates of its
-//! positions, their ranks and pieces, and the routes.
+//!   positions, their ranks and pieces, and the routes.
 //! - [`match_all`] matches many: it partitions them into strips of the map, one for each worker, each with
-//! a counter from which its traces are drawn. A worker has a [`row_store::Reader`] of one shared store. It
-//! draws from its own strip until none is left, and then from the others. No call waits.
+//!   a counter from which its traces are drawn. A worker has a [`row_store::Reader`] of one shared store. It
+//!   draws from its own strip until none is left, and then from the others. No call waits.
 //! - [`work`] does the same for one worker and one counter.
 //! - A [`Gate`] is called for each trace.
 //!

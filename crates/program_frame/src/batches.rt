@@ -1,5 +1,5 @@
-// Traces that are read from chunks of a file, and are handed to a job batch by batch. Serves
-// `work_traces`; decided by `bytes_give`.
+//! Traces read from chunks of a file, and passed to a job batch by batch. Serves `work_traces`; decided
+//! by `bytes_give`.
 ghost use Rattle.std.specs.Prelude.{◌≡◌, ◌≤◌, ◌<◌, ◌^◌, [], IfOk, length, drop};
 ghost use Rattle.trace_reader.specs.Reader.{StandsFor};
 ghost use Rattle.program_frame.specs.Batches.{PutsBefore};
@@ -14,11 +14,10 @@ use polyline_geometry::List;
 use std::alloc::Global;
 use trace_reader::{Trace, TraceFault, TraceReader};
 
-// How many traces a job takes together.
+// The number of traces in a batch.
 const BATCH: usize = 256;
 
-/// The traces of a file that is read in chunks: those that are closed and wait, behind those that
-/// the job has taken.
+/// The traces of a file that is read in chunks: the closed traces that the job has not taken yet.
 pub struct Batches<J: Drop> {
     reader: TraceReader,
     waiting: List<Trace>,
@@ -48,7 +47,7 @@ fn put_before<K: Sink>(out: &mut K, text: &[u8], stop: Stop) -> Stop
     stop
 }
 
-// What is left of a chunk behind so many bytes.
+// The rest of a chunk after this many bytes.
 fn behind(chunk: &[u8], taken: usize) -> &[u8]
     requires { taken ≤ length chunk.now }
     ensures { result.now ≡ drop taken chunk.now }
@@ -59,7 +58,7 @@ fn behind(chunk: &[u8], taken: usize) -> &[u8]
 impl<J: Job + Drop> Batches<J> {
     ghost use Rattle.program_frame.specs.Batches.{Finishes, IsHeld, IsReady, PutsEnding, Refuses, Takes, TakesFront, Writes, WritesIfFull, WritesRead};
 
-    /// Nothing was read.
+    /// The state before the first read.
     pub fn open(alloc: Global, job: J) -> Batches<J>
         ensures stands { StandsFor result.reader [] }
         ensures waiting { result.waiting ≡ [] }
@@ -72,7 +71,7 @@ impl<J: Job + Drop> Batches<J> {
         }
     }
 
-    // Hands all traces that wait to the job, and writes their text.
+    // Passes all waiting traces to the job, and writes their text.
     fn write<K: Sink>(&mut self, alloc: Global, out: &mut K) -> Result<(), Stop>
         requires { IsHeld J.text J.has self.old (K.state out.old) }
         ensures text { J.text self.new.job ≡ J.text self.old.job }
@@ -92,7 +91,7 @@ impl<J: Job + Drop> Batches<J> {
         Ok(())
     }
 
-    // Writes the traces that wait, which were closed before a fault, and refuses the file for it.
+    // Writes the waiting traces, which were closed before a fault, and refuses the file for the fault.
     fn refuse<K: Sink>(&mut self, alloc: Global, fault: TraceFault, out: &mut K) -> Stop
         requires { IsHeld J.text J.has self.old (K.state out.old) }
         ensures text { J.text self.new.job ≡ J.text self.old.job }
@@ -108,7 +107,7 @@ impl<J: Job + Drop> Batches<J> {
         }
     }
 
-    // Writes the traces that wait where they make a batch.
+    // Writes the waiting traces if they fill a batch.
     fn write_full<K: Sink>(&mut self, alloc: Global, out: &mut K) -> Result<(), Stop>
         requires { IsHeld J.text J.has self.old (K.state out.old) }
         ensures text { J.text self.new.job ≡ J.text self.old.job }
@@ -122,7 +121,7 @@ impl<J: Job + Drop> Batches<J> {
         self.write(alloc, out)
     }
 
-    // Takes bytes of a chunk until a batch of traces waits, writes it, and says how many bytes
+    // Takes bytes of a chunk until a batch of traces waits, writes the batch, and returns how many bytes
     // were taken.
     fn take_some<K: Sink>(
         &mut self,
@@ -163,7 +162,7 @@ impl<J: Job + Drop> Batches<J> {
         Ok(())
     }
 
-    // Writes the traces that wait, if the job wants its text after each read.
+    // Writes the waiting traces if the job wants its text after each read.
     fn write_read<K: Sink>(&mut self, alloc: Global, out: &mut K) -> Result<(), Stop>
         requires { IsReady J.text J.has self.old (K.state out.old) }
         ensures text { J.text self.new.job ≡ J.text self.old.job }
@@ -176,8 +175,8 @@ impl<J: Job + Drop> Batches<J> {
         self.write(alloc, out)
     }
 
-    /// Takes the next chunk of the file. Writes each batch of traces that it fills, and the traces
-    /// that then wait, if the job wants its text after each read.
+    /// Takes the next chunk of the file. Writes each batch of traces that it fills, and then the waiting
+    /// traces if the job wants its text after each read.
     pub fn take_chunk<K: Sink>(
         &mut self,
         alloc: Global,
@@ -194,7 +193,7 @@ impl<J: Job + Drop> Batches<J> {
         self.write_read(alloc, out)
     }
 
-    // Writes what stands behind the text of all traces.
+    // Writes the text that follows that of all traces.
     fn put_ending<K: Sink>(&mut self, alloc: Global, out: &mut K) -> Result<(), Stop>
         requires { HasTaken (J.has self.old.job) }
         ensures { PutsEnding (J.text self.old.job) (J.has self.old.job)
@@ -207,7 +206,7 @@ impl<J: Job + Drop> Batches<J> {
         }
     }
 
-    /// Takes the end of the file, and writes the traces that wait and what stands behind all.
+    /// Takes the end of the file. Writes the waiting traces and the text that follows that of all traces.
     pub fn finish<K: Sink>(&mut self, alloc: Global, out: &mut K) -> Result<(), Stop>
         requires { IsReady J.text J.has self.old (K.state out.old) }
         ensures { Finishes J.text J.has self.old (K.state out.old) (K.state out.new) result }

@@ -1,4 +1,4 @@
-// A trace file in chunks. Serves every function that reads one; decided by `NextChunk`.
+//! A trace file in chunks. Serves every function that reads one; decided by `NextChunk`.
 ghost use Rattle.std.specs.Prelude.{◌≡◌, ◌+◌, ◌≤◌, []};
 ghost use Rattle.program_frame.specs.Chunks.{NextChunk};
 ghost use Rattle.program_frame.specs.Refusals.{trace_limit};
@@ -7,13 +7,13 @@ use crate::stop::{File, Stop};
 use edge_io::{Shelf, Taken};
 use std::alloc::Global;
 
-/// The most bytes of a trace file.
-pub const TRACE_LIMIT: u64 = 1_099_511_627_776;
+// The most bytes of a trace file.
+const TRACE_LIMIT: u64 = 1_099_511_627_776;
 
 /// The most bytes of one read.
 pub const CHUNK: u64 = 65_536;
 
-/// A trace file that is read chunk by chunk. It has the chunk of the last read, and the place behind it.
+/// A trace file that is read chunk by chunk: the chunk of the last read, and the place after it.
 #[derive(Drop)]
 pub struct Chunks {
     pub at: u64,
@@ -21,7 +21,7 @@ pub struct Chunks {
 }
 
 impl Chunks {
-    /// Nothing was read.
+    /// The state before the first read.
     pub fn open(alloc: Global) -> Chunks
         ensures { result.at ≡ 0 }
     {
@@ -31,7 +31,7 @@ impl Chunks {
         }
     }
 
-    /// Reads the next chunk. Says false at the end of the file and behind the first byte above the limit.
+    /// Reads the next chunk. False at the end of the file, and after the first byte above the limit.
     pub fn next<S: Shelf>(&mut self, shelf: &mut S, name: &str) -> Result<bool, Stop>
         requires { self.old.at ≤ trace_limit + 1 }
         ensures { NextChunk name.now (S.state shelf.old) (S.state shelf.new)

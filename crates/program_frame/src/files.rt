@@ -1,4 +1,4 @@
-// Whole files of a shelf, up to a limit.
+//! Whole files of a shelf, up to a limit.
 ghost use Rattle.std.specs.Prelude.{◌<◌, ◌^◌, IfOk, IfErr};
 ghost use Rattle.program_frame.specs.Read.{FailsToRead, ReadsWhole};
 

@@ -1,4 +1,4 @@
-// What a job does with the traces of a file. Serves `work_traces`; decided by `traces_give`.
+//! What a job does with the traces of a file. Serves `work_traces`; decided by `traces_give`.
 ghost use Rattle.std.specs.Prelude.{◌≡◌, ◌++◌, List as ListOf, OnOk};
 ghost use Rattle.trace_reader.specs.declared.trace.Trace.{Trace};
 ghost use Rattle.program_frame.specs.Jobs.{CanTake, HasTaken, JobText, TakesMore};
@@ -8,28 +8,28 @@ use polyline_geometry::List;
 use std::alloc::{AllocError, Global};
 use trace_reader::Trace;
 
-/// What is done with the traces of a file, which come batch by batch.
+/// The processing of a file's traces, which come batch by batch.
 pub trait Job {
-    /// The text that the job makes of traces.
+    /// The text that the job makes of the traces.
     ghost text: { Self → JobText };
 
     /// The job has taken these traces.
     ghost has: { Self → ListOf Trace → Type 0 };
 
-    /// Whether its text is put after each read of the file. If not, it is put after each full batch.
+    /// Whether the text is written after each read of the file instead of after each full batch.
     fn puts_each_read(&self) -> bool {
         false
     }
 
-    /// Takes more traces, and appends their text. Where the job refuses one of them, it appends the
-    /// text up to it, and answers the refusal.
+    /// Takes more traces, and appends their text. If the job refuses one of them, it appends the
+    /// text up to that trace, and returns the refusal.
     fn take(&mut self, alloc: Global, traces: &[Trace], into: &mut List<u8>) -> Result<(), Stop>
         requires { CanTake (has self.old) traces.now }
         ensures text { text self.new ≡ text self.old }
         ensures takes { TakesMore (text self.old) (has self.old) (has self.new)
             traces.now into.old into.new result };
 
-    /// Appends what stands behind the text of all traces.
+    /// Appends the text that follows that of all traces.
     fn finish(&mut self, alloc: Global, into: &mut List<u8>) -> Result<(), AllocError>
         requires { HasTaken (has self.old) }
         ensures { (taken : ListOf Trace) → has self.old taken

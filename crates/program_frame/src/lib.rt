@@ -1,17 +1,17 @@
-//! What every program of ours owes: plans of reads, how work ends, what is then said and the status,
-//! the network, the traces of a file by batches for a job, and what a run promises.
+//! What all programs share: plans of reads, how work ends, the error line and the status, the network,
+//! the traces of a file in batches for a job, and the promises of a run.
 //!
-//! - `stop` has why work ends early, what is then said on err, and the status.
-//! - `files` reads a file whole, `chunks` a trace file chunk by chunk, `texts` puts a text, `load` reads
-//!   the network and says what is refused of words and files, and `words` has the words of a program.
-//! - `jobs` has the trait of what is done with traces, `stream` reads their file in chunks, and
-//!   `batches` holds the traces that wait; `total` counts them. `whole_traces` reads all traces of a
-//!   file and holds them.
+//! - `stop` has why work ends early, the error line, and the status.
+//! - `files` reads a file whole, `chunks` a trace file chunk by chunk, `texts` writes a text, `load` reads
+//!   the network and has the refusals of words and files, and `words` has the words of a program.
+//! - `jobs` has the trait for what is done with traces, `stream` reads their file in chunks, and
+//!   `batches` holds the waiting traces; `total` counts them. `whole_traces` reads all traces of a
+//!   file into memory.
 //!
 //! `laws` has what holds of the promises of every run.
 //!
 //! Read `specs/Plan.antt` first, then `specs/Performs.antt`, `specs/Jobs.antt` and
-//! `specs/Promises.antt`. The clause to read first is that of `work_traces`.
+//! `specs/Promises.antt`; then the clause of `work_traces`.
 #![tactic(auto)]
 
 mod batches;

@@ -1,5 +1,5 @@
-// The network, and what is refused of words and files. Serves the commands; decided by
-// `network_said` and `refusal_lines`.
+//! The network, and the refusals of words and files. Serves the commands; decided by
+//! `network_said` and `refusal_lines`.
 ghost use Rattle.std.specs.Prelude.{◌≢◌};
 ghost use Rattle.program_frame.specs.Loads.{Accepts, Loads};
 ghost use Rattle.program_frame.specs.Refusals.{RefusesNetwork, RefusesTraces, RefusesWords, network_limit, network_said};
@@ -15,7 +15,7 @@ use trace_reader::TraceFault;
 
 const NETWORK_LIMIT: u64 = 134_217_728;
 
-/// The end of the work at a fault of the words.
+/// The early end for a fault of the words.
 pub fn refuse_words(alloc: Global, fault: WordsFault) -> Stop
     ensures { RefusesWords fault result }
 {
@@ -25,7 +25,7 @@ pub fn refuse_words(alloc: Global, fault: WordsFault) -> Stop
     refuse(alloc, Refusal::Words, fault.line().as_bytes())
 }
 
-/// The end of the work at a fault of the traces.
+/// The early end for a fault of the traces.
 pub fn refuse_traces(alloc: Global, fault: TraceFault) -> Stop
     requires { fault ≢ TraceFault.Memory }
     ensures { RefusesTraces fault result }

@@ -1,4 +1,4 @@
-// How the work of a command ends, and what is then said on err. Serves `run`; decided by `Promises`.
+//! How the work of a command ends, and its error line. Serves `run`; decided by `Promises`.
 ghost use Rattle.std.specs.Prelude.{◌≡◌, IsOk};
 ghost use Rattle.edge_io.specs.Sink.{Puts};
 ghost use Rattle.program_frame.specs.Promises.{IsStarved};
@@ -34,9 +34,9 @@ pub enum Stop {
     /// The words or a file were refused, with this line.
     Refused(Refusal, List<u8>),
     NoMemory,
-    /// A read of this file failed.
+    /// Reading this file failed.
     Unread(File),
-    /// A put on out failed.
+    /// Writing to the output failed.
     Unwritten,
 }
 
@@ -82,7 +82,7 @@ impl Stop {
     }
 }
 
-/// Puts the line of an early end on err.
+/// Writes the line of an early end to the error output.
 pub fn say<E: Sink>(ended: &Result<(), Stop>, err: &mut E) -> Put
     ensures put { Puts (E.state err.old) (E.state err.new) (line_of ended.now) result }
     ensures quiet { IsOk ended.now → result ≡ Put.All }
@@ -93,7 +93,7 @@ pub fn say<E: Sink>(ended: &Result<(), Stop>, err: &mut E) -> Put
     }
 }
 
-/// The status of a run that ended so, after this put of its line.
+/// The status of a run that ended this way, after this put of its line.
 pub fn status_after(ended: &Result<(), Stop>, put: Put) -> u8
     ensures { result ≡ status_after ended.now put }
 {
@@ -113,7 +113,7 @@ fn stop_status_after(stop: &Stop, put: Put) -> u8
     }
 }
 
-/// Says on err that no work was begun for want of memory, and gives the status.
+/// Reports on the error output that the run was out of memory before it began, and returns the status.
 pub fn end_without_memory<E: Sink>(err: &mut E) -> u8
     ensures { IsStarved (E.state err.old) (E.state err.new) result }
 {
@@ -122,7 +122,7 @@ pub fn end_without_memory<E: Sink>(err: &mut E) -> u8
     status_after(&ended, put)
 }
 
-/// The end of the work at a refusal with this line.
+/// The early end for a refusal with this line.
 pub fn refuse(alloc: Global, refusal: Refusal, line: &[u8]) -> Stop
     ensures { IsRefusalOr refusal line.now result }
 {

@@ -1,4 +1,4 @@
-// The traces of a file, read chunk by chunk. Serves the commands; decided by `works_traces`.
+//! The traces of a file, read chunk by chunk. Serves the commands; decided by `works_traces`.
 ghost use Rattle.std.specs.Prelude.{◌≡◌, ◌≤◌, ◌+◌, ◌-◌, [], Ok};
 ghost use Rattle.program_frame.specs.Batches.{IsBetween};
 ghost use Rattle.program_frame.specs.Performs.{Performs};
@@ -32,8 +32,8 @@ fn take_file<J: Job + Drop, S: Shelf, K: Sink>(
     Ok(())
 }
 
-/// Hands the traces of a file to a job, and writes their text. No more of the file is held than a
-/// chunk and a batch of traces, and none is read behind the chunk of its first fault.
+/// Passes the traces of a file to a job, and writes their text. Memory holds one chunk and one batch of
+/// traces, and nothing is read after the chunk of the first fault.
 pub fn work_traces<J: Job + Drop, S: Shelf, K: Sink>(
     alloc: Global,
     job: J,

@@ -1,4 +1,4 @@
-// The counts of the total line. Serves the jobs; decided by `total_line`.
+//! The counts of the total line. Serves the jobs; decided by `total_line`.
 ghost use Rattle.std.specs.Prelude.{◌≡◌, ◌+◌, ◌++◌, ◌<◌, ◌^◌, length, OnOk};
 ghost use Rattle.program_frame.specs.Jobs.{points_of};
 
@@ -7,7 +7,7 @@ use polyline_geometry::List;
 use std::alloc::AllocError;
 use trace_reader::Trace;
 
-/// How many traces were taken, how many points they have, and how many pieces.
+/// The numbers of traces, points and pieces so far.
 #[derive(Clone, Copy)]
 pub struct Tally {
     pub traces: u64,
@@ -32,7 +32,7 @@ impl Tally {
         pieces: 0,
     };
 
-    /// Counts some traces of so many pieces.
+    /// Counts these traces and this many pieces.
     pub fn add(&mut self, traces: &[Trace], pieces: u64)
         requires { Fits traces.now pieces self.old }
         ensures { Adds traces.now pieces self.old self.new }
@@ -50,7 +50,7 @@ impl Tally {
         write_unsigned(n, into)
     }
 
-    /// Appends the total line of a run that asked for rows of so many nodes.
+    /// Appends the total line of a run that asked for the rows of this many nodes.
     pub fn append_line(self, rows: u64, into: &mut List<u8>) -> Result<(), AllocError>
         ensures { OnOk result
             (into.new ≡ into.old ++ total_line self.traces self.points self.pieces rows) }

@@ -1,9 +1,9 @@
-// The traces of a file, held whole. Serves the commands that prove and check; decided by
-// `traces_said`.
+//! All traces of a file in memory. Serves the commands that prove and check; decided by `traces_said`.
 ghost use Rattle.std.specs.Prelude.{◌≡◌, ◌≢◌, []};
 ghost use Rattle.trace_reader.specs.Reader.{StandsFor};
 ghost use Rattle.program_frame.specs.Loads.{Loads};
 ghost use Rattle.program_frame.specs.Refusals.{RefusesTraces, trace_limit};
+ghost use Rattle.program_frame.specs.declared.stop.File.{File};
 ghost use Rattle.program_frame.specs.WholeTraces.{FeedsFile, traces_said};
 
 use crate::chunks::Chunks;
@@ -14,8 +14,8 @@ use polyline_geometry::List;
 use std::alloc::Global;
 use trace_reader::{Trace, TraceFault, TraceReader};
 
-/// Reads the traces of a file, and accepts or refuses them. Only the traces and one chunk of the
-/// file are held, and none is read behind the chunk of its first fault.
+/// Reads the traces of a file, and accepts or refuses them. Memory holds the traces and one chunk of
+/// the file, and nothing is read after the chunk of the first fault.
 pub fn load_traces<S: Shelf>(alloc: Global, shelf: &mut S, name: &str) -> Result<List<Trace>, Stop>
     ensures { Loads Refusal.Traces File.Traces name.now trace_limit traces_said
         (S.state shelf.old) (S.state shelf.new) result }
@@ -51,7 +51,7 @@ fn feed_file<S: Shelf>(
     Ok(())
 }
 
-// The end of the work at a fault of the traces, or where memory ran out.
+// The early end for a fault of the traces, or for out of memory.
 fn stop_reading(alloc: Global, fault: TraceFault) -> Stop
     ensures memory { fault ≡ TraceFault.Memory → result ≡ Stop.NoMemory }
     ensures refused { fault ≢ TraceFault.Memory → RefusesTraces fault result }

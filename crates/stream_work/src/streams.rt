@@ -1,4 +1,4 @@
-// `streams NET TRACES`. Serves the program; decided by `streams_plan`.
+//! `streams NET TRACES`. Serves the program; decided by `streams_plan`.
 ghost use Rattle.std.specs.Prelude.{◌≡◌, ◌++◌, [], List as ListOf, Ok, IfOk, OnOk};
 ghost use Rattle.bounded_search.specs.Rows.{AreRowsOf};
 ghost use Rattle.cost_model.specs.Options.{IsAccepted};
@@ -20,7 +20,7 @@ use trace_match::Matcher;
 use trace_reader::Trace;
 use trace_sessions::{SessionFault, Sessions};
 
-// Takes the points of fragments by sessions with own rows, and counts them. The traces of the tally
+// Passes the points of fragments to sessions with own rows, and counts them. The traces of the tally
 // are the fragments.
 #[derive(Drop)]
 struct StreamJob<'m> {
@@ -30,7 +30,7 @@ struct StreamJob<'m> {
     tally: Tally,
 }
 
-// Takes the points of fragments, appends their lines, and says how many pieces they closed.
+// Takes the points of fragments, appends their lines, and returns how many pieces they closed.
 fn stream_fragments(
     sessions: &mut Sessions,
     rows: &mut OwnRows,
@@ -61,7 +61,7 @@ fn append_too_long(id: u32, into: &mut List<u8>) -> Result<(), AllocError>
     into.extend_from_slice(b": trace too long\n")
 }
 
-// The end of the work at a fault of the sessions.
+// The early end for a fault of the sessions.
 fn stop_at(alloc: Global, fault: SessionFault) -> Stop
     ensures { StopsAtFault fault result }
 {
@@ -98,7 +98,7 @@ impl<'m> Job for StreamJob<'m> {
 
     ghost has = { λ job traces. HasStreamed job.matcher.now job.sessions job.rows job.tally traces };
 
-    // So a position is answered as soon as the row behind it was read.
+    // The lines of a position are written as soon as the row after it was read.
     fn puts_each_read(&self) -> bool {
         true
     }
@@ -126,7 +126,7 @@ impl<'m> Job for StreamJob<'m> {
     }
 }
 
-/// Reads the network, and then the traces, whose points it takes in their order.
+/// Reads the network, and then the traces, whose points it takes in order.
 pub fn stream_traces<S: Shelf, K: Sink>(
     alloc: Global,
     network: &str,

@@ -1,4 +1,4 @@
-//! The fixes of a trace with their candidates. Serves `layers`; decided by `layer_of`.
+//! The positions of a trace with their candidates. Serves `layers`; decided by `layer_of`.
 ghost use Rattle.std.specs.Prelude.{◌≡◌, All, IfOk, map};
 ghost use Rattle.polyline_geometry.specs.Plane.{InRange};
 ghost use Rattle.trace_match.specs.Ground.{IsGridFor};
@@ -13,7 +13,7 @@ use road_network::Network;
 use std::alloc::{AllocError, Global};
 use trace_reader::Fix;
 
-/// A fix with its candidates.
+/// A position with its candidates.
 pub fn layer(
     alloc: Global,
     net: &Network,
@@ -33,7 +33,7 @@ pub fn layer(
     })
 }
 
-/// The fixes of a trace with their candidates.
+/// The positions of a trace with their candidates.
 pub fn layers(
     alloc: Global,
     net: &Network,

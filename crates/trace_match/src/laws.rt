@@ -1,12 +1,12 @@
-//! Laws of the match of a trace, each stated by a function without code.
+//! Laws of the match of a trace. Each function exists for its clause and does nothing.
 ghost use Rattle.trace_match.specs.Laws.{CommittedLabelsStay, FirstLabelsStay, LabelsAgreeAsRanks, MatchesAreLawful};
 
-/// The match of a trace can be written, and has a label for each fix.
+/// The match of a trace has a text, and a label for each position.
 pub fn matches_are_lawful()
     ensures { MatchesAreLawful }
 {}
 
-/// The labels of a fix agree exactly where its ranks do.
+/// The labels of a position agree exactly if its ranks do.
 pub fn labels_agree_as_ranks()
     ensures { LabelsAgreeAsRanks }
 {}
@@ -16,7 +16,7 @@ pub fn first_labels_stay()
     ensures { FirstLabelsStay }
 {}
 
-/// The labels that are committed stay, whatever fixes follow.
+/// Committed labels stay, whatever positions follow.
 pub fn committed_labels_stay()
     ensures { CommittedLabelsStay }
 {}

@@ -1,5 +1,5 @@
-// What traces are matched on: a network with the grid of its edges, and the options. Serves the jobs of
-// every program; decided by `Setting`.
+//! What traces are matched on: a network with the grid of its edges, and the options. Serves the jobs of
+//! every program; decided by `Setting`.
 ghost use Rattle.std.specs.Prelude.{◌≡◌, IfOk};
 ghost use Rattle.bounded_search.specs.Rows.{no_rows};
 ghost use Rattle.cost_model.specs.Options.{IsAccepted};
@@ -46,7 +46,7 @@ impl<'n> Model for Matcher<'n> {
 }
 
 impl<'n> Matcher<'n> {
-    /// Lays out the grid of a network.
+    /// Builds the grid of a network.
     pub fn open(
         alloc: Global,
         network: &'n Network,

@@ -10,7 +10,7 @@ use polyline_geometry::List;
 use road_network::{Candidate, Network};
 use std::alloc::{AllocError, Global};
 
-/// The label of a point that lies on a candidate, with the edge's id of the network file.
+/// The label of a point on a candidate, with the edge's id in the network file.
 pub fn label_on(net: &Network, candidate: &Candidate) -> Label
     requires { HasEdge net.now candidate.now.edge.0 }
     ensures { result ≡ label_on net.now candidate.now }
@@ -22,7 +22,7 @@ pub fn label_on(net: &Network, candidate: &Candidate) -> Label
     }
 }
 
-/// The label of a point: that of its ranked candidate, or none.
+/// The label of a point: that of its chosen candidate, or none.
 pub fn label(net: &Network, layer: &Layer, rank: Option<u32>) -> Label
     requires { IsRanked net.now layer.now rank }
     ensures { result ≡ label_of net.now layer.now rank }

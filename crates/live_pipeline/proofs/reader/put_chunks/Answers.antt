@@ -1,62 +1,75 @@
-use Rattle.std.proofs.Common.{◌≡◌, ◌≤◌, ◌+◌, length, refl, ◌∙◌, ap, arith}
-use Rattle.edge_io.specs.declared.shelf.Taken.TheVariants.{End, Got}
-use Rattle.program_frame.proofs.Reading.{reads_as}
-use Rattle.live_pipeline.proofs.Reading.{fed_end, fed_fault, fed_full, fed_starved, fed_unread, feeding_more, nothing_fed}
+use Rattle.std.proofs.Common.{refl, sym, ◌∙◌, subst, arith}
+use Rattle.std.proofs.lemmas.Result.{err_from_is_err_and}
+use Rattle.program_frame.proofs.ChunkReads.{next_read, next_whole}
+use Rattle.live_pipeline.proofs.Reading.{IsFeeding, fed_all, fed_ends, fed_fault, fed_read, feeding_more, nothing_fed}
 use Rattle.live_pipeline.proofs.reader.put_chunks.Goals as goal
 
-pub loop-at-init : goal.loop-at-init
-loop-at-init g c = record {
+pub loop-chunks-init : goal.loop-chunks-init
+loop-chunks-init g c = record {
   own = refl;
-  feeding = nothing_fed c.args.name.now (g.S.Shelf.state c.args.shelf.now) c.args.reader.now c.args.pass.now.parts c.requires.first;
-  within = omega arith;
+  feeding = subst (λ at. IsFeeding c.args.name.now (g.S.Shelf.state c.args.shelf.now) at c.args.reader.now c.args.pass.now.parts) (sym c.open-chunks.ensures)
+      (nothing_fed c.args.name.now (g.S.Shelf.state c.args.shelf.now) c.args.reader.now c.args.pass.now.parts c.requires.first);
+  within = omega (arith, c.open-chunks.ensures);
   same = refl;
 }
 
+pub next_chunk-requires : goal.next_chunk-requires
+next_chunk-requires g c = c.loop-chunks.invariant.within
+
+pub returns-in_err-next_chunk-clause-own : goal.returns-in_err-next_chunk-clause-own
+returns-in_err-next_chunk-clause-own g c = c.loop-chunks.invariant.own
+
+pub returns-in_err-next_chunk-clause-puts : goal.returns-in_err-next_chunk-clause-puts
+returns-in_err-next_chunk-clause-puts g c =
+    let inv = c.loop-chunks.invariant in
+    let p = err_from_is_err_and c.from_residual.result c.from_residual.ensures.1 in
+    rw (p.1, p.2) (fed_ends (g.S.Shelf.state c.loop-chunks.shelf) (g.S.Shelf.state c.next_chunk.new.shelf) c.in_err-next_chunk.field-0.0 inv.feeding inv.same inv.within c.in_err-next_chunk.ensures)
+
+pub put_chunk-requires-clause-own : goal.put_chunk-requires-clause-own
+put_chunk-requires-clause-own g c = c.loop-chunks.invariant.own ∙ c.requires.own
+
 pub put_chunk-requires-clause-fed : goal.put_chunk-requires-clause-fed
 put_chunk-requires-clause-fed g c =
-    let feeding = c.loop-at.invariant.feeding in
+    let feeding = c.loop-chunks.invariant.feeding in
     (feeding.fed, feeding.has)
 
-pub returns-in-NoMemory-clause-puts : goal.returns-in-NoMemory-clause-puts
-returns-in-NoMemory-clause-puts g c =
-    let inv = c.loop-at.invariant in
-    fed_starved (g.S.Shelf.state c.read.new.self) inv.feeding (c.in-NoMemory.ensures.state ∙ inv.same) inv.within
+pub put_chunk-requires-clause-short : goal.put_chunk-requires-clause-short
+put_chunk-requires-clause-short g c =
+    let next = next_read c.args.name.now (g.S.Shelf.state c.args.shelf.now) (g.S.Shelf.state c.loop-chunks.shelf) (g.S.Shelf.state c.next_chunk.new.shelf) c.loop-chunks.chunks.at c.next_chunk.new.chunks.at c.next_chunk.new.chunks.bytes.items c.deref.result.now c.in_ok-next_chunk.field-0 c.loop-chunks.invariant.same c.deref.ensures.value c.if-branch.true c.in_ok-next_chunk.ensures in
+    next.0.short
 
-pub returns-in-Failed-clause-puts : goal.returns-in-Failed-clause-puts
-returns-in-Failed-clause-puts g c =
-    let inv = c.loop-at.invariant in
-    fed_unread (g.S.Shelf.state c.loop-at.shelf) (g.S.Shelf.state c.read.new.self) inv.feeding inv.same inv.within c.in-Failed.ensures.state
+pub loop-chunks-smaller : goal.loop-chunks-smaller
+loop-chunks-smaller g c =
+    let next = next_read c.args.name.now (g.S.Shelf.state c.args.shelf.now) (g.S.Shelf.state c.loop-chunks.shelf) (g.S.Shelf.state c.next_chunk.new.shelf) c.loop-chunks.chunks.at c.next_chunk.new.chunks.at c.next_chunk.new.chunks.bytes.items c.deref.result.now c.in_ok-next_chunk.field-0 c.loop-chunks.invariant.same c.deref.ensures.value c.if-branch.true c.in_ok-next_chunk.ensures in
+    omega (arith, next.0.place, next.0.some, next.0.within)
 
-pub returns-in-End-clause-puts : goal.returns-in-End-clause-puts
-returns-in-End-clause-puts g c =
-    let inv = c.loop-at.invariant in
-    let reads = reads_as _ (g.S.Shelf.state c.args.shelf.now).holds c.args.name.now _ _ _ c.read.new.into.items _ End (ap (λ s. s.holds) inv.same) inv.feeding.place c.truncate.ensures.items refl c.in-End.ensures.bytes in
-    fed_end (g.S.Shelf.state c.read.new.self) c.read.new.into.items inv.feeding (c.in-End.ensures.state ∙ inv.same) c.loop-at-test.true reads
-
-pub returns-clause-puts : goal.returns-clause-puts
-returns-clause-puts g c =
-    let inv = c.loop-at.invariant in
-    let full : c.loop-at.at ≡ 1_099_511_627_777 = omega (arith, inv.within) in
-    fed_full (g.S.Shelf.state c.loop-at.shelf) inv.feeding inv.same full
-
-pub loop-at-preserved : goal.loop-at-preserved
-loop-at-preserved g c =
-    let inv = c.loop-at.invariant in
-    let grows = c.in-Got.ensures.grows in
-    let long : length c.deref.result.now ≡ c.in-Got.count = omega (arith, grows.longer, ap length c.deref.ensures.value, ap length c.truncate.ensures.items) in
-    let reads = reads_as _ (g.S.Shelf.state c.args.shelf.now).holds c.args.name.now _ _ _ c.read.new.into.items c.deref.result.now (Got c.in-Got.count) (ap (λ s. s.holds) inv.same) inv.feeding.place c.truncate.ensures.items c.deref.ensures.value c.in-Got.ensures.bytes in
+pub loop-chunks-preserved : goal.loop-chunks-preserved
+loop-chunks-preserved g c =
+    let inv = c.loop-chunks.invariant in
+    let next = next_read c.args.name.now (g.S.Shelf.state c.args.shelf.now) (g.S.Shelf.state c.loop-chunks.shelf) (g.S.Shelf.state c.next_chunk.new.shelf) c.loop-chunks.chunks.at c.next_chunk.new.chunks.at c.next_chunk.new.chunks.bytes.items c.deref.result.now c.in_ok-next_chunk.field-0 c.loop-chunks.invariant.same c.deref.ensures.value c.if-branch.true c.in_ok-next_chunk.ensures in
     record {
       own = c.put_chunk.ensures.own ∙ inv.own;
-      feeding = rw c.from-at.ensures (feeding_more c.in-Got.count c.deref.result.now c.put_chunk.new.reader c.put_chunk.new.pass.parts inv.feeding long reads (c.in_default.ensures.puts inv.feeding.fed inv.feeding.has));
-      within = omega (arith, grows.within, c.min-most.ensures, inv.within);
-      same = c.in-Got.ensures.state ∙ inv.same;
+      feeding = feeding_more c.next_chunk.new.chunks.at c.deref.result.now c.put_chunk.new.reader c.put_chunk.new.pass.parts inv.feeding (next.2 inv.feeding.fed (fed_read inv.feeding inv.within))
+          (c.in_default.ensures.puts inv.feeding.fed inv.feeding.has);
+      within = next.0.within;
+      same = next.1;
     }
+
+pub returns-in-Err-clause-own : goal.returns-in-Err-clause-own
+returns-in-Err-clause-own g c = c.put_chunk.ensures.own ∙ c.loop-chunks.invariant.own
 
 pub returns-in-Err-clause-puts : goal.returns-in-Err-clause-puts
 returns-in-Err-clause-puts g c =
-    let inv = c.loop-at.invariant in
-    let grows = c.in-Got.ensures.grows in
-    let long : length c.deref.result.now ≡ c.in-Got.count = omega (arith, grows.longer, ap length c.deref.ensures.value, ap length c.truncate.ensures.items) in
-    let reads = reads_as _ (g.S.Shelf.state c.args.shelf.now).holds c.args.name.now _ _ _ c.read.new.into.items c.deref.result.now (Got c.in-Got.count) (ap (λ s. s.holds) inv.same) inv.feeding.place c.truncate.ensures.items c.deref.ensures.value c.in-Got.ensures.bytes in
-    let within : c.loop-at.at + c.in-Got.count ≤ 1_099_511_627_777 = omega (arith, grows.within, c.min-most.ensures, inv.within) in
-    fed_fault (g.S.Shelf.state c.read.new.self) c.in-Got.count c.deref.result.now c.put_chunk.new.reader c.put_chunk.new.pass.parts c.in-Err.fault c.part_of_fault.result inv.feeding (c.in-Got.ensures.state ∙ inv.same) long grows.some within reads (c.in-Err.ensures.puts inv.feeding.fed inv.feeding.has) c.part_of_fault.ensures
+    let inv = c.loop-chunks.invariant in
+    let next = next_read c.args.name.now (g.S.Shelf.state c.args.shelf.now) (g.S.Shelf.state c.loop-chunks.shelf) (g.S.Shelf.state c.next_chunk.new.shelf) c.loop-chunks.chunks.at c.next_chunk.new.chunks.at c.next_chunk.new.chunks.bytes.items c.deref.result.now c.in_ok-next_chunk.field-0 c.loop-chunks.invariant.same c.deref.ensures.value c.if-branch.true c.in_ok-next_chunk.ensures in
+    fed_fault (g.S.Shelf.state c.next_chunk.new.shelf) c.next_chunk.new.chunks.at c.deref.result.now c.put_chunk.new.reader c.put_chunk.new.pass.parts c.in-Err.fault c.part_of_fault.result inv.feeding next.1 next.0
+    (next.2 inv.feeding.fed (fed_read inv.feeding inv.within)) (c.in-Err.ensures.puts inv.feeding.fed inv.feeding.has) c.part_of_fault.ensures
+
+pub returns-clause-own : goal.returns-clause-own
+returns-clause-own g c = c.loop-chunks.invariant.own
+
+pub returns-clause-puts : goal.returns-clause-puts
+returns-clause-puts g c =
+    let inv = c.loop-chunks.invariant in
+    let whole = next_whole c.args.name.now (g.S.Shelf.state c.args.shelf.now) (g.S.Shelf.state c.loop-chunks.shelf) (g.S.Shelf.state c.next_chunk.new.shelf) c.loop-chunks.chunks.at c.next_chunk.new.chunks.at c.next_chunk.new.chunks.bytes.items c.in_ok-next_chunk.field-0 c.loop-chunks.invariant.same c.if-branch.false c.in_ok-next_chunk.ensures in
+    fed_all (g.S.Shelf.state c.next_chunk.new.shelf) inv.feeding (whole inv.feeding.fed (fed_read inv.feeding inv.within))

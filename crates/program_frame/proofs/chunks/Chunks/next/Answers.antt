@@ -1,4 +1,4 @@
-use Rattle.std.proofs.Common.{◌≡◌, ◌+◌, ◌≤◌, length, ◌∙◌, ap, arith}
+use Rattle.std.proofs.Common.{◌≡◌, ◌+◌, ◌≤◌, length, ap, arith}
 use Rattle.edge_io.specs.declared.shelf.Taken.TheVariants.{End, Got}
 use Rattle.program_frame.proofs.ChunkReads.{chunk_read, end_read, limit_read, reads_into}
 use Rattle.program_frame.proofs.chunks.Chunks.next.Goals as goal
