@@ -79,7 +79,7 @@ const RUNS: [Run; 8] = [
         words: &["streams", "net", "tra"],
         traces: INTERLEAVED,
         reads: &["network", "network", "traces", "traces"],
-        puts: 2,
+        puts: 3,
         status: 0,
         line: b"",
     },
