@@ -4,8 +4,8 @@ ghost use Rattle.trace_relay.specs.Pieces.{IsWhole};
 
 use trace_relay::{PutPass, Relay, TakePass};
 
-/// Closes a relay of which a last part was taken. What was taken is then what was put, in order and
-/// each once.
+/// Closes a relay from which a last part was taken. Then what was taken is what was put, in order and
+/// each part once.
 pub fn close_whole(relay: Relay, put: PutPass, take: TakePass)
     requires relay { (put.relay ≡ relay.name) × (take.relay ≡ relay.name) }
     requires put { (put.parts ≡ []) ⊎ IsWhole put.parts }

@@ -9,7 +9,7 @@ use program_frame::{File, Job, Stop, put_text, refuse_traces};
 use std::alloc::Global;
 use trace_relay::Part;
 
-// What a last part says, where nothing else has stopped the work.
+// The end for a last part, if nothing else has stopped the work.
 fn end_with<J: Job, K: Sink>(
     alloc: Global,
     job: &mut J,
@@ -35,7 +35,7 @@ fn end_with<J: Job, K: Sink>(
     }
 }
 
-/// Ends the work: a matcher that has stopped decides, and else the last part.
+/// Ends the work: a matcher that has stopped decides, and otherwise the last part.
 pub fn end_traces<J: Job, K: Sink>(
     alloc: Global,
     job: &mut J,

@@ -1,4 +1,4 @@
-//! Traces that are put as they close. Serves `read_traces`; decided by `Feeds` and `Finishes` of the
+//! Puts traces as they close. Serves `read_traces`; decided by `Feeds` and `Finishes` of the
 //! trace reader.
 ghost use Rattle.std.specs.Prelude.{◌≡◌, ◌++◌, ◌<◌, ◌^◌, ℕ, List as ListOf, length};
 ghost use Rattle.trace_relay.specs.Order.{AreBounded};
@@ -11,7 +11,7 @@ use std::sync::Wait;
 use trace_reader::{Trace, TraceFault, TraceReader};
 use trace_relay::{Part, PutPass, Relay};
 
-// Puts the traces of a list, in their order.
+// Puts the traces of a list, in order.
 fn put_traces<R: Wait>(rt: &R, relay: &Relay, pass: &mut PutPass, traces: List<Trace>)
     requires own { pass.old.relay ≡ relay.now.name }
     requires may { AreBounded (pass.old.parts ++ parts_of traces) }
@@ -22,7 +22,7 @@ fn put_traces<R: Wait>(rt: &R, relay: &Relay, pass: &mut PutPass, traces: List<T
     }
 }
 
-/// Feeds a chunk of a file, and puts the traces that it closes; where it has a fault, those before.
+/// Feeds a chunk of a file, and puts the traces that it closes; on a fault, those closed before it.
 pub fn put_chunk<R: Wait>(
     rt: &R,
     alloc: Global,

@@ -1,13 +1,13 @@
-//! The traces of a file, read in one thread and worked on in another.
+//! The traces of a file, read in one thread and processed in another.
 //!
 //! [`live_traces`] does what `work_traces` of the crate `program_frame` does, with a reader in a thread of
-//! its own: `reader` reads the file in chunks and puts each trace that closes on a relay, `matcher` takes
-//! the traces, hands them to a job and writes their text. Then the reader is taken in and the relay is
-//! closed, and so the traces that were written are those that were read, in order and each once. Where no
-//! second thread can be had, both are done in turn.
+//! its own: `reader` reads the file in chunks and puts each trace that closes on a relay; `matcher` takes
+//! the traces, passes them to a job and writes their text. Then the reader thread is joined and the relay
+//! is closed, which shows that the traces that were written are those that were read, in order and each
+//! once. If no second thread is available, both are done in turn.
 //!
-//! [`live`] is the whole program `fmm_live` over a shelf of files and two sinks: `follow` by such a reader. Its
-//! clause says that it writes what `follow` writes; `specs/Words.antt` has the plan that its words ask for.
+//! [`live`] is the whole program `fmm_live` over a shelf of files and two sinks: `follow` with such a reader.
+//! Its clause says that it writes what `follow` writes; `specs/Words.antt` has the plan for its words.
 //!
 //! Read the clause of `live_traces` first, then `Brings` in `specs/Reading.antt`, `specs/Matching.antt`
 //! and `specs/Living.antt`.

@@ -1,4 +1,4 @@
-//! The matcher: traces from the relay, their text on out. Serves `live_traces`; decided by `HasMatched`.
+//! The matcher: takes traces from the relay and writes their text. Serves `live_traces`; decided by `HasMatched`.
 ghost use Rattle.std.specs.Prelude.{◌≡◌, ◌∷◌, []};
 ghost use Rattle.program_frame.specs.Batches.{WritesWaiting};
 ghost use Rattle.program_frame.specs.Jobs.{CanTake};
@@ -12,7 +12,7 @@ use std::sync::Wait;
 use trace_reader::Trace;
 use trace_relay::{Part, Relay, TakePass};
 
-// Hands a trace to the job, and writes its text.
+// Passes a trace to the job, and writes its text.
 fn write_trace<J: Job, K: Sink>(
     alloc: Global,
     job: &mut J,
@@ -31,7 +31,7 @@ fn write_trace<J: Job, K: Sink>(
     put_text(out, text.as_slice())
 }
 
-// Hands a trace to the job and writes its text, where nothing has stopped yet.
+// Passes a trace to the job and writes its text, if nothing has stopped yet.
 fn write_next<J: Job, K: Sink>(
     alloc: Global,
     ended: Result<(), Stop>,
@@ -51,8 +51,8 @@ fn write_next<J: Job, K: Sink>(
     }
 }
 
-/// Takes traces and writes their text, one by one, until there is a last part. Once the job or a put has
-/// stopped it takes on, and drops what it takes.
+/// Takes traces and writes their text, one by one, until a last part comes. Once the job or a put has
+/// stopped, it continues to take, and drops what it takes.
 pub fn match_parts<R: Wait, J: Job, K: Sink>(
     rt: &R,
     alloc: Global,

@@ -21,10 +21,10 @@ use std::thread;
 use std::thread::Threads;
 use trace_relay::{Part, PutPass, Relay, TakePass};
 
-// How many parts wait at most between reader and matcher.
+// The most parts that wait between reader and matcher.
 const CAPACITY: u32 = 64;
 
-// Starts the reader beside the matcher, where a thread can be had, and takes it in.
+// Starts the reader in a second thread if one is available, and joins it.
 fn run_both<R: Threads + Wait + Sync, J: Job + Drop, S: Shelf + Send + Drop, K: Sink>(
     rt: &R,
     alloc: Global,
@@ -95,10 +95,10 @@ fn run_both<R: Threads + Wait + Sync, J: Job + Drop, S: Shelf + Send + Drop, K: 
     (done, taken, left, matched)
 }
 
-/// Hands the traces of a file to a job and writes their text, as `work_traces` does, while another
-/// thread reads. Each trace is written as soon as it is read and matched. Where no thread or no memory
-/// for a relay can be had, that is no fault: the traces are then read and matched in turn, or memory is
-/// wanting.
+/// Passes the traces of a file to a job and writes their text, as `work_traces` does, while another
+/// thread reads. Each trace is written as soon as it is read and matched. Without a second thread or
+/// memory for a relay this is not an error: the traces are then read and matched in turn, or the run is
+/// out of memory.
 pub fn live_traces<R: Threads + Wait + Sync, J: Job + Drop, S: Shelf + Send + Drop, K: Sink>(
     rt: &R,
     alloc: Global,
@@ -123,7 +123,7 @@ pub fn live_traces<R: Threads + Wait + Sync, J: Job + Drop, S: Shelf + Send + Dr
             (end_traces(alloc, &mut job, last, ended, out), shelf)
         }
         (Some(_), ReadDone::Unread { shelf: _, pass }) => {
-            // What was taken was put, and so something was.
+            // What was taken was put, so something was put.
             close_whole(relay, pass, take);
             unreachable!()
         }

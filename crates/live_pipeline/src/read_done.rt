@@ -1,18 +1,18 @@
-//! What the reader's thread gives back, and what it promises of it. Serves `live_traces`; decided by
+//! What the reader's thread returns, and what it promises of it. Serves `live_traces`; decided by
 //! `Keeps`.
 use edge_io::Shelf;
 use std::snapshot::Snapshot;
 use std::thread::Promise;
 use trace_relay::PutPass;
 
-/// The shelf and the pass of a reader, after it has read, or where it has not begun.
+/// The shelf and the pass of a reader, after it has read, or if it has not begun.
 #[derive(Drop)]
 pub enum ReadDone<S> {
     Read { shelf: S, pass: PutPass },
     Unread { shelf: S, pass: PutPass },
 }
 
-/// The promise of a reader that was given this shelf, this pass and the file of this name.
+/// The promise of a reader with this shelf, this pass and the file of this name.
 #[derive(Drop)]
 pub struct ReadPromise<S> {
     pub shelf: Snapshot<S>,

@@ -23,7 +23,7 @@ fn part_of_stop(stop: Stop) -> Part
     }
 }
 
-// Reads the next chunk of a file. Err has the last part if the chunk was not read.
+// Reads the next chunk of a file. `Err` has the last part if the chunk was not read.
 fn next_chunk<S: Shelf>(chunks: &mut Chunks, shelf: &mut S, name: &str) -> Result<bool, Part>
     requires { chunks.old.at ≤ trace_limit + 1 }
     ensures { ReadsNext name.now (S.state shelf.old) (S.state shelf.new)
@@ -36,7 +36,7 @@ fn next_chunk<S: Shelf>(chunks: &mut Chunks, shelf: &mut S, name: &str) -> Resul
 }
 
 // Reads a file to its end, to the first byte above the limit or to its first fault, and puts the traces
-// that close. Err has the last part where the reading ends early.
+// that close. `Err` has the last part if reading ends early.
 fn put_chunks<R: Wait, S: Shelf>(
     rt: &R,
     alloc: Global,
@@ -61,7 +61,7 @@ fn put_chunks<R: Wait, S: Shelf>(
     Ok(())
 }
 
-// Puts the traces of a file as they close, and says which last part belongs behind them.
+// Puts the traces of a file as they close, and returns the last part that belongs after them.
 fn put_file<R: Wait, S: Shelf>(
     rt: &R,
     alloc: Global,
@@ -86,8 +86,8 @@ fn put_file<R: Wait, S: Shelf>(
     }
 }
 
-/// Reads a file and puts its traces as they close, and then one last part. None is read behind the
-/// chunk of its first fault.
+/// Reads a file and puts its traces as they close, and then one last part. Nothing is read after the
+/// chunk of the first fault.
 pub fn read_traces<R: Wait, S: Shelf>(
     rt: &R,
     alloc: Global,

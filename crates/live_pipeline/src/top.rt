@@ -1,4 +1,4 @@
-//! The top call: the work of `follow` with a reader in a thread of its own, what is said on err, and the
+//! The top call: the work of `follow` with a reader in a thread of its own, the error line, and the
 //! status. Serves `main`; decided by `LivePromises`.
 ghost use Rattle.std.specs.Prelude.{Ok};
 ghost use Rattle.cost_model.specs.Options.{IsAccepted};
@@ -46,7 +46,7 @@ fn follow_live<R: Threads + Wait + Sync, S: Shelf + Send + Drop, K: Sink>(
     live_traces(rt, alloc, job, shelf, &name, out)
 }
 
-// The work of the words, but for what is said on err.
+// The work of the words; leaves the error output alone.
 fn perform<R: Threads + Wait + Sync, S: Shelf + Send + Drop, K: Sink>(
     rt: &R,
     alloc: Global,
@@ -73,8 +73,8 @@ fn perform<R: Threads + Wait + Sync, S: Shelf + Send + Drop, K: Sink>(
 }
 
 /// Follows the traces of a file as `follow` does, while another thread reads them: each trace is written
-/// as soon as it is read and matched. The words are those of `follow`, without its name. The answer has
-/// the status of `run`, and the shelf. It may wait, and its clause holds if it returns.
+/// as soon as it is read and matched. The words are those of `follow`, without its name. Returns the
+/// status of `run`, and the shelf. It may wait, and its clause holds if it returns.
 pub fn live<R: Threads + Wait + Sync, S: Shelf + Send + Drop, K: Sink, E: Sink>(
     rt: &R,
     alloc: Global,

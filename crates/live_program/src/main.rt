@@ -1,5 +1,5 @@
 //! The program `fmm_live`: `follow` for streams. `live` of the crate `live_pipeline` is the whole program; `main`
-//! hands it the real files and streams.
+//! calls it with the real files and streams.
 #![tactic(auto)]
 
 use edge_io::{FileShelf, StreamSink};

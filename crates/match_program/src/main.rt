@@ -1,5 +1,5 @@
 //! The program `fmm`: it matches position traces to a network of road edges. `run` of the crate `program_run`
-//! is the whole program; `main` hands it the real files and streams.
+//! is the whole program; `main` calls it with the real files and streams.
 #![tactic(auto)]
 
 use edge_io::{FileShelf, StreamSink};

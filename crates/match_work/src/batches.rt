@@ -1,4 +1,4 @@
-//! Readers of one store, and batches of traces that are matched by them. Serves `match` and `town`; decided
+//! Readers of one store, and batches of traces matched by them. Serves `match` and `town`; decided
 //! by `MatchesBatch`.
 ghost use Rattle.std.specs.Prelude.{◌≡◌, IfOk};
 ghost use Rattle.match_pool.specs.Learning.{AreReadersFor};
@@ -14,7 +14,7 @@ use std::thread::Threads;
 use trace_match::Matcher;
 use trace_reader::Trace;
 
-/// A store for the rows of the network within the bound of the options. No row is in it.
+/// An empty store for the rows of the network within the bound of the options.
 pub fn open_store<'n>(alloc: Global, matcher: &Matcher<'n>) -> Result<RowStore<'n>, AllocError>
     ensures { IfOk result (IsStoreFor matcher.now) }
 {
@@ -39,8 +39,8 @@ pub fn open_readers<'s>(
     Ok(readers)
 }
 
-/// The matches of some traces, in their order, by one worker for each reader. The first of the
-/// traces stands at place `first` of the file, from 0.
+/// The matches of some traces, in order, by one worker for each reader. `first` is the index of the
+/// first trace in the file, from 0.
 pub fn match_batch<'s, R: Threads + Sync, G: Gate>(
     rt: &R,
     alloc: Global,

@@ -1,12 +1,12 @@
-//! The work of `match`: the traces of a file are matched batch by batch, by workers that share the rows of
-//! one store, and the total line is written.
+//! The work of `match`: workers that share the rows of one store match the traces of a file batch by
+//! batch; at the end the total line is written.
 //!
-//! - [`match_traces`] does it. Its plan is `match_plan` in `specs/Matches.antt`, which is to be read first.
+//! - [`match_traces`] does it. Its plan is `match_plan` in `specs/Matches.antt`: read it first.
 //!   [`match_file`] is its part after the network, for callers that have a store already.
-//! - [`match_with_table`] offers the rows of a table file to the store before. Its plan is
+//! - [`match_with_table`] first offers the rows of a table file to the store. Its plan is
 //!   `table_match_plan` in `specs/TableMatch.antt`.
-//! - [`open_store`], [`open_readers`] and [`match_batch`] are for whoever matches traces by workers: the
-//!   store, a reader of it for each worker, and the matches of some traces. What these leave is
+//! - [`open_store`], [`open_readers`] and [`match_batch`] are for callers that match traces by workers:
+//!   the store, a reader of it for each worker, and the matches of some traces. Their effect is
 //!   `MatchesBatch` in `specs/Sharing.antt`.
 #![tactic(auto)]
 

@@ -24,7 +24,7 @@ use std::thread::Threads;
 use trace_match::Matcher;
 use trace_reader::Trace;
 
-// Matches traces batch by batch, and counts them. The readers are those of the workers, over all
+// Matches traces batch by batch, and counts them. The readers belong to the workers, over all
 // batches.
 #[derive(Drop)]
 struct MatchJob<'s, F> {
@@ -34,7 +34,7 @@ struct MatchJob<'s, F> {
     tally: Tally,
 }
 
-// Appends the texts of matches, and says how many pieces they have.
+// Appends the texts of matches, and returns the number of their pieces.
 fn write_matches(
     alloc: Global,
     matches: &[MatchedTrace],
@@ -53,7 +53,7 @@ fn write_matches(
     Ok(pieces)
 }
 
-// The matches of a batch by this call, which is one of `match_batch` with this matcher.
+// The matches of a batch by this call, which is a call of `match_batch` with this matcher.
 fn match_by<'s, F>(
     call: &F,
     _matcher: &Matcher<'_>,

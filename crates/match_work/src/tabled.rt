@@ -1,5 +1,5 @@
-// `match NET TRACES --table FILE`: the rows of the table file are offered to the store before the traces
-// are matched. Serves the programs; decided by `table_match_plan`.
+//! `match NET TRACES --table FILE`: the rows of the table file are offered to the store before the traces
+//! are matched. Serves the programs; decided by `table_match_plan`.
 ghost use Rattle.std.specs.Prelude.{Ok};
 ghost use Rattle.cost_model.specs.Options.{IsAccepted};
 ghost use Rattle.program_frame.specs.Performs.{Performs};

@@ -1,13 +1,13 @@
 //! The whole program `fmm`, which matches position traces to a network of road edges, over a shelf of files
 //! and two sinks.
 //!
-//! [`run`] carries the promise: what it writes is a function of the words and the files. The crate
-//! `match_program` hands it the real files and streams.
+//! [`run`] has the promise: what it writes is a function of the words and the files. The crate
+//! `match_program` calls it with the real files and streams.
 //!
-//! - The crate `command_line` reads the words, and `run` hands the work that they ask for to the crate of its
-//!   command: `match_work`, `follow_work`, `stream_work`, `table_work`, `prove_work`, `check_work`, `town_work`.
+//! - The crate `command_line` reads the words, and `run` calls the crate of their command: `match_work`,
+//!   `follow_work`, `stream_work`, `table_work`, `prove_work`, `check_work`, `town_work`.
 //! - The crate `program_frame` has what all commands share: the files and their refusals, the
-//!   traces taken batch by batch, what is said on err, and the promises of a run.
+//!   traces in batches, the error line, and the promises of a run.
 //! - [`laws`] has what holds of the outcomes of several commands.
 //!
 //! Read the clause of `run` first, then `specs/Words.antt`, and then `specs/Matches.antt` of `match_work`.

@@ -1,4 +1,4 @@
-//! The top call: the work of the words, what is said on err, and the status. Serves `main`; decided
+//! The top call: the work of the words, the error line, and the status. Serves `main`; decided
 //! by `Promises`.
 ghost use Rattle.program_frame.specs.Performs.{Performs};
 ghost use Rattle.program_frame.specs.Promises.{Promises};
@@ -19,7 +19,7 @@ use stream_work::stream_traces;
 use table_work::write_table;
 use town_work::match_town;
 
-// The work of the words, but for what is said on err.
+// The work of the words; leaves the error output alone.
 fn perform<R: Threads + Sync, G: Gate, S: Shelf, K: Sink>(
     rt: &R,
     alloc: Global,
@@ -95,11 +95,11 @@ fn perform<R: Threads + Sync, G: Gate, S: Shelf, K: Sink>(
     }
 }
 
-/// Runs the command that the words spell, and says on err why it ended early. The status says how
-/// it ended: 0 done, 1 want of memory, 2 words refused, 3 a file was not read, 4 a write failed,
-/// 5 network refused, 6 traces refused, 7 certificate refused, 8 table or certificate too long, 9 table
-/// file refused. The gate is told of
-/// each trace that is matched.
+/// Runs the command that the words ask for, and writes the reason of an early end to the error output.
+/// The status is 0 if the run is done, 1 when out of memory, 2 if the words are refused, 3 if a file was
+/// not read, 4 if a write failed, 5 if the network is refused, 6 the traces, 7 the certificate, 8 if a
+/// table or certificate is too long, 9 if the table file is refused. The gate is called for each trace
+/// that is matched.
 pub fn run<R: Threads + Sync, G: Gate, S: Shelf, K: Sink, E: Sink>(
     rt: &R,
     alloc: Global,

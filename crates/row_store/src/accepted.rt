@@ -1,4 +1,4 @@
-//! The rows that a reader has accepted, for a search to build on. Serves `Reader::find`; decided by `IsRow`.
+//! The rows that a reader has accepted, for a search to use. Serves `Reader::find`; decided by `IsRow`.
 ghost use Rattle.std.specs.Prelude.{◌≡◌, length};
 ghost use Rattle.row_store.specs.ReaderInside.{AllFit};
 
@@ -8,7 +8,7 @@ use bounded_search::{KnownRows, Row};
 use road_network::NodeId;
 use std::marker::Model;
 
-/// The right rows among those that a reader knows or has made for itself, with a place for each node.
+/// The right rows among those that a reader knows or has made itself, with a place for each node.
 pub struct Accepted<'a, 's> {
     store: &'s RowStore<'s>,
     places: &'a [Place<'s>],
@@ -38,7 +38,7 @@ impl<'a, 's> Model for Accepted<'a, 's> {
 }
 
 impl<'a, 's> Accepted<'a, 's> {
-    /// Those in the places of a reader of this store.
+    /// The accepted rows of a reader of this store.
     pub fn of(store: &'s RowStore<'s>, places: &'a [Place<'s>]) -> Accepted<'a, 's>
         requires count { length places.now ≡ length store.now.network.nodes }
         requires fit { AllFit store.now places.now }

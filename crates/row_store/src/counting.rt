@@ -1,4 +1,4 @@
-//! For how many nodes some reader knows a row. Serves `known_count`; decided by `count_known`.
+//! The number of nodes with a known row. Serves `known_count`; decided by `count_known`.
 ghost use Rattle.std.specs.Prelude.{◌≡◌, All, IfOk};
 ghost use Rattle.road_network.specs.Net.{HasNode};
 ghost use Rattle.row_store.specs.Store.{Stored, count_known, is_known_to_any};

@@ -1,4 +1,4 @@
-//! What a reader keeps for one node. Serves `Reader`; decided by `Fits`.
+//! What a reader stores for one node. Serves `Reader`; decided by `Fits`.
 ghost use Rattle.std.specs.Prelude.{◌≡◌, ℕ, ◌<◌, slice_index, ◌⊎◌, OnErr, OnOk, IfSome, IsTrue, Some, None, IsSome, length};
 ghost use Rattle.road_network.specs.Net.{Net};
 ghost use Rattle.once_cell.specs.Once.{cell_name, Agrees};
@@ -12,7 +12,7 @@ use road_network::NodeId;
 use std::alloc::AllocError;
 
 /// The note of the cell, the row that it knows, whether that is the node's row, and the node's row
-/// where the cell holds another.
+/// if the cell contains another.
 #[derive(Drop)]
 pub struct Place<'s> {
     pub note: Note<Row>,
@@ -22,7 +22,7 @@ pub struct Place<'s> {
 }
 
 impl<'s> Place<'s> {
-    /// What is known of a cell at first: nothing.
+    /// The initial state: nothing is known of the cell.
     pub fn empty(cell: &OnceBox<Row>) -> Place<'s>
         ensures note { (result.note.cell ≡ cell_name cell.now) × (result.note.known ≡ None) }
         ensures rows { (result.seen ≡ None) × (result.own ≡ None) }
@@ -35,9 +35,9 @@ impl<'s> Place<'s> {
         }
     }
 
-    /// Puts the node's row into an empty cell, and looks at what it then holds.
+    /// Puts the node's row into an empty cell, and reads what it then contains.
     ///
-    /// The row that this exchange put there is right; any other is checked.
+    /// A row that this call put there is right; any other is checked.
     fn put(
         &mut self,
         store: &'s RowStore<'s>,
@@ -60,7 +60,7 @@ impl<'s> Place<'s> {
         self.seen = Some(row);
     }
 
-    /// Looks at the cell. False where it is empty, and then nothing is known.
+    /// Reads the cell. False if it is empty; then nothing is known.
     pub fn look(&mut self, store: &'s RowStore<'s>, searcher: &mut Searcher<'s>, n: NodeId) -> bool
         requires { IsPlaceOf store.now n.0 searcher.old self.old }
         ensures place { IsPlaceOf store.now n.0 searcher.new self.new }
@@ -79,7 +79,7 @@ impl<'s> Place<'s> {
         true
     }
 
-    /// Offers a row to the cell, and looks at what it then holds.
+    /// Offers a row to the cell, and reads what it then contains.
     pub fn offer(
         &mut self,
         store: &'s RowStore<'s>,
@@ -103,7 +103,7 @@ impl<'s> Place<'s> {
         Ok(())
     }
 
-    /// Offers the node's row, which was found right before, to the cell, and looks at what it then holds.
+    /// Offers the node's row, which is known to be right, to the cell, and reads what it then contains.
     pub fn offer_right(
         &mut self,
         store: &'s RowStore<'s>,
@@ -125,7 +125,7 @@ impl<'s> Place<'s> {
         Ok(())
     }
 
-    /// Makes the node's row, where the cell holds another and it was not made yet.
+    /// Makes the node's row, if the cell contains another and it was not made yet.
     pub fn make_own(
         &mut self,
         store: &'s RowStore<'s>,
@@ -144,7 +144,7 @@ impl<'s> Place<'s> {
         Ok(())
     }
 
-    /// The node's row, if it was made here or what is known is right.
+    /// The node's row, if it was made here or the known row is right.
     pub fn right_row(&self) -> Option<&Row>
         ensures { (net : Net) (bound v name : ℕ) → Fits net bound v name self.now → IfSome result (λ row. IsRow net bound v row.now) }
     {
@@ -157,7 +157,7 @@ impl<'s> Place<'s> {
         }
     }
 
-    /// The node's row: its own where there is one, and else the one that is known.
+    /// The node's row: its own if it has one, and otherwise the known one.
     pub fn lend(&self, store: &RowStore<'_>, n: NodeId) -> &Row
         requires fits { Fits store.now.network store.now.bound n.0
             (slice_index store.now.cells n.0) self.now }
@@ -174,7 +174,7 @@ impl<'s> Place<'s> {
         }
     }
 
-    /// What two notes of one cell know is the same.
+    /// Two notes of one cell know the same row.
     pub fn compare(&mut self, other: &mut Place<'s>)
         requires { self.old.note.cell ≡ other.old.note.cell }
         ensures same { (self.new ≡ self.old) × (other.new ≡ other.old) }

@@ -14,7 +14,7 @@ use road_network::NodeId;
 use std::alloc::AllocError;
 use std::marker::Model;
 
-/// What one thread has seen of a store, and found out about it.
+/// What one thread has seen of a store and found out about it.
 pub struct Reader<'s> {
     store: &'s RowStore<'s>,
     searcher: Searcher<'s>,
@@ -47,7 +47,7 @@ impl<'s> Model for Reader<'s> {
 impl<'n> RowStore<'n> {
     /// A reader of this store that knows nothing.
     ///
-    /// It keeps a place for each node and the arrays of a search.
+    /// It stores a place for each node and the arrays of a search.
     pub fn reader<'s>(&'s self) -> Result<Reader<'s>, AllocError>
         ensures { IfOk result (λ r. (r.store ≡ self.now)
             × (r.places ≡ replicate (length self.now.network.nodes) None)) }
@@ -74,14 +74,14 @@ impl<'s> Reader<'s> {
         })
     }
 
-    /// The store that this reader is of. Takes no memory.
+    /// The store of this reader. Allocates nothing.
     pub fn store(&self) -> &'s RowStore<'s>
         ensures { result.now ≡ self.now.store }
     {
         self.store
     }
 
-    /// Whether a row is known for node n. Takes no memory.
+    /// Whether a row is known for node n. Allocates nothing.
     pub fn known(&self, n: NodeId) -> bool
         requires { HasNode self.now.store.network n.0 }
         ensures { result ≡ knows self.now n.0 }
@@ -89,7 +89,7 @@ impl<'s> Reader<'s> {
         self.places[n.0 as usize].seen.is_some()
     }
 
-    /// Looks at the cell of n, and makes its row known. False where it is empty.
+    /// Reads the cell of n, and makes its row known. False if it is empty.
     fn glance(&mut self, n: NodeId) -> bool
         requires { HasNode self.old.store.network n.0 }
         ensures seen { IsTrue result → (row : TableRow) × Sees self.old n.0 row self.new }
@@ -100,7 +100,7 @@ impl<'s> Reader<'s> {
         place.look(store, &mut self.searcher, n)
     }
 
-    /// The row of n, found with the help of the rows that are accepted.
+    /// The row of n, found with the help of the accepted rows.
     fn find(&mut self, n: NodeId) -> Result<Row, AllocError>
         requires { HasNode self.old.store.network n.0 }
         ensures same { self.new ≡ self.old }
@@ -124,7 +124,7 @@ impl<'s> Reader<'s> {
         self.settle_right(n, row)
     }
 
-    /// Makes the row of the cell of n known, which is this one if the cell was empty.
+    /// Makes the row of the cell of n known; it is this row if the cell was empty.
     fn settle_with(&mut self, n: NodeId, row: Row) -> Result<(), AllocError>
         requires { HasNode self.old.store.network n.0 }
         ensures seen { OnOk result ((row : TableRow) × Sees self.old n.0 row self.new) }
@@ -136,7 +136,7 @@ impl<'s> Reader<'s> {
         place.offer(store, &mut self.searcher, n, row)
     }
 
-    /// Makes the row of the cell of n known, which is this one if the cell was empty.
+    /// Makes the row of the cell of n known; it is this row if the cell was empty.
     fn settle_right(&mut self, n: NodeId, row: Row) -> Result<(), AllocError>
         requires node { HasNode self.old.store.network n.0 }
         requires right { IsRow self.old.store.network self.old.store.bound n.0 row }
@@ -178,10 +178,10 @@ impl<'s> Reader<'s> {
         }
     }
 
-    /// The row that the cell of n holds for good, and whether it is the row of n. An empty cell is
-    /// filled with that row first.
+    /// The row that the cell of n contains for good, and whether it is the row of n. An empty cell is
+    /// first filled with that row.
     ///
-    /// Err says that memory was refused. At a node that is known this takes none.
+    /// `Err` means out of memory. At a known node nothing is allocated.
     pub fn look(&mut self, n: NodeId) -> Result<Sight<'s>, AllocError>
         requires { HasNode self.old.store.network n.0 }
         ensures seen { IfOk result (λ s. Sees self.old n.0 (row_seen s) self.new) }
@@ -194,11 +194,11 @@ impl<'s> Reader<'s> {
         Ok(self.sight(n))
     }
 
-    /// Offers a row to the cell of n. The answer is the row that the cell holds for good, which is
-    /// another one if the cell was set before.
+    /// Offers a row to the cell of n. Returns the row that the cell contains for good, which is another
+    /// one if the cell was set before.
     ///
-    /// The row may be wrong, with any numbers in it. Err says that memory was refused. At a node that is
-    /// known this takes none.
+    /// The row may be wrong, with any numbers in it. `Err` means out of memory. At a known node nothing is
+    /// allocated.
     pub fn offer(&mut self, n: NodeId, row: Row) -> Result<&'s Row, AllocError>
         requires node { HasNode self.old.store.network n.0 }
         requires origin { row.origin ≡ n.0 }
@@ -210,10 +210,10 @@ impl<'s> Reader<'s> {
         Ok(self.seen(n))
     }
 
-    /// Offers the row of n, which was found right before, to the cell of n. It is not checked again. The
-    /// answer is the row that the cell holds for good, which is another one if the cell was set before.
+    /// Offers the row of n, which is known to be right, to the cell of n. It is not checked again. Returns
+    /// the row that the cell contains for good, which is another one if the cell was set before.
     ///
-    /// Err says that memory was refused. At a node that is known this takes none.
+    /// `Err` means out of memory. At a known node nothing is allocated.
     pub fn offer_right(&mut self, n: NodeId, row: Row) -> Result<&'s Row, AllocError>
         requires node { HasNode self.old.store.network n.0 }
         requires right { IsRow self.old.store.network self.old.store.bound n.0 row }
@@ -239,7 +239,7 @@ impl<'s> Reader<'s> {
     }
 }
 
-/// The row that two readers of one store know for node n, a foreign one too. Takes no memory.
+/// The row that two readers of one store know for node n, even a foreign one. Allocates nothing.
 pub fn agree<'s>(a: &mut Reader<'s>, b: &mut Reader<'s>, n: NodeId) -> &'s Row
     requires store { a.old.store ≡ b.old.store }
     requires known { HasNode a.old.store.network n.0 × IsKnown a.old n.0 × IsKnown b.old n.0 }
@@ -254,7 +254,7 @@ pub fn agree<'s>(a: &mut Reader<'s>, b: &mut Reader<'s>, n: NodeId) -> &'s Row
 impl<'s> Rows for Reader<'s> {
     ghost state = { λ r. rows_state r };
 
-    /// Where the cell holds another row, the reader makes the row of n for itself, and keeps it.
+    /// If the cell contains another row, the reader makes the row of n for itself, and keeps it.
     fn row(&mut self, n: NodeId) -> Result<&Row, AllocError> {
         self.settle(n)?;
         let store = self.store;

@@ -1,8 +1,8 @@
-//! What a reader sees in a cell. Serves `Reader::look`.
+//! What a reader finds in a cell. Serves `Reader::look`.
 
 use bounded_search::Row;
 
-/// The row of a cell as a reader found it.
+/// The row of a cell, as a reader found it.
 #[derive(Clone, Copy)]
 pub enum Sight<'s> {
     /// The row of the node in the table of the store's network and bound.

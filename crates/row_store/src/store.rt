@@ -64,7 +64,7 @@ impl<'n> RowStore<'n> {
         })
     }
 
-    /// The network whose rows the cells hold. Takes no memory.
+    /// The network of the rows in the cells. Allocates nothing.
     pub fn network(&self) -> &'n Network
         ensures { result.now ≡ self.now.network }
     {
