@@ -136,7 +136,6 @@ def prepare_folder(folder):
 
 def prepare_groups(values, folder, program, options, base, jobs):
     """Makes the groups, or refuses a folder that was made for something else."""
-    print_note("reading the files")
     reading = Progress("checksums", os.path.getsize(values.network) + os.path.getsize(values.traces))
     identity = {"version": 1, "network": checksum(values.network, reading), "program": program,
                 "options": {name: value for name, value in sorted(options.items()) if name != "workers"},
@@ -159,8 +158,6 @@ def prepare_groups(values, folder, program, options, base, jobs):
     reading.close()
     for number in large:
         print_note(f"group {number} has one trace that may need more than {values.memory} MB")
-    if checksum(values.network) != identity["network"]:
-        raise Refused(f"{values.network} was changed while it was read")
     shutil.rmtree(os.path.join(folder, "parts"), ignore_errors=True)
     store_manifest(folder, {**identity, **made})
 
@@ -180,6 +177,7 @@ def run_fleet(values):
     held = lock(folder)
     before = [state(network), state(values.traces)]
     words = values.options if "workers" in options else [*values.options, "--workers", "1"]
+    print_note("reading the files")
     running, base = probe(program, network, words)
     jobs = values.jobs or local_jobs(values)
     prepare_groups(values, folder, sorted({checksum(program), checksum(running)}), options, base, jobs)
@@ -204,11 +202,8 @@ def run_fleet(values):
         number = min(set(missing) & set(failed), default=missing[0])
         why = f" ({failed[number]})" if number in failed else ""
         raise Refused(f"{run.part_path(number)} is missing{why}; {len(missing)} of {len(run.groups)} parts are missing")
-    progress = Progress("joining", run.manifest["points"])
-    try:
-        total = parts.join(run, os.path.join(folder, "match.txt"), progress)
-    finally:
-        progress.close()
+    total = parts.join(run, os.path.join(folder, "match.txt"))
+    run.remove_temporary()
     if [state(network), state(values.traces)] != before:
         os.remove(os.path.join(folder, "match.txt"))
         raise Refused("the network or the trace file was changed during the run")

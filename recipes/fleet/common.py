@@ -52,10 +52,13 @@ def load_manifest(folder):
     try:
         with open(os.path.join(folder, "manifest.json"), "rb") as file:
             data = file.read()
-        return data, json.loads(data)
+        values = json.loads(data)
+        if values["version"] == 1:
+            return data, values
+        raise ValueError
     except FileNotFoundError:
         return None
-    except (OSError, ValueError):
+    except (OSError, ValueError, KeyError, TypeError):
         raise Refused(f"{folder}/manifest.json cannot be read: remove {folder}")
 
 

@@ -28,7 +28,7 @@ class TraceFile:
         self.checksum = self.header = None
 
     def fault(self, line, why):
-        return Refused(f"{self.path} line {line}: {why}")
+        return Refused(f"{self.path} line {line}{why}")
 
     def blocks(self):
         """Lists of lines without their ends."""
@@ -52,7 +52,7 @@ class TraceFile:
             for line in block:
                 number += 1
                 if len(line) > 4096:
-                    raise self.fault(number, "line too long")
+                    raise self.fault(number, ": line too long")
                 if fields is None:
                     if line.strip(BLANK + b"\r"):
                         fields = self.take_header(line)
@@ -88,7 +88,7 @@ class TraceFile:
                     yield last, held
                 last, held = trace, []
             elif len(held) == 100_000:
-                raise self.fault(number, "trace too long")
+                raise self.fault(number, ": trace too long")
             held.append((x, y, rest))
         if held:
             yield last, held
@@ -98,14 +98,14 @@ def fault_of(line, fields):
     """What is wrong with a line, as FMM says it."""
     values = [value.strip(BLANK) for value in line.removesuffix(b"\r").split(b",")]
     if len(values) != fields:
-        return "wrong number of fields"
+        return ": wrong number of fields"
     for at, (value, (spelling, _, _)) in enumerate(zip(values, FIELDS), 1):
         if not re.fullmatch(spelling, value):
-            return f"field {at}: bad number"
+            return f" field {at}: bad number"
     for at, (value, (_, low, high)) in enumerate(zip(values, FIELDS), 1):
         if not low <= int(value) <= high:
-            return f"field {at}: out of range"
-    return "bad line"
+            return f" field {at}: out of range"
+    return ": bad line"
 
 
 class Sorter:
@@ -116,19 +116,25 @@ class Sorter:
         os.makedirs(self.folder, exist_ok=True)
         try:
             self.process = subprocess.Popen(["sort", "-n", "-s", "-k1,1", "-S", "256M", "-T", self.folder], stdin=subprocess.PIPE,
-                                            stdout=subprocess.PIPE, env={**os.environ, "LC_ALL": "C"}, text=True)
+                                            stdout=subprocess.PIPE, stderr=subprocess.DEVNULL, env={**os.environ, "LC_ALL": "C"},
+                                            text=True)
         except OSError as error:
             raise Refused(f"cannot run sort: {error.strerror}")
-        self.write = self.process.stdin.write
+
+    def write(self, line):
+        try:
+            self.process.stdin.write(line)
+        except BrokenPipeError:
+            raise Refused(f"sort failed; is there room in {self.folder}?")
 
     def lines(self):
         try:
             self.process.stdin.close()
-        except OSError:
+        except BrokenPipeError:
             pass
         yield from self.process.stdout
         if self.process.wait():
-            raise Refused("sort failed: is the disk full?")
+            raise Refused(f"sort failed; is there room in {self.folder}?")
 
 
 def sort_by_place(traces, grid, sorter):

@@ -15,7 +15,7 @@ import signal
 import socket
 import subprocess
 
-from .common import Refused, checksum, load_manifest, number_name, print_note, state
+from .common import Progress, Refused, checksum, load_manifest, number_name, print_note, state
 
 LAST = re.compile(rb"part (\d+) run ([0-9a-f]{64}) traces (\d+) points (\d+) pieces (\d+) bytes (\d+) sha256 ([0-9a-f]{64})\n")
 TOTAL = re.compile(rb"total traces (\d+) points (\d+) pieces (\d+) rows \d+\n")
@@ -108,19 +108,19 @@ def read_trace(file, number, name, numbered):
     raise Again(f"{name}: trace {number} is cut or has a strange line")
 
 
-def check_text(path, group):
+def check_text(path, name, group):
     """The pieces of a text that fmm wrote for a group: it has all traces and positions, and a total line that counts them."""
     points = pieces = 0
     with open(path, "rb") as file:
         for number in range(group["traces"]):
-            _, more, some = read_trace(file, number, path, True)
+            _, more, some = read_trace(file, number, name, True)
             points += more
             pieces += some
         total = TOTAL.fullmatch(file.readline())
         if not total or file.read(1):
-            raise Again(f"{path}: the total line is not in its place")
+            raise Again(f"{name}: the total line is not in its place")
     if tuple(map(int, total.groups())) != (group["traces"], points, pieces) or points != group["points"]:
-        raise Again(f"{path}: the total line counts others")
+        raise Again(f"{name}: the total line counts others")
     return pieces
 
 
@@ -171,7 +171,7 @@ def match_group(folder, number):
     temporary = f"{part[:-4]}.{socket.gethostname()}.{os.getpid()}.tmp"
     try:
         run_program(call, path, temporary)
-        pieces = check_text(temporary, group)
+        pieces = check_text(temporary, f"the text of group {number}", group)
         if state(call["network"]) != call["network_state"]:
             raise Refused(f"{call['network']} was changed during the run")
         size, digest = os.path.getsize(temporary), checksum(temporary)
@@ -221,54 +221,74 @@ class OpenParts:
         return file
 
 
-def join(run, output, progress):
+def join(run, output):
     """Writes the texts of all traces in the order of the trace file and one total line; returns this line."""
-    manifest = run.manifest
     index = os.path.join(run.folder, "index")
-    if checksum(index) != manifest["index"]:
+    if checksum(index) != run.manifest["index"]:
         raise Refused(f"{index} was changed: remove {run.folder}")
-    expected = 0
-    for number in range(1, len(run.groups) + 1):
-        path = run.part_path(number)
-        if not os.path.exists(path):
-            raise Refused(f"{path} is missing: call again")
-        pieces, length, digest = run.last_line(number)
-        expected += pieces
-        if checksum_of_text(path, length) != digest:
-            raise Refused(f"{path} was changed: remove it and call again")
-    parts, next_id = OpenParts(run), [0] * len(run.groups)
-    traces = points = pieces = 0
-    with open(index, "rb") as lines, open(output + ".tmp", "wb") as text:
-        for line in lines:
-            group, trace, wanted = map(int, line.split())
-            number = next_id[group - 1]
-            next_id[group - 1] += 1
-            try:
-                body, more, some = read_trace(parts.get(group), number, run.part_path(group), False)
-            except Again as fault:
-                raise Refused(str(fault))
-            if more != wanted:
-                raise Refused(f"{run.part_path(group)}: trace {number} has {more} positions, not {wanted}")
-            text.write(b"trace %d\n%send %d\n" % (trace, b"".join(body), trace))
-            traces += 1
-            points += more
-            pieces += some
-            progress.add(more)
-        total = f"total traces {traces} points {points} pieces {pieces}"
-        if (traces, points) != (manifest["count"], manifest["points"]) or pieces != expected:
-            raise Refused(f"the parts have {total[6:]}, but the trace file has traces {manifest['count']} "
-                          f"points {manifest['points']}, and the parts' last lines count pieces {expected}")
-        text.write(total.encode() + b"\n")
-        text.flush()
-        os.fsync(text.fileno())
+    lengths, expected = check_parts(run)
+    progress = Progress("joining", run.manifest["points"])
+    try:
+        with open(index, "rb") as lines, open(output + ".tmp", "wb") as text:
+            total = join_texts(run, lines, text, lengths, expected, progress)
+            text.flush()
+            os.fsync(text.fileno())
+    except Again as fault:
+        raise Refused(f"{fault}: remove it and call again")
+    finally:
+        progress.close()
     os.replace(output + ".tmp", output)
     return total
 
 
-def checksum_of_text(path, length):
+def check_parts(run):
+    """Compares each part with its last line; returns the lengths of the texts and the pieces of all."""
+    numbers = range(1, len(run.groups) + 1)
+    progress = Progress("checking", sum(os.path.getsize(run.part_path(number)) for number in numbers))
+    lengths, expected = [], 0
+    for number in numbers:
+        pieces, length, digest = run.last_line(number)
+        if checksum_of_text(run.part_path(number), length, progress) != digest:
+            progress.close()
+            raise Refused(f"{run.part_path(number)} was changed: remove it and call again")
+        lengths.append(length)
+        expected += pieces
+    progress.close()
+    return lengths, expected
+
+
+def join_texts(run, index, text, lengths, expected, progress):
+    parts, next_id, manifest = OpenParts(run), [0] * len(run.groups), run.manifest
+    traces = points = pieces = 0
+    for line in index:
+        group, trace, wanted = map(int, line.split())
+        number = next_id[group - 1]
+        next_id[group - 1] += 1
+        body, more, some = read_trace(parts.get(group), number, run.part_path(group), False)
+        if more != wanted:
+            raise Again(f"{run.part_path(group)}: trace {number} has {more} positions, not {wanted}")
+        text.write(b"trace %d\n%send %d\n" % (trace, b"".join(body), trace))
+        traces += 1
+        points += more
+        pieces += some
+        progress.add(more)
+    for number, length in enumerate(lengths, 1):
+        file = parts.get(number)
+        if not TOTAL.fullmatch(file.readline()) or file.tell() != length:
+            raise Again(f"{run.part_path(number)}: the total line is not in its place")
+    if (traces, points, pieces) != (manifest["count"], manifest["points"], expected):
+        raise Refused(f"the parts have traces {traces} points {points} pieces {pieces}, but the trace file has traces "
+                      f"{manifest['count']} points {manifest['points']}, and the last lines of the parts count pieces {expected}")
+    total = f"total traces {traces} points {points} pieces {pieces}"
+    text.write(total.encode() + b"\n")
+    return total
+
+
+def checksum_of_text(path, length, progress):
     digest = hashlib.sha256()
     with open(path, "rb") as file:
         while length > 0 and (block := file.read(min(length, 1 << 20))):
             digest.update(block)
             length -= len(block)
+            progress.add(len(block))
     return digest.hexdigest()
