@@ -168,6 +168,7 @@ WORDS = {"network": "network file", "traces": "trace file", "options": "set of o
 def run_fleet(values):
     """The whole of a call."""
     options = fmm_options(values.options)
+    engines.check_engine(values.engine)
     program = find_program(values.script, values.program)
     for path in (values.network, values.traces):
         if not os.path.isfile(path):

@@ -6,6 +6,7 @@ An engine returns the last message of each group that failed.
 import concurrent.futures
 import os
 import shlex
+import shutil
 import signal
 import subprocess
 import sys
@@ -15,6 +16,17 @@ import time
 from .common import Refused
 
 TRIES = 3
+
+
+def check_engine(name):
+    """Refuses an engine that is not installed, before anything is done for it."""
+    if name == "slurm" and not shutil.which("sbatch"):
+        raise Refused("there is no sbatch (on Debian: apt install slurm-client)")
+    if name == "dask":
+        try:
+            import distributed  # noqa: F401
+        except ImportError:
+            raise Refused(f"{sys.executable} has no distributed (on Debian: apt install python3-distributed, and /usr/bin/python3)")
 
 
 def task_command(script, run, number):
@@ -181,10 +193,9 @@ def log_of(logs, job, place):
 
 def dask(run, missing, call, jobs, progress):
     """Tasks of a Dask cluster: the one of DASK_SCHEDULER_ADDRESS, or one on this machine."""
-    try:
-        import distributed
-    except ImportError:
-        raise Refused(f"{sys.executable} has no distributed (on Debian: apt install python3-distributed, and /usr/bin/python3)")
+    import logging
+    import dask.config
+    import distributed
     script, folder, tries = call["script"], run.folder, TRIES
 
     def match(number):
@@ -201,9 +212,7 @@ def dask(run, missing, call, jobs, progress):
             raise RuntimeError(why)
         return why if done.returncode else None
 
-    import logging
     logging.getLogger("distributed").setLevel(logging.CRITICAL)
-    import dask.config
     try:
         if dask.config.get("scheduler-address", None):
             cluster, client = None, distributed.Client(timeout=30)
