@@ -4,7 +4,6 @@ import fcntl
 import json
 import os
 import shutil
-import signal
 import subprocess
 import sys
 import tempfile
@@ -152,6 +151,7 @@ def prepare_groups(values, folder, program, options, base, jobs):
     room = (values.memory << 20) - base - SLACK
     if room < 0:
         raise Refused(f"--memory {values.memory} is too little: the network alone needs {base + SLACK >> 20} MB")
+    print_note(f"of {values.memory} MB for a job, {room >> 20} MB are for rows")
     reading = Progress("grouping", os.path.getsize(values.network) + 2 * os.path.getsize(values.traces))
     grid = Grid(values.network, {"bound": 300_000, "radius": 10_000, "k": 8, **options}, reading)
     made, large = groups.make_groups(folder, values.traces, grid, room, values.points, jobs, reading)
