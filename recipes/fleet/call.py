@@ -19,8 +19,13 @@ FOLDER_NAMES = {"lock", "groups", "parts", "logs", "slurm", "sort", "index", "in
 
 
 class Parser(argparse.ArgumentParser):
+    """Options. --help prints the text at the head of the script; a fault takes one line."""
+
+    def format_help(self):
+        return self.description.strip() + "\n"
+
     def error(self, message):
-        print(f"fleet: {message} (--help shows the usage)", file=sys.stderr)
+        print_note(f"{message} (--help shows the options)")
         sys.exit(2)
 
 
@@ -34,22 +39,15 @@ def command_line(script, about, words):
     own, options = words, []
     if "--" in words:
         own, options = words[:words.index("--")], words[words.index("--") + 1:]
-    parser = Parser(prog="fleet.py", allow_abbrev=False, formatter_class=argparse.RawDescriptionHelpFormatter,
-                    usage="fleet.py NETWORK TRACES --into FOLDER [OPTION ..] [-- OPTIONS OF FMM]",
-                    description=about,
-                    epilog="example: fleet.py network.csv traces.csv --into matched --jobs 8 -- --back 2000")
-    parser.add_argument("network", metavar="NETWORK", help="the network file")
-    parser.add_argument("traces", metavar="TRACES", help="the trace file")
-    parser.add_argument("--into", metavar="FOLDER", required=True, help="the folder for parts and text; made if it is missing")
-    parser.add_argument("--engine", choices=list(engines.ENGINES), default="local",
-                        help="local: processes of this machine; slurm: job arrays; dask: the cluster of DASK_SCHEDULER_ADDRESS, or "
-                             "one on this machine; none: another program runs `fleet.py --task FOLDER GROUP` (default: local)")
-    parser.add_argument("--jobs", metavar="N", type=above_zero,
-                        help="tasks at a time (default: the processors of this machine; local: only as many as its memory allows)")
-    parser.add_argument("--memory", metavar="MB", type=above_zero, default=2000, help="memory of a job (default: 2000)")
-    parser.add_argument("--points", metavar="N", type=above_zero,
-                        help="most positions of a group (default: what gives each job two groups, but at least 20000)")
-    parser.add_argument("--program", metavar="FMM", help="the program (default: fmm_large, else fmm, of this checkout or on the path)")
+    parser = Parser(prog="fleet.py", allow_abbrev=False, description=about)
+    parser.add_argument("network", metavar="NETWORK")
+    parser.add_argument("traces", metavar="TRACES")
+    parser.add_argument("--into", metavar="FOLDER", required=True)
+    parser.add_argument("--engine", choices=list(engines.ENGINES), default="local")
+    parser.add_argument("--jobs", type=above_zero)
+    parser.add_argument("--memory", type=above_zero, default=2000)
+    parser.add_argument("--points", type=above_zero)
+    parser.add_argument("--program")
     values = parser.parse_args(own)
     values.script, values.options = script, options
     return values

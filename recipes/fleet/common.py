@@ -67,7 +67,7 @@ def store_manifest(folder, values):
 
 
 def print_note(text):
-    print(f"fleet: {text}", file=sys.stderr)
+    print(f"fleet.py: {text}", file=sys.stderr)
 
 
 class Progress:

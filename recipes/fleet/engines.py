@@ -1,7 +1,7 @@
 """The engines that run the tasks of groups: each task is the command `fleet.py --task FOLDER GROUP`.
 
-A task needs the standard library only, so Python starts with -S. It ends with 0 when its part is written, with 1 when another try is useless, and with another status when a try may mend it.
-An engine returns the last message of each group that failed.
+A task needs the standard library only, so Python starts with -S. A task ends with 0 when its part is written, with 1 when another
+try is useless, and with another status when another try may help. An engine returns the last message of each group that failed.
 """
 import concurrent.futures
 import os
@@ -76,7 +76,7 @@ def local(run, missing, call, jobs, progress):
 
 def last_line(text):
     lines = text.decode(errors="replace").strip().splitlines()
-    return lines[-1].removeprefix("fleet: ") if lines else ""
+    return lines[-1].removeprefix("fleet.py: ") if lines else ""
 
 
 # ---- Slurm
@@ -207,7 +207,7 @@ def dask(run, missing, call, jobs, progress):
                               stdout=subprocess.DEVNULL, stderr=subprocess.PIPE,
                               env={**os.environ, "FLEET_PARENT": str(os.getpid())})
         lines = done.stderr.decode(errors="replace").strip().splitlines()
-        why = lines[-1].removeprefix("fleet: ") if lines else f"status {done.returncode}"
+        why = lines[-1].removeprefix("fleet.py: ") if lines else f"status {done.returncode}"
         if done.returncode > 1 or done.returncode < 0:
             raise RuntimeError(why)
         return why if done.returncode else None

@@ -3,7 +3,7 @@ from collections import Counter
 
 MOST_NODES = 1_000_000  # of a larger network, a sample is counted
 SHIFTED = 1_000_000_000  # makes all coordinates 0 or more
-ENTRY = 12  # bytes for a node within the bound as the crow flies: 16, but at most three quarters are within the bound by road
+ENTRY = 12  # bytes for a node within the bound in a straight line: 16, of which three quarters are taken, since roads are longer
 
 
 class Grid:

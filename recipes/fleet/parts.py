@@ -24,7 +24,7 @@ MOST_OPEN = 200
 
 
 class Again(Exception):
-    """A failure that another try may mend."""
+    """A failure after which another try may help."""
 
 
 class Run:

@@ -153,7 +153,8 @@ def test_dask(place):
             raise RuntimeError("the scheduler does not start")
         with open(note) as file:
             address = json.load(file)["address"]
-        program = place.stub("dask_killing", 'if mkdir "$mark" 2>/dev/null; then kill -9 $(cut -d " " -f 4 /proc/$PPID/stat); sleep 5; fi')
+        program = place.stub("dask_killing",
+                             'if mkdir "$mark" 2>/dev/null; then kill -9 $(cut -d " " -f 4 /proc/$PPID/stat); sleep 5; fi')
         done = place.fleet("dask_killed", "--engine", "dask", "--points", "300", program=program, python=DEBIAN_PYTHON,
                            env={"DASK_SCHEDULER_ADDRESS": address})
         check("Dask: one of two workers was killed", sorted(worker.poll() is None for worker in workers) == [False, True])
@@ -168,7 +169,8 @@ def engines():
     """The engine tests that can run here; says why others cannot."""
     wanted = os.environ.get("FLEET_ENGINES", "")
     tests = []
-    missing = [name for name in ("munged", "slurmctld", "slurmd", "sbatch", "squeue", "scontrol", "sinfo") if not shutil.which(name)]
+    programs = ("munged", "slurmctld", "slurmd", "sbatch", "squeue", "scontrol", "scancel", "sinfo")
+    missing = [name for name in programs if not shutil.which(name)]
     reasons = {"slurm": "it is not root" if os.getuid() else f"there is no {missing[0]}" if missing else "",
                "dask": "there is no dask-scheduler" if not shutil.which("dask-scheduler") else
                f"{DEBIAN_PYTHON} has no distributed" if subprocess.run([DEBIAN_PYTHON, "-c", "import distributed"],

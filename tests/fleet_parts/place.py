@@ -141,7 +141,7 @@ class Place:
         """The call ended with one line that has these words, after the notes."""
         last = done.stderr.strip().splitlines()[-1:]
         check(name, done.returncode == status and "Traceback" not in done.stderr and last and words in last[0]
-              and last[0].startswith("fleet: ") and not done.stdout, f"status {done.returncode}: {done.stderr.strip()[-400:]}")
+              and last[0].startswith("fleet.py: ") and not done.stdout, f"status {done.returncode}: {done.stderr.strip()[-400:]}")
 
     def copy(self, into, name):
         shutil.copytree(self.path(into), self.path(name))
