@@ -13,7 +13,7 @@ rows. The same command again does only what is missing. All machines need the sa
                dask: the cluster of DASK_SCHEDULER_ADDRESS, or a new one on this machine
                none: only groups and joins; each group is matched by `fleet.py --task FOLDER GROUP`
                Default: local
---program FMM  the program. Default: fmm_large or else fmm beside the folder of this script, or else on the path
+--program FMM  the program. Default: fmm beside the folder of this script, or else on the path
 
 Example: fleet.py network.csv traces.csv --into matched --jobs 8 -- --back 2000
 """

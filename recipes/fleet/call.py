@@ -59,8 +59,7 @@ def find_program(script, name):
     if name:
         found = shutil.which(name)
     else:
-        found = next(filter(None, (shutil.which(word) for word in (os.path.join(here, "fmm_large"), os.path.join(here, "fmm"),
-                                                                   "fmm_large", "fmm"))), None)
+        found = shutil.which(os.path.join(here, "fmm")) or shutil.which("fmm")
     if not found:
         raise Refused(f"there is no program {name}" if name else "there is no program fmm: name it by --program")
     return os.path.abspath(found)
