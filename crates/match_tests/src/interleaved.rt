@@ -27,7 +27,11 @@ fn call(
 ) -> Result<List<Item>, SessionFault> {
     let mut refuse = List::new(alloc);
     refuse.push(refused)?;
-    let mut rows = RefusingRows::open(alloc, sessions.network(), sessions.params().bound, refuse)?;
+    let bound = sessions.params().bound;
+    if bound > 10_000_000 {
+        return Err(SessionFault::Memory);
+    }
+    let mut rows = RefusingRows::open(alloc, sessions.network(), bound, refuse)?;
     match x {
         Some(x) => {
             let fix = Fix {

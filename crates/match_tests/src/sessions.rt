@@ -192,7 +192,11 @@ fn rows_refusing<'n>(
 {
     let mut refuse = List::new(alloc);
     refuse.push(call)?;
-    RefusingRows::open(alloc, session.network(), session.params().bound, refuse)
+    let bound = session.params().bound;
+    if bound > 10_000_000 {
+        return Err(AllocError);
+    }
+    RefusingRows::open(alloc, session.network(), bound, refuse)
 }
 
 /// The items of the next point, over rows that refuse this call. None where it is no point of the
