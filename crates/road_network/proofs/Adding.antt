@@ -3,31 +3,33 @@ use Rattle.std.proofs.Common.{◌≡◌, ℕ, ◌+◌, ◌<◌, ◌≤◌, ◌&&
 use Rattle.std.specs.Prelude.{nat_eq, codes}
 use lib.Pointwise.{pointwise}
 use Rattle.road_network.specs.declared.fault.NetworkFault.{NetworkFault}
+use Rattle.road_network.specs.declared.limits.NetworkLimits.{NetworkLimits}
+use Rattle.road_network.specs.Limits.{file_limit}
 use Rattle.road_network.specs.Net.{Net}
 use Rattle.road_network.specs.NetworkFile.{Row, add_record, add_records, add_row, is_header, network_of, network_of_records, no_net, row_of}
 use Rattle.road_network.specs.declared.fault.NetworkFault.TheVariants as fault
 use Rattle.csv.specs.Reading.{default_config, records, strip_bom}
 use Rattle.road_network.proofs.Places.{lt-false, lt-true}
 
-pub record-refused : (n : Net) (rec : ℕ) (fields : List (List ℕ)) (e : NetworkFault) → rec ≡ length n.edges + 1 → row_of rec fields ≡ Err e → add_record n fields ≡ Err e
+pub record-refused : (l : NetworkLimits) (n : Net) (rec : ℕ) (fields : List (List ℕ)) (e : NetworkFault) → rec ≡ length n.edges + 1 → row_of rec fields ≡ Err e → add_record l n fields ≡ Err e
 unfolding add_record
-record-refused n rec fields e is h = let here = rw is at h in rw here refl
+record-refused l n rec fields e is h = let here = rw is at h in rw here refl
 
-pub record-read : (n : Net) (rec : ℕ) (fields : List (List ℕ)) (r : Row) → rec ≡ length n.edges + 1 → row_of rec fields ≡ Ok r → add_record n fields ≡ add_row n r
+pub record-read : (l : NetworkLimits) (n : Net) (rec : ℕ) (fields : List (List ℕ)) (r : Row) → rec ≡ length n.edges + 1 → row_of rec fields ≡ Ok r → add_record l n fields ≡ add_row l n r
 unfolding add_record
-record-read n rec fields r is h = let here = rw is at h in rw here refl
+record-read l n rec fields r is h = let here = rw is at h in rw here refl
 
-pub records-more : (n m : Net) (fields : List (List ℕ)) (records : List (List (List ℕ))) → add_record n fields ≡ Ok m → add_records n (fields ∷ records) ≡ add_records m records
+pub records-more : (l : NetworkLimits) (n m : Net) (fields : List (List ℕ)) (records : List (List (List ℕ))) → add_record l n fields ≡ Ok m → add_records l n (fields ∷ records) ≡ add_records l m records
 unfolding add_records
-records-more n m fields records h = rw h refl
+records-more l n m fields records h = rw h refl
 
-pub records-refused : (n : Net) (fields : List (List ℕ)) (records : List (List (List ℕ))) (e : NetworkFault) → add_record n fields ≡ Err e → add_records n (fields ∷ records) ≡ Err e
+pub records-refused : (l : NetworkLimits) (n : Net) (fields : List (List ℕ)) (records : List (List (List ℕ))) (e : NetworkFault) → add_record l n fields ≡ Err e → add_records l n (fields ∷ records) ≡ Err e
 unfolding add_records
-records-refused n fields records e h = rw h refl
+records-refused l n fields records e h = rw h refl
 
-pub records-end : (n : Net) → add_records n [] ≡ Ok n
+pub records-end : (l : NetworkLimits) (n : Net) → add_records l n [] ≡ Ok n
 unfolding add_records
-records-end n = refl
+records-end l n = refl
 
 and-false : (b : Bool) → (b && false) ≡ false
 and-false true = refl
@@ -58,23 +60,23 @@ pub header-read : (fields : List (List ℕ)) (a b c d : List ℕ) (p q r s : Boo
 header-read fields a b c d p q r s is hp hq hr hs = rw (is, ← hp, ← hq, ← hr, ← hs) (four-header p q r s)
 
 -- a file, by its length
-pub file-long : (bytes : List ℕ) → 134_217_728 < length bytes → network_of bytes ≡ Err fault.FileTooLong
+pub file-long : (l : NetworkLimits) (bytes : List ℕ) → file_limit l < length bytes → network_of l bytes ≡ Err fault.FileTooLong
 unfolding network_of
-file-long bytes h = rw (lt-true 134_217_728 (length bytes) h) refl
+file-long l bytes h = rw (lt-true (file_limit l) (length bytes) h) refl
 
-pub file-short : (bytes : List ℕ) → length bytes ≤ 134_217_728 → network_of bytes ≡ network_of_records (records default_config (strip_bom bytes))
+pub file-short : (l : NetworkLimits) (bytes : List ℕ) → length bytes ≤ file_limit l → network_of l bytes ≡ network_of_records l (records default_config (strip_bom bytes))
 unfolding network_of
-file-short bytes h = rw (lt-false 134_217_728 (length bytes) h) refl
+file-short l bytes h = rw (lt-false (file_limit l) (length bytes) h) refl
 
 -- the records of a file, by the first of them
-pub network-empty : (rows : List (List (List ℕ))) → rows ≡ [] → network_of_records rows ≡ Err fault.BadHeader
+pub network-empty : (l : NetworkLimits) (rows : List (List (List ℕ))) → rows ≡ [] → network_of_records l rows ≡ Err fault.BadHeader
 unfolding network_of_records
-network-empty rows none = rw none refl
+network-empty l rows none = rw none refl
 
-pub network-headless : (rows : List (List (List ℕ))) (names : List (List ℕ)) (rest : List (List (List ℕ))) → rows ≡ names ∷ rest → is_header names ≡ false → network_of_records rows ≡ Err fault.BadHeader
+pub network-headless : (l : NetworkLimits) (rows : List (List (List ℕ))) (names : List (List ℕ)) (rest : List (List (List ℕ))) → rows ≡ names ∷ rest → is_header names ≡ false → network_of_records l rows ≡ Err fault.BadHeader
 unfolding network_of_records
-network-headless rows names rest first other = rw (first, other) refl
+network-headless l rows names rest first other = rw (first, other) refl
 
-pub network-read : (rows : List (List (List ℕ))) (names : List (List ℕ)) (rest : List (List (List ℕ))) → rows ≡ names ∷ rest → is_header names ≡ true → network_of_records rows ≡ add_records no_net rest
+pub network-read : (l : NetworkLimits) (rows : List (List (List ℕ))) (names : List (List ℕ)) (rest : List (List (List ℕ))) → rows ≡ names ∷ rest → is_header names ≡ true → network_of_records l rows ≡ add_records l no_net rest
 unfolding network_of_records
-network-read rows names rest first headed = rw (first, headed) refl
+network-read l rows names rest first headed = rw (first, headed) refl

@@ -11,6 +11,9 @@ use Rattle.polyline_geometry.specs.Plane.{InRange, IsLine, line_length}
 use Rattle.polyline_geometry.proofs.Lengths.{line_length_some}
 use Rattle.road_network.specs.declared.fault.NetworkFault.{NetworkFault}
 use Rattle.road_network.specs.declared.fault.NetworkFault.TheVariants as fault
+use Rattle.road_network.specs.declared.limits.NetworkLimits.{NetworkLimits}
+use Rattle.road_network.specs.declared.limits.NetworkLimits.TheVariants.{Standard, Large}
+use Rattle.road_network.specs.Limits.{edge_limit, node_limit, point_limit}
 use Rattle.road_network.specs.Net.{Edge, Net, IsLawful, no_edge, point_count}
 use Rattle.road_network.specs.NetworkFile.{Row, add_row, edge_with, first_fault, has_name, limit_faults, line_faults, nodes_with, repeated_point, when, with_row}
 use Rattle.road_network.proofs.Lines.{line-apart}
@@ -28,26 +31,26 @@ first-later (None ∷ xs) ys h = first-later xs ys h
 first-later (Some x ∷ xs) ys h = cc
 
 -- the limits of a network with one more row
-abbrev pub limits_with : Net → Row → List (Option NetworkFault)
-limits_with n r = limit_faults (length n.edges + 1) (length (with_row n r).edges) (length (with_row n r).nodes) (point_count (with_row n r).edges)
+abbrev pub limits_with : NetworkLimits → Net → Row → List (Option NetworkFault)
+limits_with l n r = limit_faults l (length n.edges + 1) (length (with_row n r).edges) (length (with_row n r).nodes) (point_count (with_row n r).edges) (length r.line)
 
-pub refused-name : (n : Net) (r : Row) → has_name n r.name ≡ true → add_row n r ≡ Err (fault.DuplicateEdge (length n.edges + 1))
+pub refused-name : (l : NetworkLimits) (n : Net) (r : Row) → has_name n r.name ≡ true → add_row l n r ≡ Err (fault.DuplicateEdge (length n.edges + 1))
 unfolding add_row
-refused-name n r h = rw h refl
+refused-name l n r h = rw h refl
 
-pub refused-line : (n : Net) (r : Row) (e : NetworkFault) → has_name n r.name ≡ false → first_fault (line_faults (length n.edges + 1) r.line) ≡ Some e → add_row n r ≡ Err e
+pub refused-line : (l : NetworkLimits) (n : Net) (r : Row) (e : NetworkFault) → has_name n r.name ≡ false → first_fault (line_faults (length n.edges + 1) r.line) ≡ Some e → add_row l n r ≡ Err e
 unfolding add_row
-refused-line n r e h line = rw (h, first-here (line_faults (length n.edges + 1) r.line) (limits_with n r) e line) refl
+refused-line l n r e h line = rw (h, first-here (line_faults (length n.edges + 1) r.line) (limits_with l n r) e line) refl
 
-pub refused-limit : (n : Net) (r : Row) (e : NetworkFault) → has_name n r.name ≡ false → first_fault (line_faults (length n.edges + 1) r.line) ≡ None
-    → first_fault (limits_with n r) ≡ Some e → add_row n r ≡ Err e
+pub refused-limit : (l : NetworkLimits) (n : Net) (r : Row) (e : NetworkFault) → has_name n r.name ≡ false → first_fault (line_faults (length n.edges + 1) r.line) ≡ None
+    → first_fault (limits_with l n r) ≡ Some e → add_row l n r ≡ Err e
 unfolding add_row
-refused-limit n r e h line limit = rw (h, first-later (line_faults (length n.edges + 1) r.line) (limits_with n r) line, limit) refl
+refused-limit l n r e h line limit = rw (h, first-later (line_faults (length n.edges + 1) r.line) (limits_with l n r) line, limit) refl
 
-pub accepted : (n : Net) (r : Row) → has_name n r.name ≡ false → first_fault (line_faults (length n.edges + 1) r.line) ≡ None
-    → first_fault (limits_with n r) ≡ None → add_row n r ≡ Ok (with_row n r)
+pub accepted : (l : NetworkLimits) (n : Net) (r : Row) → has_name n r.name ≡ false → first_fault (line_faults (length n.edges + 1) r.line) ≡ None
+    → first_fault (limits_with l n r) ≡ None → add_row l n r ≡ Ok (with_row n r)
 unfolding add_row
-accepted n r h line limit = rw (h, first-later (line_faults (length n.edges + 1) r.line) (limits_with n r) line, limit) refl
+accepted l n r h line limit = rw (h, first-later (line_faults (length n.edges + 1) r.line) (limits_with l n r) line, limit) refl
 
 -- what holds of each edge and of one more holds of each edge of the longer list
 each-edge : (P : Edge → Type 0) (edges : List Edge) (x : Edge) → ((e : ℕ) → e < length edges → P (get_or edges e no_edge)) → P x
@@ -92,13 +95,13 @@ names-differ edges x differ none e f inside within same =
     ]
 
 -- what a row shows that brings no fault
-pub record IsFaultless (n : Net) (r : Row) : Type 0 where
+pub record IsFaultless (l : NetworkLimits) (n : Net) (r : Row) : Type 0 where
   pub named : has_name n r.name ≡ false
   pub line : first_fault (line_faults (length n.edges + 1) r.line) ≡ None
-  pub limits : first_fault (limits_with n r) ≡ None
+  pub limits : first_fault (limits_with l n r) ≡ None
   pub within : All InRange r.line
 
-when-none : (b : Bool) (x : NetworkFault) (faults : List (Option NetworkFault)) → first_fault (when b x ∷ faults) ≡ None → (b ≡ false) × (first_fault faults ≡ None)
+pub when-none : (b : Bool) (x : NetworkFault) (faults : List (Option NetworkFault)) → first_fault (when b x ∷ faults) ≡ None → (b ≡ false) × (first_fault faults ≡ None)
 when-none true x faults h = cc
 when-none false x faults h = (refl, h)
 
@@ -106,7 +109,7 @@ some-none : (f : ℕ → NetworkFault) (o : Option ℕ) (faults : List (Option N
 some-none f None faults h = (refl, h)
 some-none f (Some x) faults h = cc
 
-not-below : (a b : ℕ) → ltb a b ≡ false → b ≤ a
+pub not-below : (a b : ℕ) → ltb a b ≡ false → b ≤ a
 not-below a b h = grind (arith, nat_tests)
 
 pub record IsGoodLine (line : List Point) : Type 0 where
@@ -122,23 +125,42 @@ good-line rec line within h =
     let is : IsLine line = record { two = not-below (length line) 2 two.0; in_range = within; differ = line-apart line once.0 } in
     record { is = is; long = line_length_some line is; short = not-below 100_000_000 (line_length line) short.0 }
 
-pub record KeepsLimits (n : Net) : Type 0 where
-  pub few_edges : length n.edges ≤ 150_000
-  pub few_nodes : length n.nodes ≤ 60_000
-  pub few_points : point_count n.edges ≤ 1_000_000
+few_edges-within : (l : NetworkLimits) → edge_limit l ≤ 1_000_000_000
+few_edges-within Standard = omega arith
+few_edges-within Large = omega arith
 
-keeps-limits : (rec : ℕ) (n : Net) → first_fault (limit_faults rec (length n.edges) (length n.nodes) (point_count n.edges)) ≡ None → KeepsLimits n
-keeps-limits rec n h =
-    let faults = limit_faults rec (length n.edges) (length n.nodes) (point_count n.edges) in
-    let edges = when-none (ltb 150_000 (length n.edges)) (fault.TooManyEdges rec) (drop 1 faults) h in
-    let nodes = when-none (ltb 60_000 (length n.nodes)) (fault.TooManyNodes rec) (drop 2 faults) edges.1 in
-    let points = when-none (ltb 1_000_000 (point_count n.edges)) (fault.TooManyPoints rec) [] nodes.1 in
-    record { few_edges = not-below 150_000 (length n.edges) edges.0; few_nodes = not-below 60_000 (length n.nodes) nodes.0; few_points = not-below 1_000_000 (point_count n.edges) points.0 }
+few_nodes-within : (l : NetworkLimits) → node_limit l ≤ 1_000_000_000
+few_nodes-within Standard = omega arith
+few_nodes-within Large = omega arith
 
-pub lawful-more : (n : Net) (r : Row) → IsLawful n → IsFaultless n r → IsLawful (with_row n r)
-lawful-more n r h f =
+few_points-within : (l : NetworkLimits) → point_limit l ≤ 4_000_000_000
+few_points-within Standard = omega arith
+few_points-within Large = omega arith
+
+pub record KeepsLimits (n : Net) (line : ℕ) : Type 0 where
+  pub few_edges : length n.edges ≤ 1_000_000_000
+  pub few_nodes : length n.nodes ≤ 1_000_000_000
+  pub few_points : point_count n.edges ≤ 4_000_000_000
+  pub short_line : line ≤ 1_000_000
+
+keeps-limits : (l : NetworkLimits) (rec : ℕ) (n : Net) (line : ℕ) → first_fault (limit_faults l rec (length n.edges) (length n.nodes) (point_count n.edges) line) ≡ None → KeepsLimits n line
+keeps-limits l rec n line h =
+    let faults = limit_faults l rec (length n.edges) (length n.nodes) (point_count n.edges) line in
+    let edges = when-none (ltb (edge_limit l) (length n.edges)) (fault.TooManyEdges rec) (drop 1 faults) h in
+    let nodes = when-none (ltb (node_limit l) (length n.nodes)) (fault.TooManyNodes rec) (drop 2 faults) edges.1 in
+    let points = when-none (ltb (point_limit l) (point_count n.edges)) (fault.TooManyPoints rec) (drop 3 faults) nodes.1 in
+    let short = when-none (ltb 1_000_000 line) (fault.TooManyPoints rec) [] points.1 in
+    record {
+      few_edges = omega (arith, not-below (edge_limit l) (length n.edges) edges.0, few_edges-within l);
+      few_nodes = omega (arith, not-below (node_limit l) (length n.nodes) nodes.0, few_nodes-within l);
+      few_points = omega (arith, not-below (point_limit l) (point_count n.edges) points.0, few_points-within l);
+      short_line = not-below 1_000_000 line short.0;
+    }
+
+pub lawful-more : (l : NetworkLimits) (n : Net) (r : Row) → IsLawful n → IsFaultless l n r → IsLawful (with_row n r)
+lawful-more l n r h f =
     let line = good-line (length n.edges + 1) r.line f.within f.line in
-    let limits = keeps-limits (length n.edges + 1) (with_row n r) f.limits in
+    let limits = keeps-limits l (length n.edges + 1) (with_row n r) (length r.line) f.limits in
     let nodes = nodes_with n.nodes r in
     let x : Edge = edge_with nodes r in
     let more : length n.nodes ≤ length nodes = nodes-kept n.nodes r in
@@ -149,6 +171,7 @@ lawful-more n r h f =
       sources = each-edge (λ (k : Edge). k.«from» < length nodes) n.edges x (λ e lt. omega (arith, h.sources e lt, more)) (from-inside n.nodes r);
       targets = each-edge (λ (k : Edge). k.to < length nodes) n.edges x (λ e lt. omega (arith, h.targets e lt, more)) (to-inside n.nodes r);
       lines = each-edge (λ (k : Edge). IsLine k.line) n.edges x h.lines line.is;
+      short_lines = each-edge (λ (k : Edge). length k.line ≤ 1_000_000) n.edges x h.short_lines limits.short_line;
       not_empty = each-edge (λ (k : Edge). 1 ≤ line_length k.line) n.edges x h.not_empty line.long;
       not_long = each-edge (λ (k : Edge). line_length k.line ≤ 100_000_000) n.edges x h.not_long line.short;
       names_differ = names-differ n.edges x h.names_differ f.named;

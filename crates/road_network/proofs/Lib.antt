@@ -5,6 +5,7 @@ pub mod Finished
 pub mod Growing
 pub mod Least
 pub mod Leaving
+pub mod LimitOrder
 pub mod Lines
 pub mod Names
 pub mod Parts

@@ -11,6 +11,7 @@ use Rattle.polyline_geometry.specs.Plane.{line_length}
 use Rattle.polyline_geometry.specs.Offsets.{line_offsets}
 use Rattle.polyline_geometry.proofs.OffsetLists.{length-line_offsets}
 use Rattle.road_network.specs.declared.StoredEdge.{StoredEdge}
+use Rattle.road_network.specs.declared.limits.NetworkLimits.{NetworkLimits}
 use Rattle.road_network.specs.EdgeNames.{names_of}
 use Rattle.road_network.specs.Drafted.{BelongTogether}
 use Rattle.road_network.specs.Net.{Edge, Net, IsLawful, point_count}
@@ -83,13 +84,13 @@ pub net-grown : (nodes : List ℕ) (edges : List StoredEdge) (points : List Poin
 net-grown nodes edges points r e stored h =
     rw (map-append (edge_of (points ++ r.line)) edges (e ∷ []), edges-kept points r.line edges stored, edge-new (nodes_with nodes r) points r e h) refl
 
-pub grown : (nodes : List ℕ) (edges : List StoredEdge) (points : List Point) (r : Row) (e : StoredEdge) → BelongTogether nodes edges points
-    → IsFaultless (net_of nodes edges points) r → IsStoredRow (nodes_with nodes r) points r e
+pub grown : (l : NetworkLimits) (nodes : List ℕ) (edges : List StoredEdge) (points : List Point) (r : Row) (e : StoredEdge) → BelongTogether nodes edges points
+    → IsFaultless l (net_of nodes edges points) r → IsStoredRow (nodes_with nodes r) points r e
     → BelongTogether (nodes_with nodes r) (edges ++ e ∷ []) (points ++ r.line)
-grown nodes edges points r e h f is =
+grown l nodes edges points r e h f is =
     let net = net-grown nodes edges points r e h.stored is in
     record {
-      lawful = subst IsLawful (sym net) (lawful-more (net_of nodes edges points) r h.lawful f);
+      lawful = subst IsLawful (sym net) (lawful-more l (net_of nodes edges points) r h.lawful f);
       stored = All-push (IsStored (points ++ r.line)) edges e
           (All-weaker (IsStored points) (IsStored (points ++ r.line)) (λ x s. stored-kept points r.line x s) edges h.stored)
           (record {
@@ -119,9 +120,9 @@ offsets-grown nodes points edges offsets r e stored h is =
     }
 
 -- what was counted is what the limits are about
-pub limits-are : (n : Net) (r : Row) (rec edges nodes points : ℕ) → rec ≡ length n.edges + 1 → edges ≡ length (with_row n r).edges → nodes ≡ length (with_row n r).nodes
-    → points ≡ point_count (with_row n r).edges → limit_faults rec edges nodes points ≡ limits_with n r
-limits-are n r rec edges nodes points a b c d = rw (a, b, c, d) refl
+pub limits-are : (l : NetworkLimits) (n : Net) (r : Row) (rec edges nodes points : ℕ) → rec ≡ length n.edges + 1 → edges ≡ length (with_row n r).edges → nodes ≡ length (with_row n r).nodes
+    → points ≡ point_count (with_row n r).edges → limit_faults l rec edges nodes points (length r.line) ≡ limits_with l n r
+limits-are l n r rec edges nodes points a b c d = rw (a, b, c, d) refl
 
 -- a name is new exactly where none has it
 pub new-name : (is_new known : Bool) → is_new ≡ not known → is_new ≡ true → known ≡ false

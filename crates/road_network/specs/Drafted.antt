@@ -6,6 +6,7 @@ use Rattle.polyline_geometry.specs.Offsets.{line_offsets}
 use Rattle.polyline_geometry.specs.Plane.{line_length}
 use Rattle.road_network.specs.declared.StoredEdge.{StoredEdge}
 use Rattle.road_network.specs.declared.draft.Draft.{Draft}
+use Rattle.road_network.specs.declared.limits.NetworkLimits.{NetworkLimits}
 use Rattle.road_network.specs.EdgeNames.{AreNames, names_of}
 use Rattle.road_network.specs.Net.{Net, IsLawful, point_count}
 use Rattle.road_network.specs.NetworkFile.{Row, add_row, first_fault, line_faults}
@@ -37,6 +38,7 @@ pub record IsLineTaken (rec : ℕ) (line : List Point) (cm : ℕ)
   pub offsets : new ≡ old ++ line_offsets line
 
 -- the row is added, and what every draft meets holds again
-pub record AddsRow (old : Draft) (row : Row) (new : Draft) : Type 0 where
-  pub network : add_row (drafted old) row ≡ Ok (drafted new)
+pub record AddsRow (limits : NetworkLimits) (old : Draft) (row : Row)
+    (new : Draft) : Type 0 where
+  pub network : add_row limits (drafted old) row ≡ Ok (drafted new)
   pub draft : IsDraft new

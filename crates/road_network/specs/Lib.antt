@@ -1,3 +1,4 @@
+pub mod Limits
 pub mod Net
 pub mod Walk
 pub mod Near
@@ -11,3 +12,4 @@ pub mod Between
 pub mod Drafted
 pub mod EdgeNames
 pub mod NearLaws
+pub mod LimitLaws

@@ -4,7 +4,7 @@ use Rattle.std.specs.Prelude.{ℕ, zero, suc, ◌≡◌, ◌<◌, ◌≤◌, ◌
 use Rattle.std.specs.List.{Contains, sum_by}
 use Rattle.polyline_geometry.specs.declared.plane.Point.{Point}
 use Rattle.polyline_geometry.specs.Plane.{IsLine, line_length}
-use Rattle.road_network.specs.declared.limits.TheConstants.{EDGE_LIMIT, LENGTH_LIMIT, NODE_LIMIT, POINT_LIMIT}
+use Rattle.road_network.specs.declared.limits.TheConstants.{LENGTH_LIMIT}
 use Rattle.road_network.specs.declared.Arc.{Arc}
 use Rattle.road_network.specs.declared.EdgeId.{EdgeId}
 
@@ -62,14 +62,15 @@ span n e = line_length (edge_line n e)
 abbrev pub point_count : List Edge → ℕ
 point_count edges = sum_by (λ e. length e.line) edges
 
--- what every network that was read meets
+-- what every network that was read meets, within any limits
 pub record IsLawful (n : Net) : Type 0 where
-  pub few_nodes : length n.nodes ≤ NODE_LIMIT
-  pub few_edges : length n.edges ≤ EDGE_LIMIT
-  pub few_points : point_count n.edges ≤ POINT_LIMIT
+  pub few_nodes : length n.nodes ≤ 1_000_000_000
+  pub few_edges : length n.edges ≤ 1_000_000_000
+  pub few_points : point_count n.edges ≤ 4_000_000_000
   pub sources : (e : ℕ) → HasEdge n e → HasNode n (source n e)
   pub targets : (e : ℕ) → HasEdge n e → HasNode n (target n e)
   pub lines : (e : ℕ) → HasEdge n e → IsLine (edge_line n e)
+  pub short_lines : (e : ℕ) → HasEdge n e → length (edge_line n e) ≤ 1_000_000
   pub not_empty : (e : ℕ) → HasEdge n e → 1 ≤ span n e
   pub not_long : (e : ℕ) → HasEdge n e → span n e ≤ LENGTH_LIMIT
   pub names_differ : (e f : ℕ) → HasEdge n e → HasEdge n f → edge_name n e ≡ edge_name n f → e ≡ f

@@ -13,7 +13,9 @@ use Rattle.polyline_geometry.specs.declared.plane.Point.{Point}
 use Rattle.polyline_geometry.specs.Plane.{line_length}
 use Rattle.road_network.specs.declared.fault.NetworkFault.{NetworkFault}
 use Rattle.road_network.specs.declared.fault.NetworkFault.TheVariants as fault
-use Rattle.road_network.specs.declared.limits.TheConstants.{COORDINATE_LIMIT, EDGE_LIMIT, FILE_LIMIT, LENGTH_LIMIT, NODE_LIMIT, POINT_LIMIT}
+use Rattle.road_network.specs.declared.limits.NetworkLimits.{NetworkLimits}
+use Rattle.road_network.specs.declared.limits.TheConstants.{COORDINATE_LIMIT, LENGTH_LIMIT}
+use Rattle.road_network.specs.Limits.{edge_limit, file_limit, line_point_limit, node_limit, point_limit}
 use Rattle.road_network.specs.Net.{Edge, Net, point_count}
 
 -- The fields of a record
@@ -163,12 +165,13 @@ line_faults rec line =
     ∷ []
 
 -- the limits that a network of so many edges, nodes and points of all lines has passed with
--- record number rec
-abbrev pub limit_faults : ℕ → ℕ → ℕ → ℕ → List (Option NetworkFault)
-limit_faults rec edges nodes points =
-    when (nat_lt EDGE_LIMIT edges) (fault.TooManyEdges rec)
-    ∷ when (nat_lt NODE_LIMIT nodes) (fault.TooManyNodes rec)
-    ∷ when (nat_lt POINT_LIMIT points) (fault.TooManyPoints rec)
+-- record number rec, whose line has the last number of points
+abbrev pub limit_faults : NetworkLimits → ℕ → ℕ → ℕ → ℕ → ℕ → List (Option NetworkFault)
+limit_faults limits rec edges nodes points line =
+    when (nat_lt (edge_limit limits) edges) (fault.TooManyEdges rec)
+    ∷ when (nat_lt (node_limit limits) nodes) (fault.TooManyNodes rec)
+    ∷ when (nat_lt (point_limit limits) points) (fault.TooManyPoints rec)
+    ∷ when (nat_lt line_point_limit line) (fault.TooManyPoints rec)
     ∷ []
 
 -- an earlier edge of the network has this name
@@ -176,16 +179,17 @@ abbrev pub has_name : Net → ℕ → Bool
 has_name n name = list_any (λ e. name == e.name) n.edges
 
 -- the faults that a network shows with one more row, which stands in record number rec
-abbrev pub row_faults : Net → ℕ → Row → List (Option NetworkFault)
-row_faults n rec r =
+abbrev pub row_faults : NetworkLimits → Net → ℕ → Row → List (Option NetworkFault)
+row_faults limits n rec r =
     when (has_name n r.name) (fault.DuplicateEdge rec)
     ∷ line_faults rec r.line
-    ++ limit_faults rec (length (with_row n r).edges) (length (with_row n r).nodes)
-    (point_count (with_row n r).edges)
+    ++ limit_faults limits rec (length (with_row n r).edges) (length (with_row n r).nodes)
+    (point_count (with_row n r).edges) (length r.line)
 
 -- the network with one more row, which stands in the next record; records are numbered from 1
-unfoldable pub add_row : Net → Row → Result Net NetworkFault
-add_row n r = unless (first_fault (row_faults n (length n.edges + 1) r)) (with_row n r)
+unfoldable pub add_row : NetworkLimits → Net → Row → Result Net NetworkFault
+add_row limits n r =
+    unless (first_fault (row_faults limits n (length n.edges + 1) r)) (with_row n r)
 
 -- what follows from a reading that succeeded
 abbrev pub next : {A B : Type 0} → Result A NetworkFault → (A → Result B NetworkFault)
@@ -194,13 +198,14 @@ next (Ok a) f = f a
 next (Err e) f = Err e
 
 -- the network with one more record
-unfoldable pub add_record : Net → List (List ℕ) → Result Net NetworkFault
-add_record n fields = next (row_of (length n.edges + 1) fields) (add_row n)
+unfoldable pub add_record : NetworkLimits → Net → List (List ℕ) → Result Net NetworkFault
+add_record limits n fields = next (row_of (length n.edges + 1) fields) (add_row limits n)
 
 -- the network with all these records, or the fault of the first faulty one
-unfoldable pub add_records : Net → List (List (List ℕ)) → Result Net NetworkFault
-add_records n [] = Ok n
-add_records n (fields ∷ records) = next (add_record n fields) (λ m. add_records m records)
+unfoldable pub add_records : NetworkLimits → Net → List (List (List ℕ)) → Result Net NetworkFault
+add_records limits n [] = Ok n
+add_records limits n (fields ∷ records) =
+    next (add_record limits n fields) (λ m. add_records limits m records)
 
 abbrev pub no_net : Net
 no_net = record { nodes = []; edges = [] }
@@ -212,14 +217,14 @@ abbrev pub is_header : List (List ℕ) → Bool
 is_header names = pointwise (pointwise nat_eq) names header
 
 -- the network of a file with these records, the first of which is the header
-unfoldable pub network_of_records : List (List (List ℕ)) → Result Net NetworkFault
-network_of_records [] = Err fault.BadHeader
-network_of_records (names ∷ records) =
-    if is_header names then add_records no_net records else Err fault.BadHeader
+unfoldable pub network_of_records : NetworkLimits → List (List (List ℕ)) → Result Net NetworkFault
+network_of_records limits [] = Err fault.BadHeader
+network_of_records limits (names ∷ records) =
+    if is_header names then add_records limits no_net records else Err fault.BadHeader
 
 -- the network of a file, or its first fault; the records are those that csv defines,
 -- with nothing trimmed
-unfoldable pub network_of : List ℕ → Result Net NetworkFault
-network_of bytes =
-    if nat_lt FILE_LIMIT (length bytes) then Err fault.FileTooLong
-    else network_of_records (records default_config (strip_bom bytes))
+unfoldable pub network_of : NetworkLimits → List ℕ → Result Net NetworkFault
+network_of limits bytes =
+    if nat_lt (file_limit limits) (length bytes) then Err fault.FileTooLong
+    else network_of_records limits (records default_config (strip_bom bytes))

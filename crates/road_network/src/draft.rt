@@ -9,7 +9,7 @@ ghost use Rattle.road_network.specs.Rows.{row_with};
 use crate::counting::adjacency_of;
 use crate::edge_names::note_name;
 use crate::fault::NetworkFault;
-use crate::limits::{EDGE_LIMIT, LENGTH_LIMIT, NODE_LIMIT, POINT_LIMIT};
+use crate::limits::{LENGTH_LIMIT, LINE_POINT_LIMIT, NetworkLimits};
 use crate::{EdgeId, Network, NodeId, StoredEdge};
 use indexmap::IndexSet;
 use polyline_geometry::{List, Point, extend_offsets};
@@ -54,13 +54,12 @@ fn leave_sets(nodes: IndexSet<u64>, names: Option<IndexSet<u32>>) {
 }
 
 /// The place, from 1, of the first point that equals the previous one.
-fn repeated_point(line: &[Point]) -> Option<u32>
-    requires { length line.now ≤ 200_000_000 }
+fn repeated_point(line: &[Point]) -> Option<u64>
     ensures { result ≡ repeated_point line.now }
 {
     for i in 1..line.len() {
         if line[i] == line[i - 1] {
-            return Some(i as u32 + 1);
+            return Some(i as u64 + 1);
         }
     }
     None
@@ -68,8 +67,7 @@ fn repeated_point(line: &[Point]) -> Option<u32>
 
 /// The length of an edge's line in cm, if the line has no fault. Appends the offsets of its points.
 fn check_line(rec: u32, line: &[Point], offsets: &mut List<u32>) -> Result<u32, NetworkFault>
-    requires few { length line.now ≤ 200_000_000 }
-    requires within { All InRange line.now }
+    requires { All InRange line.now }
     ensures ok { IfOk result (λ length.
         IsLineTaken rec line.now length offsets.old offsets.new) }
     ensures fault { IfErr result
@@ -89,7 +87,7 @@ fn check_line(rec: u32, line: &[Point], offsets: &mut List<u32>) -> Result<u32, 
 
 /// The number of a node; a new number if no earlier record names the node.
 fn number_of(nodes: &mut IndexSet<u64>, name: u64) -> Result<NodeId, NetworkFault>
-    requires { length nodes.old.keys ≤ 1_000_000 }
+    requires { length nodes.old.keys ≤ 1_000_000_001 }
     ensures nodes { OnOk result (nodes.new.keys ≡ with_node nodes.old.keys name) }
     ensures place { IfOk result (λ node. node.0 ≡ place_of nodes.new.keys name) }
     ensures memory { IfErr result (λ e. e ≡ NetworkFault.Memory) }
@@ -98,18 +96,32 @@ fn number_of(nodes: &mut IndexSet<u64>, name: u64) -> Result<NodeId, NetworkFaul
     Ok(NodeId(place as u32))
 }
 
-/// Whether a network may have this many edges, nodes and points in total.
-fn check_limits(rec: u32, edges: usize, nodes: usize, points: usize) -> Result<(), NetworkFault>
-    ensures ok { OnOk result (first_fault (limit_faults rec edges nodes points) ≡ None) }
-    ensures fault { IfErr result (λ e. first_fault (limit_faults rec edges nodes points) ≡ Some e) }
+/// What a network has with one more edge, and how many points the line of this edge has.
+#[derive(Clone, Copy)]
+struct Sizes {
+    edges: usize,
+    nodes: usize,
+    points: usize,
+    line: usize,
+}
+
+/// Whether a network of these sizes keeps the limits.
+fn check_limits(limits: NetworkLimits, rec: u32, sizes: Sizes) -> Result<(), NetworkFault>
+    ensures ok { OnOk result (first_fault
+        (limit_faults limits rec sizes.edges sizes.nodes sizes.points sizes.line) ≡ None) }
+    ensures fault { IfErr result (λ e. first_fault
+        (limit_faults limits rec sizes.edges sizes.nodes sizes.points sizes.line) ≡ Some e) }
 {
-    if edges > EDGE_LIMIT {
+    if sizes.edges > limits.edges() {
         return Err(NetworkFault::TooManyEdges(rec));
     }
-    if nodes > NODE_LIMIT {
+    if sizes.nodes > limits.nodes() {
         return Err(NetworkFault::TooManyNodes(rec));
     }
-    if points > POINT_LIMIT {
+    if sizes.points > limits.points() {
+        return Err(NetworkFault::TooManyPoints(rec));
+    }
+    if sizes.line > LINE_POINT_LIMIT {
         return Err(NetworkFault::TooManyPoints(rec));
     }
     Ok(())
@@ -140,13 +152,17 @@ impl Draft {
     }
 
     /// Adds the edge of the next record. After an error the draft cannot be used.
-    pub fn add(&mut self, head: &RowHead, line: &[Point]) -> Result<(), NetworkFault>
+    pub fn add(
+        &mut self,
+        limits: NetworkLimits,
+        head: &RowHead,
+        line: &[Point],
+    ) -> Result<(), NetworkFault>
         requires draft { IsDraft self.old }
-        requires few { length line.now ≤ 200_000_000 }
         requires within { All InRange line.now }
-        ensures ok { OnOk result (AddsRow self.old (row_with head.now line.now) self.new) }
+        ensures ok { OnOk result (AddsRow limits self.old (row_with head.now line.now) self.new) }
         ensures fault { IfErr result (λ e. e ≢ NetworkFault.Memory
-            → add_row (drafted self.old) (row_with head.now line.now) ≡ Err e) }
+            → add_row limits (drafted self.old) (row_with head.now line.now) ≡ Err e) }
     {
         let rec = self.next_record();
         let is_new = note_name(
@@ -163,7 +179,13 @@ impl Draft {
         let to = number_of(&mut self.nodes, head.to)?;
         let first = self.points.len();
         let end = first + line.len();
-        check_limits(rec, self.edges.len() + 1, self.nodes.len(), end)?;
+        let sizes = Sizes {
+            edges: self.edges.len() + 1,
+            nodes: self.nodes.len(),
+            points: end,
+            line: line.len(),
+        };
+        check_limits(limits, rec, sizes)?;
         let edge = StoredEdge {
             name: head.name,
             from,

@@ -26,16 +26,17 @@ pub enum NetworkFault {
     /// The line has one point.
     ShortLine(u32),
     /// The point at this place of the line equals the one before it.
-    RepeatedPoint(u32, u32),
+    RepeatedPoint(u32, u64),
     /// The edge is longer than 100,000,000 cm.
     EdgeTooLong(u32),
-    /// The file has more than 150,000 edges.
+    /// The file has more edges than the limits allow.
     TooManyEdges(u32),
-    /// The file has more than 60,000 nodes.
+    /// The file has more nodes than the limits allow.
     TooManyNodes(u32),
-    /// The lines have more than 1,000,000 points together.
+    /// The lines have more points together than the limits allow, or the record's line has more
+    /// than 1,000,000.
     TooManyPoints(u32),
-    /// The file has more than 134,217,728 bytes.
+    /// The file has more bytes than the limits allow.
     FileTooLong,
     /// Out of memory.
     Memory,
@@ -82,14 +83,14 @@ fn write_part(
     line: &mut List<u8>,
     rec: u32,
     part: &[u8],
-    place: u32,
+    place: u64,
     rest: &[u8],
 ) -> Result<(), AllocError>
     ensures { OnOk result
         (line.new ≡ line.old ++ record_line rec (part.now ++ decimal place ++ rest.now)) }
 {
     write_record(line, rec, part)?;
-    write_unsigned(u64::from(place), line)?;
+    write_unsigned(place, line)?;
     line.extend_from_slice(rest)
 }
 
@@ -102,10 +103,10 @@ impl NetworkFault {
             NetworkFault::BadHeader => line.extend_from_slice(b"network: bad header"),
             NetworkFault::FieldCount(rec) => write_record(line, rec, b": wrong number of fields"),
             NetworkFault::BadNumber(rec, field) => {
-                write_part(line, rec, b" field ", field, b": bad number")
+                write_part(line, rec, b" field ", u64::from(field), b": bad number")
             }
             NetworkFault::OutOfRange(rec, field) => {
-                write_part(line, rec, b" field ", field, b": out of range")
+                write_part(line, rec, b" field ", u64::from(field), b": out of range")
             }
             NetworkFault::DuplicateEdge(rec) => write_record(line, rec, b": edge id repeated"),
             NetworkFault::ShortLine(rec) => write_record(line, rec, b": line too short"),

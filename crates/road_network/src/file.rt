@@ -1,17 +1,16 @@
 //! Reads a network file, record by record.
 ghost use Rattle.std.specs.Prelude.{◌≡◌, ◌≢◌, ◌<◌, ◌≤◌, [], true, false, IfOk, IfErr, OnOk, length};
-ghost use Rattle.std.specs.List.{sum_by};
 ghost use Rattle.csv.specs.Records.{fields_of};
-ghost use Rattle.road_network.specs.Between.{IsBetween, IsNext, records_left, text_left};
+ghost use Rattle.road_network.specs.Between.{IsBetween, IsNext, records_left};
 ghost use Rattle.road_network.specs.Drafted.{drafted, IsDraft};
-ghost use Rattle.road_network.specs.declared.limits.TheConstants.{FILE_LIMIT};
+ghost use Rattle.road_network.specs.Limits.{file_limit};
 ghost use Rattle.road_network.specs.NetworkFile.{add_record, add_records, is_header, network_of, network_of_records, no_net};
 
 use crate::Network;
 use crate::draft::Draft;
 use crate::fault::NetworkFault;
 use crate::fields::{field_at, read_row};
-use crate::limits::FILE_LIMIT;
+use crate::limits::NetworkLimits;
 use csv::{ByteRecord, Reader, ReaderBuilder};
 use polyline_geometry::{List, Point};
 use std::alloc::Global;
@@ -32,38 +31,38 @@ fn read_next(reader: &mut Reader<&[u8]>, row: &mut ByteRecord) -> Result<bool, N
 
 /// Adds the edge of one record. `line` provides the memory for the points of the record.
 fn add_record(
+    limits: NetworkLimits,
     draft: &mut Draft,
     fields: &ByteRecord,
     line: &mut List<Point>,
 ) -> Result<(), NetworkFault>
-    requires draft { IsDraft draft.old }
-    requires small { sum_by length (fields_of fields.now) ≤ FILE_LIMIT }
+    requires { IsDraft draft.old }
     ensures draft { OnOk result (IsDraft draft.new) }
     ensures network { OnOk result
-        (add_record (drafted draft.old) (fields_of fields.now) ≡ Ok (drafted draft.new)) }
+        (add_record limits (drafted draft.old) (fields_of fields.now) ≡ Ok (drafted draft.new)) }
     ensures fault { IfErr result (λ e. e ≢ NetworkFault.Memory
-        → add_record (drafted draft.old) (fields_of fields.now) ≡ Err e) }
+        → add_record limits (drafted draft.old) (fields_of fields.now) ≡ Err e) }
 {
     let head = read_row(draft.next_record(), fields, line)?;
-    draft.add(&head, line.as_slice())
+    draft.add(limits, &head, line.as_slice())
 }
 
 /// The network of the remaining records, or the fault of the first faulty one.
 fn read_edges(
     alloc: Global,
+    limits: NetworkLimits,
     reader: &mut Reader<&[u8]>,
     row: &mut ByteRecord,
 ) -> Result<Network, NetworkFault>
-    requires between { IsBetween reader.old }
-    requires small { length (text_left reader.old) ≤ FILE_LIMIT }
-    ensures network { IfOk result (λ n. add_records no_net (records_left reader.old) ≡ Ok n) }
-    ensures fault { IfErr result
-        (λ e. e ≢ NetworkFault.Memory → add_records no_net (records_left reader.old) ≡ Err e) }
+    requires { IsBetween reader.old }
+    ensures network { IfOk result (λ n. add_records limits no_net (records_left reader.old) ≡ Ok n) }
+    ensures fault { IfErr result (λ e. e ≢ NetworkFault.Memory
+        → add_records limits no_net (records_left reader.old) ≡ Err e) }
 {
     let mut draft = Draft::new(alloc);
     let mut line = List::new(alloc);
     while read_next(reader, row)? {
-        add_record(&mut draft, row, &mut line)?;
+        add_record(limits, &mut draft, row, &mut line)?;
     }
     draft.finish(alloc)
 }
@@ -85,14 +84,14 @@ fn is_header(row: &ByteRecord) -> bool
 /// The network of the records of a file, the first of which is the header, or the first fault.
 fn read_records(
     alloc: Global,
+    limits: NetworkLimits,
     reader: &mut Reader<&[u8]>,
     row: &mut ByteRecord,
 ) -> Result<Network, NetworkFault>
-    requires between { IsBetween reader.old }
-    requires small { length (text_left reader.old) ≤ FILE_LIMIT }
-    ensures network { IfOk result (λ n. network_of_records (records_left reader.old) ≡ Ok n) }
-    ensures fault { IfErr result
-        (λ e. e ≢ NetworkFault.Memory → network_of_records (records_left reader.old) ≡ Err e) }
+    requires { IsBetween reader.old }
+    ensures network { IfOk result (λ n. network_of_records limits (records_left reader.old) ≡ Ok n) }
+    ensures fault { IfErr result (λ e. e ≢ NetworkFault.Memory
+        → network_of_records limits (records_left reader.old) ≡ Err e) }
 {
     if !read_next(reader, row)? {
         return Err(NetworkFault::BadHeader);
@@ -100,18 +99,23 @@ fn read_records(
     if !is_header(row) {
         return Err(NetworkFault::BadHeader);
     }
-    read_edges(alloc, reader, row)
+    read_edges(alloc, limits, reader, row)
 }
 
-/// The network of a file, or its first fault, or `Memory` when out of memory. The file is read
-/// once, a record at a time; only the ids and the points are kept. A file above the size limit is
-/// rejected without allocating.
-pub fn read_network(alloc: Global, bytes: &[u8]) -> Result<Network, NetworkFault>
-    ensures network { IfOk result (λ n. network_of bytes.now ≡ Ok n) }
-    ensures fault { IfErr result (λ e. e ≢ NetworkFault.Memory → network_of bytes.now ≡ Err e) }
-    ensures long { FILE_LIMIT < length bytes.now → result ≡ Err NetworkFault.FileTooLong }
+/// The network of a file within some limits, or its first fault, or `Memory` when out of memory. The
+/// file is read once, a record at a time; only the ids and the points are kept. A file above the
+/// size limit is rejected without allocating.
+pub fn read_network_within(
+    alloc: Global,
+    limits: NetworkLimits,
+    bytes: &[u8],
+) -> Result<Network, NetworkFault>
+    ensures network { IfOk result (λ n. network_of limits bytes.now ≡ Ok n) }
+    ensures fault { IfErr result
+        (λ e. e ≢ NetworkFault.Memory → network_of limits bytes.now ≡ Err e) }
+    ensures long { file_limit limits < length bytes.now → result ≡ Err NetworkFault.FileTooLong }
 {
-    if bytes.len() > FILE_LIMIT {
+    if bytes.len() as u64 > limits.file_bytes() {
         return Err(NetworkFault::FileTooLong);
     }
     let mut reader = ReaderBuilder::new()
@@ -119,5 +123,16 @@ pub fn read_network(alloc: Global, bytes: &[u8]) -> Result<Network, NetworkFault
         .flexible(true)
         .from_reader(alloc, bytes);
     let mut row = ByteRecord::new(alloc);
-    read_records(alloc, &mut reader, &mut row)
+    read_records(alloc, limits, &mut reader, &mut row)
+}
+
+/// The network of a file within the standard limits; otherwise as [`read_network_within`].
+pub fn read_network(alloc: Global, bytes: &[u8]) -> Result<Network, NetworkFault>
+    ensures network { IfOk result (λ n. network_of NetworkLimits.Standard bytes.now ≡ Ok n) }
+    ensures fault { IfErr result
+        (λ e. e ≢ NetworkFault.Memory → network_of NetworkLimits.Standard bytes.now ≡ Err e) }
+    ensures long { file_limit NetworkLimits.Standard < length bytes.now
+        → result ≡ Err NetworkFault.FileTooLong }
+{
+    read_network_within(alloc, NetworkLimits::Standard, bytes)
 }

@@ -1,7 +1,7 @@
 //! The road network: read from its file, and available part by part.
 //!
-//! - [`read_network`] reads a network file; [`NetworkFault`] is the fault of a file, and writes its
-//! error line.
+//! - [`read_network`] reads a network file within the standard limits, and [`read_network_within`]
+//! within any [`NetworkLimits`]; [`NetworkFault`] is the fault of a file, and writes its error line.
 //! - [`Network`] gives access to nodes and edges by their numbers, [`NodeId`] and [`EdgeId`]; an edge
 //! has an id, two nodes, a line and a length in cm. [`Arc`] is an edge seen from the node where
 //! it begins.
@@ -28,9 +28,9 @@ mod limits;
 
 use counting::Adjacency;
 pub use fault::NetworkFault;
-pub use file::read_network;
-pub use laws::{candidates_are_nearest, candidates_differ};
-pub use limits::{COORDINATE_LIMIT, EDGE_LIMIT, FILE_LIMIT, LENGTH_LIMIT, NODE_LIMIT, POINT_LIMIT};
+pub use file::{read_network, read_network_within};
+pub use laws::{candidates_are_nearest, candidates_differ, limits_agree};
+pub use limits::{COORDINATE_LIMIT, LENGTH_LIMIT, LINE_POINT_LIMIT, NetworkLimits};
 use polyline_geometry::Point;
 use std::marker::Model;
 

@@ -1,4 +1,4 @@
-use Rattle.std.proofs.Common.{◌∙◌, Ok, sym, ap, arith}
+use Rattle.std.proofs.Common.{◌∙◌, Ok, sym, ap}
 use Rattle.std.proofs.lemmas.Result.{IfOk-weaker, err_from_is_err_and}
 use Rattle.csv.specs.Records.{fields_of}
 use Rattle.road_network.specs.Between.{records_left}
@@ -18,8 +18,7 @@ loop-line-preserved c =
     record {
       draft = c.in_ok-add_record.ensures.draft;
       between = next.between;
-      small = omega (arith, next.shorter, inv.small);
-      rest = sym (ap (add_records n) next.first ∙ records-more n m fields rest c.in_ok-add_record.ensures.network) ∙ inv.rest;
+      rest = sym (ap (add_records c.args.limits n) next.first ∙ records-more c.args.limits n m fields rest c.in_ok-add_record.ensures.network) ∙ inv.rest;
     }
 
 pub returns-in_err-add_record-clause-fault : goal.returns-in_err-add_record-clause-fault
@@ -30,7 +29,7 @@ returns-in_err-add_record-clause-fault c =
     let fields = fields_of c.read_next.new.row in
     let rest = records_left c.read_next.new.reader in
     let p = err_from_is_err_and c.from_residual-in_err-add_record.result c.from_residual-in_err-add_record.ensures.1 in
-    rw (p.1, p.2) (λ known. sym inv.rest ∙ ap (add_records n) next.first ∙ records-refused n fields rest _ (c.in_err-add_record.ensures.fault known))
+    rw (p.1, p.2) (λ known. sym inv.rest ∙ ap (add_records c.args.limits n) next.first ∙ records-refused c.args.limits n fields rest _ (c.in_err-add_record.ensures.fault known))
 
 pub returns-clause-network : goal.returns-clause-network
 returns-clause-network c =
@@ -38,7 +37,7 @@ returns-clause-network c =
     let n = drafted c.loop-line.draft in
     let end = c.in_ok-read_next.ensures.end c.if-branch.false in
     IfOk-weaker c.finish.result _ _
-    (λ net is. sym inv.rest ∙ ap (add_records n) end ∙ records-end n ∙ ap (λ k. Ok k) (sym is))
+    (λ net is. sym inv.rest ∙ ap (add_records c.args.limits n) end ∙ records-end c.args.limits n ∙ ap (λ k. Ok k) (sym is))
     c.finish.ensures.network
 
 pub returns-in_err-read_next-clause-network : goal.returns-in_err-read_next-clause-network

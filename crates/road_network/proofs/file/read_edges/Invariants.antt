@@ -1,4 +1,4 @@
-use Rattle.std.proofs.Common.{◌≡◌, ◌≤◌, length}
+use Rattle.std.proofs.Common.{◌≡◌, length}
 use Rattle.road_network.specs.Between.{IsBetween, records_left, text_left}
 use Rattle.road_network.specs.Drafted.{IsDraft, drafted}
 use Rattle.road_network.specs.NetworkFile.{add_records, no_net}
@@ -9,8 +9,7 @@ abbrev pub invariant-loop-line : goal.invariant-loop-line
 invariant-loop-line l = record {
   draft : IsDraft l.draft;
   between : IsBetween l.reader;
-  small : length (text_left l.reader) ≤ 134_217_728;
-  rest : add_records (drafted l.draft) (records_left l.reader) ≡ add_records no_net (records_left l.initial.reader);
+  rest : add_records l.limits (drafted l.draft) (records_left l.reader) ≡ add_records l.limits no_net (records_left l.initial.reader);
 }
 
 abbrev pub decreases-loop-line : goal.decreases-loop-line

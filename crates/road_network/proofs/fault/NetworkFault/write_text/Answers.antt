@@ -7,10 +7,10 @@ pub returns-in-FieldCount : goal.returns-in-FieldCount
 returns-in-FieldCount c = rw c.in-FieldCount.is c.write_record.ensures
 
 pub returns-in-BadNumber : goal.returns-in-BadNumber
-returns-in-BadNumber c = rw c.in-BadNumber.is c.write_part.ensures
+returns-in-BadNumber c = rw (c.in-BadNumber.is, ← c.from.ensures) c.write_part.ensures
 
 pub returns-in-OutOfRange : goal.returns-in-OutOfRange
-returns-in-OutOfRange c = rw c.in-OutOfRange.is c.write_part-in-OutOfRange.ensures
+returns-in-OutOfRange c = rw (c.in-OutOfRange.is, ← c.from-in-OutOfRange.ensures) c.write_part-in-OutOfRange.ensures
 
 pub returns-in-DuplicateEdge : goal.returns-in-DuplicateEdge
 returns-in-DuplicateEdge c = rw c.in-DuplicateEdge.is c.write_record-in-DuplicateEdge.ensures
