@@ -1,6 +1,6 @@
 //! Networks, and the faults of their files.
 use polyline_geometry::{List, Point};
-use road_network::{Arc, EdgeId, FILE_LIMIT, NetworkFault, NodeId, read_network};
+use road_network::{Arc, EdgeId, NetworkFault, NetworkLimits, NodeId, read_network};
 use std::alloc::Global;
 use std::test::Fail;
 
@@ -157,7 +157,8 @@ fn the_first_fault_of_a_file(rt: HostRuntime) {
 
 #[test]
 fn a_file_above_the_limit(rt: HostRuntime) -> Result<(), Fail> {
-    let bytes = vec![in rt.alloc(); b'0'; FILE_LIMIT + 1]?;
+    let limit = NetworkLimits::Standard.file_bytes() as usize;
+    let bytes = vec![in rt.alloc(); b'0'; limit + 1]?;
     let line = b"network: file too long\n";
     assert!(rt; is_refused(rt.alloc(), bytes.as_slice(), line));
     Ok(())

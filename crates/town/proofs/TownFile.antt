@@ -9,6 +9,7 @@ use Rattle.csv.specs.Writing.{default_writer, fields_text, is_blank as is_blank_
 use Rattle.csv.specs.declared.parser.State.TheVariants as st
 use Rattle.decimal_text.specs.Number.{decimal}
 use Rattle.decimal_text.proofs.Laws.{length-decimal}
+use Rattle.road_network.specs.declared.limits.NetworkLimits.TheVariants.{Standard}
 use Rattle.road_network.specs.Net.{Net}
 use Rattle.road_network.specs.NetworkFile.{add_records, header, network_of, network_of_records, no_net, with_row}
 use Rattle.road_network.specs.declared.fault.NetworkFault.{NetworkFault}
@@ -93,19 +94,19 @@ mark-free : (rest : List ℕ) → strip_bom (codes "edge,from,to,line\n" ++ rest
 unfolding strip_bom
 mark-free rest = refl
 
-of-records : (rows : List (List (List ℕ))) → network_of_records (header ∷ rows) ≡ add_records no_net rows
+of-records : (rows : List (List (List ℕ))) → network_of_records Standard (header ∷ rows) ≡ add_records Standard no_net rows
 unfolding network_of_records
 of-records rows = refl
 
-whole-file : (bytes : List ℕ) → length bytes ≤ 134_217_728 → network_of bytes ≡ network_of_records (records default_config (strip_bom bytes))
+whole-file : (bytes : List ℕ) → length bytes ≤ 134_217_728 → network_of Standard bytes ≡ network_of_records Standard (records default_config (strip_bom bytes))
 unfolding network_of
-whole-file bytes few = ap (λ b. cond b (Err fault.FileTooLong) (network_of_records (records default_config (strip_bom bytes)))) (le-ltb 134_217_728 (length bytes) few)
+whole-file bytes few = ap (λ b. cond b (Err fault.FileTooLong) (network_of_records Standard (records default_config (strip_bom bytes)))) (le-ltb 134_217_728 (length bytes) few)
 
 empty-is : IsAt no_net 0 0
 empty-is = record { edges_are = refl; names = All-nil (λ e. e.name < 0); nodes_are = omega arith; points_are = refl }
 
 text-read : (n : ℕ) (list : List Street) → All (IsStreet n) list → length list ≤ 20_000
-    → network_of (codes "edge,from,to,line\n" ++ street_lines n 0 list) ≡ Ok (fold with_row no_net (street_rows n 0 list))
+    → network_of Standard (codes "edge,from,to,line\n" ++ street_lines n 0 list) ≡ Ok (fold with_row no_net (street_rows n 0 list))
 unfolding text_of_records
 text-read n list all few =
     let lines = street_lines n 0 list in
@@ -116,10 +117,10 @@ text-read n list all few =
     let same : text_of_records (header ∷ rows) ≡ text = ap₂ (λ a b. a ++ b) header-is (text-is list n 0 all (omega (arith, few))) in
     let turns : length (header ∷ rows) ≤ length text + 1 = omega (arith, whole, size.0, count-is list n 0) in
     whole-file text (omega (arith, whole, size.1, few))
-    ∙ ap (λ t. network_of_records (records default_config t)) (mark-free lines)
-    ∙ ap (λ t. network_of_records (records_from default_config (length text + 1) st.StartRecord t)) (sym same)
-    ∙ ap network_of_records (records-back (header ∷ rows) (length text + 1) turns)
-    ∙ ap (λ rs. network_of_records (header ∷ rs)) (back-same list n 0)
+    ∙ ap (λ t. network_of_records Standard (records default_config t)) (mark-free lines)
+    ∙ ap (λ t. network_of_records Standard (records_from default_config (length text + 1) st.StartRecord t)) (sym same)
+    ∙ ap (network_of_records Standard) (records-back (header ∷ rows) (length text + 1) turns)
+    ∙ ap (λ rs. network_of_records Standard (header ∷ rs)) (back-same list n 0)
     ∙ of-records rows
     ∙ records_added list no_net n 0 0 empty-is all (omega (arith, few)) (omega (arith, few))
 

@@ -10,6 +10,7 @@ use Rattle.csv.specs.Writing.{read_back}
 use Rattle.decimal_text.specs.Number.{decimal}
 use Rattle.decimal_text.proofs.Laws.{unsigned_within-decimal}
 use Rattle.polyline_geometry.specs.Plane.{line_length}
+use Rattle.road_network.specs.declared.limits.NetworkLimits.TheVariants.{Standard}
 use Rattle.road_network.specs.Net.{Edge, Net, point_count}
 use Rattle.road_network.specs.NetworkFile.{Row, add_record, add_records, add_row, first_fault, has_name, limit_faults, line_faults, next, nodes_with, row_of, with_node, with_row}
 use Rattle.road_network.proofs.Growing.{accepted}
@@ -56,7 +57,7 @@ line-free rec a b joined =
     let long : line_length (place_of a ∷ place_of b ∷ []) ≡ 10_000 = ap (λ s. s + 0) (straight_is a b joined) in
     rw (differ a b joined, long) refl
 
-limits-free : (rec edges nodes points : ℕ) → edges ≤ 150_000 → nodes ≤ 60_000 → points ≤ 1_000_000 → first_fault (limit_faults rec edges nodes points) ≡ None
+limits-free : (rec edges nodes points : ℕ) → edges ≤ 150_000 → nodes ≤ 60_000 → points ≤ 1_000_000 → first_fault (limit_faults Standard rec edges nodes points 2) ≡ None
 limits-free rec edges nodes points few_edges few_nodes few_points =
     rw (le-ltb 150_000 edges few_edges, le-ltb 60_000 nodes few_nodes, le-ltb 1_000_000 points few_points) refl
 
@@ -73,7 +74,7 @@ with-edge net n edge nodes a b at = record {
 }
 
 add-one_edge : (net : Net) (n edge nodes : ℕ) (a b : Corner) → IsAt net edge nodes → Fits n edge a b → edge + 1 ≤ 150_000 → nodes + 2 ≤ 60_000
-    → add_record net (edge_fields n edge a b) ≡ Ok (with_row net (edge_row n edge a b))
+    → add_record Standard net (edge_fields n edge a b) ≡ Ok (with_row net (edge_row n edge a b))
 unfolding add_record
 add-one_edge net n edge nodes a b at fits few_edges few_nodes =
     let r = edge_row n edge a b in
@@ -81,8 +82,8 @@ add-one_edge net n edge nodes a b at fits few_edges few_nodes =
     let e = after.edges_are in
     let v = after.nodes_are in
     let p = after.points_are in
-    ap (λ read. next read (add_row net)) (row-is (length net.edges + 1) n edge a b fits)
-    ∙ accepted net r (new-name net.edges edge edge at.names (omega arith)) (line-free (length net.edges + 1) a b fits.joined)
+    ap (λ read. next read (add_row Standard net)) (row-is (length net.edges + 1) n edge a b fits)
+    ∙ accepted Standard net r (new-name net.edges edge edge at.names (omega arith)) (line-free (length net.edges + 1) a b fits.joined)
     (limits-free (length net.edges + 1) (length (with_row net r).edges) (length (with_row net r).nodes) (point_count (with_row net r).edges) (omega (arith, e, few_edges)) (omega (arith, v, few_nodes)) (omega (arith, p, few_edges)))
 
 -- the way back brings no node
@@ -127,7 +128,7 @@ fits_back : (n edge : ℕ) (s : Street) → IsStreet n s → edge ≤ 100_000 �
 fits_back n edge s street few = record { joined = joined_back s.one s.other street.joined; edge_fits = omega (arith, few); from_fits = street.to_fits; to_fits = street.from_fits }
 
 pub records_added : (streets : List Street) (net : Net) (n edge nodes : ℕ) → IsAt net edge nodes → All (IsStreet n) streets → edge + 2 * length streets ≤ 50_000 → nodes + 2 * length streets ≤ 50_000
-    → add_records net (street_records n edge streets) ≡ Ok (fold with_row net (street_rows n edge streets))
+    → add_records Standard net (street_records n edge streets) ≡ Ok (fold with_row net (street_rows n edge streets))
 unfolding add_records street_records street_rows
 records_added [] net n edge nodes at all few_edges few_nodes = refl
 records_added (s ∷ rest) net n edge nodes at all few_edges few_nodes =
@@ -138,6 +139,6 @@ records_added (s ∷ rest) net n edge nodes at all few_edges few_nodes =
     let after_two = with-street net n edge nodes s.one s.other at in
     let there = add-one_edge net n edge nodes s.one s.other at (fits_there n edge s street (omega (arith, few_edges))) (omega (arith, few_edges)) (omega (arith, few_nodes)) in
     let back = add-one_edge one n (edge + 1) (nodes + 2) s.other s.one after_one (fits_back n (edge + 1) s street (omega (arith, few_edges))) (omega (arith, few_edges)) (omega (arith, few_nodes)) in
-    ap (λ r. next r (λ m. add_records m (edge_fields n (edge + 1) s.other s.one ∷ street_records n (edge + 2) rest))) there
-    ∙ ap (λ r. next r (λ m. add_records m (street_records n (edge + 2) rest))) back
+    ap (λ r. next r (λ m. add_records Standard m (edge_fields n (edge + 1) s.other s.one ∷ street_records n (edge + 2) rest))) there
+    ∙ ap (λ r. next r (λ m. add_records Standard m (street_records n (edge + 2) rest))) back
     ∙ records_added rest two n (edge + 2) (nodes + 2) after_two (All-tail (IsStreet n) s rest all) (omega (arith, few_edges)) (omega (arith, few_nodes))

@@ -1,5 +1,6 @@
 -- Laws of a town: its files have no fault, and say its network and its traces.
 use Rattle.std.specs.Prelude.{◌≡◌, ℕ, ◌≤◌, List, length, All, Ok, None}
+use Rattle.road_network.specs.declared.limits.NetworkLimits.TheVariants.{Standard}
 use Rattle.road_network.specs.NetworkFile.{network_of}
 use Rattle.trace_reader.specs.Reading.{file_fault, file_traces}
 use Rattle.trace_reader.specs.Trace.{IsLawfulTrace}
@@ -7,9 +8,10 @@ use Rattle.trace_reader.specs.declared.trace.Trace.{Trace}
 use Rattle.town.specs.Network.{network_text, town_net}
 use Rattle.town.specs.Traces.{town_trace_list, traces_text}
 
--- the network file of a town has no fault, and says its network
+-- the network file of a town has no fault within the standard limits, and says its network
 abbrev pub NetworkIsLawful : Type 0
-NetworkIsLawful = (n : ℕ) → 2 ≤ n → n ≤ 100 → network_of (network_text n) ≡ Ok (town_net n)
+NetworkIsLawful =
+    (n : ℕ) → 2 ≤ n → n ≤ 100 → network_of Standard (network_text n) ≡ Ok (town_net n)
 
 -- a lawful trace of 20 fixes
 pub record IsTownTrace (trace : Trace) : Type 0 where
