@@ -8,9 +8,10 @@ use Rattle.std.specs.List.Sorted.{IsPermutation}
 use Rattle.road_network.specs.Net.{Net, HasNode, IsLawful, arc_of, leaving}
 use Rattle.road_network.specs.declared.Arc.{Arc}
 use Rattle.bounded_search.specs.declared.dijkstra.Workspace.{Workspace}
+use Rattle.bounded_search.specs.declared.marks.Marks.{Marks}
 use Rattle.bounded_search.specs.declared.queue.Waiting.{Waiting}
 use Rattle.bounded_search.specs.LabelWords.{distance_at, no_label, origin_word, word_at, word_by}
-use Rattle.bounded_search.specs.Marked.{AreMarked, IsMarked, MarksToo}
+use Rattle.bounded_search.specs.Marked.{AllMarked, IsMarked, MarksToo}
 use Rattle.bounded_search.specs.Searching.{AreMarkedOrWait, IsSearching}
 use Rattle.bounded_search.specs.Underway.{IsUnderway, SearchState, Waits, after_arc, after_arcs, effort, is_better, is_nearer, state_of}
 use Rattle.bounded_search.proofs.AfterArcs.{beside, tries_arc}
@@ -20,9 +21,8 @@ use Rattle.bounded_search.proofs.LabelWords.{distance_by, not_farther, word_else
 use Rattle.bounded_search.proofs.Underway.{IsPending, edge_small, no_more_effort, reordered, starts_still, step_keeps, taken}
 
 -- a search from s with others taken, while the arcs of a node are tried
-pub record IsTrying (n : Net) (bound s : ℕ) (state : SearchState) (marks : List ℕ) (taken : List Waiting) (pending : ℕ → Type 0) : Type 0 where
+pub record IsTrying (n : Net) (bound s : ℕ) (state : SearchState) (marks : Marks) (taken : List Waiting) (pending : ℕ → Type 0) : Type 0 where
   pub underway : IsUnderway n bound s (beside taken state) pending
-  pub inside : (v : ℕ) → IsMarked marks v → v < length n.nodes
   pub marked : AreMarkedOrWait bound state.words marks (taken ++ state.queue)
 
 -- an arc is tried beside them as without them
@@ -33,17 +33,17 @@ tries_beside bound d a taken old new tries = record {
 }
 
 -- a node that is taken is marked
-pub marked_taken : (bound : ℕ) (words before after : List ℕ) (x : Waiting) (queue : List Waiting) → MarksToo before x.node after → AreMarkedOrWait bound words before (x ∷ queue) → AreMarkedOrWait bound words after queue
+pub marked_taken : (bound : ℕ) (words : List ℕ) (before after : Marks) (x : Waiting) (queue : List Waiting) → MarksToo before x.node after → AreMarkedOrWait bound words before (x ∷ queue) → AreMarkedOrWait bound words after queue
 marked_taken bound words before after x queue more marked v there = elim (marked v there) [
   | inl waits ↦ elim (front_or_rest x queue (record { distance = distance_at bound words v; node = v }) waits) [
-    | inl same ↦ inr ((more v).1 (inr (ap (λ (k : Waiting). k.node) same)))
+    | inl same ↦ inr (subst (IsMarked after) (sym (ap (λ (k : Waiting). k.node) same)) more.added)
     | inr rest ↦ inl rest
   ]
-  | inr is ↦ inr ((more v).1 (inl is))
+  | inr is ↦ inr (more.kept v is)
 ]
 
 -- and one that became nearer since it waited needs no mark by it
-pub marked_not_taken : (bound : ℕ) (words marks : List ℕ) (x : Waiting) (queue : List Waiting) → distance_at bound words x.node ≢ x.distance → AreMarkedOrWait bound words marks (x ∷ queue) → AreMarkedOrWait bound words marks queue
+pub marked_not_taken : (bound : ℕ) (words : List ℕ) (marks : Marks) (x : Waiting) (queue : List Waiting) → distance_at bound words x.node ≢ x.distance → AreMarkedOrWait bound words marks (x ∷ queue) → AreMarkedOrWait bound words marks queue
 marked_not_taken bound words marks x queue stale marked v there = elim (marked v there) [
   | inl waits ↦ elim (front_or_rest x queue (record { distance = distance_at bound words v; node = v }) waits) [
     | inl same ↦ absurd (stale (ap (λ (k : Waiting). distance_at bound words k.node) (sym same) ∙ ap (λ (k : Waiting). k.distance) same))
@@ -53,14 +53,14 @@ marked_not_taken bound words marks x queue stale marked v there = elim (marked v
 ]
 
 -- a node whose distance stays is marked or waits as before
-waits_still : (bound : ℕ) (words after marks : List ℕ) (old new : List Waiting) (v : ℕ) → ((y : Waiting) → Contains old y → Contains new y) → distance_at bound after v ≡ distance_at bound words v → Waits old v (distance_at bound words v) ⊎ IsMarked marks v → Waits new v (distance_at bound after v) ⊎ IsMarked marks v
+waits_still : (bound : ℕ) (words after : List ℕ) (marks : Marks) (old new : List Waiting) (v : ℕ) → ((y : Waiting) → Contains old y → Contains new y) → distance_at bound after v ≡ distance_at bound words v → Waits old v (distance_at bound words v) ⊎ IsMarked marks v → Waits new v (distance_at bound after v) ⊎ IsMarked marks v
 waits_still bound words after marks old new v keeps same seen = elim seen [
   | inl waits ↦ inl (subst (Waits new v) (sym same) (keeps (record { distance = distance_at bound words v; node = v }) waits))
   | inr is ↦ inr is
 ]
 
 -- what an arc that was tried leaves of it
-pub marked_tried : (bound d : ℕ) (a : Arc) (marks : List ℕ) (old new : SearchState) → a.to.0 < length old.words → a.edge.0 < 2 ^ 32 → Tries bound d a old new → AreMarkedOrWait bound old.words marks old.queue → AreMarkedOrWait bound new.words marks new.queue
+pub marked_tried : (bound d : ℕ) (a : Arc) (marks : Marks) (old new : SearchState) → a.to.0 < length old.words → a.edge.0 < 2 ^ 32 → Tries bound d a old new → AreMarkedOrWait bound old.words marks old.queue → AreMarkedOrWait bound new.words marks new.queue
 marked_tried bound d a marks old new inside small tries marked v there =
     let u : ℕ = a.to.0 in
     let x : Waiting = record { distance = d + a.length; node = u } in
@@ -96,7 +96,7 @@ marked_tried bound d a marks old new inside small tries marked v there =
     ]
 
 -- at the start the origin waits, and no other node is labelled
-pub marked_begun : (bound s : ℕ) (words after marks : List ℕ) (queue : List Waiting) → s < length words → ((v : ℕ) → word_at bound words v ≡ no_label bound) → after ≡ set words s origin_word → IsPermutation (record { distance = 0; node = s } ∷ []) queue → AreMarkedOrWait bound after marks queue
+pub marked_begun : (bound s : ℕ) (words after : List ℕ) (marks : Marks) (queue : List Waiting) → s < length words → ((v : ℕ) → word_at bound words v ≡ no_label bound) → after ≡ set words s origin_word → IsPermutation (record { distance = 0; node = s } ∷ []) queue → AreMarkedOrWait bound after marks queue
 marked_begun bound s words after marks queue lt none is waits v there = elim (cases_eq v s) [
   | inl same ↦
       let here : word_at bound after v ≡ origin_word = ap (word_at bound after) same ∙ (ap (λ (k : List ℕ). word_at bound k s) is ∙ word_here bound words s origin_word lt) in
@@ -107,11 +107,10 @@ marked_begun bound s words after marks queue lt none is waits v there = elim (ca
 ]
 
 -- a node is taken out of the queue
-pub node_taken : (n : Net) (s : ℕ) (w : Workspace) (x : Waiting) (new : List Waiting) → IsPermutation w.queue (x ∷ new) → IsSearching n s w [] → IsSearching n s (record { bound = w.bound; reach = w.reach; words = w.words; marks = w.marks; queue = new }) (x ∷ [])
+pub node_taken : (n : Net) (s : ℕ) (w : Workspace) (x : Waiting) (new : List Waiting) → IsPermutation w.queue (x ∷ new) → IsSearching n s w [] → IsSearching n s (record { bound = w.bound; reach = w.reach; words = w.words; marks = w.marks; queue = new; found = w.found }) (x ∷ [])
 node_taken n s w x new perm h = record {
-  sized = h.sized;
+  sized = record { low = h.sized.low; few = h.sized.few; words_count = h.sized.words_count; marks = h.sized.marks };
   underway = reordered n w.bound s w.words.items w.queue (x ∷ new) perm h.underway;
-  inside = h.inside;
   marked = λ v there. elim (h.marked v there) [
     | inl waits ↦ inl (Contains-permutation w.queue (x ∷ new) (record { distance = distance_at w.bound w.words.items v; node = v }) perm waits)
     | inr is ↦ inr is
@@ -130,7 +129,7 @@ taken_inside n s w x new perm h =
     (omega (arith, is.0, h.sized.words_count), omega (arith, is.1, h.sized.low))
 
 -- all arcs out of a node are tried
-pub arcs_keep : (n : Net) (bound d u s : ℕ) (arcs : List Arc) (marks : List ℕ) (others : List Waiting) (state : SearchState) → IsLawful n → All (IsLeaving n u) arcs → distance_at bound state.words u ≡ d → IsTrying n bound s state marks others (IsPending n arcs) → IsTrying n bound s (after_arcs bound d arcs state) marks others (IsPending n [])
+pub arcs_keep : (n : Net) (bound d u s : ℕ) (arcs : List Arc) (marks : Marks) (others : List Waiting) (state : SearchState) → IsLawful n → All (IsLeaving n u) arcs → distance_at bound state.words u ≡ d → IsTrying n bound s state marks others (IsPending n arcs) → IsTrying n bound s (after_arcs bound d arcs state) marks others (IsPending n [])
 arcs_keep n bound d u s [] marks others state lawful leaving starts t = t
 arcs_keep n bound d u s (a ∷ arcs) marks others state lawful leaving starts t =
     let arc : IsLeaving n u a = leaving 0 a (omega arith) in
@@ -141,7 +140,6 @@ arcs_keep n bound d u s (a ∷ arcs) marks others state lawful leaving starts t 
     let still = starts_still n bound d u a state new lawful arc count starts tries in
     arcs_keep n bound d u s arcs marks others new lawful (All-tail (IsLeaving n u) a arcs leaving) still.0 (record {
       underway = step_keeps n bound d u s a arcs (beside others state) (beside others new) lawful arc starts there t.underway;
-      inside = t.inside;
       marked = marked_tried bound d a marks (beside others state) (beside others new) (omega (arith, arc.end, count)) (omega (arith, edge_small n a.edge.0 lawful arc.has)) there t.marked;
     })
 
@@ -158,26 +156,18 @@ arcs_effort n bound d u (a ∷ arcs) state lawful leaving count starts =
     omega (arith, rest, one)
 
 -- a node that was taken is left
-pub node_left : (n : Net) (s : ℕ) (w : Workspace) (next : Waiting) (others : List Waiting) (marks : List ℕ) (new : SearchState) → IsLawful n → HasNode n next.node → distance_at w.bound w.words.items next.node ≡ next.distance → MarksToo w.marks.items next.node marks → new ≡ after_arcs w.bound next.distance (map (arc_of n) (leaving n next.node)) (state_of w) → IsSearching n s w (next ∷ others) → IsTrying n w.bound s new marks others (IsPending n [])
+pub node_left : (n : Net) (s : ℕ) (w : Workspace) (next : Waiting) (others : List Waiting) (marks : Marks) (new : SearchState) → IsLawful n → HasNode n next.node → distance_at w.bound w.words.items next.node ≡ next.distance → MarksToo w.marks next.node marks → new ≡ after_arcs w.bound next.distance (map (arc_of n) (leaving n next.node)) (state_of w) → IsSearching n s w (next ∷ others) → IsTrying n w.bound s new marks others (IsPending n [])
 node_left n s w next others marks new lawful has starts more is h =
     let u : ℕ = next.node in
     let arcs : List Arc = map (arc_of n) (leaving n u) in
     subst (λ (k : SearchState). IsTrying n w.bound s k marks others (IsPending n [])) (sym is) (arcs_keep n w.bound next.distance u s arcs marks others (state_of w) lawful (known_arcs n u lawful) starts (record {
       underway = taken n w.bound s next w.words.items (others ++ w.queue) h.underway;
-      inside = λ v marked. elim ((more v).0 marked) [
-        | inl old ↦ h.inside v old
-        | inr here ↦ omega (arith, here, has)
-      ];
-      marked = marked_taken w.bound w.words.items w.marks.items marks next (others ++ w.queue) more h.marked;
+      marked = marked_taken w.bound w.words.items w.marks marks next (others ++ w.queue) more h.marked;
     }))
 
 -- at the end none waits, so all labelled nodes are marked
-pub all_marked : (n : Net) (s : ℕ) (w : Workspace) → w.queue ≡ [] → IsSearching n s w [] → AreMarked (length n.nodes) w
-all_marked n s w none h = record {
-  sized = h.sized;
-  inside = h.inside;
-  labelled = λ v there. elim (h.marked v there) [
-    | inl waits ↦ absurd (let at : Contains [] (record { distance = distance_at w.bound w.words.items v; node = v }) = subst (λ (k : List Waiting). Contains k (record { distance = distance_at w.bound w.words.items v; node = v })) none waits in let lt = at.1 in omega arith)
-    | inr is ↦ is
-  ];
-}
+pub all_marked : (n : Net) (s : ℕ) (w : Workspace) → w.queue ≡ [] → IsSearching n s w [] → AllMarked w.bound w.words.items w.marks
+all_marked n s w none h v there = elim (h.marked v there) [
+  | inl waits ↦ absurd (let at : Contains [] (record { distance = distance_at w.bound w.words.items v; node = v }) = subst (λ (k : List Waiting). Contains k (record { distance = distance_at w.bound w.words.items v; node = v })) none waits in let lt = at.1 in omega arith)
+  | inr is ↦ is
+]

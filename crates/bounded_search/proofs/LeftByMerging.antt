@@ -1,16 +1,18 @@
 -- A node is left by merging its row: the search is underway without it, and what is labelled is marked.
-use Rattle.std.proofs.Common.{◌≡◌, ◌≢◌, ℕ, ◌<◌, ◌≤◌, ◌/◌, ◌^◌, inl, inr, length, List, [], ◌∷◌, ◌++◌, slice_index_or, Some, is_some, true≢false, sym, ap, subst, ◌∙◌, arith}
+use Rattle.std.proofs.Common.{◌≡◌, ◌≢◌, ℕ, ◌<◌, ◌≤◌, ◌/◌, ◌^◌, inl, inr, length, List, [], ◌∷◌, ◌++◌, slice_index_or, Some, true≢false, sym, ap, subst, ◌∙◌, arith}
 use Rattle.std.proofs.lemmas.Bool.{cases_eq}
+use Rattle.std.proofs.lemmas.Bool.Decides.{eqb_tells}
 use Rattle.std.proofs.lemmas.List.Elements.{recursion_from_All}
 use Rattle.std.specs.List.{All, AllByRecursion}
 use Rattle.road_network.specs.Net.{Net, HasNode, IsLawful}
 use Rattle.bounded_search.specs.declared.dijkstra.Workspace.{Workspace}
+use Rattle.bounded_search.specs.declared.marks.Marks.{Marks}
 use Rattle.bounded_search.specs.declared.queue.Waiting.{Waiting}
 use Rattle.bounded_search.specs.declared.table_row.Entry.{Entry}
 use Rattle.bounded_search.specs.Closed.{IsClosed, IsReached, origin_label}
 use Rattle.bounded_search.specs.LabelWords.{distance_at, word_at}
-use Rattle.bounded_search.specs.Marked.{IsMarked, IsSized, KeepsSizes}
-use Rattle.bounded_search.specs.Merging.{MarksAlso, merged}
+use Rattle.bounded_search.specs.Marked.{IsMarked, IsSized, MarksToo}
+use Rattle.bounded_search.specs.Merging.{MarksAlso, MergesAll}
 use Rattle.bounded_search.specs.Searching.{AreMarkedOrWait, Leaves}
 use Rattle.bounded_search.specs.Table.{IsRow, RisesFrom, TableRow, entry_in, label_in, label_of}
 use Rattle.bounded_search.specs.Underway.{IsUnderway, NonePending, Waits}
@@ -41,10 +43,7 @@ pub record IsLeft (n : Net) (x : Waiting) (row : TableRow) (old new : Workspace)
   pub right : IsRow n old.bound x.node row
   pub starts : distance_at old.bound old.words.items x.node ≡ x.distance
   pub sized : IsSized (length n.nodes) old
-  pub words : new.words.items ≡ merged old.bound x.distance row.entries old.words.items
-  pub marks : MarksAlso row.entries old.marks.items new.marks.items
-  pub keeps : KeepsSizes old new
-  pub queue : new.queue ≡ old.queue
+  pub merged : MergesAll x.distance row.entries old new
 
 is_closed : (n : Net) (x : Waiting) (row : TableRow) (old new : Workspace) → IsLeft n x row old new → IsClosed n old.bound x.node (label_in row.entries)
 is_closed n x row old new h = closed_of_table n old.bound x.node (label_in row.entries) h.lawful h.right.table
@@ -57,11 +56,11 @@ is_merge n x row old new h =
     record {
       lawful = h.lawful;
       closed = closed;
-      merges = subst (Merges old.bound x.distance row.entries old.words.items) (sym h.words) (merges old.bound x.distance 0 row.entries old.words.items h.right.rising all);
+      merges = subst (Merges old.bound x.distance row.entries old.words.items) (sym h.merged.words) (merges old.bound x.distance 0 row.entries old.words.items h.right.rising all);
       distance = h.starts;
     }
 
-marked_after : (n : Net) (bound v d : ℕ) (row : List Entry) (old new before after : List ℕ) (queue : List Waiting) → IsMerge n bound v d row old new → MarksAlso row before after → AreMarkedOrWait bound old before (record { distance = d; node = v } ∷ queue) → AreMarkedOrWait bound new after queue
+marked_after : (n : Net) (bound v d : ℕ) (row : List Entry) (old new : List ℕ) (before after : Marks) (queue : List Waiting) → IsMerge n bound v d row old new → MarksAlso row before after → AreMarkedOrWait bound old before (record { distance = d; node = v } ∷ queue) → AreMarkedOrWait bound new after queue
 marked_after n bound v d row old new before after queue h also marked u there = elim (entry_or_none (entry_in row u)) [
   | inr some ↦ inr (also.listed u (some_there (entry_in row u) some.0 some.1))
   | inl none ↦
@@ -75,33 +74,31 @@ marked_after n bound v d row old new before after queue h also marked u there = 
       ]
 ]
 
-inside_after : (n : Net) (x : Waiting) (row : TableRow) (old new : Workspace) → IsLeft n x row old new → ((v : ℕ) → IsMarked old.marks.items v → v < length n.nodes) → (v : ℕ) → IsMarked new.marks.items v → v < length n.nodes
-inside_after n x row old new h inside v m = elim (h.marks.only v m) [
-  | inl before ↦ inside v before
-  | inr some ↦ elim (entry_or_none (entry_in row.entries v)) [
-    | inl none ↦ absurd (true≢false (sym some ∙ ap is_some none))
-    | inr at ↦ elim (cases_eq v x.node) [
-      | inl same ↦ omega (arith, same, h.node)
-      | inr apart ↦
-          let r : IsReached n (label_in row.entries) v (label_of at.0) = by_edge n old.bound x.node row.entries (is_closed n x row old new h) v at.0 apart at.1 in
-          omega (arith, h.lawful.targets r.edge r.has, r.ends)
-    ]
-  ]
-]
+-- what is marked once the nodes of all entries are
+pub also_none : (marks : Marks) → MarksAlso [] marks marks
+also_none marks = record { kept = λ v m. m; listed = λ v some. absurd (true≢false (sym some)) }
+
+pub also_more : (x : Entry) (row : List Entry) (before mid after : Marks) → MarksToo before x.node.0 mid → MarksAlso row mid after → MarksAlso (x ∷ row) before after
+also_more x row before mid after too rest = record {
+  kept = λ v m. rest.kept v (too.kept v m);
+  listed = λ v some. elim (eqb_tells x.node.0 v) [
+    | inl t ↦ rest.kept v (subst (IsMarked mid) t.1 too.added)
+    | inr t ↦ rest.listed v (rw t.0 at some)
+  ];
+}
 
 pub left_by_merging : (n : Net) (x : Waiting) (row : TableRow) (old new : Workspace) → IsLeft n x row old new → Leaves n (x ∷ []) old new
 left_by_merging n x row old new h =
     let m : IsMerge n old.bound x.node x.distance row.entries old.words.items new.words.items = is_merge n x row old new h in
     record {
       searching = λ s taken going.
-          let rest : taken ++ new.queue ≡ taken ++ old.queue = ap (λ (k : List Waiting). taken ++ k) h.queue in
+          let rest : taken ++ new.queue ≡ taken ++ old.queue = ap (λ (k : List Waiting). taken ++ k) h.merged.queue in
           let underway : IsUnderway n old.bound s (record { words = new.words.items; queue = taken ++ old.queue }) NonePending = merge_keeps n old.bound x.node x.distance s row.entries old.words.items new.words.items (taken ++ old.queue) m going.underway in
-          let marked : AreMarkedOrWait old.bound new.words.items new.marks.items (taken ++ old.queue) = marked_after n old.bound x.node x.distance row.entries old.words.items new.words.items old.marks.items new.marks.items (taken ++ old.queue) m h.marks going.marked in
+          let marked : AreMarkedOrWait old.bound new.words.items new.marks (taken ++ old.queue) = marked_after n old.bound x.node x.distance row.entries old.words.items new.words.items old.marks new.marks (taken ++ old.queue) m h.merged.marks going.marked in
           record {
-            sized = sized_still (length n.nodes) old new h.sized h.keeps;
-            underway = subst (λ (k : List Waiting). IsUnderway n new.bound s (record { words = new.words.items; queue = k }) NonePending) (sym rest) (subst (λ (k : ℕ). IsUnderway n k s (record { words = new.words.items; queue = taken ++ old.queue }) NonePending) (sym h.keeps.bound) underway);
-            inside = inside_after n x row old new h going.inside;
-            marked = subst (λ (k : List Waiting). AreMarkedOrWait new.bound new.words.items new.marks.items k) (sym rest) (subst (λ (k : ℕ). AreMarkedOrWait k new.words.items new.marks.items (taken ++ old.queue)) (sym h.keeps.bound) marked);
+            sized = sized_still (length n.nodes) old new h.sized h.merged.sized;
+            underway = subst (λ (k : List Waiting). IsUnderway n new.bound s (record { words = new.words.items; queue = k }) NonePending) (sym rest) (subst (λ (k : ℕ). IsUnderway n k s (record { words = new.words.items; queue = taken ++ old.queue }) NonePending) (sym h.merged.sized.bound) underway);
+            marked = subst (λ (k : List Waiting). AreMarkedOrWait new.bound new.words.items new.marks k) (sym rest) (subst (λ (k : ℕ). AreMarkedOrWait k new.words.items new.marks (taken ++ old.queue)) (sym h.merged.sized.bound) marked);
           };
-      less = omega (arith, m.merges.less, ap length h.queue);
+      less = omega (arith, m.merges.less, ap length h.merged.queue);
     }

@@ -14,8 +14,7 @@ use Rattle.bounded_search.specs.declared.table_row.Entry.{Entry}
 use Rattle.bounded_search.specs.declared.table_row.Label.{Label}
 use Rattle.bounded_search.specs.Closed.{IsClosed, IsReached, IsRelaxed, origin_label}
 use Rattle.bounded_search.specs.LabelWords.{distance_at, low_of, no_label, origin_word, word_at, word_by}
-use Rattle.bounded_search.specs.Marked.{MarksToo}
-use Rattle.bounded_search.specs.Merging.{MarksAlso, merged, merged_entry, merged_word}
+use Rattle.bounded_search.specs.Merging.{merged, merged_entry, merged_word}
 use Rattle.bounded_search.specs.Table.{RisesFrom, entry_in, label_in, label_of}
 use Rattle.bounded_search.specs.Underway.{IsHeld, IsTried, IsUnderway, NonePending, Waits}
 use Rattle.bounded_search.proofs.ClosedTables.{none_some}
@@ -297,24 +296,4 @@ merge_keeps n bound v d s row old new queue h under = record {
   held = held_after n bound v d s row old new h (most n bound s old (record { distance = d; node = v } ∷ queue) under) under.held;
   tried = seen_after n bound v d s row old new queue h under;
   inside = λ k x lt. let is = under.inside (suc k) x (omega arith) in (omega (arith, is.0, h.merges.count), is.1);
-}
-
--- what is marked once the nodes of all entries are
-pub also_none : (marks : List ℕ) → MarksAlso [] marks marks
-also_none marks = record { kept = λ v m. m; listed = λ v some. absurd (true≢false (sym some)); only = λ v m. inl m }
-
-pub also_more : (x : Entry) (row : List Entry) (before mid after : List ℕ) → MarksToo before x.node.0 mid → MarksAlso row mid after → MarksAlso (x ∷ row) before after
-also_more x row before mid after too rest = record {
-  kept = λ v m. rest.kept v ((too v).1 (inl m));
-  listed = λ v some. elim (eqb_tells x.node.0 v) [
-    | inl t ↦ rest.kept v ((too v).1 (inr (sym t.1)))
-    | inr t ↦ rest.listed v (rw t.0 at some)
-  ];
-  only = λ v m. elim (rest.only v m) [
-    | inl there ↦ elim ((too v).0 there) [
-      | inl old ↦ inl old
-      | inr same ↦ inr (elim (eqb_tells x.node.0 v) [ inl t ↦ rw t.0 refl | inr t ↦ absurd (t.1 (sym same)) ])
-    ]
-    | inr some ↦ inr (elim (eqb_tells x.node.0 v) [ inl t ↦ rw t.0 refl | inr t ↦ rw t.0 some ])
-  ];
 }

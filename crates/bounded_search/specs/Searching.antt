@@ -1,42 +1,42 @@
 -- What the parts of a search leave.
-use Rattle.std.specs.Prelude.{ℕ, ◌≡◌, ◌≢◌, ◌⊎◌, ◌+◌, ◌*◌, ◌<◌, ◌≤◌, List, [], ◌++◌, length, Option, Result, OnOk}
+use Rattle.std.specs.Prelude.{ℕ, ◌≡◌, ◌≢◌, ◌⊎◌, ◌+◌, ◌≤◌, Bool, true, false, List, [], ◌++◌, length, Option, Result, OnOk}
 use Rattle.road_network.specs.Net.{Net}
 use Rattle.bounded_search.specs.declared.dijkstra.Workspace.{Workspace}
+use Rattle.bounded_search.specs.declared.marks.Marks.{Marks}
 use Rattle.bounded_search.specs.declared.queue.Waiting.{Waiting}
 use Rattle.bounded_search.specs.declared.table_row.Entry.{Entry}
 use Rattle.bounded_search.specs.declared.table_row.Label.{Label}
 use Rattle.bounded_search.specs.Closed.{IsClosed}
 use Rattle.bounded_search.specs.LabelWords.{distance_at, no_label, word_at}
-use Rattle.bounded_search.specs.Marked.{AreMarked, IsClean, IsMarked, IsSized, IsTaken, KeepsSizes, labels_of}
+use Rattle.bounded_search.specs.Marked.{AllMarked, IsClean, IsMarked, IsSized, KeepsSizes, labels_of}
 use Rattle.bounded_search.specs.Table.{RisesFrom, label_in}
 use Rattle.bounded_search.specs.Underway.{IsUnderway, NonePending, Waits, effort, state_of}
 
 -- every labelled node is marked, or waits at its distance
-abbrev pub AreMarkedOrWait : ℕ → List ℕ → List ℕ → List Waiting → Type 0
+abbrev pub AreMarkedOrWait : ℕ → List ℕ → Marks → List Waiting → Type 0
 AreMarkedOrWait bound words marks queue = (v : ℕ) → word_at bound words v ≢ no_label bound → Waits queue v (distance_at bound words v) ⊎ IsMarked marks v
 
 -- a search with these nodes taken out of the queue and not left yet: it is as if they waited
 pub record IsSearching (n : Net) (s : ℕ) (w : Workspace) (taken : List Waiting) : Type 0 where
   pub sized : IsSized (length n.nodes) w
   pub underway : IsUnderway n w.bound s (record { words = w.words.items; queue = taken ++ w.queue }) NonePending
-  pub inside : (v : ℕ) → IsMarked w.marks.items v → v < length n.nodes
-  pub marked : AreMarkedOrWait w.bound w.words.items w.marks.items (taken ++ w.queue)
+  pub marked : AreMarkedOrWait w.bound w.words.items w.marks (taken ++ w.queue)
 
 -- leaving nodes that were taken keeps the search underway without them, and adds no effort
 pub record Leaves (n : Net) (nodes : List Waiting) (old new : Workspace) : Type 0 where
   pub searching : (s : ℕ) (taken : List Waiting) → IsSearching n s old (nodes ++ taken) → IsSearching n s new taken
   pub less : effort (state_of new) ≤ effort (state_of old)
 
+-- the nodes were left, or nothing has changed
+abbrev pub LeavesIf : Bool → Net → List Waiting → Workspace → Workspace → Type 0
+LeavesIf true n nodes old new = Leaves n nodes old new × KeepsSizes old new
+LeavesIf false n nodes old new = new ≡ old
+
 -- every node within the bound has its label and is marked, and none waits
 pub record IsLabelled (n : Net) (s : ℕ) (w : Workspace) : Type 0 where
   pub closed : IsClosed n w.bound s (labels_of w)
-  pub marked : AreMarked (length n.nodes) w
+  pub marked : AllMarked w.bound w.words.items w.marks
   pub none_waiting : w.queue ≡ []
-
--- the labels of the nodes that one word of the marks tells of have become entries
-pub record TakesMarked (place : ℕ) (old : Workspace) (listed : List Entry) (new : Workspace) (entries : List Entry) : Type 0 where
-  pub taken : (before : List ℕ) → IsTaken before (place * 64) old listed → IsTaken before ((place + 1) * 64) new entries
-  pub marked : AreMarked (length old.words.items) new
 
 -- the entries say what the labels say, by rising node number
 pub record ListsLabels (labels : ℕ → Option Label) (entries : List Entry) : Type 0 where

@@ -28,7 +28,7 @@ pub record KeepsOthers (entries : List Entry) (old new : Workspace) : Type 0 whe
   pub none : (v : ℕ) → entry_in entries v ≡ None → word_at old.bound new.words.items v ≡ no_label old.bound
   pub bound : new.bound ≡ old.bound
   pub count : length new.words.items ≡ length old.words.items
-  pub marks : new.marks.items ≡ old.marks.items
+  pub marks : new.marks ≡ old.marks
   pub queue : new.queue ≡ old.queue
 
 -- the answer tells whether a row may have all entries, and then the words say what they say

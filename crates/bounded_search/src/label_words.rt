@@ -1,9 +1,10 @@
 //! Labels in eight bytes. Serves the search and the check by words; decided by `label_in_word`.
 ghost use Rattle.std.specs.Prelude.{◌≡◌, ◌≤◌, ◌/◌, ◌^◌};
-ghost use Rattle.bounded_search.specs.LabelWords.{label_in_word, no_label, origin_word, word_by, word_of};
+ghost use Rattle.bounded_search.specs.LabelWords.{no_label, word_by, word_of};
+ghost use Rattle.bounded_search.specs.Labels.{entry_by};
 
-use crate::table_row::Label;
-use road_network::{Arc, EdgeId};
+use crate::table_row::Entry;
+use road_network::{Arc, EdgeId, NodeId};
 
 /// The word of an origin: distance 0 and no last edge.
 pub const ORIGIN: u64 = 0xffff_ffff;
@@ -58,23 +59,18 @@ pub fn distance_in(word: u64) -> u32
     (word >> 32) as u32
 }
 
-/// The label in a word of a search within a bound.
-pub fn label_in(bound: u32, word: u64) -> Option<Label>
-    requires { bound ≤ 10_000_000 }
-    ensures { result ≡ label_in_word bound word }
+/// The entry of a node by the word of its label.
+pub fn entry_by(node: NodeId, word: u64) -> Entry
+    ensures { result ≡ entry_by node.0 word }
 {
-    if word == no_label(bound) {
-        return None;
-    }
     let last = (word & 0xffff_ffff) as u32;
-    if last == 0xffff_ffff {
-        return Some(Label {
-            distance: distance_in(word),
-            last: None,
-        });
-    }
-    Some(Label {
+    Entry {
+        node,
         distance: distance_in(word),
-        last: Some(EdgeId(last)),
-    })
+        last: if last == 0xffff_ffff {
+            None
+        } else {
+            Some(EdgeId(last))
+        },
+    }
 }

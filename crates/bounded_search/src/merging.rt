@@ -1,10 +1,10 @@
-//! Uses the known row of a node in a search. Serves `Workspace::label_all`; decided by `merged`.
-ghost use Rattle.std.specs.Prelude.{◌≡◌, ◌<◌, ◌≤◌, ◌/◌, ◌⊎◌, ◌∷◌, [], length, IsTrue, OnOk};
+//! Uses the known row of a node in a search. Serves `Workspace::label_all`; decided by `MergesAll`.
+ghost use Rattle.std.specs.Prelude.{◌≡◌, ◌<◌, ◌≤◌, ◌∷◌, [], length, OnOk};
 ghost use Rattle.std.specs.List.{All};
 ghost use Rattle.road_network.specs.Net.{HasNode};
-ghost use Rattle.bounded_search.specs.Marked.{IsSized, KeepsSizes, MarksToo};
-ghost use Rattle.bounded_search.specs.Merging.{MarksAlso, merged, merged_entry};
-ghost use Rattle.bounded_search.specs.Searching.{Leaves};
+ghost use Rattle.bounded_search.specs.Marked.{IsSized, KeepsSizes};
+ghost use Rattle.bounded_search.specs.Merging.{MergesAll, MergesEntry};
+ghost use Rattle.bounded_search.specs.Searching.{Leaves, LeavesIf};
 
 use crate::dijkstra::Workspace;
 use crate::known_rows::KnownRows;
@@ -19,13 +19,11 @@ impl Workspace {
     /// label, `distance` farther, if that is better than its own.
     fn merge_entry(&mut self, entry: Entry, distance: u32)
         requires distance { (distance ≤ 10_000_000) × (entry.distance ≤ 10_000_000) }
-        requires node { (entry.node.0 < length self.old.words.items) × (entry.node.0 / 64 < length self.old.marks.items) }
-        ensures words { self.new.words.items ≡ merged_entry self.old.bound distance entry self.old.words.items }
-        ensures marks { MarksToo self.old.marks.items entry.node.0 self.new.marks.items }
-        ensures sized { KeepsSizes self.old self.new }
-        ensures queue { self.new.queue ≡ self.old.queue }
+        requires sized { IsSized (length self.old.words.items) self.old }
+        requires node { entry.node.0 < length self.old.words.items }
+        ensures { MergesEntry distance entry self.old self.new }
     {
-        self.mark(entry.node);
+        self.marks.mark(entry.node);
         let word = least_word(distance) + word_of(entry.distance, entry.last);
         let place = entry.node.0 as usize;
         self.words[place] = self.words[place].min(word);
@@ -37,10 +35,7 @@ impl Workspace {
         requires distance { distance ≤ 10_000_000 }
         requires sized { IsSized (length self.old.words.items) self.old }
         requires inside { All (λ x. (x.node.0 < length self.old.words.items) × (x.distance ≤ 10_000_000)) row.now.entries }
-        ensures words { self.new.words.items ≡ merged self.old.bound distance row.now.entries self.old.words.items }
-        ensures marks { MarksAlso row.now.entries self.old.marks.items self.new.marks.items }
-        ensures sized { KeepsSizes self.old self.new }
-        ensures queue { self.new.queue ≡ self.old.queue }
+        ensures { MergesAll distance row.now.entries self.old self.new }
     {
         for entry in row.entries() {
             self.merge_entry(*entry, distance);
@@ -52,9 +47,7 @@ impl Workspace {
         requires known { K.table known.now ≡ record { network = net.now; bound = self.old.bound } }
         requires next { HasNode net.now next.node × (next.distance ≤ 10_000_000) }
         requires sized { IsSized (length net.now.nodes) self.old }
-        ensures leaves { IsTrue result → Leaves net.now (next ∷ []) self.old self.new }
-        ensures stays { IsTrue result ⊎ (self.new ≡ self.old) }
-        ensures sized { KeepsSizes self.old self.new }
+        ensures { LeavesIf result net.now (next ∷ []) self.old self.new }
     {
         net.known();
         if next.distance >= self.reach

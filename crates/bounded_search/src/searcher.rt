@@ -14,8 +14,8 @@ use std::marker::Model;
 
 /// Searches for rows of one network within one bound.
 ///
-/// It keeps its arrays over many rows, and leaves them empty: a row costs what it reaches, and a look at
-/// every 64 nodes of the network.
+/// It keeps its arrays over many rows, and leaves them empty: a row costs what it reaches, whatever the size of
+/// the network.
 pub struct Searcher<'n> {
     alloc: Global,
     network: &'n Network,

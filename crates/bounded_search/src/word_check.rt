@@ -134,7 +134,7 @@ impl Workspace {
             → word_at self.old.bound self.old.words.items v ≡ no_label self.old.bound }
         ensures none { (v : ℕ) → word_at self.old.bound self.new.words.items v ≡ no_label self.old.bound }
         ensures sized { KeepsSizes self.old self.new }
-        ensures others { (self.new.marks.items ≡ self.old.marks.items) × (self.new.queue ≡ self.old.queue) }
+        ensures others { (self.new.marks ≡ self.old.marks) × (self.new.queue ≡ self.old.queue) }
     {
         let none = no_label(self.bound);
         for x in entries {

@@ -1,11 +1,11 @@
 use Rattle.std.proofs.lemmas.Result.{err_from_is_err_and}
-use Rattle.std.proofs.Common.{◌≡◌, ℕ, Result, Ok, Err, IfOk, sym, subst, rules, arith}
+use Rattle.std.proofs.Common.{◌≡◌, ℕ, Result, Ok, Err, IfOk, length, subst, rules}
 use Rattle.std.specs.Prelude.{OnOk}
 use Rattle.bounded_search.specs.LabelWords.{label_at}
-use Rattle.bounded_search.specs.Marked.{AreMarked, IsClean}
+use Rattle.bounded_search.specs.Marked.{IsClean}
 use Rattle.bounded_search.specs.Searching.{ListsLabels}
 use Rattle.bounded_search.specs.Table.{IsRow}
-use Rattle.bounded_search.proofs.MarkedNodes.{keeps_both}
+use Rattle.bounded_search.proofs.MarkedNodes.{keeps_both, sized_here}
 use Rattle.bounded_search.proofs.RowOfLabels.{row_of_labels}
 use Rattle.bounded_search.proofs.dijkstra.Workspace.entries.Goals as goal
 
@@ -13,11 +13,8 @@ if_ok : {A E : Type 0} (P Q : A → Type 0) (r : Result A E) → IfOk r P → ((
 if_ok P Q (Ok x) p f = f x p
 if_ok P Q (Err e) p f = tt
 
-pub take_entries-requires-clause-few : goal.take_entries-requires-clause-few
-take_entries-requires-clause-few g c = omega (arith, c.in_ok-label_all.ensures.labelled.marked.sized.words_count, c.known.ensures.few_nodes)
-
-pub take_entries-requires-clause-marked : goal.take_entries-requires-clause-marked
-take_entries-requires-clause-marked g c = subst (λ (k : ℕ). AreMarked k c.label_all.new.self) (sym c.in_ok-label_all.ensures.labelled.marked.sized.words_count) c.in_ok-label_all.ensures.labelled.marked
+pub take_entries-requires-clause-sized : goal.take_entries-requires-clause-sized
+take_entries-requires-clause-sized g c = sized_here (length c.args.net.now.nodes) c.args.self.now c.label_all.new.self c.requires.clean.sized c.in_ok-label_all.ensures.sized
 
 pub returns-clause-row : goal.returns-clause-row
 returns-clause-row g c =

@@ -1,5 +1,5 @@
-use Rattle.std.proofs.Common.{◌∙◌, ℕ, List, length, ap, subst, arith}
-use Rattle.bounded_search.specs.Marked.{IsMarked}
+use Rattle.std.proofs.Common.{◌∙◌, length, sym, subst, arith}
+use Rattle.bounded_search.specs.Marked.{AreMarksFor}
 use Rattle.bounded_search.proofs.dijkstra.Workspace.gives_all.Goals as goal
 
 pub take_away-requires-clause-none : goal.take_away-requires-clause-none
@@ -15,10 +15,10 @@ returns-clause-clean c =
     record {
       sized = record {
         low = omega (arith, same, clean.sized.low);
+        few = clean.sized.few;
         words_count = e.sized.words_count ∙ (o.count ∙ clean.sized.words_count);
-        marks_count = ap length marks ∙ clean.sized.marks_count;
+        marks = subst (AreMarksFor (length c.args.net.now.nodes)) (sym marks) clean.sized.marks;
       };
       none_labelled = rw e.sized.bound e.none;
-      none_marked = λ v m. clean.none_marked v (subst (λ (k : List ℕ). IsMarked k v) marks m);
       none_waiting = e.others.1 ∙ (o.queue ∙ clean.none_waiting);
     }

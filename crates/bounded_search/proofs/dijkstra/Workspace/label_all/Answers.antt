@@ -20,12 +20,11 @@ loop-next-init g c =
     let words : List ℕ = set w.words.items s origin_word in
     let same : length words ≡ length w.words.items = length-set w.words.items s origin_word in
     record {
-      sized = record { bound = refl; words_count = same; marks_count = refl };
+      sized = record { bound = refl; words_count = same; marks = λ count sized. sized };
       searching = record {
-        sized = record { low = clean.sized.low; words_count = same ∙ clean.sized.words_count; marks_count = clean.sized.marks_count };
+        sized = record { low = clean.sized.low; few = clean.sized.few; words_count = same ∙ clean.sized.words_count; marks = clean.sized.marks };
         underway = begun n w.bound s w.words.items queue c.requires.origin clean.sized.words_count clean.none_labelled waits;
-        inside = λ v m. absurd (clean.none_marked v m);
-        marked = marked_begun w.bound s w.words.items words w.marks.items queue (omega (arith, clean.sized.words_count, c.requires.origin)) clean.none_labelled refl waits;
+        marked = marked_begun w.bound s w.words.items words w.marks queue (omega (arith, clean.sized.words_count, c.requires.origin)) clean.none_labelled refl waits;
       };
     }
 
@@ -48,7 +47,7 @@ loop-next-preserved g c =
     let e = c.in_ok-leave_or_merge.ensures in
     let perm : IsPermutation w.queue (c.in-Some.next ∷ c.take.new.self) = rw c.in-Some.is at c.in_ok-next.ensures in
     record {
-      sized = keeps_both c.args.self.now w c.leave_or_merge.new.self inv.sized (record { bound = e.sized.bound; words_count = e.sized.words_count; marks_count = e.sized.marks_count });
+      sized = keeps_both c.args.self.now w c.leave_or_merge.new.self inv.sized (record { bound = e.sized.bound; words_count = e.sized.words_count; marks = e.sized.marks });
       searching = e.leaves.searching s [] (node_taken c.args.net.now s w c.in-Some.next c.take.new.self perm inv.searching);
     }
 
@@ -59,9 +58,8 @@ returns-clause-labelled g c =
     let s : ℕ = c.args.origin.0 in
     let inv = c.loop-next.invariant in
     let none : (w.queue ≡ []) × (c.take.new.self ≡ []) = rw c.in_default.is at c.in_ok-next.ensures in
-    let marked = all_marked n s w none.0 inv.searching in
     record {
       closed = closed_at_end n w.bound s w.words.items w.queue c.known.ensures none.0 inv.searching.underway;
-      marked = record { sized = marked.sized; inside = marked.inside; labelled = marked.labelled };
+      marked = all_marked n s w none.0 inv.searching;
       none_waiting = none.1;
     }

@@ -5,14 +5,13 @@ use Rattle.std.proofs.lemmas.List.Elements.{All-weaker}
 use Rattle.std.proofs.lemmas.Result.{on_ok_weaker}
 use Rattle.road_network.specs.Net.{arc_of, leaving}
 use Rattle.road_network.specs.declared.Arc.{Arc}
+use Rattle.bounded_search.specs.declared.marks.Marks.{Marks}
 use Rattle.bounded_search.specs.declared.queue.Waiting.{Waiting}
 use Rattle.bounded_search.specs.LabelWords.{distance_at, no_label, word_at}
-use Rattle.bounded_search.specs.Searching.{AreMarkedOrWait}
-use Rattle.bounded_search.specs.Underway.{IsTriable, IsUnderway, NonePending, SearchState, after_arcs, effort, state_of}
+use Rattle.bounded_search.specs.Underway.{IsTriable, SearchState, after_arcs, effort, state_of}
 use Rattle.bounded_search.proofs.AfterArcs.{beside}
 use Rattle.bounded_search.proofs.Arcs.{IsLeaving, known_arcs}
 use Rattle.bounded_search.proofs.Leaving.{arcs_effort, marked_not_taken, node_left}
-use Rattle.bounded_search.proofs.MarkedNodes.{word_inside}
 use Rattle.bounded_search.proofs.Underway.{all_tried, not_taken}
 use Rattle.bounded_search.proofs.dijkstra.Workspace.leave.Goals as goal
 
@@ -29,20 +28,19 @@ returns-then-distance_in-next-clause-leaves c =
       searching = λ s others h. record {
         sized = h.sized;
         underway = not_taken c.args.net.now w.bound s next words (others ++ w.queue) stale h.underway;
-        inside = h.inside;
-        marked = marked_not_taken w.bound words w.marks.items next (others ++ w.queue) stale h.marked;
+        marked = marked_not_taken w.bound words w.marks next (others ++ w.queue) stale h.marked;
       };
       less = omega arith;
     }
 
 pub mark-requires : goal.mark-requires
-mark-requires c = omega (arith, c.requires.sized.marks_count, word_inside c.args.next.node (length c.args.net.now.nodes) c.requires.next.0)
+mark-requires c = (length c.args.net.now.nodes, c.requires.sized.marks, c.requires.next.0)
 
 pub try_arcs-requires-clause-arcs : goal.try_arcs-requires-clause-arcs
 try_arcs-requires-clause-arcs c =
     let n = c.args.net.now in
     let words : List ℕ = c.as_mut_slice.result.now in
-    let count : length words ≡ length n.nodes = ap length c.as_mut_slice.ensures.value ∙ (ap length c.mark.ensures.words ∙ c.requires.sized.words_count) in
+    let count : length words ≡ length n.nodes = ap length c.as_mut_slice.ensures.value ∙ c.requires.sized.words_count in
     rw c.arcs-arcs.ensures (All-weaker (IsLeaving n c.args.next.node) (IsTriable (length words)) (λ a leaving. record { end = omega (arith, leaving.end, count); not_long = leaving.not_long }) (map (arc_of n) (leaving n c.args.next.node)) (known_arcs n c.args.next.node c.known.ensures))
 
 pub returns-clause-leaves : goal.returns-clause-leaves
@@ -53,14 +51,14 @@ returns-clause-leaves c =
     let next : Waiting = c.args.next in
     let u : ℕ = next.node in
     let m = c.mark.ensures in
-    let marks : List ℕ = c.mark.new.self.marks.items in
+    let marks : Marks = c.mark.new.self in
     let arcs : List Arc = map (arc_of n) (leaving n u) in
     let at : c.index.result.now ≡ word_at bound w.words.items u = get_or_read w.words.items u c.index.result.now (omega (arith, c.requires.sized.words_count, c.requires.next)) c.index.ensures (no_label bound) in
     let far : distance_at bound w.words.items u ≡ next.distance = ap (λ (word : ℕ). word / 2 ^ 32) (sym at) ∙ (sym c.distance_in.ensures ∙ c.if-distance_in-next.false) in
-    let begun : record { words = c.as_mut_slice.result.now; queue = c.mark.new.self.queue } ≡ state_of w = ap (λ (k : List ℕ). record { words = k; queue = c.mark.new.self.queue }) (c.as_mut_slice.ensures.value ∙ m.words) ∙ ap (λ (k : List Waiting). record { words = w.words.items; queue = k }) m.queue in
+    let begun : record { words = c.as_mut_slice.result.now; queue = w.queue } ≡ state_of w = ap (λ (k : List ℕ). record { words = k; queue = w.queue }) c.as_mut_slice.ensures.value in
     let tried : List ℕ = c.try_arcs.new.words in
-    let words : List ℕ = take c.mark.new.self.words.len (tried ++ drop (length tried) c.mark.new.self.words.items) in
-    let back : words ≡ tried = take_at tried (drop (length tried) c.mark.new.self.words.items) c.mark.new.self.words.len (c.try_arcs.ensures.count ∙ c.as_mut_slice.ensures.len) in
+    let words : List ℕ = take w.words.len (tried ++ drop (length tried) w.words.items) in
+    let back : words ≡ tried = take_at tried (drop (length tried) w.words.items) w.words.len (c.try_arcs.ensures.count ∙ c.as_mut_slice.ensures.len) in
     let new : SearchState = record { words = words; queue = c.try_arcs.new.self } in
     on_ok_weaker c.try_arcs.result (λ is.
     let there : new ≡ after_arcs bound next.distance arcs (state_of w) = ap (λ (k : List ℕ). record { words = k; queue = c.try_arcs.new.self }) back ∙ (is bound ∙ (ap (after_arcs bound next.distance c.arcs-arcs.result.now) begun ∙ ap (λ (k : List Arc). after_arcs bound next.distance k (state_of w)) c.arcs-arcs.ensures)) in
@@ -69,13 +67,13 @@ returns-clause-leaves c =
           let t = node_left n s w next others marks new c.known.ensures c.requires.next.0 far m.marks there h in
           record {
             sized = record {
-              low = omega (arith, m.sized.bound, c.requires.sized.low);
-              words_count = ap length back ∙ (c.try_arcs.ensures.count ∙ (ap length (c.as_mut_slice.ensures.value ∙ m.words) ∙ c.requires.sized.words_count));
-              marks_count = m.sized.marks_count ∙ c.requires.sized.marks_count;
+              low = c.requires.sized.low;
+              few = c.requires.sized.few;
+              words_count = ap length back ∙ (c.try_arcs.ensures.count ∙ (ap length c.as_mut_slice.ensures.value ∙ c.requires.sized.words_count));
+              marks = m.sized (length n.nodes) c.requires.sized.marks;
             };
-            underway = subst (λ (k : ℕ). IsUnderway n k s (beside others new) NonePending) (sym m.sized.bound) (all_tried n bound s (beside others new) t.underway);
-            inside = t.inside;
-            marked = subst (λ (k : ℕ). AreMarkedOrWait k words marks (others ++ new.queue)) (sym m.sized.bound) t.marked;
+            underway = all_tried n bound s (beside others new) t.underway;
+            marked = t.marked;
           };
       less = omega (arith, ap effort there, arcs_effort n bound next.distance u arcs (state_of w) c.known.ensures (known_arcs n u c.known.ensures) c.requires.sized.words_count far);
     })

@@ -1,9 +1,10 @@
 use Rattle.std.proofs.Common.{◌≡◌, ◌∷◌, ◌+◌, ℕ, List, [], None, drop, subst, sym, ◌∙◌, arith, slice_index_or}
 use Rattle.std.proofs.lemmas.Grind.{common_steps}
+use Rattle.bounded_search.specs.declared.marks.Marks.{Marks}
 use Rattle.bounded_search.specs.declared.table_row.Entry.{Entry}
 use Rattle.bounded_search.specs.Merging.{MarksAlso, merged}
 use Rattle.bounded_search.proofs.MarkedNodes.{keeps_both}
-use Rattle.bounded_search.proofs.MergedRows.{also_more, also_none}
+use Rattle.bounded_search.proofs.LeftByMerging.{also_more, also_none}
 use Rattle.bounded_search.proofs.dijkstra.Workspace.merge.Goals as goal
 
 abbrev no_entry : Entry
@@ -23,22 +24,22 @@ loop-entry-preserved c =
       sized = keeps_both old c.loop-entry.self c.merge_entry.new.self inv.sized e.sized;
       words = subst (λ (k : List ℕ). merged old.bound c.args.distance (drop (i + 1) row) k ≡ merged old.bound c.args.distance row old.words.items) (sym (rw bound at e.words))
           (subst (λ (k : List Entry). merged old.bound c.args.distance k c.loop-entry.self.words.items ≡ merged old.bound c.args.distance row old.words.items) next inv.words);
-      marks = λ after h. inv.marks after (subst (λ (k : List Entry). MarksAlso k c.loop-entry.self.marks.items after) (sym next) (also_more x (drop (i + 1) row) c.loop-entry.self.marks.items c.merge_entry.new.self.marks.items after e.marks h));
+      marks = λ after h. inv.marks after (subst (λ (k : List Entry). MarksAlso k c.loop-entry.self.marks after) (sym next) (also_more x (drop (i + 1) row) c.loop-entry.self.marks c.merge_entry.new.self.marks after e.marks h));
       queue = e.queue ∙ inv.queue;
     }
 
-pub returns-clause-words : goal.returns-clause-words
-returns-clause-words c =
+pub returns : goal.returns
+returns c =
     let old = c.args.self.now in
+    let inv = c.loop-entry.invariant in
+    let marks : Marks = c.loop-entry.self.marks in
     let row : List Entry = c.entries-entry-items.result.now in
     let none : drop c.loop-entry.entry-index row ≡ [] = grind (arith, common_steps) in
-    let all : c.loop-entry.self.words.items ≡ merged old.bound c.args.distance row old.words.items = subst (λ (k : List Entry). merged old.bound c.args.distance k c.loop-entry.self.words.items ≡ merged old.bound c.args.distance row old.words.items) none c.loop-entry.invariant.words in
-    rw c.entries-entry-items.ensures at all
-
-pub returns-clause-marks : goal.returns-clause-marks
-returns-clause-marks c =
-    let marks : List ℕ = c.loop-entry.self.marks.items in
-    let row : List Entry = c.entries-entry-items.result.now in
-    let none : drop c.loop-entry.entry-index row ≡ [] = grind (arith, common_steps) in
-    let all : MarksAlso row c.args.self.now.marks.items marks = c.loop-entry.invariant.marks marks (subst (λ (k : List Entry). MarksAlso k marks marks) (sym none) (also_none marks)) in
-    rw c.entries-entry-items.ensures at all
+    let words : c.loop-entry.self.words.items ≡ merged old.bound c.args.distance row old.words.items = subst (λ (k : List Entry). merged old.bound c.args.distance k c.loop-entry.self.words.items ≡ merged old.bound c.args.distance row old.words.items) none inv.words in
+    let also : MarksAlso row old.marks marks = inv.marks marks (subst (λ (k : List Entry). MarksAlso k marks marks) (sym none) (also_none marks)) in
+    record {
+      words = rw c.entries-entry-items.ensures at words;
+      marks = rw c.entries-entry-items.ensures at also;
+      sized = inv.sized;
+      queue = inv.queue;
+    }

@@ -7,8 +7,8 @@ returns-in_err-vec-clause-bound c = let p = err_from_is_err_and c.from_residual.
 pub returns-in_err-vec-clause-clean : goal.returns-in_err-vec-clause-clean
 returns-in_err-vec-clause-clean c = let p = err_from_is_err_and c.from_residual.result c.from_residual.ensures.1 in rw p.1 tt
 
-pub returns-in_err-vec-2-clause-bound : goal.returns-in_err-vec-2-clause-bound
-returns-in_err-vec-2-clause-bound c = let p = err_from_is_err_and c.from_residual-in_err-vec-2.result c.from_residual-in_err-vec-2.ensures.1 in rw p.1 tt
+pub returns-in_err-new-clause-bound : goal.returns-in_err-new-clause-bound
+returns-in_err-new-clause-bound c = let p = err_from_is_err_and c.from_residual-in_err-new.result c.from_residual-in_err-new.ensures.1 in rw p.1 tt
 
-pub returns-in_err-vec-2-clause-clean : goal.returns-in_err-vec-2-clause-clean
-returns-in_err-vec-2-clause-clean c = let p = err_from_is_err_and c.from_residual-in_err-vec-2.result c.from_residual-in_err-vec-2.ensures.1 in rw p.1 tt
+pub returns-in_err-new-clause-clean : goal.returns-in_err-new-clause-clean
+returns-in_err-new-clause-clean c = let p = err_from_is_err_and c.from_residual-in_err-new.result c.from_residual-in_err-new.ensures.1 in rw p.1 tt

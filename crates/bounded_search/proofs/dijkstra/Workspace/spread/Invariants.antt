@@ -9,6 +9,6 @@ invariant-loop-x l = record {
   fits : All (FitsIn l.net l.fn.self.bound) (take l.x-index l.entries);
   bound : l.self.bound ≡ l.fn.self.bound;
   count : length l.self.words.items ≡ length l.fn.self.words.items;
-  marks : l.self.marks.items ≡ l.fn.self.marks.items;
+  marks : l.self.marks ≡ l.fn.self.marks;
   queue : l.self.queue ≡ l.fn.self.queue;
 }

@@ -35,14 +35,14 @@ loop-x-preserved c =
         left = subst (λ (k : Workspace). (v : ℕ) → entry_in rest v ≡ None → word_at bound k.words.items v ≡ no_label bound) (sym w.self-is) (subst (λ (k : ℕ). (v : ℕ) → entry_in rest v ≡ None → word_at bound (set words x.node.0 k) v ≡ no_label bound) (sym word_is) (less_left bound x rest words left));
         bound = ap (λ (k : Workspace). k.bound) w.self-is ∙ inv.bound;
         count = ap (λ (k : Workspace). length k.words.items) w.self-is ∙ (length-set words x.node.0 c.no_label-none.result ∙ inv.count);
-        marks = ap (λ (k : Workspace). k.marks.items) w.self-is ∙ inv.marks;
+        marks = ap (λ (k : Workspace). k.marks) w.self-is ∙ inv.marks;
         queue = ap (λ (k : Workspace). k.queue) w.self-is ∙ inv.queue;
       }
       | else-node-len w ↦ record {
         left = subst (λ (k : Workspace). (v : ℕ) → entry_in rest v ≡ None → word_at bound k.words.items v ≡ no_label bound) (sym w.self-is) (none_left bound x rest words (omega (arith, w.if-node-len.false, c.len.ensures)) left);
         bound = ap (λ (k : Workspace). k.bound) w.self-is ∙ inv.bound;
         count = ap (λ (k : Workspace). length k.words.items) w.self-is ∙ inv.count;
-        marks = ap (λ (k : Workspace). k.marks.items) w.self-is ∙ inv.marks;
+        marks = ap (λ (k : Workspace). k.marks) w.self-is ∙ inv.marks;
         queue = ap (λ (k : Workspace). k.queue) w.self-is ∙ inv.queue;
       }
     ]

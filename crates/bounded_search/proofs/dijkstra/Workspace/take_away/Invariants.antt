@@ -8,6 +8,6 @@ invariant-loop-x l = record {
   left : (v : ℕ) → entry_in (drop l.x-index l.entries) v ≡ None → word_at l.fn.self.bound l.self.words.items v ≡ no_label l.fn.self.bound;
   bound : l.self.bound ≡ l.fn.self.bound;
   count : length l.self.words.items ≡ length l.fn.self.words.items;
-  marks : l.self.marks.items ≡ l.fn.self.marks.items;
+  marks : l.self.marks ≡ l.fn.self.marks;
   queue : l.self.queue ≡ l.fn.self.queue;
 }

@@ -1,11 +1,10 @@
-use Rattle.std.proofs.Common.{◌≡◌, ◌*◌, [], length}
-use Rattle.bounded_search.specs.Marked.{AreMarked, IsTaken, KeepsSizes}
+use Rattle.std.proofs.Common.{◌≡◌, ◌*◌, []}
+use Rattle.bounded_search.specs.Marked.{IsTaken, KeepsSizes}
 use Rattle.bounded_search.proofs.dijkstra.Workspace.take_entries.Given as goal
 
-abbrev pub invariant-loop-place : goal.invariant-loop-place
-invariant-loop-place l = record {
+abbrev pub invariant-loop-area : goal.invariant-loop-area
+invariant-loop-area l = record {
   sized : KeepsSizes l.fn.self l.self;
-  marked : AreMarked (length l.fn.self.words.items) l.self;
-  taken : IsTaken l.fn.self.words.items (l.place * 64) l.self l.entries.items;
+  taken : IsTaken l.fn.self.words.items (l.area * 262_144) l.self;
   queue : l.self.queue ≡ [];
 }

@@ -1,0 +1,140 @@
+//! A list of entries, to which those of labelled nodes are appended without a branch. Serves `Workspace::entries`;
+//! decided by `TakesNodes`.
+ghost use Rattle.std.specs.Prelude.{◌≡◌, ◌==◌, ◌<◌, ◌≤◌, ◌+◌, [], length, not, slice_set, take, IfOk, OnOk};
+ghost use Rattle.bounded_search.specs.LabelWords.{no_label, word_at};
+ghost use Rattle.bounded_search.specs.Labels.{entry_by};
+ghost use Rattle.bounded_search.specs.Marked.{TakesNodes};
+
+use crate::label_words::{entry_by, no_label};
+use crate::table_row::Entry;
+use road_network::NodeId;
+use std::alloc::{AllocError, Global};
+use std::marker::Model;
+
+/// The entries found so far: the first `count` places. The others are free.
+pub struct FoundEntries {
+    places: Vec<Entry>,
+    count: usize,
+}
+
+// By hand, so that the functions that drop one call this.
+impl Drop for FoundEntries {
+    fn drop(self) {
+        let FoundEntries {
+            places: _,
+            count: _,
+        } = self;
+    }
+}
+
+impl Model for FoundEntries {
+    ghost use Rattle.std.specs.Prelude.{List};
+    ghost use Rattle.bounded_search.specs.declared.table_row.Entry.{Entry};
+
+    ghost Value = { List Entry };
+
+    ghost use Rattle.bounded_search.specs.FoundInside.{found_in, IsFoundInside};
+
+    ghost view = { found_in };
+
+    ghost invariant = { IsFoundInside };
+}
+
+/// Makes at least so many places.
+fn make_places(places: &mut Vec<Entry>, count: usize) -> Result<(), AllocError>
+    ensures enough { OnOk result (count ≤ length places.new.items) }
+    ensures more { length places.old.items ≤ length places.new.items }
+    ensures same { take (length places.old.items) places.new.items ≡ places.old.items }
+{
+    if count <= places.len() {
+        return Ok(());
+    }
+    let free = Entry {
+        node: NodeId(0),
+        distance: 0,
+        last: None,
+    };
+    places.resize(count.saturating_mul(2), free)
+}
+
+/// Removes the label of a node, and writes its entry to a place. Whether there was a label, and so is an entry.
+fn take_node(words: &mut [u64], bound: u32, node: usize, place: &mut Entry) -> bool
+    requires bound { bound ≤ 10_000_000 }
+    requires node { (node < length words.old) × (node ≤ 1_000_000_000) }
+    ensures words { words.new ≡ slice_set words.old node (no_label bound) }
+    ensures place { place.new ≡ entry_by node (word_at bound words.old node) }
+    ensures labelled { result ≡ not (word_at bound words.old node == no_label bound) }
+{
+    let word = words[node];
+    words[node] = no_label(bound);
+    *place = entry_by(NodeId(node as u32), word);
+    word != no_label(bound)
+}
+
+/// Removes the labels of the eight nodes from `first` on, and puts their entries behind the first `count` places. The
+/// result is how many entries there are then.
+///
+/// Nothing branches on labels: the next entry overwrites that of a node without a label.
+fn take_nodes(
+    words: &mut [u64],
+    bound: u32,
+    first: usize,
+    places: &mut [Entry],
+    count: usize,
+) -> usize
+    requires bound { bound ≤ 10_000_000 }
+    requires few { length words.old ≤ 1_000_000_000 }
+    requires room { count + 8 ≤ length places.old }
+    ensures takes { TakesNodes bound first (first + 8) words.old (take count places.old) words.new (take result places.new) }
+    ensures room { result ≤ length places.new }
+{
+    let mut end = count;
+    for node in first..words.len().min(first.saturating_add(8)) {
+        let labelled = take_node(words, bound, node, &mut places[end]);
+        end += usize::from(labelled);
+    }
+    end
+}
+
+impl FoundEntries {
+    /// No entries. Takes no memory.
+    pub fn new(alloc: Global) -> FoundEntries
+        ensures { result ≡ [] }
+    {
+        FoundEntries {
+            places: Vec::new(alloc),
+            count: 0,
+        }
+    }
+
+    /// Removes the labels of the eight nodes from `first` on, and appends their entries.
+    pub fn take_nodes(
+        &mut self,
+        words: &mut [u64],
+        bound: u32,
+        first: usize,
+    ) -> Result<(), AllocError>
+        requires bound { bound ≤ 10_000_000 }
+        requires few { length words.old ≤ 1_000_000_000 }
+        ensures takes { OnOk result (TakesNodes bound first (first + 8) words.old self.old words.new self.new) }
+        ensures count { length words.new ≡ length words.old }
+    {
+        make_places(&mut self.places, self.count.saturating_add(8))?;
+        self.count = take_nodes(words, bound, first, self.places.as_mut_slice(), self.count);
+        Ok(())
+    }
+
+    /// A copy that has just the entries, and no free places.
+    pub fn to_vec(&self, alloc: Global) -> Result<Vec<Entry>, AllocError>
+        ensures { IfOk result (λ entries. entries.items ≡ self.now) }
+    {
+        Vec::from_slice(alloc, &self.places.as_slice()[..self.count])
+    }
+
+    /// Removes all entries.
+    pub fn clear(&mut self)
+        ensures { self.new ≡ [] }
+    {
+        self.count = 0;
+    }
+}

@@ -1,0 +1,79 @@
+//! Takes the labels of a search out as entries, by ascending node number. Serves `Workspace::entries`; decided by
+//! `ListsLabels`.
+ghost use Rattle.std.specs.Prelude.{◌≡◌, ◌<◌, ◌+◌, ◌*◌, [], length, IfOk, OnOk};
+ghost use Rattle.bounded_search.specs.Marked.{AllMarked, IsSized, KeepsSizes, Takes, labels_of};
+ghost use Rattle.bounded_search.specs.Searching.{EndsClean, ListsLabels};
+
+use crate::dijkstra::Workspace;
+use crate::table_row::Entry;
+use std::alloc::{AllocError, Global};
+
+impl Workspace {
+    /// Takes the labels of a block of 8 nodes, if it is marked.
+    fn take_block(&mut self, block: usize) -> Result<(), AllocError>
+        requires block { block < length self.old.marks.blocks.items }
+        requires sized { IsSized (length self.old.words.items) self.old }
+        ensures takes { OnOk result (Takes (block * 8) ((block + 1) * 8) self.old self.new) }
+        ensures sized { KeepsSizes self.old self.new }
+    {
+        let mark = self.marks.blocks[block];
+        if mark == 0 {
+            return Ok(());
+        }
+        self.found
+            .take_nodes(self.words.as_mut_slice(), self.bound, block * 8)?;
+        self.marks.blocks[block] = 0;
+        Ok(())
+    }
+
+    /// Takes the labels of a region of 64 blocks, if it is marked.
+    fn take_region(&mut self, region: usize) -> Result<(), AllocError>
+        requires region { region < length self.old.marks.regions.items }
+        requires sized { IsSized (length self.old.words.items) self.old }
+        ensures takes { OnOk result (Takes (region * 512) ((region + 1) * 512) self.old self.new) }
+        ensures sized { KeepsSizes self.old self.new }
+    {
+        let mark = self.marks.regions[region];
+        if mark == 0 {
+            return Ok(());
+        }
+        for block in region * 64..(region + 1) * 64 {
+            self.take_block(block)?;
+        }
+        self.marks.regions[region] = 0;
+        Ok(())
+    }
+
+    /// Takes the labels of an area of 512 regions, if it is marked.
+    fn take_area(&mut self, area: usize) -> Result<(), AllocError>
+        requires area { area < length self.old.marks.areas.items }
+        requires sized { IsSized (length self.old.words.items) self.old }
+        ensures takes { OnOk result (Takes (area * 262_144) ((area + 1) * 262_144) self.old self.new) }
+        ensures sized { KeepsSizes self.old self.new }
+    {
+        let mark = self.marks.areas[area];
+        if mark == 0 {
+            return Ok(());
+        }
+        for region in area * 512..(area + 1) * 512 {
+            self.take_region(region)?;
+        }
+        self.marks.areas[area] = 0;
+        Ok(())
+    }
+
+    /// Removes the labels and returns them as entries, by ascending node number.
+    pub(crate) fn take_entries(&mut self, alloc: Global) -> Result<Vec<Entry>, AllocError>
+        requires sized { IsSized (length self.old.words.items) self.old }
+        requires marked { AllMarked self.old.bound self.old.words.items self.old.marks }
+        requires none_waiting { self.old.queue ≡ [] }
+        ensures entries { IfOk result (λ entries. ListsLabels (labels_of self.old) entries.items) }
+        ensures clean { EndsClean result self.old self.new }
+    {
+        self.found.clear();
+        for area in 0..self.marks.areas.len() {
+            self.take_area(area)?;
+        }
+        self.found.to_vec(alloc)
+    }
+}
