@@ -5,17 +5,15 @@ use Rattle.clap.specs.Simple.{new_shape}
 use Rattle.command_line.specs.Options.{all_options}
 use Rattle.command_line.specs.Values.{name_of}
 use Rattle.command_line.specs.Work.{WorkKind}
-use Rattle.command_line.specs.works.Follow.{follow_kind}
-use Rattle.command_line.specs.works.Streams.{streams_kind}
 use Rattle.command_line.specs.works.Match.{match_kind}
-use Rattle.command_line.specs.works.Prove.{prove_kind}
 use Rattle.command_line.specs.works.Check.{check_kind}
 use Rattle.command_line.specs.works.Table.{table_kind}
 use Rattle.command_line.specs.works.Town.{town_kind}
+use Rattle.command_line.specs.works.TraceFiles.{follow_kind, prove_kind, streams_kind}
 
 abbrev pub all_kinds : List WorkKind
 all_kinds =
-    match_kind ∷ follow_kind ∷ table_kind ∷ town_kind ∷ streams_kind ∷ prove_kind ∷ check_kind ∷ []
+    match_kind ∷ follow_kind ∷ streams_kind ∷ prove_kind ∷ check_kind ∷ table_kind ∷ town_kind ∷ []
 
 -- `--NAME VALUE`, at most once, with its value kept as text
 abbrev pub option_rule : List ℕ → Rule

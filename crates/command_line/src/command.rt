@@ -13,12 +13,10 @@ use crate::read::read_options;
 use crate::syntax::program;
 use crate::work::{Command, Work};
 use crate::works::checking::read_check;
-use crate::works::following::read_follow;
 use crate::works::matching::read_match;
-use crate::works::proving::read_prove;
-use crate::works::streaming::read_streams;
 use crate::works::table::read_table;
 use crate::works::towns::read_town;
+use crate::works::trace_files::{read_follow, read_prove, read_streams};
 use clap::ArgMatches;
 use clap::error::ErrorKind;
 use std::alloc::Global;
@@ -84,11 +82,11 @@ fn read_work<'a>(name: &str, found: &ArgMatches<'a>) -> Result<Work<'a>, WordsFa
     match name {
         "match" => read_match(found),
         "follow" => read_follow(found),
-        "table" => read_table(found),
-        "town" => read_town(found),
         "streams" => read_streams(found),
         "prove" => read_prove(found),
         "check" => read_check(found),
+        "table" => read_table(found),
+        "town" => read_town(found),
         _ => Err(WordsFault::Usage),
     }
 }

@@ -8,7 +8,7 @@ ghost use Rattle.command_line.specs.Syntax.{option_rule, program};
 ghost use Rattle.command_line.specs.Values.{name_of};
 
 use crate::value::ValueName;
-use crate::works::{checking, following, matching, proving, streaming, table, towns};
+use crate::works::{checking, matching, table, towns, trace_files};
 use clap::{Arg, Command};
 use std::alloc::{AllocError, Global};
 
@@ -25,12 +25,12 @@ pub struct Form {
 /// All commands.
 const FORMS: [Form; 7] = [
     matching::FORM,
-    following::FORM,
+    trace_files::FOLLOW,
+    trace_files::STREAMS,
+    trace_files::PROVE,
+    checking::FORM,
     table::FORM,
     towns::FORM,
-    streaming::FORM,
-    proving::FORM,
-    checking::FORM,
 ];
 
 /// What a word after the command is.

@@ -1,8 +1,6 @@
-//! The kinds of work, each in a file of its own.
+//! The kinds of work, by the arguments that they take.
 pub mod checking;
-pub mod following;
 pub mod matching;
-pub mod proving;
-pub mod streaming;
 pub mod table;
 pub mod towns;
+pub mod trace_files;

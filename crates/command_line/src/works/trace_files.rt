@@ -1,0 +1,81 @@
+//! `follow`, `streams` and `prove`, each with `NET TRACES`. Serves `read_work` and `program`; decided
+//! by `trace_files_kind`.
+ghost use Rattle.std.specs.Prelude.{◌≡◌, IfOk, codes};
+ghost use Rattle.std.specs.Result.{result_map_both};
+ghost use Rattle.command_line.specs.Given.{given_for};
+ghost use Rattle.command_line.specs.Work.{AreNumbersWithin, plain_work};
+ghost use Rattle.command_line.specs.works.TraceFiles.{file_names, follow_kind, prove_kind, streams_kind};
+
+use crate::fault::WordsFault;
+use crate::read::text_of;
+use crate::syntax::Form;
+use crate::work::Work;
+use clap::ArgMatches;
+
+/// The syntax of `follow`.
+pub const FOLLOW: Form = Form {
+    name: "follow",
+    options: &[],
+    arguments: &["NET", "TRACES"],
+};
+
+/// The syntax of `streams`.
+pub const STREAMS: Form = Form {
+    name: "streams",
+    options: &[],
+    arguments: &["NET", "TRACES"],
+};
+
+/// The syntax of `prove`.
+pub const PROVE: Form = Form {
+    name: "prove",
+    options: &[],
+    arguments: &["NET", "TRACES"],
+};
+
+/// The names of a network file and a trace file.
+pub struct FileNames<'a> {
+    pub network: &'a str,
+    pub traces: &'a str,
+}
+
+/// The names that the words give for `NET` and `TRACES`.
+pub fn file_names<'a>(found: &ArgMatches<'a>) -> Result<FileNames<'a>, WordsFault>
+    ensures { result_map_both (λ names. (names.network.now, names.traces.now)) (λ fault. fault) result
+        ≡ file_names (given_for found.now) }
+{
+    match (text_of(found, "NET"), text_of(found, "TRACES")) {
+        (Some(network), Some(traces)) => Ok(FileNames { network, traces }),
+        _ => Err(WordsFault::Usage),
+    }
+}
+
+/// The work of `follow`.
+pub fn read_follow<'a>(found: &ArgMatches<'a>) -> Result<Work<'a>, WordsFault>
+    ensures value { result_map_both plain_work (λ fault. fault) result
+        ≡ follow_kind.work (given_for found.now) }
+    ensures within { IfOk result AreNumbersWithin }
+{
+    let FileNames { network, traces } = file_names(found)?;
+    Ok(Work::Follow { network, traces })
+}
+
+/// The work of `streams`.
+pub fn read_streams<'a>(found: &ArgMatches<'a>) -> Result<Work<'a>, WordsFault>
+    ensures value { result_map_both plain_work (λ fault. fault) result
+        ≡ streams_kind.work (given_for found.now) }
+    ensures within { IfOk result AreNumbersWithin }
+{
+    let FileNames { network, traces } = file_names(found)?;
+    Ok(Work::Streams { network, traces })
+}
+
+/// The work of `prove`.
+pub fn read_prove<'a>(found: &ArgMatches<'a>) -> Result<Work<'a>, WordsFault>
+    ensures value { result_map_both plain_work (λ fault. fault) result
+        ≡ prove_kind.work (given_for found.now) }
+    ensures within { IfOk result AreNumbersWithin }
+{
+    let FileNames { network, traces } = file_names(found)?;
+    Ok(Work::Prove { network, traces })
+}
