@@ -20,11 +20,13 @@ use Rattle.potential_certificate.specs.declared.proof.TraceProof.{TraceProof}
 use Rattle.program_frame.specs.Outcome.{done_with}
 use Rattle.program_frame.specs.Plan.{Plan, loads}
 use Rattle.program_frame.specs.Plan.Plan.{ends}
-use Rattle.program_frame.specs.Refusals.{network_limit, network_said, trace_limit}
+use Rattle.program_frame.specs.Refusals.{network_said, trace_limit}
 use Rattle.program_frame.specs.Total.{worded}
 use Rattle.program_frame.specs.WholeTraces.{traces_said}
 use Rattle.program_frame.specs.declared.stop.File.TheVariants.{Certificate as OfCertificate, Network, Traces}
+use Rattle.road_network.specs.Limits.{file_limit}
 use Rattle.road_network.specs.Net.{Net}
+use Rattle.road_network.specs.declared.limits.NetworkLimits.{NetworkLimits}
 use Rattle.trace_reader.specs.declared.trace.Trace.{Trace}
 use Rattle.trace_match.specs.Setting.{Setting}
 
@@ -120,9 +122,10 @@ check_said on traces bytes =
 
 -- the network is read and accepted, then the traces, and then the certificate, which is refused where
 -- its text has a fault or it is not proved
-abbrev pub check_plan : (network traces certificate : List ℕ) (options : Params) → Plan
-check_plan network traces certificate options =
-    loads Network network network_limit 5 network_said
+abbrev pub check_plan : NetworkLimits → (network traces certificate : List ℕ) (options : Params)
+    → Plan
+check_plan limits network traces certificate options =
+    loads Network network (file_limit limits) 5 (network_said limits)
     (λ net. loads Traces traces trace_limit 6 traces_said
     (λ taken. loads OfCertificate certificate text_limit 7
     (check_said (record { network = net; params = options }) taken)

@@ -16,7 +16,7 @@ use decimal_text::write_unsigned;
 use edge_io::{Shelf, Sink};
 use polyline_geometry::List;
 use potential_certificate::{CertFault, Certificate, CertificateReader, TraceProof};
-use program_frame::{File, Refusal, Stop, load_network, load_traces, put_text};
+use program_frame::{File, NetworkFile, Refusal, Stop, load_network, load_traces, put_text};
 use rayon::prelude::*;
 use road_network::Network;
 use std::alloc::{AllocError, Global};
@@ -179,7 +179,7 @@ fn load_certificate<R: Threads + Sync, S: Shelf>(
 pub fn check_traces<R: Threads + Sync, S: Shelf, K: Sink>(
     rt: &R,
     alloc: Global,
-    network: &str,
+    network: NetworkFile<'_>,
     traces: &str,
     certificate: &str,
     options: Params,
@@ -187,7 +187,8 @@ pub fn check_traces<R: Threads + Sync, S: Shelf, K: Sink>(
     out: &mut K,
 ) -> Result<(), Stop>
     requires { IsAccepted options }
-    ensures { Performs (Ok (check_plan network.now traces.now certificate.now options))
+    ensures { Performs (Ok (check_plan network.entry.limits network.entry.name.now traces.now
+        certificate.now options))
         (S.state shelf.old) (S.state shelf.new) (K.state out.old) (K.state out.new) result }
 {
     let roads = load_network(alloc, shelf, network)?;

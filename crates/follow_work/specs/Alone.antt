@@ -1,4 +1,4 @@
--- The works of a program that has `follow` alone.
+-- The works of a program that has `follow` alone, within the standard limits.
 use Rattle.std.specs.Prelude.{Some, None}
 use Rattle.std.specs.declared.option.Option.{Option}
 use Rattle.command_line.specs.Work.{PlainWork}
@@ -7,9 +7,10 @@ use Rattle.cost_model.specs.declared.params.Params.{Params}
 use Rattle.follow_work.specs.Follow.{follow_plan}
 use Rattle.program_frame.specs.Asked.{Plans}
 use Rattle.program_frame.specs.Plan.{Plan}
+use Rattle.road_network.specs.declared.limits.NetworkLimits.TheVariants.{Standard}
 
 abbrev pub followed : PlainWork → Params → Option Plan
-followed (follow_files network traces) options = Some (follow_plan network traces options)
+followed (follow_files network traces) options = Some (follow_plan Standard network traces options)
 followed (match_files network traces table) options = None
 followed (stream_files network traces) options = None
 followed (prove_files network traces) options = None

@@ -6,9 +6,11 @@ use Rattle.std.proofs.lemmas.List.Concat.{flat_map-append}
 use Rattle.cost_model.specs.declared.params.Params.{Params}
 use Rattle.program_frame.specs.Jobs.{JobText}
 use Rattle.program_frame.specs.Plan.{Plan, loads}
-use Rattle.program_frame.specs.Refusals.{network_limit, network_said}
+use Rattle.program_frame.specs.Refusals.{network_said}
 use Rattle.program_frame.specs.Stream.{works_traces}
 use Rattle.program_frame.specs.declared.stop.File.TheVariants.{Network}
+use Rattle.road_network.specs.Limits.{file_limit}
+use Rattle.road_network.specs.declared.limits.NetworkLimits.{NetworkLimits}
 use Rattle.trace_reader.specs.declared.trace.Trace.{Trace}
 use Rattle.trace_sessions.specs.FollowText.{follow_text}
 use Rattle.trace_match.specs.Setting.{Setting}
@@ -33,7 +35,7 @@ follow_job on = record {
 }
 
 -- the network is read and accepted, and then the traces are read and followed
-abbrev pub follow_plan : (network traces : List ℕ) (options : Params) → Plan
-follow_plan network traces options =
-    loads Network network network_limit 5 network_said
+abbrev pub follow_plan : NetworkLimits → (network traces : List ℕ) (options : Params) → Plan
+follow_plan limits network traces options =
+    loads Network network (file_limit limits) 5 (network_said limits)
     (λ net. works_traces traces (follow_job (record { network = net; params = options })))

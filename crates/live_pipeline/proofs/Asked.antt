@@ -13,6 +13,7 @@ use Rattle.follow_work.specs.Follow.{follow_plan}
 use Rattle.live_pipeline.specs.Living.{LivePerforms}
 use Rattle.live_pipeline.specs.Words.{asked_by, with_follow}
 use Rattle.program_frame.specs.Plan.{Plan}
+use Rattle.road_network.specs.declared.limits.NetworkLimits.TheVariants.{Standard}
 use Rattle.program_frame.specs.Refusals.{RefusesWords}
 use Rattle.program_frame.specs.declared.stop.Stop.{Stop}
 use Rattle.program_frame.proofs.Asked as frame
@@ -35,6 +36,6 @@ other_refuse words command shelf out stop is other refuses =
     inl (frame.others_refuse follow_alone (with_follow words) (plain command) shelf out stop is (no_follow command.work command.options other) refuses)
 
 -- the words ask for `follow`
-pub asked_follow : (words : List (List ℕ)) (command : Command) (network traces : _) (shelf shelf' : ShelfState) (out out' : SinkState) (ended : Result (Unit {0}) Stop) → command_of (with_follow words) ≡ Ok (plain command) → command.work ≡ Follow network traces → LivePerforms (Ok (follow_plan network.now traces.now command.options)) shelf shelf' out out' ended → LivePerforms (asked_by words) shelf shelf' out out' ended
+pub asked_follow : (words : List (List ℕ)) (command : Command) (network traces : _) (shelf shelf' : ShelfState) (out out' : SinkState) (ended : Result (Unit {0}) Stop) → command_of (with_follow words) ≡ Ok (plain command) → command.work ≡ Follow network traces → LivePerforms (Ok (follow_plan Standard network.now traces.now command.options)) shelf shelf' out out' ended → LivePerforms (asked_by words) shelf shelf' out out' ended
 asked_follow words command network traces shelf shelf' out out' ended known is performs =
-    subst (λ (a : Result Plan (List ℕ)). LivePerforms a shelf shelf' out out' ended) (sym (frame.asked_is follow_alone (with_follow words) (plain command) (follow_plan network.now traces.now command.options) known (ap (λ (w : Work). followed (plain_work w) command.options) is))) performs
+    subst (λ (a : Result Plan (List ℕ)). LivePerforms a shelf shelf' out out' ended) (sym (frame.asked_is follow_alone (with_follow words) (plain command) (follow_plan Standard network.now traces.now command.options) known (ap (λ (w : Work). followed (plain_work w) command.options) is))) performs

@@ -12,19 +12,21 @@ use Rattle.program_frame.specs.Promises.{Covers}
 use Rattle.program_frame.specs.Refusals.{network_said, refusal_lines}
 use Rattle.program_frame.specs.Stream.{works_traces}
 use Rattle.program_frame.proofs.RefusalLines.{asked_covered, network_end, traces_end}
+use Rattle.road_network.specs.declared.limits.NetworkLimits.{NetworkLimits}
+use Rattle.road_network.specs.declared.limits.NetworkLimits.TheVariants.{Standard}
 use Rattle.trace_reader.specs.Reading.{file_fault}
 
 same_lines : (status : ℕ) (line : List ℕ) → refusal_lines status line → refusal_lines status line
 same_lines status line is = is
 
-follow_end : (network traces : List ℕ) (options : Params) (status : ℕ) (line : List ℕ) → status ≢ 0 → IsLineOf (follow_plan network traces options) status line → refusal_lines status line
-follow_end network traces options status line refused is =
-    network_end refusal_lines same_lines is.0 (network_said is.0) (λ net. works_traces traces (follow_job (record { network = net; params = options }))) status line refl
+follow_end : (limits : NetworkLimits) (network traces : List ℕ) (options : Params) (status : ℕ) (line : List ℕ) → status ≢ 0 → IsLineOf (follow_plan limits network traces options) status line → refusal_lines status line
+follow_end limits network traces options status line refused is =
+    network_end refusal_lines same_lines limits is.0 (network_said limits is.0) (λ net. works_traces traces (follow_job (record { network = net; params = options }))) status line refl
     (λ net more. traces_end _ _ more.0 (file_fault more.0) status line refl refused more.1) is.1
 
 work_end : (work : PlainWork) (options : Params) (known : Plan) (status : ℕ) (line : List ℕ) → followed work options ≡ Some known → status ≢ 0 → IsLineOf known status line → refusal_lines status line
 work_end (follow_files network traces) options known status line planned refused is =
-    follow_end network traces options status line refused (subst (λ (p : Option Plan). line_of p) (sym planned) is)
+    follow_end Standard network traces options status line refused (subst (λ (p : Option Plan). line_of p) (sym planned) is)
   where
     line_of : Option Plan → Type 0
     line_of None = ⊥

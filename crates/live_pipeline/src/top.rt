@@ -13,7 +13,8 @@ use command_line::{WordsFault, Work, read_command};
 use cost_model::Params;
 use edge_io::{Shelf, Sink};
 use follow_work::FollowJob;
-use program_frame::{Stop, load_network, refuse_words, say, status_after};
+use program_frame::{NetworkFile, Stop, load_network, refuse_words, say, status_after};
+use road_network::NetworkLimits;
 use std::alloc::Global;
 use std::sync::Wait;
 use std::thread::Threads;
@@ -22,14 +23,14 @@ use std::thread::Threads;
 fn follow_live<R: Threads + Wait + Sync, S: Shelf + Send + Drop, K: Sink>(
     rt: &R,
     alloc: Global,
-    network: &str,
+    network: NetworkFile<'_>,
     traces: &str,
     options: Params,
     shelf: S,
     out: &mut K,
 ) -> (Result<(), Stop>, S)
     requires { IsAccepted options }
-    ensures { LivePerforms (Ok (follow_plan network.now traces.now options))
+    ensures { LivePerforms (Ok (follow_plan network.entry.limits network.entry.name.now traces.now options))
         (S.state shelf) (S.state result.1) (K.state out.old) (K.state out.new) result.0 }
 {
     let mut shelf = shelf;
@@ -66,7 +67,11 @@ fn perform<R: Threads + Wait + Sync, S: Shelf + Send + Drop, K: Sink>(
     };
     match command.work {
         Work::Follow { network, traces } => {
-            follow_live(rt, alloc, network, traces, command.options, shelf, out)
+            let file = NetworkFile {
+                name: network,
+                limits: NetworkLimits::Standard,
+            };
+            follow_live(rt, alloc, file, traces, command.options, shelf, out)
         }
         _ => (Err(refuse_words(alloc, WordsFault::Usage)), shelf),
     }

@@ -9,9 +9,11 @@ use Rattle.program_frame.specs.Counts.{total_of}
 use Rattle.program_frame.specs.NoRefusal.{no_line, no_refusal}
 use Rattle.program_frame.specs.Jobs.{JobText}
 use Rattle.program_frame.specs.Plan.{Plan, loads}
-use Rattle.program_frame.specs.Refusals.{network_limit, network_said}
+use Rattle.program_frame.specs.Refusals.{network_said}
 use Rattle.program_frame.specs.Stream.{works_traces}
 use Rattle.program_frame.specs.declared.stop.File.TheVariants.{Network}
+use Rattle.road_network.specs.Limits.{file_limit}
+use Rattle.road_network.specs.declared.limits.NetworkLimits.{NetworkLimits}
 use Rattle.trace_match.specs.Match.{match_of}
 use Rattle.trace_reader.specs.declared.trace.Trace.{Trace}
 use Rattle.trace_match.specs.Setting.{Setting}
@@ -34,7 +36,7 @@ match_text on = record {
 }
 
 -- the network is read and accepted, and then the traces are read and matched
-abbrev pub match_plan : (network traces : List ℕ) (options : Params) → Plan
-match_plan network traces options =
-    loads Network network network_limit 5 network_said
+abbrev pub match_plan : NetworkLimits → (network traces : List ℕ) (options : Params) → Plan
+match_plan limits network traces options =
+    loads Network network (file_limit limits) 5 (network_said limits)
     (λ net. works_traces traces (match_text (record { network = net; params = options })))

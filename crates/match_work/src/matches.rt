@@ -17,7 +17,7 @@ use edge_io::{Shelf, Sink};
 use match_pool::Gate;
 use match_text::{MatchedTrace, write_match};
 use polyline_geometry::List;
-use program_frame::{Job, Stop, Tally, load_network, work_traces};
+use program_frame::{Job, NetworkFile, Stop, Tally, load_network, work_traces};
 use row_store::{Reader, RowStore, known_count};
 use std::alloc::{AllocError, Global};
 use std::thread::Threads;
@@ -136,7 +136,7 @@ pub fn match_file<'s, R: Threads + Sync, G: Gate, S: Shelf, K: Sink>(
 pub fn match_traces<R: Threads + Sync, G: Gate, S: Shelf, K: Sink>(
     rt: &R,
     alloc: Global,
-    network: &str,
+    network: NetworkFile<'_>,
     traces: &str,
     options: Params,
     shelf: &mut S,
@@ -144,7 +144,7 @@ pub fn match_traces<R: Threads + Sync, G: Gate, S: Shelf, K: Sink>(
     gate: &G,
 ) -> Result<(), Stop>
     requires { IsAccepted options }
-    ensures { Performs (Ok (match_plan network.now traces.now options))
+    ensures { Performs (Ok (match_plan network.entry.limits network.entry.name.now traces.now options))
         (S.state shelf.old) (S.state shelf.new) (K.state out.old) (K.state out.new) result }
 {
     let roads = load_network(alloc, shelf, network)?;

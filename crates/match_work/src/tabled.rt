@@ -10,7 +10,7 @@ use crate::matches::match_file;
 use cost_model::Params;
 use edge_io::{Shelf, Sink};
 use match_pool::Gate;
-use program_frame::{Stop, load_network};
+use program_frame::{NetworkFile, Stop, load_network};
 use std::alloc::Global;
 use std::thread::Threads;
 use table_work::preload;
@@ -21,7 +21,7 @@ use trace_match::Matcher;
 pub fn match_with_table<R: Threads + Sync, G: Gate, S: Shelf, K: Sink>(
     rt: &R,
     alloc: Global,
-    network: &str,
+    network: NetworkFile<'_>,
     table: &str,
     traces: &str,
     options: Params,
@@ -30,7 +30,8 @@ pub fn match_with_table<R: Threads + Sync, G: Gate, S: Shelf, K: Sink>(
     gate: &G,
 ) -> Result<(), Stop>
     requires { IsAccepted options }
-    ensures { Performs (Ok (table_match_plan network.now table.now traces.now options))
+    ensures { Performs
+        (Ok (table_match_plan network.entry.limits network.entry.name.now table.now traces.now options))
         (S.state shelf.old) (S.state shelf.new) (K.state out.old) (K.state out.new) result }
 {
     let roads = load_network(alloc, shelf, network)?;

@@ -3,15 +3,16 @@ use Rattle.std.proofs.Common.{◌≡◌, ◌≢◌, ℕ, List, Err, sym, ◌∙�
 use Rattle.road_network.specs.NetworkFile.{network_of}
 use Rattle.road_network.specs.declared.fault.NetworkFault.{NetworkFault}
 use Rattle.road_network.specs.declared.fault.NetworkFault.TheVariants.{Memory}
+use Rattle.road_network.specs.declared.limits.NetworkLimits.{NetworkLimits}
 use Rattle.program_frame.specs.Loads.{Refuses}
 use Rattle.program_frame.specs.Refusals.{RefusesNetwork, network_said, said}
 use Rattle.program_frame.specs.declared.stop.Refusal.TheVariants.{Network}
 use Rattle.program_frame.specs.declared.stop.Stop.{Stop}
 use Rattle.program_frame.specs.declared.stop.Stop.TheVariants.{Refused, NoMemory, Unread, Unwritten}
 
-pub network_refused : (bytes : List ℕ) (fault : NetworkFault) (stop : Stop) → (fault ≢ Memory → network_of bytes ≡ Err fault) → RefusesNetwork fault stop → Refuses Network (network_said bytes) stop
-network_refused bytes fault (Refused refusal line) known refuses =
+pub network_refused : (limits : NetworkLimits) (bytes : List ℕ) (fault : NetworkFault) (stop : Stop) → (fault ≢ Memory → network_of limits bytes ≡ Err fault) → RefusesNetwork fault stop → Refuses Network (network_said limits bytes) stop
+network_refused limits bytes fault (Refused refusal line) known refuses =
     (refuses.1, ap said (known refuses.0) ∙ ap (λ l. Err l) (sym refuses.2))
-network_refused bytes fault NoMemory known refuses = tt
-network_refused bytes fault (Unread file) known refuses = absurd refuses
-network_refused bytes fault Unwritten known refuses = absurd refuses
+network_refused limits bytes fault NoMemory known refuses = tt
+network_refused limits bytes fault (Unread file) known refuses = absurd refuses
+network_refused limits bytes fault Unwritten known refuses = absurd refuses

@@ -16,6 +16,7 @@ use Rattle.program_frame.specs.Plan.Plan.{ends}
 use Rattle.program_frame.specs.Promises.{Covers}
 use Rattle.program_frame.specs.Refusals.{network_said, refusal_lines}
 use Rattle.road_network.specs.Net.{Net}
+use Rattle.road_network.specs.declared.limits.NetworkLimits.{NetworkLimits}
 use Rattle.trace_reader.specs.Fault.{fault_line}
 use Rattle.trace_reader.specs.Reading.{file_fault}
 use Rattle.trace_reader.specs.declared.fault.TraceFault.{TraceFault}
@@ -25,9 +26,9 @@ traces_end texts ending bytes (Some fault) status line known refused is = inr (i
 traces_end texts ending bytes None status line known refused is = absurd (refused (sym is.0))
 
 -- of any table that has these lines
-pub network_end : (lines : ℕ → List ℕ → Type 0) → ((status : ℕ) (line : List ℕ) → refusal_lines status line → lines status line) → (bytes : List ℕ) (said : Result Net (List ℕ)) (next : Net → Plan) (status : ℕ) (line : List ℕ) → network_said bytes ≡ said → ((net : Net) → IsLineOf (next net) status line → lines status line) → IsLineOf (accepts 5 said next) status line → lines status line
-network_end lines has bytes (Ok net) next status line known rest is = rest net is
-network_end lines has bytes (Err fault) next status line known rest is = has status line (inr (inl (sym is.0, (bytes, known ∙ ap (λ l. Err l) is.1))))
+pub network_end : (lines : ℕ → List ℕ → Type 0) → ((status : ℕ) (line : List ℕ) → refusal_lines status line → lines status line) → (limits : NetworkLimits) (bytes : List ℕ) (said : Result Net (List ℕ)) (next : Net → Plan) (status : ℕ) (line : List ℕ) → network_said limits bytes ≡ said → ((net : Net) → IsLineOf (next net) status line → lines status line) → IsLineOf (accepts 5 said next) status line → lines status line
+network_end lines has limits bytes (Ok net) next status line known rest is = rest net is
+network_end lines has limits bytes (Err fault) next status line known rest is = has status line (inr (inl (sym is.0, (limits, bytes, known ∙ ap (λ l. Err l) is.1))))
 
 pub words_end : (words : List (List ℕ)) (fault : WordsFault) (status : ℕ) (line : List ℕ) → command_of words ≡ Err fault → IsLineOf (plan_of (Err (words_fault_line fault))) status line → refusal_lines status line
 words_end words fault status line known is = inl (sym is.0, (words, ap (result_map_both (λ (c : PlainCommand). c) words_fault_line) known ∙ ap (λ l. Err l) is.1))

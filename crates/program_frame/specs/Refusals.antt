@@ -10,6 +10,7 @@ use Rattle.road_network.specs.Net.{Net}
 use Rattle.road_network.specs.NetworkFile.{network_of}
 use Rattle.road_network.specs.declared.fault.NetworkFault.{NetworkFault}
 use Rattle.road_network.specs.declared.fault.NetworkFault.TheVariants as network_faults
+use Rattle.road_network.specs.declared.limits.NetworkLimits.{NetworkLimits}
 use Rattle.trace_reader.specs.Fault.{fault_line as trace_fault_line}
 use Rattle.trace_reader.specs.Reading.{file_fault}
 use Rattle.trace_reader.specs.declared.fault.TraceFault.{TraceFault}
@@ -22,12 +23,9 @@ abbrev pub said : Result Net NetworkFault → Result Net (List ℕ)
 said (Ok net) = Ok net
 said (Err fault) = Err (network_fault_line fault)
 
--- the network of a file, or the line of its first fault
-abbrev pub network_said : List ℕ → Result Net (List ℕ)
-network_said bytes = said (network_of bytes)
-
-abbrev pub network_limit : ℕ
-network_limit = 134_217_728
+-- the network of a file within these limits, or the line of its first fault
+abbrev pub network_said : NetworkLimits → List ℕ → Result Net (List ℕ)
+network_said limits bytes = said (network_of limits bytes)
 
 abbrev pub trace_limit : ℕ
 trace_limit = 1_099_511_627_776
@@ -40,7 +38,8 @@ traces_line bytes = option_map trace_fault_line (file_fault bytes)
 abbrev pub refusal_lines : ℕ → List ℕ → Type 0
 refusal_lines status line =
     ((status ≡ 2) × ((words : List (List ℕ)) × (command_or_line words ≡ Err line)))
-    ⊎ ((status ≡ 5) × ((bytes : List ℕ) × (network_said bytes ≡ Err line)))
+    ⊎ ((status ≡ 5)
+    × ((limits : NetworkLimits) × (bytes : List ℕ) × (network_said limits bytes ≡ Err line)))
     ⊎ ((status ≡ 6) × ((bytes : List ℕ) × (traces_line bytes ≡ Some line)))
 
 -- the ending where the words have this fault, or memory ran out

@@ -30,7 +30,7 @@ mod words;
 pub use chunks::{CHUNK, Chunks};
 pub use files::read_file;
 pub use jobs::Job;
-pub use load::{load_network, refuse_traces, refuse_words};
+pub use load::{NetworkFile, load_network, refuse_traces, refuse_words};
 pub use stop::{File, Refusal, Stop, end_without_memory, refuse, say, status_after};
 pub use stream::work_traces;
 pub use texts::put_text;

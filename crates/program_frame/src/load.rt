@@ -1,19 +1,35 @@
 //! The network, and the refusals of words and files. Serves the commands; decided by
 //! `network_said` and `refusal_lines`.
-ghost use Rattle.std.specs.Prelude.{◌≢◌};
+ghost use Rattle.std.specs.Prelude.{◌≡◌, ◌≢◌};
 ghost use Rattle.program_frame.specs.Loads.{Accepts, Loads};
-ghost use Rattle.program_frame.specs.Refusals.{RefusesNetwork, RefusesTraces, RefusesWords, network_limit, network_said};
+ghost use Rattle.program_frame.specs.Refusals.{RefusesNetwork, RefusesTraces, RefusesWords, network_said};
+ghost use Rattle.road_network.specs.Limits.{file_limit};
 
 use crate::files::read_file;
 use crate::stop::{File, Refusal, Stop, refuse};
 use command_line::WordsFault;
 use edge_io::Shelf;
 use polyline_geometry::List;
-use road_network::{Network, NetworkFault, read_network};
+use road_network::{Network, NetworkFault, NetworkLimits, read_network_within};
 use std::alloc::Global;
 use trace_reader::TraceFault;
 
-const NETWORK_LIMIT: u64 = 134_217_728;
+/// The file of a network: its name, and the limits that hold for its bytes.
+#[derive(Clone, Copy)]
+pub struct NetworkFile<'a> {
+    pub name: &'a str,
+    pub limits: NetworkLimits,
+}
+
+impl<'a> NetworkFile<'a> {
+    /// The file of this name, read within these limits.
+    pub fn new(name: &'a str, limits: NetworkLimits) -> Self
+        ensures name { result.name.now ≡ name.now }
+        ensures limits { result.limits ≡ limits }
+    {
+        NetworkFile { name, limits }
+    }
+}
 
 /// The early end for a fault of the words.
 pub fn refuse_words(alloc: Global, fault: WordsFault) -> Stop
@@ -51,20 +67,25 @@ fn refuse_network(alloc: Global, fault: NetworkFault) -> Stop
 }
 
 // The network of these bytes, or their refusal.
-fn accept_network(alloc: Global, bytes: &[u8]) -> Result<Network, Stop>
-    ensures { Accepts Refusal.Network (network_said bytes.now) result }
+fn accept_network(alloc: Global, limits: NetworkLimits, bytes: &[u8]) -> Result<Network, Stop>
+    ensures { Accepts Refusal.Network (network_said limits bytes.now) result }
 {
-    match read_network(alloc, bytes) {
+    match read_network_within(alloc, limits, bytes) {
         Ok(network) => Ok(network),
         Err(fault) => Err(refuse_network(alloc, fault)),
     }
 }
 
 /// Reads the network, and accepts or refuses it.
-pub fn load_network<S: Shelf>(alloc: Global, shelf: &mut S, name: &str) -> Result<Network, Stop>
-    ensures { Loads Refusal.Network File.Network name.now network_limit network_said
-        (S.state shelf.old) (S.state shelf.new) result }
+pub fn load_network<S: Shelf>(
+    alloc: Global,
+    shelf: &mut S,
+    file: NetworkFile<'_>,
+) -> Result<Network, Stop>
+    ensures { Loads Refusal.Network File.Network file.entry.name.now (file_limit file.entry.limits)
+        (network_said file.entry.limits) (S.state shelf.old) (S.state shelf.new) result }
 {
-    let bytes = read_file(alloc, shelf, File::Network, name, NETWORK_LIMIT)?;
-    accept_network(alloc, &bytes)
+    let limit = file.limits.file_bytes();
+    let bytes = read_file(alloc, shelf, File::Network, file.name, limit)?;
+    accept_network(alloc, file.limits, &bytes)
 }

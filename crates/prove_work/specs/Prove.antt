@@ -5,10 +5,12 @@ use Rattle.potential_certificate.specs.CertificateText.{certificate_text, text_l
 use Rattle.program_frame.specs.Outcome.{done_with}
 use Rattle.program_frame.specs.Plan.{Plan, accepts, loads}
 use Rattle.program_frame.specs.Plan.Plan.{ends}
-use Rattle.program_frame.specs.Refusals.{network_limit, network_said, trace_limit}
+use Rattle.program_frame.specs.Refusals.{network_said, trace_limit}
 use Rattle.program_frame.specs.WholeTraces.{traces_said}
 use Rattle.program_frame.specs.declared.stop.File.TheVariants.{Network, Traces}
 use Rattle.prove_work.specs.Certificates.{certificate_of}
+use Rattle.road_network.specs.Limits.{file_limit}
+use Rattle.road_network.specs.declared.limits.NetworkLimits.{NetworkLimits}
 use Rattle.trace_reader.specs.declared.trace.Trace.{Trace}
 use Rattle.trace_match.specs.Setting.{Setting}
 
@@ -27,9 +29,9 @@ prove_said on traces =
 
 -- the network is read and accepted, then the traces, and then their certificate is written, or
 -- refused as too long
-abbrev pub prove_plan : (network traces : List ℕ) (options : Params) → Plan
-prove_plan network traces options =
-    loads Network network network_limit 5 network_said
+abbrev pub prove_plan : NetworkLimits → (network traces : List ℕ) (options : Params) → Plan
+prove_plan limits network traces options =
+    loads Network network (file_limit limits) 5 (network_said limits)
     (λ net. loads Traces traces trace_limit 6 traces_said
     (λ taken. accepts 8 (prove_said (record { network = net; params = options }) taken)
     (λ text. ends (done_with text))))

@@ -12,7 +12,7 @@ use cost_model::Params;
 use edge_io::{Shelf, Sink};
 use polyline_geometry::List;
 use potential_certificate::{WriteFault, write_certificate};
-use program_frame::{Refusal, Stop, load_network, load_traces, put_text, refuse};
+use program_frame::{NetworkFile, Refusal, Stop, load_network, load_traces, put_text, refuse};
 use std::alloc::Global;
 use trace_match::Matcher;
 use trace_reader::Trace;
@@ -54,14 +54,14 @@ fn text_of_proofs(alloc: Global, matcher: &Matcher<'_>, traces: &[Trace]) -> Res
 /// too long.
 pub fn prove_traces<S: Shelf, K: Sink>(
     alloc: Global,
-    network: &str,
+    network: NetworkFile<'_>,
     traces: &str,
     options: Params,
     shelf: &mut S,
     out: &mut K,
 ) -> Result<(), Stop>
     requires { IsAccepted options }
-    ensures { Performs (Ok (prove_plan network.now traces.now options))
+    ensures { Performs (Ok (prove_plan network.entry.limits network.entry.name.now traces.now options))
         (S.state shelf.old) (S.state shelf.new) (K.state out.old) (K.state out.new) result }
 {
     let roads = load_network(alloc, shelf, network)?;

@@ -7,9 +7,11 @@ use Rattle.cost_model.specs.declared.params.Params.{Params}
 use Rattle.decimal_text.specs.Number.{decimal}
 use Rattle.program_frame.specs.Jobs.{JobText}
 use Rattle.program_frame.specs.Plan.{Plan, loads}
-use Rattle.program_frame.specs.Refusals.{network_limit, network_said}
+use Rattle.program_frame.specs.Refusals.{network_said}
 use Rattle.program_frame.specs.Stream.{works_traces}
 use Rattle.program_frame.specs.declared.stop.File.TheVariants.{Network}
+use Rattle.road_network.specs.Limits.{file_limit}
+use Rattle.road_network.specs.declared.limits.NetworkLimits.{NetworkLimits}
 use Rattle.trace_reader.specs.declared.trace.Trace.{Trace}
 use Rattle.trace_sessions.specs.Sessions.{Pair}
 use Rattle.trace_sessions.specs.StreamText.{closing_lines, full_id, points_in, stream_lines, trace_of, with_points}
@@ -54,7 +56,7 @@ streams_job on = record {
 }
 
 -- the network is read and accepted, and then the points of the traces are taken in their order
-abbrev pub streams_plan : (network traces : List ℕ) (options : Params) → Plan
-streams_plan network traces options =
-    loads Network network network_limit 5 network_said
+abbrev pub streams_plan : NetworkLimits → (network traces : List ℕ) (options : Params) → Plan
+streams_plan limits network traces options =
+    loads Network network (file_limit limits) 5 (network_said limits)
     (λ net. works_traces traces (streams_job (record { network = net; params = options })))

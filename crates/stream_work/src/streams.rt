@@ -14,7 +14,7 @@ use cost_model::Params;
 use decimal_text::write_unsigned;
 use edge_io::{Shelf, Sink};
 use polyline_geometry::List;
-use program_frame::{Job, Refusal, Stop, Tally, load_network, work_traces};
+use program_frame::{Job, NetworkFile, Refusal, Stop, Tally, load_network, work_traces};
 use std::alloc::{AllocError, Global};
 use trace_match::Matcher;
 use trace_reader::Trace;
@@ -129,14 +129,14 @@ impl<'m> Job for StreamJob<'m> {
 /// Reads the network, and then the traces, whose points it takes in order.
 pub fn stream_traces<S: Shelf, K: Sink>(
     alloc: Global,
-    network: &str,
+    network: NetworkFile<'_>,
     traces: &str,
     options: Params,
     shelf: &mut S,
     out: &mut K,
 ) -> Result<(), Stop>
     requires { IsAccepted options }
-    ensures { Performs (Ok (streams_plan network.now traces.now options))
+    ensures { Performs (Ok (streams_plan network.entry.limits network.entry.name.now traces.now options))
         (S.state shelf.old) (S.state shelf.new) (K.state out.old) (K.state out.new) result }
 {
     let roads = load_network(alloc, shelf, network)?;

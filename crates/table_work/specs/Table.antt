@@ -7,9 +7,11 @@ use Rattle.cost_model.specs.declared.params.Params.{Params}
 use Rattle.program_frame.specs.Outcome.{done_with}
 use Rattle.program_frame.specs.Plan.{Plan, accepts, loads}
 use Rattle.program_frame.specs.Plan.Plan.{ends}
-use Rattle.program_frame.specs.Refusals.{network_limit, network_said}
+use Rattle.program_frame.specs.Refusals.{network_said}
 use Rattle.program_frame.specs.declared.stop.File.TheVariants.{Network}
+use Rattle.road_network.specs.Limits.{file_limit}
 use Rattle.road_network.specs.Net.{Net}
+use Rattle.road_network.specs.declared.limits.NetworkLimits.{NetworkLimits}
 use Rattle.table_file.specs.TableText.{table_text, text_limit}
 
 abbrev pub table_too_long : List ℕ
@@ -31,7 +33,7 @@ table_said net bound =
     then Err table_too_long else Ok (text_of_network net bound)
 
 -- the network is read and accepted, and then its table is written, or refused as too long
-abbrev pub table_plan : (network : List ℕ) (options : Params) → Plan
-table_plan network options =
-    loads Network network network_limit 5 network_said
+abbrev pub table_plan : NetworkLimits → (network : List ℕ) (options : Params) → Plan
+table_plan limits network options =
+    loads Network network (file_limit limits) 5 (network_said limits)
     (λ net. accepts 8 (table_said net options.bound) (λ text. ends (done_with text)))

@@ -11,7 +11,7 @@ use bounded_search::Searcher;
 use cost_model::Params;
 use edge_io::{Shelf, Sink};
 use polyline_geometry::List;
-use program_frame::{Refusal, Stop, load_network, put_text, refuse};
+use program_frame::{NetworkFile, Refusal, Stop, load_network, put_text, refuse};
 use road_network::{Network, NodeId};
 use std::alloc::Global;
 use table_file::{TableWriteFault, TableWriter};
@@ -64,13 +64,13 @@ fn text_of_table(alloc: Global, network: &Network, bound: u32) -> Result<List<u8
 /// so that nothing is written if it is too long.
 pub fn write_table<S: Shelf, K: Sink>(
     alloc: Global,
-    network: &str,
+    network: NetworkFile<'_>,
     options: Params,
     shelf: &mut S,
     out: &mut K,
 ) -> Result<(), Stop>
     requires { IsAccepted options }
-    ensures { Performs (Ok (table_plan network.now options))
+    ensures { Performs (Ok (table_plan network.entry.limits network.entry.name.now options))
         (S.state shelf.old) (S.state shelf.new) (K.state out.old) (K.state out.new) result }
 {
     let roads = load_network(alloc, shelf, network)?;

@@ -14,6 +14,7 @@ use Rattle.program_frame.specs.Total.{Adds, Fits, total_line}
 use Rattle.program_frame.specs.declared.total.Tally.{Tally}
 use Rattle.road_network.specs.Net.{Net}
 use Rattle.road_network.specs.NetworkFile.{network_of, no_net}
+use Rattle.road_network.specs.declared.limits.NetworkLimits.TheVariants.{Standard}
 use Rattle.row_store.specs.Store.{Reading, Stored, count_known}
 use Rattle.town.specs.Laws.{IsTownTrace}
 use Rattle.town.specs.Network.{network_text}
@@ -38,7 +39,7 @@ use Rattle.match_work.proofs.TraceMatches.{matches_of, pieces_found, pieces_next
 use Rattle.trace_match.specs.Totals.{pieces_of, rows_of}
 
 -- the network that was read
-pub network_read : (bytes : List ℕ) (net : Net) → network_of bytes ≡ Ok net → net ≡ network_in bytes
+pub network_read : (bytes : List ℕ) (net : Net) → network_of Standard bytes ≡ Ok net → net ≡ network_in bytes
 network_read bytes net read = sym (ap (λ r. result_unwrap_or r no_net) read)
 
 -- the traces that were fed and those that the end of the file brings

@@ -10,6 +10,7 @@ use Rattle.program_frame.specs.Plan.{Plan}
 use Rattle.program_frame.specs.Plan.Plan.{ends}
 use Rattle.road_network.specs.Net.{Net}
 use Rattle.road_network.specs.NetworkFile.{network_of, no_net}
+use Rattle.road_network.specs.declared.limits.NetworkLimits.TheVariants.{Standard}
 use Rattle.town.specs.Network.{network_text}
 use Rattle.town.specs.Traces.{traces_text}
 use Rattle.trace_match.specs.Match.{match_of}
@@ -35,7 +36,7 @@ town_text on traces = total_of (pieces_of on) (rows_of on) traces ++ cost_line (
 
 -- the network that a file says
 abbrev pub network_in : List ℕ → Net
-network_in bytes = result_unwrap_or (network_of bytes) no_net
+network_in bytes = result_unwrap_or (network_of Standard bytes) no_net
 
 -- what is written of a town
 abbrev pub report_of_town : (side traces seed : ℕ) (options : Params) → List ℕ
