@@ -19,7 +19,7 @@ use Rattle.bounded_search.specs.Table.{RisesFrom, TableRow, entry_in, label_in, 
 use Rattle.bounded_search.proofs.GivenLabels.{IsGivenLabel, label_tells}
 use Rattle.bounded_search.proofs.GivenRows.{SkipsStart}
 use Rattle.bounded_search.proofs.LabelWords.{cleared, distance_by, label_there, last_by, last_is, last_there, none_in, word_elsewhere, word_here, word_none, word_there}
-use Rattle.bounded_search.proofs.MarkedNodes.{label_before, label_else}
+use Rattle.bounded_search.proofs.TakenLabels.{label_before, label_else}
 use Rattle.bounded_search.proofs.RowChecks.{entry_at, rises_apart}
 
 -- the word of an entry has its label

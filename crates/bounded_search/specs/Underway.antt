@@ -78,6 +78,12 @@ after_arc bound d a state = record {
   queue = with_item (is_nearer bound d a state.words) (item_by d a) state.queue;
 }
 
+-- an arc is tried from distance d: the words that are left, whether its end is to wait, and how
+pub record RelaxesArc (d : ℕ) (a : Arc) (old new : List ℕ) (waits : Bool) (x : Waiting) : Type 0 where
+  pub words : (bound : ℕ) → new ≡ words_after bound d a old
+  pub nearer : (bound : ℕ) → waits ≡ is_nearer bound d a old
+  pub item : x ≡ item_by d a
+
 -- and what trying arcs one after another leaves
 abbrev pub after_arcs : ℕ → ℕ → List Arc → SearchState → SearchState
 after_arcs bound d [] state = state

@@ -1,6 +1,9 @@
 //! Rows with one owner. Serves all who ask for rows; decided by `Rows`.
 ghost use Rattle.std.specs.Prelude.{◌≡◌, ◌≤◌, ◌↔◌, length, map, Contains, IfOk, OnErr, IsTrue, IsOk};
+ghost use Rattle.std.specs.Borrow.{sem};
+ghost use Rattle.std.specs.Io.BufRead.{Rests};
 ghost use Rattle.road_network.specs.Net.{HasNode};
+ghost use Rattle.bounded_search.specs.Lenders.{own_rows_type};
 ghost use Rattle.bounded_search.specs.Table.{IsRow};
 ghost use Rattle.bounded_search.specs.Known.{IsKnownList};
 ghost use Rattle.bounded_search.specs.OwnInside.{AreHeldRows, HoldsRows};
@@ -143,7 +146,14 @@ fn rows_in(alloc: Global, places: Vec<Option<Row>>, count: u32) -> Result<List<R
 impl<'n> Rows for OwnRows<'n> {
     ghost state = { λ rows. rows };
 
-    fn row(&mut self, n: NodeId) -> Result<&Row, AllocError> {
+    /// The row of a known node needs no memory.
+    fn row(&mut self, n: NodeId) -> Result<&Row, AllocError>
+        requires { HasNode self.old.network n.0 }
+        ensures value { IfOk result (λ row. IsRow self.old.network self.old.bound n.0 row.now) }
+        ensures again { Contains self.old.known n.0 → IsOk result }
+        ensures* after { sem 𝓛 (Rests own_rows_type self.entry
+            (λ new. AsksFor self.old (λ v. v ≡ n.0) result new)) }
+    {
         self.fill(n)?;
         Ok(self.get(n))
     }

@@ -1,7 +1,7 @@
 //! A list of nodes that wait, to which the arcs of a node append without a branch. Serves the queue.
 ghost use Rattle.std.specs.Prelude.{◌≡◌, ◌≤◌, ◌<◌, ◌+◌, ◌++◌, ◌∷◌, [], ℕ, length, slice_get, take, Some, OnOk};
 ghost use Rattle.std.specs.List.{All};
-ghost use Rattle.bounded_search.specs.Underway.{IsTriable, after_arcs, is_nearer, item_by, words_after};
+ghost use Rattle.bounded_search.specs.Underway.{IsTriable, RelaxesArc, after_arcs};
 
 use crate::label_words::{distance_in, least_word, step_by};
 use crate::queue::Waiting;
@@ -62,9 +62,7 @@ fn make_places(places: &mut Vec<Waiting>, count: usize) -> Result<(), AllocError
 fn relax(words: &mut [u64], distance: u32, arc: Arc, item: &mut Waiting) -> bool
     requires arc { IsTriable (length words.old) arc }
     requires distance { distance ≤ 10_000_000 }
-    ensures words { (bound : ℕ) → words.new ≡ words_after bound distance arc words.old }
-    ensures item { item.new ≡ item_by distance arc }
-    ensures nearer { (bound : ℕ) → result ≡ is_nearer bound distance arc words.old }
+    ensures relaxes { RelaxesArc distance arc words.old words.new result item.new }
     ensures count { length words.new ≡ length words.old }
 {
     let word = least_word(distance) + step_by(arc);
@@ -91,8 +89,7 @@ fn try_arcs(
     requires room { count + length arcs.now ≤ length places.old }
     ensures tries { (bound : ℕ) → record { words = words.new; queue = take result places.new }
         ≡ after_arcs bound distance arcs.now (record { words = words.old; queue = take count places.old }) }
-    ensures count { length words.new ≡ length words.old }
-    ensures room { (count ≤ result) × (result ≤ length places.new) }
+    ensures sizes { (length words.new ≡ length words.old) × (count ≤ result) × (result ≤ length places.new) }
 {
     let mut end = count;
     for arc in arcs {

@@ -1,10 +1,7 @@
-use Rattle.std.proofs.Common.{◌≡◌, ◌<◌, ◌≤◌, ◌⊎◌, ◌+◌, ◌∙◌, ℕ, Bool, List, cond, length, set, take, ap, sym, subst, refl, inl, inr, arith}
+use Rattle.std.proofs.Common.{◌≡◌, ◌<◌, ◌≤◌, ◌⊎◌, ◌+◌, ◌∙◌, ℕ, Bool, List, cond, length, take, ap, sym, inl, inr, arith}
 use Rattle.std.proofs.lemmas.Bool.{cases_Bool, cases_lt}
 use Rattle.bounded_search.specs.declared.table_row.Entry.{Entry}
-use Rattle.bounded_search.specs.LabelWords.{label_at, no_label, word_at}
-use Rattle.bounded_search.specs.Labels.{entry_by, entry_of}
-use Rattle.bounded_search.specs.Marked.{AllTaken, TakesNodes}
-use Rattle.bounded_search.proofs.MarkedNodes.{node_taken, none_more}
+use Rattle.bounded_search.proofs.TakenLabels.{node_taken, none_more}
 use Rattle.bounded_search.proofs.found_entries.take_nodes.Goals as goal
 
 pub loop-node-init : goal.loop-node-init

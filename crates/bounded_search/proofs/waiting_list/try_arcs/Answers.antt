@@ -29,7 +29,7 @@ loop-arc-preserved c =
       tries = λ bound.
           let old : SearchState = record { words = c.loop-arc.words; queue = take end places } in
           let new : SearchState = record { words = c.relax-nearer.new.words; queue = take (end + c.from-end.result) (set places end c.relax-nearer.new.item) } in
-          let step : new ≡ after_arc bound d a old = arc_placed bound d a c.loop-arc.words c.relax-nearer.new.words places end c.from-end.result c.relax-nearer.new.item b inside (c.relax-nearer.ensures.words bound) c.relax-nearer.ensures.item (c.relax-nearer.ensures.nearer bound) more in
+          let step : new ≡ after_arc bound d a old = arc_placed bound d a c.loop-arc.words c.relax-nearer.new.words places end c.from-end.result c.relax-nearer.new.item b inside (c.relax-nearer.ensures.relaxes.words bound) c.relax-nearer.ensures.relaxes.item (c.relax-nearer.ensures.relaxes.nearer bound) more in
           ap (after_arcs bound d (drop (i + 1) arcs)) step ∙ (ap (λ (k : List Arc). after_arcs bound d k old) (sym next) ∙ inv.tries bound);
     }
 
