@@ -8,7 +8,7 @@ use lib.ListN.{get_elem?}
 use Rattle.atomic_table.specs.Table.{Splits, Joins, State}
 use Rattle.atomic_table.proofs.Lists.{at_set, at_snoc, set_else}
 use Rattle.tickets.specs.declared.rule.Hand.{Hand}
-use Rattle.tickets.specs.Tickets.{times, late, weigh_below, hand, IsHeldView, Dealt, drew, taken_in}
+use Rattle.tickets.specs.Tickets.{times, late, weigh_below, hand, IsHeldView, Dealt, DrawnOnce, drew, taken_in}
 
 -- lists
 
@@ -206,6 +206,15 @@ joins n seats id v other w s d at apart there =
       each = λ i u e. all_set (IsHeldView n word) (set s.views id both) other (hand [] 0 0) (record { spent = omega arith; idle = λ _. refl; seen = omega arith })
           (λ j y t. all_set (IsHeldView n word) s.views id both fits d.each j y t) i u e;
     }
+
+-- each number below the word is in one view, once
+pub drawn_once : DrawnOnce
+drawn_once n seats words views x d =
+    let word = slice_index words 0 in
+    d.once (one_if x)
+    ∙ dite (dec_lt x word)
+    (λ (l : x < word). once_below x word l ∙ sym (ap (λ b. cond b 1 0) (lt-ltb x word l)))
+    (λ l. not_yet x word (omega arith) ∙ sym (ap (λ b. cond b 1 0) (le-ltb x word (omega arith))))
 
 -- who has every share and a number of at least n has each number below n once
 pub gathers : (n seats : ℕ) (words : List ℕ) (views : List Hand) (id : ℕ) (m : Hand) → Dealt n seats words views → get_elem? views id ≡ some m → m.share ≡ seats → 1 ≤ late n m.numbers

@@ -34,6 +34,13 @@ pub record Dealt (n seats : ℕ) (words : List ℕ) (views : List Hand) : Type 0
   pub shares : sum_by (λ v. v.share) views ≡ seats
   pub each : (i : ℕ) (v : Hand) → get_elem? views i ≡ some v → IsHeldView n (slice_index words 0) v
 
+-- by the rule each number below the word is in exactly one view, once, and no other number is in a view
+abbrev pub DrawnOnce : Type 0
+DrawnOnce =
+    (n seats : ℕ) (words : List ℕ) (views : List Hand) (x : ℕ)
+    → Dealt n seats words views
+    → sum_by (λ v. times x v.numbers) views ≡ cond (ltb x (slice_index words 0)) 1 0
+
 -- the view as it is with one number more, after a draw that found it
 abbrev pub drew : Hand → ℕ → Hand
 drew v found = hand (v.numbers ++ found ∷ []) v.share (found + 1)

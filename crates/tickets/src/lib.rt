@@ -2,17 +2,20 @@
 //! [`Ticket`] draws by one `fetch_add`. No call waits.
 //!
 //! The views of all tickets follow one rule (`Dealt` in `specs/Tickets.antt`): together they contain
-//! the numbers below the counter, each once. So gathering all tickets shows that no number below the
-//! count was lost or drawn twice. Read the clause of [`Claims::gather`] first.
+//! the numbers below the counter, each once ([`each_number_is_drawn_once`]). So gathering all tickets
+//! shows that no number below the count was lost or drawn twice. Read the clause of [`Claims::gather`]
+//! first.
 #![tactic(auto)]
 
 ghost use Rattle.std.specs.Prelude.{◌≡◌, ℕ, ◌+◌, ◌<◌, ◌≤◌, ◌^◌, All, IfOk, IfErr, MatchOption, [], length, sum_by};
 ghost use Rattle.tickets.specs.Tickets.{times, hand, fresh_ticket, with_sight, IsOpenTicket, HasEnded, Draws};
 
+mod laws;
 mod rule;
 
 use crate::rule::{Draw, Hand, Limits, Note, Numbers, Opening};
 use atomic_table::{Seat, Table};
+pub use laws::each_number_is_drawn_once;
 use polyline_geometry::List;
 use std::alloc::{AllocError, Global};
 use std::marker::Model;

@@ -80,3 +80,7 @@ merges port v other u a b items views h at two at' = let both : Log = log true t
 
 pub totals : (port : ℕ) (v : Log) → v.puts ≡ true → v.takes ≡ true → Learns Relayed port v (λ items. v.put ≡ v.taken ++ items)
 totals port v a b items views h at = let mine = h.6 port v at in (mine.0 a).1 ∙ h.4 ∙ ap (λ l. l ++ items) (sym (mine.1 b).1)
+
+-- who puts knows what was put: what was taken of it, and then what the queue holds
+pub waits : (port : ℕ) (v : Log) → v.puts ≡ true → Learns Relayed port v (λ items. (taken : List Part) × (v.put ≡ taken ++ items))
+waits port v may items views h at = (h.3, ((h.6 port v at).0 may).1 ∙ h.4)

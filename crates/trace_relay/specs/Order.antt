@@ -55,6 +55,6 @@ MayFollow put (parts.Fault fault) = ⊤
 MayFollow put parts.ReadFailed = ⊤
 MayFollow put parts.NoMemory = ⊤
 
--- at one moment of the call the queue held so many parts
-abbrev pub HeldSome : ℕ → Type 0
-HeldSome n = (items : List Part) × (length items ≡ n)
+-- at one moment of the call the last n of the parts that were put had not been taken
+abbrev pub WereWaiting : ℕ → List Part → Type 0
+WereWaiting n put = (waiting : List Part) × (length waiting ≡ n) × (taken : List Part) × (put ≡ taken ++ waiting)

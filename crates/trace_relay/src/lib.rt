@@ -10,9 +10,9 @@
 //! traces that were put are lawful and no more than a file has, so whoever takes them knows it.
 #![tactic(auto)]
 
-ghost use Rattle.std.specs.Prelude.{◌≡◌, ◌≤◌, ◌++◌, List, IfOk, IfSome, MatchOption, MatchResult};
+ghost use Rattle.std.specs.Prelude.{◌≡◌, ◌≤◌, ◌++◌, List, IfErr, IfOk, IfSome, MatchOption, MatchResult};
 ghost use Rattle.trace_relay.specs.declared.part.Part.{Part as APart};
-ghost use Rattle.trace_relay.specs.Order.{AreBounded, HeldSome, MayFollow, more, no_parts};
+ghost use Rattle.trace_relay.specs.Order.{AreBounded, MayFollow, WereWaiting, more, no_parts};
 
 mod part;
 mod rule;
@@ -115,17 +115,18 @@ impl Relay {
     pub fn try_put<R: Wait>(&self, rt: &R, pass: &mut PutPass, part: Part) -> Result<(), Part>
         requires own { pass.old.relay ≡ self.now.name }
         requires may { MayFollow pass.old.parts part }
-        ensures put { MatchResult result (λ _. pass.new ≡ more pass.old part) (λ back. (back ≡ part) × (pass.new ≡ pass.old) × HeldSome self.now.capacity) }
+        ensures put { MatchResult result (λ _. pass.new ≡ more pass.old part) (λ back. (back ≡ part) × (pass.new ≡ pass.old)) }
+        ensures full { IfErr result (λ _. WereWaiting self.now.capacity pass.old.parts) }
     {
         self.queue.push_as::<Puts, R>(rt, &mut pass.pass, part)?;
         pass.filled.unpark();
         Ok(())
     }
 
-    /// Takes the oldest part. On `None`, the queue was empty at some moment of the call.
+    /// Takes the oldest part. On `None`, the queue was empty at some moment of the call; no clause says so.
     pub fn try_take<R: Wait>(&self, rt: &R, pass: &mut TakePass) -> Option<Part>
         requires { pass.old.relay ≡ self.now.name }
-        ensures taken { MatchOption result ((pass.new ≡ pass.old) × HeldSome 0) (λ part. pass.new ≡ more pass.old part) }
+        ensures taken { MatchOption result (pass.new ≡ pass.old) (λ part. pass.new ≡ more pass.old part) }
         ensures bounded { IfSome result (λ _. AreBounded pass.new.parts) }
     {
         let part = self.queue.pop_as::<Takes, R>(rt, &mut pass.pass)?;

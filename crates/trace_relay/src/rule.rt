@@ -52,7 +52,10 @@ impl Outcome<Part, Log> for Puts {
 }
 
 impl Lesson<Part, Log> for Puts {
-    ghost fact = { λ _ _. Unit {0} };
+    ghost use Rattle.std.specs.Prelude.{◌≡◌, ◌++◌, List};
+    ghost use Rattle.trace_relay.specs.declared.part.Part.{Part as APart};
+
+    ghost fact = { λ v items. (taken : List APart) × (v.put ≡ taken ++ items) };
 }
 
 pub struct Takes;

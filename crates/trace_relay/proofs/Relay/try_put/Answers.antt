@@ -3,11 +3,11 @@ use Rattle.crossbeam_queue.specs.Passes.{view}
 use Rattle.trace_relay.specs.Order.{MayFollow, Parts}
 use Rattle.trace_relay.specs.declared.rule.Log.{Log}
 use Rattle.trace_relay.proofs.Bounded.{bounded_more}
-use Rattle.trace_relay.proofs.Moves.{sends}
+use Rattle.trace_relay.proofs.Moves.{sends, waits}
 use Rattle.trace_relay.proofs.Relay.try_put.Goals as goal
 
 pub push_as-requires-clause-rule : goal.push_as-requires-clause-rule
 push_as-requires-clause-rule g c = (
   sends _ _ _ _ (ap (λ (l : Log). l.puts) c.pass.invariant.1) (bounded_more (view c.pass.inside.pass).put c.args.part (subst (λ (p : Parts). MayFollow p.parts c.args.part) (sym c.pass.view_is) c.requires.may)),
-  λ _ _ _ _. tt,
+  waits _ _ (ap (λ (l : Log). l.puts) c.pass.invariant.1),
 )
