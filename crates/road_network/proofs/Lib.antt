@@ -15,6 +15,7 @@ pub mod Readings
 pub mod Records
 pub mod RowsRead
 pub mod Stored
+pub mod TextRead
 pub mod Travel
 mod KeptNames
 pub mod NearOrder

@@ -13,9 +13,9 @@ use Rattle.csv.specs.declared.parser.State.TheVariants as st
 use Rattle.csv.specs.declared.parser.Terminator.TheVariants as term
 use Rattle.csv.specs.Reading.{Reached, ReadRecord, is_bom, is_flexible, records, strip_bom}
 use Rattle.csv.proofs.ReadFacts.{rows-end, rows-more}
-use Rattle.std.specs.Borrow.{Bor}
+use Rattle.road_network.specs.declared.text.Text.{Text}
 use Rattle.std.specs.Prelude.{unwrap_or}
-use Rattle.road_network.specs.Between.{IsBetween, IsNext, TextReader, records_after, records_left, text_known, text_left}
+use Rattle.road_network.specs.Between.{IsBetween, IsNext, TextReader, records_after, records_left, text_in, text_known, text_left}
 
 abbrev cfg : Config
 cfg = default_config
@@ -153,7 +153,7 @@ known-left : (o : Option (List ℕ)) (z : List ℕ) → o ≡ Some z → o ≡ S
 known-left o z h = rw h refl
 
 pub record IsReadOf (a b : TextReader) (fields : List (List ℕ)) : Type 0 where
-  pub read : ReadRecord (λ s. Some s.now) a b true fields
+  pub read : ReadRecord (λ t. Some (text_in t)) a b true fields
   pub first : b.first ≡ true
   pub flexible : is_flexible b ≡ is_flexible a
 
@@ -164,7 +164,7 @@ joined a b s t x y z first state rest left = rw (first, state, rest, left) refl
 pub read-next : (a b : TextReader) (fields : List (List ℕ)) → IsBetween a → IsReadOf a b fields → IsNext a b fields
 unfolding Reached
 read-next a b fields h r =
-    let rem : Bor (List ℕ) → Option (List ℕ) = λ s. Some s.now in
+    let rem : Text → Option (List ℕ) = λ t. Some (text_in t) in
     let y : List ℕ = text_left a in
     let g = rows-more rem a b fields default_config a.state y y [] h.config h.known (refl, refl) r.read in
     let z : List ℕ = g.0 in
@@ -189,8 +189,8 @@ read-next a b fields h r =
     }
 
 -- a read that found none
-pub read-none : (a b : TextReader) (fields : List (List ℕ)) → IsBetween a → ReadRecord (λ s. Some s.now) a b false fields → records_left a ≡ []
-read-none a b fields h r = records-none a.state (text_left a) (rows-end (λ s. Some s.now) a b fields default_config (text_left a) h.config h.known r)
+pub read-none : (a b : TextReader) (fields : List (List ℕ)) → IsBetween a → ReadRecord (λ t. Some (text_in t)) a b false fields → records_left a ≡ []
+read-none a b fields h r = records-none a.state (text_left a) (rows-end (λ t. Some (text_in t)) a b fields default_config (text_left a) h.config h.known r)
 
 strip-short : (text : List ℕ) → length (strip_bom text) ≤ length text
 unfolding strip_bom

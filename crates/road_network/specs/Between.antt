@@ -1,20 +1,24 @@
 -- A reader of records that stands between two of them.
-use Rattle.std.specs.Prelude.{ℕ, ◌≡◌, ◌+◌, ◌<◌, ◌≤◌, ◌∷◌, false, true, List, [], length, Option, Some, unwrap_or}
-use Rattle.std.specs.Borrow.{Bor}
+use Rattle.std.specs.Prelude.{ℕ, ◌≡◌, ◌+◌, ◌<◌, ◌≤◌, ◌∷◌, false, true, List, [], length, reverse, Option, Some, unwrap_or}
 use Rattle.std.specs.List.{sum_by}
 use Rattle.csv.specs.Machine.{ends_at_end}
 use Rattle.csv.specs.Reading.{Ready, default_config, is_flexible, records_from, source_of}
 use Rattle.csv.specs.declared.parser.State.{State}
 use Rattle.csv.specs.declared.reader.Reader.{Reader}
 use Rattle.csv.specs.declared.reader.Trim.TheVariants as trim
+use Rattle.road_network.specs.declared.text.Text.{Text}
+
+-- the bytes of a text that are still to be read
+abbrev pub text_in : Text → List ℕ
+text_in t = reverse t.reversed.items
 
 -- a reader of a text in memory
 abbrev pub TextReader : Type 0
-TextReader = Reader (Bor (List ℕ))
+TextReader = Reader Text
 
 -- the text that is still to be read, if it is known
 abbrev pub text_known : TextReader → Option (List ℕ)
-text_known r = source_of (λ s. Some s.now) r
+text_known r = source_of (λ t. Some (text_in t)) r
 
 abbrev pub text_left : TextReader → List ℕ
 text_left r = unwrap_or (text_known r) []

@@ -11,12 +11,13 @@ use crate::draft::Draft;
 use crate::fault::NetworkFault;
 use crate::fields::{field_at, read_row};
 use crate::limits::NetworkLimits;
+use crate::text::Text;
 use csv::{ByteRecord, Reader, ReaderBuilder};
 use polyline_geometry::{List, Point};
 use std::alloc::Global;
 
 /// Reads the next record into `row`; false at the end of the file.
-fn read_next(reader: &mut Reader<&[u8]>, row: &mut ByteRecord) -> Result<bool, NetworkFault>
+fn read_next(reader: &mut Reader<Text>, row: &mut ByteRecord) -> Result<bool, NetworkFault>
     requires { IsBetween reader.old }
     ensures next { IfOk result
         (λ found. found ≡ true → IsNext reader.old reader.new (fields_of row.new)) }
@@ -51,7 +52,7 @@ fn add_record(
 fn read_edges(
     alloc: Global,
     limits: NetworkLimits,
-    reader: &mut Reader<&[u8]>,
+    reader: &mut Reader<Text>,
     row: &mut ByteRecord,
 ) -> Result<Network, NetworkFault>
     requires { IsBetween reader.old }
@@ -85,7 +86,7 @@ fn is_header(row: &ByteRecord) -> bool
 fn read_records(
     alloc: Global,
     limits: NetworkLimits,
-    reader: &mut Reader<&[u8]>,
+    reader: &mut Reader<Text>,
     row: &mut ByteRecord,
 ) -> Result<Network, NetworkFault>
     requires { IsBetween reader.old }
@@ -103,8 +104,31 @@ fn read_records(
 }
 
 /// The network of a file within some limits, or its first fault, or `Memory` when out of memory. The
-/// file is read once, a record at a time; only the ids and the points are kept. A file above the
-/// size limit is rejected without allocating.
+/// file is read once, a record at a time; only the ids and the points are kept. The memory of the
+/// text is returned while it is read.
+pub fn read_network_text(
+    alloc: Global,
+    limits: NetworkLimits,
+    text: Vec<u8>,
+) -> Result<Network, NetworkFault>
+    ensures network { IfOk result (λ n. network_of limits text.items ≡ Ok n) }
+    ensures fault { IfErr result
+        (λ e. e ≢ NetworkFault.Memory → network_of limits text.items ≡ Err e) }
+    ensures long { file_limit limits < length text.items → result ≡ Err NetworkFault.FileTooLong }
+{
+    if text.len() as u64 > limits.file_bytes() {
+        return Err(NetworkFault::FileTooLong);
+    }
+    let mut reader = ReaderBuilder::new()
+        .has_headers(false)
+        .flexible(true)
+        .from_reader(alloc, Text::new(text));
+    let mut row = ByteRecord::new(alloc);
+    read_records(alloc, limits, &mut reader, &mut row)
+}
+
+/// As [`read_network_text`], for a copy of the bytes. A file above the size limit is rejected without
+/// allocating.
 pub fn read_network_within(
     alloc: Global,
     limits: NetworkLimits,
@@ -118,12 +142,7 @@ pub fn read_network_within(
     if bytes.len() as u64 > limits.file_bytes() {
         return Err(NetworkFault::FileTooLong);
     }
-    let mut reader = ReaderBuilder::new()
-        .has_headers(false)
-        .flexible(true)
-        .from_reader(alloc, bytes);
-    let mut row = ByteRecord::new(alloc);
-    read_records(alloc, limits, &mut reader, &mut row)
+    read_network_text(alloc, limits, bytes.to_vec(alloc)?)
 }
 
 /// The network of a file within the standard limits; otherwise as [`read_network_within`].

@@ -25,10 +25,11 @@ mod fields;
 mod file;
 mod laws;
 mod limits;
+mod text;
 
 use counting::Adjacency;
 pub use fault::NetworkFault;
-pub use file::{read_network, read_network_within};
+pub use file::{read_network, read_network_text, read_network_within};
 pub use laws::{candidates_are_nearest, candidates_differ, limits_agree};
 pub use limits::{COORDINATE_LIMIT, LENGTH_LIMIT, LINE_POINT_LIMIT, NetworkLimits};
 use polyline_geometry::Point;

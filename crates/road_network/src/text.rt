@@ -1,0 +1,39 @@
+//! The text of a file, whose memory is returned while it is read. Serves `read_network_text`; decided by
+//! `text_in`.
+ghost use Rattle.std.specs.Prelude.{◌≡◌, Some};
+ghost use Rattle.road_network.specs.Between.{text_in};
+
+use std::io::{Read, Result};
+
+/// A text that is read from its start to its end. Its bytes are stored in reverse order, so that the
+/// bytes that were read are at the end and can be cut off.
+#[derive(Drop)]
+pub(crate) struct Text {
+    reversed: Vec<u8>,
+}
+
+impl Text {
+    /// The text of some bytes.
+    pub fn new(bytes: Vec<u8>) -> Text
+        ensures { text_in result ≡ bytes.items }
+    {
+        let mut reversed = bytes;
+        reversed.reverse();
+        Text { reversed }
+    }
+}
+
+impl Read for Text {
+    ghost remaining = { λ t. Some (text_in t) };
+
+    fn read(&mut self, buf: &mut [u8]) -> Result<usize> {
+        let count = buf.len().min(self.reversed.len());
+        let rest = self.reversed.len() - count;
+        let part = &mut buf[..count];
+        part.copy_from_slice(&self.reversed[rest..]);
+        part.reverse();
+        self.reversed.truncate(rest);
+        self.reversed.shrink_to_fit();
+        Ok(count)
+    }
+}
