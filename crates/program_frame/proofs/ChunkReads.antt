@@ -1,5 +1,5 @@
 -- One read of a trace file.
-use Rattle.std.proofs.Common.{◌≡◌, ℕ, ◌+◌, ◌<◌, ◌≤◌, Bool, true, false, List, [], ◌++◌, length, Ok, refl, sym, ◌∙◌, subst, arith, length-append}
+use Rattle.std.proofs.Common.{◌≡◌, ℕ, ◌+◌, ◌<◌, ◌≤◌, Bool, true, false, List, [], ◌++◌, length, Ok, refl, sym, subst, arith, length-append}
 use Rattle.std.specs.declared.option.Option.{Option}
 use Rattle.edge_io.specs.Shelf.{Reads}
 use Rattle.edge_io.specs.State.{ShelfState}

@@ -10,7 +10,7 @@ use crate::stop::{File, Refusal, Stop, refuse};
 use command_line::WordsFault;
 use edge_io::Shelf;
 use polyline_geometry::List;
-use road_network::{Network, NetworkFault, NetworkLimits, read_network_within};
+use road_network::{Network, NetworkFault, NetworkLimits, read_network_text};
 use std::alloc::Global;
 use trace_reader::TraceFault;
 
@@ -66,17 +66,18 @@ fn refuse_network(alloc: Global, fault: NetworkFault) -> Stop
     }
 }
 
-// The network of these bytes, or their refusal.
-fn accept_network(alloc: Global, limits: NetworkLimits, bytes: &[u8]) -> Result<Network, Stop>
-    ensures { Accepts Refusal.Network (network_said limits bytes.now) result }
+// The network of a text, or its refusal.
+fn accept_network(alloc: Global, limits: NetworkLimits, text: Vec<u8>) -> Result<Network, Stop>
+    ensures { Accepts Refusal.Network (network_said limits text.items) result }
 {
-    match read_network_within(alloc, limits, bytes) {
+    match read_network_text(alloc, limits, text) {
         Ok(network) => Ok(network),
         Err(fault) => Err(refuse_network(alloc, fault)),
     }
 }
 
-/// Reads the network, and accepts or refuses it.
+/// Reads the network, and accepts or refuses it. The memory of the file's text is returned while its
+/// records are read.
 pub fn load_network<S: Shelf>(
     alloc: Global,
     shelf: &mut S,
@@ -87,5 +88,5 @@ pub fn load_network<S: Shelf>(
 {
     let limit = file.limits.file_bytes();
     let bytes = read_file(alloc, shelf, File::Network, file.name, limit)?;
-    accept_network(alloc, file.limits, &bytes)
+    accept_network(alloc, file.limits, bytes)
 }

@@ -1,6 +1,6 @@
 -- A text from whose end bytes are cut off.
-use Rattle.std.proofs.Common.{◌≡◌, ℕ, ◌-◌, ◌≤◌, ◌++◌, List, [], ◌∷◌, refl, sym, ap, ◌∙◌, arith, length, take, drop, reverse, length-append}
-use Rattle.std.proofs.lemmas.List.{length-take, reverse-append, take-append-drop, take-append-le}
+use Rattle.std.proofs.Common.{◌≡◌, ℕ, ◌++◌, List, [], ◌∷◌, refl, sym, ap, ◌∙◌, arith, length, take, drop, reverse}
+use Rattle.std.proofs.lemmas.List.{reverse-append, take-append-drop, take-append-le}
 use Rattle.std.proofs.Math.Seq.{take-length}
 
 -- the part that is read, and the rest

@@ -1,3 +1,4 @@
+use Rattle.std.proofs.Common.{refl}
 use Rattle.std.proofs.lemmas.Result.{err_from_is_err_and}
 use Rattle.program_frame.proofs.Stages.{load_taken, load_unread}
 use Rattle.program_frame.specs.declared.stop.File.TheVariants.{Network}
@@ -11,4 +12,4 @@ returns-in_err-bytes g c =
 
 pub returns : goal.returns
 returns g c =
-    load_taken refusals.Network Network c.args.file.name.now _ _ _ _ c.in_ok-bytes.bytes.items c.deref.result.now c.accept_network.result (rw c.file_bytes-limit.ensures at c.in_ok-bytes.ensures.ok) c.deref.ensures.value c.accept_network.ensures
+    load_taken refusals.Network Network c.args.file.name.now _ _ _ _ c.in_ok-bytes.bytes.items c.in_ok-bytes.bytes.items c.accept_network.result (rw c.file_bytes-limit.ensures at c.in_ok-bytes.ensures.ok) refl c.accept_network.ensures
