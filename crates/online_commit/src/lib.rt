@@ -9,7 +9,7 @@
 //! A session keeps the points of the open piece, and for each of them a set of ranks: those that
 //! the best sequences to the live ranks of the last point have there. A point is committed when
 //! that set has one rank. A new point changes the sets from the last one back to the first one that
-//! stays the same. Each set only loses ranks, so all points together take at most 33 steps a point.
+//! stays the same. No clause bounds how many sets change.
 //!
 //! Read first: `handed` in `specs/Items.antt`, `StandsFor` and `IsFed` in `specs/Session.antt`.
 #![tactic(auto)]
