@@ -108,6 +108,8 @@ impl FoundEntries {
     }
 
     /// Removes the labels of the eight nodes from `first` on, and appends their entries.
+    // Not inlined, so that the loop over the marks, most of which are not set, stays short.
+    #[inline(never)]
     pub fn take_nodes(
         &mut self,
         words: &mut [u64],

@@ -202,6 +202,10 @@ one_row (Some x) (Some y) h k l = ap Some h
 pub known_here : (o : Option TableRow) (ps : List (Option TableRow)) (n : ℕ) → slice_get ps n ≡ Some o → (row : TableRow) × (slice_get ps n ≡ Some (Some row)) → (r : TableRow) × (o ≡ Some r)
 known_here o ps n e k = let a : Some o ≡ Some (Some k.0) = sym e ∙ k.1 in (k.0, cc)
 
+-- and it is the row that is known
+pub known_as : (o : Option TableRow) (ps : List (Option TableRow)) (n : ℕ) (row : TableRow) → slice_get ps n ≡ Some o → slice_get ps n ≡ Some (Some row) → o ≡ Some row
+known_as o ps n row e k = let a : Some o ≡ Some (Some row) = sym e ∙ k in cc
+
 pub some_is : (o : Option TableRow) (r : TableRow) → o ≡ Some r → IsSome o
 some_is None r e = absurd (cc)
 some_is (Some x) r e = refl

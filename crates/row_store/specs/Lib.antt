@@ -2,3 +2,4 @@ pub mod Store
 pub mod Places
 pub mod Sights
 pub mod ReaderInside
+pub mod Lenders

@@ -4,7 +4,7 @@ use Rattle.std.specs.List.{list_any, range_with_len}
 use Rattle.road_network.specs.Net.{Net}
 use Rattle.bounded_search.specs.Known.{known_nodes}
 use Rattle.bounded_search.specs.Rows.{RowsState}
-use Rattle.bounded_search.specs.Table.{TableRow}
+use Rattle.bounded_search.specs.Table.{TableRow, IsRow}
 
 -- a store: the network and the bound of its rows, and the names of its cells, one for each node
 pub record Stored : Type 0 where
@@ -23,6 +23,10 @@ knows r v = is_some (slice_index_or r.places v None)
 
 abbrev pub IsKnown : Reading → ℕ → Type 0
 IsKnown r v = (row : TableRow) × (slice_get r.places v ≡ Some (Some row))
+
+-- the row that it knows for node v is the row of v
+abbrev pub KnowsRow : Reading → ℕ → Type 0
+KnowsRow r v = (row : TableRow) × (slice_get r.places v ≡ Some (Some row)) × IsRow r.store.network r.store.bound v row
 
 -- the reader is of the same store, and knows this row for node v, and else what it knew
 pub record Sees (before : Reading) (v : ℕ) (row : TableRow) (after : Reading) : Type 0 where

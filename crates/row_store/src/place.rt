@@ -1,5 +1,5 @@
 //! What a reader stores for one node. Serves `Reader`; decided by `Fits`.
-ghost use Rattle.std.specs.Prelude.{◌≡◌, ℕ, ◌<◌, slice_index, ◌⊎◌, OnErr, OnOk, IfSome, IsTrue, Some, None, IsSome, length};
+ghost use Rattle.std.specs.Prelude.{◌≡◌, ℕ, ◌<◌, slice_index, ◌⊎◌, OnErr, OnOk, IfSome, IsOk, IsTrue, Some, None, IsSome, length};
 ghost use Rattle.road_network.specs.Net.{Net};
 ghost use Rattle.once_cell.specs.Once.{cell_name, Agrees};
 ghost use Rattle.bounded_search.specs.Table.{IsRow};
@@ -136,6 +136,8 @@ impl<'s> Place<'s> {
         ensures place { IsPlaceOf store.now n.0 searcher.new self.new }
         ensures same { self.new.note.known ≡ self.old.note.known }
         ensures ready { OnOk result (IsReady self.new) }
+        ensures again { IfSome self.old.note.known
+            (λ row. IsRow store.now.network store.now.bound n.0 row → IsOk result) }
     {
         if !self.right && self.own.is_none() {
             let row = Box::new(store.alloc, searcher.row(n)?)?;

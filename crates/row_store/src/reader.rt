@@ -1,8 +1,12 @@
 //! What one thread knows of a store. Serves `Reader`; decided by `Reading`.
 ghost use Rattle.std.specs.Prelude.{◌≡◌, ◌<◌, ◌↔◌, ◌⊎◌, IfOk, IsTrue, IsOk, OnOk, OnErr, length, replicate, slice_get, Some, None};
+ghost use Rattle.std.specs.Borrow.{sem};
+ghost use Rattle.std.specs.Io.BufRead.{Rests};
 ghost use Rattle.road_network.specs.Net.{HasNode};
+ghost use Rattle.bounded_search.specs.Rows.{AsksFor};
 ghost use Rattle.bounded_search.specs.Table.{TableRow, IsRow};
-ghost use Rattle.row_store.specs.Store.{IsKnown, Sees, knows, rows_state};
+ghost use Rattle.row_store.specs.Lenders.{reader_type};
+ghost use Rattle.row_store.specs.Store.{IsKnown, KnowsRow, Sees, knows, rows_state};
 ghost use Rattle.row_store.specs.Sights.{row_seen, IsTable};
 
 use crate::accepted::Accepted;
@@ -254,8 +258,15 @@ pub fn agree<'s>(a: &mut Reader<'s>, b: &mut Reader<'s>, n: NodeId) -> &'s Row
 impl<'s> Rows for Reader<'s> {
     ghost state = { λ r. rows_state r };
 
-    /// If the cell contains another row, the reader makes the row of n for itself, and keeps it.
-    fn row(&mut self, n: NodeId) -> Result<&Row, AllocError> {
+    /// If the cell contains another row, the reader makes the row of n for itself, and keeps it. At a node
+    /// whose row is known, nothing is allocated.
+    fn row(&mut self, n: NodeId) -> Result<&Row, AllocError>
+        requires { HasNode self.old.store.network n.0 }
+        ensures value { IfOk result (λ row. IsRow self.old.store.network self.old.store.bound n.0 row.now) }
+        ensures again { KnowsRow self.old n.0 → IsOk result }
+        ensures* after { sem 𝓛 (Rests reader_type self.entry
+            (λ new. AsksFor (rows_state self.old) (λ v. v ≡ n.0) result (rows_state new))) }
+    {
         self.settle(n)?;
         let store = self.store;
         let at = n.0 as usize;

@@ -1,11 +1,11 @@
-use Rattle.std.proofs.Common.{ℕ, ◌≡◌, length, ◌<◌, ◌∙◌, refl, sym, ap, subst, length-set}
+use Rattle.std.proofs.Common.{ℕ, ◌≡◌, length, ◌<◌, ◌∙◌, refl, sym, ap, subst, length-set, true≢false}
 use Rattle.bounded_search.specs.Rows.{AsksAll}
-use Rattle.bounded_search.specs.Table.{IsRow}
+use Rattle.bounded_search.specs.Table.{IsRow, TableRow}
 use Rattle.bounded_search.proofs.Asking.{asks_done, asks_err}
 use Rattle.row_store.specs.Store.{Stored, Reading, rows_state}
 use Rattle.row_store.specs.declared.place.Place.{Place}
 use Rattle.std.proofs.lemmas.Result.{IfOk-from_err}
-use Rattle.row_store.proofs.Places.{sees_asks, some_is, read_back, within, all_fit, fits_at, same_reading, known_there, known_here}
+use Rattle.row_store.proofs.Places.{sees_asks, some_is, read_back, within, all_fit, fits_at, same_reading, known_there, known_here, known_as}
 use Rattle.row_store.proofs.reader.ReaderRows.row.Goals as goal
 
 pub make_own-requires : goal.make_own-requires
@@ -51,7 +51,19 @@ returns-in_err-make_own c =
     let same = same_reading c.settle.new.self _ _ n _ _ c.self.view_is (within _ _ _ n c.self.view_is i.places_count here) c.index_mut.ensures.value c.make_own.ensures.same in
     let asks = subst (λ (y : Reading). AsksAll (rows_state c.args.self.now) (rows_state y) (λ v. v ≡ n)) (sym same) (sees_asks c.args.self.now n s.0 c.settle.new.self s.1) in (
       (refl, λ _. tt, asks_err asks.only c.from_residual-in_err-make_own.ensures.0),
-      record { value = IfOk-from_err _ _ c.from_residual-in_err-make_own.ensures.0; after = tt },
+      record {
+        value = IfOk-from_err _ _ c.from_residual-in_err-make_own.ensures.0;
+        again = λ known.
+            let h = within _ _ _ n c.self.view_is i.places_count here in
+            let there = known_there c.settle.new.self _ _ n _ c.self.view_is h c.index_mut.ensures.value in
+            let some = known_as _ c.settle.new.self.places n s.0 there s.1.known in
+            let is = subst (λ (y : TableRow). IsRow c.args.self.now.store.network c.args.self.now.store.bound n y) (sym (s.1.stays known.0 known.1)) known.2 in
+            let store = ap (λ (y : Reading). y.store) c.self.view_is ∙ s.1.store in
+            let row = subst (λ (y : Stored). IsRow y.network y.bound n s.0) (sym store) is in
+            let again = rw some at c.in_err-make_own.ensures.again in
+            absurd (true≢false (sym (again row)));
+        after = tt;
+      },
     )
 
 pub lend-requires-clause-known : goal.lend-requires-clause-known
@@ -75,5 +87,5 @@ returns c =
     let same = same_reading c.settle.new.self _ _ n _ _ c.self.view_is (within _ _ _ n c.self.view_is i.places_count here) c.index_mut.ensures.value c.make_own.ensures.same in
     let asks = subst (λ (y : Reading). AsksAll (rows_state c.args.self.now) (rows_state y) (λ v. v ≡ n)) (sym same) (sees_asks c.args.self.now n s.0 c.settle.new.self s.1) in (
       (refl, λ _. tt, asks_done asks),
-      record { value = subst (λ (y : Stored). IsRow y.network y.bound n c.lend.result.now) (ap (λ (y : Reading). y.store) same ∙ s.1.store) c.lend.ensures; after = tt },
+      record { value = subst (λ (y : Stored). IsRow y.network y.bound n c.lend.result.now) (ap (λ (y : Reading). y.store) same ∙ s.1.store) c.lend.ensures; again = λ known. refl; after = tt },
     )
