@@ -17,6 +17,7 @@ use crate::entries::Layout;
 use crate::extent::Extent;
 use crate::nearest_cell::{cell_distance2, distance2_in_cell};
 use crate::runs::Run;
+use crate::size::{room_for, runs_expected, width_bits_for};
 use crate::table::Table;
 use polyline_geometry::{List, Point};
 use road_network::{EdgeId, Network};
@@ -55,30 +56,6 @@ impl<'n> Model for Grid<'n> {
     ghost invariant = { IsKept };
 }
 
-/// About how many runs the lines of a network have: one for each edge, and one for each 16 points.
-/// Twins have the same runs, so on two-way streets there are half as many.
-fn runs_expected(net: &Network) -> usize {
-    let mut runs = 0_usize;
-    for number in 0..net.edge_count() {
-        let points = net.line(EdgeId(number)).len();
-        runs = runs.saturating_add(points / 16).saturating_add(1);
-    }
-    runs
-}
-
-/// The number of slots in a row of the table, as a power of 2, so that there are about as many slots
-/// as runs.
-fn width_bits_for(net: &Network) -> u32
-    ensures { result ≤ 11 }
-{
-    (runs_expected(net) / 2)
-        .isqrt()
-        .clamp(1, 1_024)
-        .ilog2()
-        .min(10)
-        + 1
-}
-
 /// The edges in a list, each once and by ascending number.
 fn in_order(mut edges: Vec<EdgeId>) -> Vec<EdgeId>
     ensures rising { AreRising result.items }
@@ -112,11 +89,13 @@ impl<'n> Grid<'n> {
         ensures network { IfOk result (λ grid. grid.net ≡ net.now) }
         ensures side { IfOk result (λ grid. grid.side ≡ side) }
     {
-        let width_bits = width_bits_for(net);
+        let runs = runs_expected(net);
+        let width_bits = width_bits_for(runs);
         let layout = Layout {
             side,
             width: 1 << width_bits,
             width_bits,
+            room: room_for(runs),
         };
         let table = Table::of(alloc, net, layout)?;
         let extent = Extent::of(net);

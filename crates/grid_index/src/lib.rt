@@ -1,9 +1,10 @@
 //! A grid over the segments of a network. It finds the edges near a point without a scan of all edges.
 //!
 //! [`Grid::build`] cuts each line into runs of at most 16 segments, divides the plane into square cells
-//! and enters each run at every cell that its box meets; runs whose box meets more than 64 cells are
-//! in a separate list. If two edges have the same line in opposite directions, as on a two-way street,
-//! the runs of the first serve both.
+//! and enters each run at every cell that its box meets. Runs whose box meets too many cells are in a
+//! separate list: more than 64 on maps of up to a million runs, and mostly more than 4,096 on larger
+//! ones. If two edges have the same line in opposite directions, as on a two-way street, the runs of the
+//! first serve both.
 //!
 //! [`Grid::near`] returns the edges near a point, and [`Grid::is_far`] shows that a point is far from
 //! the whole network. Callers that visit the cells themselves use [`Grid::cells_near`],
@@ -23,6 +24,7 @@ mod extent;
 mod grid;
 mod nearest_cell;
 mod runs;
+mod size;
 mod starts;
 mod table;
 mod twins;
