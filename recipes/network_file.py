@@ -36,7 +36,7 @@ class NetworkFile:
         print("network: " + ", ".join(f"{n} {what}" for what, n in counts.items()), file=sys.stderr)
         for what, limit in LIMITS.items():
             if counts[what] > limit:
-                print(f"warning: fmm takes at most {limit} {what}; use fmm_large, cut the map or take fewer classes", file=sys.stderr)
+                print(f"warning: fmm takes at most {limit} {what}; use fmm_large, or cut the map", file=sys.stderr)
 
 
 if __name__ == "__main__":
