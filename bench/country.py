@@ -50,8 +50,13 @@ class Roads:
     def write(self, path):
         with open(path, "w") as f:
             f.write("edge,from,to,line\n")
-            for number, (a, b, line, _) in enumerate(self.edges):
-                f.write(f"{number + 1},{a},{b}," + ";".join(f"{round(100 * x)} {round(100 * y)}" for x, y in line) + "\n")
+            write_records(f, self.edges, 1)
+
+
+def write_records(file, edges, first):
+    """The records of edges, whose ids count from the first."""
+    for number, (a, b, line, _) in enumerate(edges, first):
+        file.write(f"{number},{a},{b}," + ";".join(f"{round(100 * x)} {round(100 * y)}" for x, y in line) + "\n")
 
 
 # ---- the network
@@ -151,23 +156,37 @@ def build(rng, paths=True):
 
 # ---- the drives
 
+def lengths_of(edges):
+    """For each edge how far each of its points is from its start."""
+    lengths = []
+    for _, _, line, _ in edges:
+        so_far = [0.0]
+        for p, q in zip(line, line[1:]):
+            so_far.append(so_far[-1] + math.dist(p, q))
+        lengths.append(so_far)
+    return lengths
+
+
 class Drivers:
     """Drive from one goal to the next by the quickest way, and stop now and then at a crossing."""
 
     def __init__(self, roads, nodes, goals):
         self.rng, self.edges = roads.rng, roads.edges
-        self.lengths = []
-        entering = {}
-        for number, (_, b, line, speed) in enumerate(self.edges):
-            so_far = [0.0]
-            for p, q in zip(line, line[1:]):
-                so_far.append(so_far[-1] + math.dist(p, q))
-            self.lengths.append(so_far)
-            entering.setdefault(b, []).append((number, so_far[-1] / speed))
-        self.goals = [(g, self.ways_to(g, entering)) for g in self.rng.sample(nodes, goals)]
+        self.lengths = lengths_of(self.edges)
+        self.set_goals(self.rng.sample(nodes, goals), nodes, self.edges_to())
+
+    def edges_to(self):
+        """For each node the edges that lead to it: number, node where it begins, usual seconds."""
+        edges_to = {}
+        for number, ((a, b, _, speed), so_far) in enumerate(zip(self.edges, self.lengths)):
+            edges_to.setdefault(b, []).append((number, a, so_far[-1] / speed))
+        return edges_to
+
+    def set_goals(self, goals, nodes, edges_to):
+        self.goals = [(g, self.ways_to(g, edges_to)) for g in goals]
         self.starts = [n for n in nodes if n in self.goals[0][1]]
 
-    def ways_to(self, goal, entering):
+    def ways_to(self, goal, edges_to):
         """The edge by which the quickest way to the goal leaves each node."""
         ways, done, heap = {}, set(), [(0.0, goal, -1)]
         while heap:
@@ -176,8 +195,8 @@ class Drivers:
                 continue
             done.add(node)
             ways[node] = edge
-            for number, more in entering.get(node, ()):
-                heapq.heappush(heap, (seconds + more, self.edges[number][0], number))
+            for number, start, more in edges_to.get(node, ()):
+                heapq.heappush(heap, (seconds + more, start, number))
         return ways
 
     def drive(self, seconds):

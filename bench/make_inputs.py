@@ -1,5 +1,5 @@
 #!/usr/bin/env python3
-"""make_inputs.py FOLDER: writes the inputs of the benchmarks, the same at each run.
+"""make_inputs.py FOLDER [--large]: writes the inputs of the benchmarks, the same at each run.
 
   town-net.csv, town-traces.csv         a square grid of 100 x 100 nodes, and 2,000 traces of 20 points
   city-net.csv, city-traces.csv         about 50,000 nodes and 140,000 edges (curved lines of 3 to 6 points, one-way streets,
@@ -13,12 +13,18 @@
   ids-half.csv, ids-whole.csv           50,000, and 100,000, traces of one point beside one of the two roads
   roads-net.csv                         two roads of 1,000 km, 4 m apart, that never meet
   roads-half.csv, roads-whole.csv       a trace of 50,000 points between them, and one of 100,000
+
+With --large it writes only these two, for a program with large limits:
+
+  large-net.csv, large-traces.csv       271,168 nodes and 888,896 edges (sixteen copies of the country in a square, joined by
+                                        roads), and 1,600,000 points: 4,160 traces in one country each, 208 across several
 """
 import math
 import os
 import random
 import sys
 
+import countries
 import country
 
 
@@ -266,6 +272,9 @@ def two_roads(folder):
 def main():
     folder = sys.argv[1]
     os.makedirs(folder, exist_ok=True)
+    if sys.argv[2:] == ["--large"]:
+        countries.write_large(folder)
+        return
     town_network(os.path.join(folder, "town-net.csv"), 100)
     town_traces(os.path.join(folder, "town-traces.csv"), 100, 2000, 1)
     city(folder)

@@ -3,10 +3,14 @@
 that make_inputs.py wrote to FOLDER.
 
 Each row is one job of one program: seconds and processor seconds (the least of R runs; the second is steadier on a busy
-machine), points a second and a processor second (edges for `load network`), peak memory in MB (the greatest of the runs), and
-the ratios of processor seconds and memory to the first program. `same` says that output, error output and exit status are
-those of the first program. The programs run in turn, so that a slow minute meets them all. The live program does the jobs of
-`follow` alone.
+machine), points a second and a processor second (edges for the jobs that load a network), peak memory in MB (the greatest of
+the runs), for the jobs that load a network also in bytes for each edge, and the ratios of processor seconds and memory to the
+first program. `same` says that output, error output and exit status are those of the first program. The programs run in turn, so
+that a slow minute meets them all. The live program does the jobs of `follow` alone.
+
+The jobs `load large`, `match large` and `country large` run only if they are named. They need programs with large limits, and the
+files of `make_inputs.py FOLDER --large`. `country large` matches the traces of `match country` on the large map: without the
+seconds of `load large` and `load country` the two should take as long.
 """
 import argparse
 import hashlib
@@ -21,6 +25,7 @@ HALF_MORE = ["--bound", "150000"]
 JOBS = [
     # name, file whose lines are counted, words
     ("load network", "city-net.csv", ["match", "city-net.csv", "no-traces.csv", *ONE_WORKER]),
+    ("load country", "country-net.csv", ["match", "country-net.csv", "no-traces.csv", *ONE_WORKER]),
     ("read points", "city-points.csv", ["match", "far-net.csv", "city-points.csv", *ONE_WORKER]),
     ("match points", "city-points.csv", ["match", "city-net.csv", "city-points.csv", *ONE_WORKER]),
     ("match apart", "city-traces.csv", ["match", "city-net.csv", "city-traces.csv", "--gap", "0", *ONE_WORKER]),
@@ -45,6 +50,13 @@ JOBS = [
     ("prove small", "city-small-traces.csv", ["prove", "city-net.csv", "city-small-traces.csv", *HALF_MORE]),
     ("check small", "city-small-traces.csv",
      ["check", "city-net.csv", "city-small-traces.csv", "city-proofs.txt", *HALF_MORE]),
+]
+
+# Jobs that run only if they are named.
+LARGE = [
+    ("load large", "large-net.csv", ["match", "large-net.csv", "no-traces.csv", *ONE_WORKER]),
+    ("match large", "large-traces.csv", ["match", "large-net.csv", "large-traces.csv", *ONE_WORKER]),
+    ("country large", "country-traces.csv", ["match", "large-net.csv", "country-traces.csv", *ONE_WORKER]),
 ]
 
 # Files that the first program writes for the jobs that read one.
@@ -117,10 +129,8 @@ def main():
         if not wanted or job in wanted:
             write_file(programs[0], folder, name, words)
     print(f"{'job':14} {'program':18} {'seconds':>8} {'per s':>9} {'cpu s':>8} {'ratio':>6} {'per cpu s':>10} "
-          f"{'peak MB':>8} {'ratio':>6}  answer")
-    for name, counted, words in JOBS:
-        if wanted and name not in wanted:
-            continue
+          f"{'peak MB':>8} {'B/edge':>7} {'ratio':>6}  answer")
+    for name, counted, words in [job for job in JOBS + LARGE if job[0] in wanted] if wanted else JOBS:
         count = lines_of(os.path.join(folder, counted))
         able = [(place, program) for place, program in enumerate(programs, 1) if not is_live(program) or words[0] == "follow"]
         measured = measure([program for _, program in able], words, folder, args.repeat)
@@ -129,8 +139,9 @@ def main():
             first = first or (cpu, peak, digest)
             answer = ("" if status == 0 else f"status {status} ") + ("same" if digest == first[2] else "another answer")
             label = f"{place} {os.path.basename(program[-1])[-16:]}"
+            each = f"{peak / count:.0f}" if name.startswith("load") else ""
             print(f"{name:14} {label:18} {seconds:8.2f} {count / max(seconds, 1e-9):9.0f} {cpu:8.2f} "
-                  f"{cpu / max(first[0], 1e-9):6.2f} {count / max(cpu, 1e-9):10.0f} {peak / 1e6:8.1f} "
+                  f"{cpu / max(first[0], 1e-9):6.2f} {count / max(cpu, 1e-9):10.0f} {peak / 1e6:8.1f} {each:>7} "
                   f"{peak / first[1]:6.2f}  {answer}", flush=True)
 
 

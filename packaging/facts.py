@@ -122,10 +122,9 @@ def commands(top):
 
     forms = {}
     for path in sorted(os.listdir(os.path.join(source, "works"))):
-        form = re.search(r'FORM: Form = Form \{\s*name: "(\w+)",\s*options: &\[(.*?)\],\s*arguments: &\[(.*?)\],',
-                         read(source, "works", path), re.S)
-        if form:
-            forms[form[1]] = names(form[2]), names(form[3])
+        found_here = re.findall(r'const \w+: Form = Form \{\s*name: "(\w+)",\s*options: &\[(.*?)\],\s*arguments: &\[(.*?)\],',
+                                read(source, "works", path), re.S)
+        forms.update((name, (names(options), names(arguments))) for name, options, arguments in found_here)
     if len(forms) != count:
         raise Wrong(f"packaging/facts.py finds {len(forms)} of {count} commands in {source}/works")
     answer = []

@@ -2,8 +2,8 @@
 """fleet.py NETWORK TRACES --into FOLDER [OPTION ..] [-- OPTIONS OF FMM]
 
 Matches a fleet in groups, on one machine or a cluster. The traces are grouped by place, so that the rows of each group fit in the
-memory of a job. Each group is matched by `fmm match`. FOLDER/match.txt gets the text of one run, whose total line ends before the
-rows. The same command again does only what is missing. All machines need the same paths.
+memory of a job. Each group is matched by `fmm_large match`. FOLDER/match.txt gets the text of one run, whose total line ends before
+the rows. The same command again does only what is missing. All machines need the same paths.
 
 --jobs N       jobs at the same time. Default: the processors of this machine, but with `local` only as many as free memory allows
 --memory MB    memory of a job. Default: 2000
@@ -13,7 +13,7 @@ rows. The same command again does only what is missing. All machines need the sa
                dask: the cluster of DASK_SCHEDULER_ADDRESS, or a new one on this machine
                none: only groups and joins; each group is matched by `fleet.py --task FOLDER GROUP`
                Default: local
---program FMM  the program. Default: fmm beside the folder of this script, or else on the path
+--program FMM  the program. Default: fmm_large beside the folder of this script, or else on the path
 
 Example: fleet.py network.csv traces.csv --into matched --jobs 8 -- --back 2000
 """

@@ -31,12 +31,12 @@ class NetworkFile:
         self.rows.writerow([self.edges, direction, *about])
 
     def report(self):
-        """Shows the size of the network, and warns if fmm will refuse it."""
+        """Shows the size of the network, and warns if only fmm_large takes it."""
         counts = {"edges": self.edges, "nodes": len(self.nodes), "points": self.points}
         print("network: " + ", ".join(f"{n} {what}" for what, n in counts.items()), file=sys.stderr)
         for what, limit in LIMITS.items():
             if counts[what] > limit:
-                print(f"warning: fmm takes at most {limit} {what}; cut the map or take fewer classes", file=sys.stderr)
+                print(f"warning: fmm takes at most {limit} {what}; use fmm_large, or cut the map", file=sys.stderr)
 
 
 if __name__ == "__main__":

@@ -59,9 +59,9 @@ def find_program(script, name):
     if name:
         found = shutil.which(name)
     else:
-        found = shutil.which(os.path.join(here, "fmm")) or shutil.which("fmm")
+        found = shutil.which(os.path.join(here, "fmm_large")) or shutil.which("fmm_large")
     if not found:
-        raise Refused(f"there is no program {name}" if name else "there is no program fmm: name it by --program")
+        raise Refused(f"there is no program {name}" if name else "there is no program fmm_large: name one by --program")
     return os.path.abspath(found)
 
 
@@ -79,7 +79,7 @@ def fmm_options(words):
 
 def probe(program, network, words):
     """Runs the program without traces: it says whether the options and the network are right. Returns the path of what runs in the
-    end, since `fmm` may be a script, and the memory of a run without rows."""
+    end, since the program may be a script, and the memory of a run without rows."""
     with tempfile.TemporaryDirectory() as folder:
         pipe, errors = os.path.join(folder, "traces"), os.path.join(folder, "errors")
         os.mkfifo(pipe)

@@ -1,4 +1,4 @@
-"""The parts: FOLDER/parts/NUMBER.txt has the text of `fmm match` for a group, and last a line that says what the part is.
+"""The parts: FOLDER/parts/NUMBER.txt has the text of `fmm_large match` for a group, and last a line that says what the part is.
 
     part NUMBER run RUN traces T points P pieces C bytes B sha256 SUM
 

@@ -1,6 +1,7 @@
 """What the tests of fleet.py share: inputs, calls, and checks that are counted."""
 import concurrent.futures
 import os
+import random
 import shutil
 import subprocess
 import sys
@@ -31,53 +32,42 @@ def run_all(tests):
 
 # ---- inputs
 
-class Draw:
-    """A linear congruential generator."""
-
-    def __init__(self, seed):
-        self.state = seed
-
-    def below(self, m):
-        self.state = (self.state * 6364136223846793005 + 1442695040888963407) % 2 ** 64
-        return (self.state >> 33) % m
-
-
 SIDE = 40
 
 
-def make_network(path, draw):
-    places = {(r, c): (10000 * c + draw.below(2001) - 1000, 10000 * r + draw.below(2001) - 1000)
+def make_network(path, below):
+    places = {(r, c): (10000 * c + below(2001) - 1000, 10000 * r + below(2001) - 1000)
               for r in range(SIDE) for c in range(SIDE)}
     with open(path, "w") as file:
         file.write("edge,from,to,line\n")
         edge = 7
         for (r, c), (x, y) in places.items():
             for other in ((r, c + 1), (r + 1, c)):
-                if other not in places or draw.below(12) == 0:
+                if other not in places or below(12) == 0:
                     continue
                 x2, y2 = places[other]
-                middle = f"{(x + x2) // 2 + draw.below(501)} {(y + y2) // 2 + draw.below(501)}"
+                middle = f"{(x + x2) // 2 + below(501)} {(y + y2) // 2 + below(501)}"
                 a, b = 3 * (r * SIDE + c), 3 * (other[0] * SIDE + other[1])
                 file.write(f"{edge},{a},{b},{x} {y};{middle};{x2} {y2}\n")
                 file.write(f'{edge + 5},{b},{a},"{x2} {y2} ; {middle} ; {x} {y}"\r\n')
                 edge += 11
 
 
-def make_traces(path, draw):
+def make_traces(path, below):
     """Drives over the town. Two vehicles, far apart, alternate first, so that an id comes again in a group at once; other ids come
     again too. Some lines are blank, have spaces, leading zeros or CR LF; some positions are far from every road."""
     with open(path, "w", newline="") as file:
         file.write("trace,x,y,time\n\n")
         for drive in range(90):
             trace = drive % 2 + 1 if drive < 8 else 100 + drive % 37
-            r, c = (1 + 30 * (drive % 2),) * 2 if drive < 8 else (draw.below(SIDE), draw.below(SIDE))
+            r, c = (1 + 30 * (drive % 2),) * 2 if drive < 8 else (below(SIDE), below(SIDE))
             clock = 1000 * drive
             for step in range(12):
-                down, right = ((0, 1), (1, 0), (0, -1), (-1, 0))[draw.below(4)]
+                down, right = ((0, 1), (1, 0), (0, -1), (-1, 0))[below(4)]
                 if not (0 <= r + down < SIDE and 0 <= c + right < SIDE):
                     down, right = -down, -right
-                x = 10000 * c + 5000 * right + draw.below(1601) - 800
-                y = 10000 * r + 5000 * down + draw.below(1601) - 800
+                x = 10000 * c + 5000 * right + below(1601) - 800
+                y = 10000 * r + 5000 * down + below(1601) - 800
                 if drive % 9 == 4 and step == 5:
                     x -= 3_000_000
                 clock += 700 if drive % 7 == 3 and step == 6 else 12
@@ -96,9 +86,9 @@ class Place:
     def __init__(self, folder, program):
         self.folder, self.program = folder, program
         self.network, self.traces = self.path("network.csv"), self.path("traces.csv")
-        draw = Draw(43)
-        make_network(self.network, draw)
-        make_traces(self.traces, draw)
+        below = random.Random(43).randrange
+        make_network(self.network, below)
+        make_traces(self.traces, below)
         self.options = ["--gap", "300"]
         self.wanted = self.one_run(self.network, self.traces, self.options)
 
