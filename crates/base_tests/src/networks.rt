@@ -1,6 +1,9 @@
 //! Networks, and the faults of their files.
 use polyline_geometry::{List, Point};
-use road_network::{Arc, EdgeId, NetworkFault, NetworkLimits, NodeId, read_network};
+use road_network::{
+    Arc, EdgeId, NetworkFault, NetworkLimits, NodeId, read_network, read_network_text,
+    read_network_within,
+};
 use std::alloc::Global;
 use std::test::Fail;
 
@@ -35,6 +38,19 @@ fn a_network_has_its_edges(rt: HostRuntime) -> Result<(), Fail> {
     let line = [Point { x: 10_000, y: 0 }, Point { x: 20_000, y: 0 }];
     assert_eq!(rt; net.line(EdgeId(1)), line.as_slice());
     assert_eq!(rt; net.offsets(EdgeId(1)), [0, 10_000].as_slice());
+    Ok(())
+}
+
+#[test]
+fn the_same_network_within_the_large_limits(rt: HostRuntime) -> Result<(), Fail> {
+    let lent = read_network_within(rt.alloc(), NetworkLimits::Large, TWO_EDGES)?;
+    let text = TWO_EDGES.to_vec(rt.alloc())?;
+    let owned = read_network_text(rt.alloc(), NetworkLimits::Large, text)?;
+    for net in [&lent, &owned] {
+        assert_eq!(rt; (net.edge_count(), net.node_count()), (2, 3));
+        assert_eq!(rt; net.name(EdgeId(1)), 11);
+        assert_eq!(rt; net.node_name(NodeId(2)), 3);
+    }
     Ok(())
 }
 
