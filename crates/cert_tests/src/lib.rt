@@ -6,6 +6,8 @@
 #[cfg(test)]
 mod certificates;
 #[cfg(test)]
+mod forged;
+#[cfg(test)]
 mod rows;
 #[cfg(test)]
 mod texts;

@@ -1,6 +1,9 @@
 //! Rows that are right, and rows that are not.
+use crate::certificates::{Change, NO_CHANGE, certificate};
+use crate::forged::LONG_ROW;
 use bounded_search::{Entry, Row};
 use cert_checker::check_rows;
+use cost_model::Params;
 use polyline_geometry::List;
 use road_network::{EdgeId, Network, NodeId, read_network};
 use row_tests::small::TWO_EDGES;
@@ -50,5 +53,19 @@ fn the_first_bad_row(rt: HostRuntime) -> Result<(), Fail> {
     assert_eq!(rt; checked(alloc, &net, 20_000, &right)?, Some(0));
     assert_eq!(rt; checked(alloc, &net, 10_001, &[(0, 10_001)])?, Some(0));
     assert_eq!(rt; checked(alloc, &net, 10_000, &[(7, 10_000)])?, Some(0));
+    Ok(())
+}
+
+/// What is said of the rows of a changed certificate.
+fn checked_of(alloc: Global, net: &Network, change: Change) -> Result<Option<u32>, Fail> {
+    let read = certificate(alloc, change)?;
+    Ok(check_rows(net, Params::DEFAULT.bound, read.rows.as_slice()))
+}
+
+#[test]
+fn the_rows_of_a_certificate(rt: HostRuntime) -> Result<(), Fail> {
+    let net = read_network(rt.alloc(), TWO_EDGES)?;
+    assert_eq!(rt; checked_of(rt.alloc(), &net, NO_CHANGE)?, None);
+    assert_eq!(rt; checked_of(rt.alloc(), &net, LONG_ROW)?, Some(0));
     Ok(())
 }

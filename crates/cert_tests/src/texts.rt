@@ -5,7 +5,8 @@ use cost_model::Params;
 use match_text::Routed;
 use polyline_geometry::List;
 use potential_certificate::{
-    CertFault, Certificate, CertificateReader, certify, read_certificate, write_certificate,
+    CertFault, Certificate, CertificateReader, TraceProof, certify, read_certificate,
+    write_certificate,
 };
 use std::alloc::{AllocError, Global};
 use std::test::Fail;
@@ -174,35 +175,61 @@ fn reads_blocks(rt: HostRuntime) -> Result<(), Fail> {
     Ok(())
 }
 
-// The parts of a match of one point.
+// Text that ends too early is cut, wherever it ends.
 #[test]
-fn certifies(rt: HostRuntime) -> Result<(), Fail> {
-    let alloc = rt.alloc();
-    let mut cells = List::new(alloc);
-    cells.push(Cell {
-        cost: Some(45),
-        from: None,
-    })?;
+fn each_prefix_is_cut(rt: HostRuntime) -> Result<(), Fail> {
+    for length in 0..WHOLE.len() {
+        assert_eq!(rt;
+            read_certificate(rt.alloc(), &Params::DEFAULT, &WHOLE[..length]).err(),
+            Some(CertFault::Cut),
+            "{length} bytes"
+        );
+    }
+    Ok(())
+}
+
+fn cell(cost: u64, from: Option<u32>) -> Cell {
+    Cell {
+        cost: Some(cost),
+        from,
+    }
+}
+
+// The proof of trace 7, whose two points have these cells.
+fn certified(alloc: Global, tables: [[Cell; 2]; 2]) -> Result<TraceProof, AllocError> {
     let mut solved = Solved {
         ranks: List::new(alloc),
         pieces: List::new(alloc),
         tables: List::new(alloc),
     };
-    solved.ranks.push(Some(0))?;
-    solved.tables.push(Potentials::of(cells))?;
+    for table in &tables {
+        let mut cells = List::new(alloc);
+        cells.extend_from_slice(table)?;
+        solved.ranks.push(Some(0))?;
+        solved.tables.push(Potentials::of(cells))?;
+    }
     let mut route = List::new(alloc);
     route.push(10)?;
-    let pieces = [Routed {
+    let piece = Routed {
         first: 0,
-        last: 0,
-        cost: 45,
+        last: 1,
+        cost: 112,
         route,
-    }];
-    let proof = certify(alloc, 7, &solved, &pieces)?;
-    assert_eq!(rt; proof.id, 7);
-    assert_eq!(rt;
-        (proof.ranks.len(), proof.tables.len(), proof.pieces.len()),
-        (1, 1, 1)
-    );
+    };
+    certify(alloc, 7, &solved, &[piece])
+}
+
+// With the same rows the text is the same, so no part of the proof differs.
+#[test]
+fn certifies(rt: HostRuntime) -> Result<(), Fail> {
+    let alloc = rt.alloc();
+    let first = [cell(45, None), cell(40_545, None)];
+    let second = [cell(112, Some(0)), cell(1_568, Some(0))];
+    let mut proofs = List::new(alloc);
+    proofs.push(certified(alloc, [first, second])?)?;
+    let Certificate { proofs: _, rows } = read_certificate(alloc, &Params::DEFAULT, WHOLE)?;
+    let certificate = Certificate { proofs, rows };
+    let text = written(alloc, &Params::DEFAULT, Ok(certificate))?;
+    assert_eq!(rt; text.as_slice(), WHOLE);
     Ok(())
 }

@@ -1,11 +1,12 @@
 //! A trace on two edges in a row, followed over own rows and over rows that refuse a call.
 ghost use Rattle.bounded_search.specs.Rows.{AreRowsOf};
 
-use crate::traces::{BEHIND, DEFAULTS, is_lawful, trace_at};
+use crate::traces::{BEHIND, DEFAULTS, trace_at};
 use bounded_search::{OwnRows, RefusingRows, Rows};
 use grid_index::Grid;
 use polyline_geometry::List;
 use road_network::{Network, read_network};
+use row_tests::lawful_traces::is_lawful;
 use row_tests::small::TWO_EDGES;
 use std::alloc::{AllocError, Global};
 use std::test::Fail;

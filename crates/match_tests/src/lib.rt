@@ -7,9 +7,13 @@
 #[cfg(test)]
 mod following;
 #[cfg(test)]
+mod foreign_rows;
+#[cfg(test)]
 mod interleaved;
 #[cfg(test)]
 mod item_lines;
+#[cfg(test)]
+mod one_worker;
 #[cfg(test)]
 mod relay;
 #[cfg(test)]

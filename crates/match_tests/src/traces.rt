@@ -1,11 +1,5 @@
 //! Traces on two edges in a row.
-ghost use Rattle.std.specs.Prelude.{◌↔◌, IsTrue};
-ghost use Rattle.std.specs.List.{All};
 ghost use Rattle.bounded_search.specs.Rows.{AreRowsOf};
-ghost use Rattle.cost_model.specs.Options.{IsAccepted};
-ghost use Rattle.polyline_geometry.specs.Plane.{InRange};
-ghost use Rattle.trace_match.specs.Match.{place_of};
-ghost use Rattle.trace_reader.specs.Trace.{IsLawfulTrace};
 
 use bounded_search::{OwnRows, RefusingRows, Rows};
 use cost_model::Params;
@@ -14,33 +8,13 @@ use match_pool::{Answer, match_one};
 use match_text::{Label, MatchedTrace, Routed};
 use polyline_geometry::List;
 use road_network::{Network, read_network};
+use row_tests::lawful_traces::is_lawful;
 use row_tests::small::TWO_EDGES;
 use std::alloc::{AllocError, Global};
 use std::test::Fail;
 use trace_reader::{Fix, Trace};
 
 pub const DEFAULTS: Params = Params::DEFAULT;
-
-/// The greatest coordinate of a fix, in cm.
-const GREATEST: u32 = 1_000_000_000;
-
-fn is_in_range(fix: &Fix) -> bool
-    ensures { IsTrue result ↔ InRange (place_of fix.now) }
-{
-    fix.x.unsigned_abs() <= GREATEST && fix.y.unsigned_abs() <= GREATEST
-}
-
-fn are_in_range(fixes: &[Fix]) -> bool
-    ensures { IsTrue result ↔ All (λ fix. InRange (place_of fix)) fixes.now }
-{
-    fixes.iter().all(|fix| is_in_range(fix))
-}
-
-pub fn is_lawful(trace: &Trace) -> bool
-    ensures { IsTrue result ↔ IsLawfulTrace trace.now }
-{
-    1 <= trace.fixes.len() && trace.fixes.len() <= 100_000 && are_in_range(trace.fixes.as_slice())
-}
 
 /// Trace 7 with fixes at these places.
 pub fn trace_at(alloc: Global, places: &[(i32, i32)]) -> Result<Trace, AllocError> {

@@ -1,32 +1,21 @@
 //! Traces matched by workers over one store.
-ghost use Rattle.std.specs.Prelude.{◌≡◌, ◌≤◌, ◌↔◌, ◌^◌, IfOk, IfSome, IsTrue};
-ghost use Rattle.std.specs.List.{All};
+ghost use Rattle.std.specs.Prelude.{◌≡◌, ◌≤◌, IfOk};
 ghost use Rattle.match_pool.specs.Learning.{AreReadersFor};
-ghost use Rattle.match_pool.specs.Working.{CanDraw};
-ghost use Rattle.road_network.specs.Net.{HasNode};
-ghost use Rattle.trace_reader.specs.Trace.{IsLawfulTrace};
 
-use crate::traces::{ALONG, DEFAULTS, is_lawful, is_wanted, on_first, trace_at};
-use bounded_search::Row;
+use crate::traces::{DEFAULTS, on_first, trace_at};
 use grid_index::Grid;
-use match_pool::{OpenGate, match_all, work};
+use match_pool::{OpenGate, match_all};
 use match_text::MatchedTrace;
 use polyline_geometry::List;
 use road_network::{Network, NodeId, read_network};
 use row_store::{Reader, RowStore, Sight};
-use row_tests::small::{TWO_EDGES, offered, wrong};
+use row_tests::lawful_traces::are_lawful;
+use row_tests::small::TWO_EDGES;
 use std::alloc::{AllocError, Global};
 use std::test::Fail;
 use std::thread::Threads;
-use tickets::{Claims, Ticket};
 use town::{town_network, town_traces};
 use trace_reader::{Trace, TraceReader};
-
-fn are_lawful(traces: &[Trace]) -> bool
-    ensures { IsTrue result ↔ All IsLawfulTrace traces.now }
-{
-    traces.iter().all(|trace| is_lawful(trace))
-}
 
 /// So many readers of a store, which know nothing.
 fn readers_of<'s>(
@@ -45,24 +34,21 @@ fn readers_of<'s>(
     Ok(readers)
 }
 
-/// The matches of traces by one worker for each of so many readers, and the readers. None where they
-/// are no traces that a file can have.
-fn matched_by<'s, R: Threads + Sync>(
+/// The matches of traces by one worker for each of these readers, and the readers. None where they are
+/// no traces that a file can have.
+pub fn matched_with<'s, R: Threads + Sync>(
     rt: &R,
     alloc: Global,
     net: &Network,
-    store: &'s RowStore<'s>,
     traces: &[Trace],
-    count: u32,
+    mut readers: List<Reader<'s>>,
 ) -> Result<Option<(List<MatchedTrace>, List<Reader<'s>>)>, AllocError>
-    requires store { (store.now.network ≡ net.now) × (store.now.bound ≡ DEFAULTS.bound) }
-    requires count { (1 ≤ count) × (count ≤ 64) }
+    requires { AreReadersFor net.now DEFAULTS readers }
 {
     if traces.len() > 200 || !are_lawful(traces) {
         return Ok(None);
     }
     let grid = Grid::build(alloc, net, DEFAULTS.radius)?;
-    let mut readers = readers_of(alloc, store, count)?;
     let all = match_all(
         rt,
         alloc,
@@ -77,6 +63,22 @@ fn matched_by<'s, R: Threads + Sync>(
     Ok(Some((all, readers)))
 }
 
+/// The same with so many readers of a store, which know nothing before.
+pub fn matched_by<'s, R: Threads + Sync>(
+    rt: &R,
+    alloc: Global,
+    net: &Network,
+    store: &'s RowStore<'s>,
+    traces: &[Trace],
+    count: u32,
+) -> Result<Option<(List<MatchedTrace>, List<Reader<'s>>)>, AllocError>
+    requires store { (store.now.network ≡ net.now) × (store.now.bound ≡ DEFAULTS.bound) }
+    requires count { (1 ≤ count) × (count ≤ 64) }
+{
+    let readers = readers_of(alloc, store, count)?;
+    matched_with(rt, alloc, net, traces, readers)
+}
+
 /// Whether a reader knows a row.
 fn knows_any(reader: &Reader<'_>) -> bool {
     for n in 0..reader.store().network().node_count() {
@@ -88,7 +90,7 @@ fn knows_any(reader: &Reader<'_>) -> bool {
 }
 
 /// Whether each row that a reader knows is that of its node.
-fn knows_no_foreign_row(reader: &mut Reader<'_>) -> Result<bool, AllocError> {
+pub fn knows_no_foreign_row(reader: &mut Reader<'_>) -> Result<bool, AllocError> {
     for n in 0..reader.store().network().node_count() {
         if reader.known(NodeId(n)) {
             if let Sight::Foreign(_) = reader.look(NodeId(n))? {
@@ -121,7 +123,7 @@ fn are_matched<R: Threads + Sync>(
 }
 
 /// Traces 1 and 2 of one place on the first edge.
-fn two_traces(alloc: Global) -> Result<List<Trace>, AllocError> {
+pub fn two_traces(alloc: Global) -> Result<List<Trace>, AllocError> {
     let mut traces = List::new(alloc);
     for id in 1..3 {
         let mut trace = trace_at(alloc, &[(1_000, 0)])?;
@@ -164,79 +166,6 @@ fn are_two_matched<R: Threads + Sync>(
     Ok(none.len() == 0 && !known && is_on_first(first, 1) && is_on_first(second, 2))
 }
 
-/// Claims on so many numbers with one ticket. None where the list of tickets has none.
-fn one_ticket(alloc: Global, count: u64) -> Result<Option<(Claims, Ticket)>, AllocError>
-    requires { count ≤ 2 ^ 32 }
-    ensures { IfOk result (λ o. IfSome o (λ r. CanDraw count r.0 r.1)) }
-{
-    let (claims, mut tickets) = Claims::open(alloc, count, 1)?;
-    match tickets.pop() {
-        None => Ok(None),
-        Some(ticket) => Ok(Some((claims, ticket))),
-    }
-}
-
-/// Whether a worker that draws the two traces, the first of which stands at place 5, says 5 and 6.
-fn are_numbered_from_5(
-    alloc: Global,
-    net: &Network,
-    store: &RowStore<'_>,
-) -> Result<bool, AllocError>
-    requires { (store.now.network ≡ net.now) × (store.now.bound ≡ DEFAULTS.bound) }
-{
-    let traces = two_traces(alloc)?;
-    if traces.len() != 2 || !are_lawful(traces.as_slice()) {
-        return Ok(false);
-    }
-    let grid = Grid::build(alloc, net, DEFAULTS.radius)?;
-    let mut reader = store.reader()?;
-    let Some((claims, mut ticket)) = one_ticket(alloc, 2)? else {
-        return Ok(false);
-    };
-    let done = work(
-        alloc,
-        net,
-        &grid,
-        &DEFAULTS,
-        5,
-        traces.as_slice(),
-        &claims,
-        &mut ticket,
-        &mut reader,
-        &OpenGate,
-    )?;
-    let [first, second] = done.as_slice() else {
-        return Ok(false);
-    };
-    Ok(first.place == 5 && second.place == 6)
-}
-
-/// Puts a row into the empty cell of node 1.
-fn plant(store: &RowStore<'_>, row: Row) -> Result<(), AllocError>
-    requires node { HasNode store.now.network 1 }
-    requires origin { row.origin ≡ 1 }
-{
-    store.reader()?.offer(NodeId(1), row)?;
-    Ok(())
-}
-
-/// Whether two workers match a trace that asks for the row of node 1 as if its cell were empty.
-fn is_matched_all_the_same<R: Threads + Sync>(
-    rt: &R,
-    alloc: Global,
-    net: &Network,
-    store: &RowStore<'_>,
-) -> Result<bool, AllocError>
-    requires { (store.now.network ≡ net.now) × (store.now.bound ≡ DEFAULTS.bound) }
-{
-    let mut traces = List::new(alloc);
-    traces.push(trace_at(alloc, &ALONG)?)?;
-    let Some((all, _)) = matched_by(rt, alloc, net, store, traces.as_slice(), 2)? else {
-        return Ok(false);
-    };
-    Ok(all.len() == 1 && all.as_slice().iter().all(|matched| is_wanted(matched)))
-}
-
 // A worker whose reader takes a row from the store unchecked, or that puts a wrong one there, fails here.
 #[test]
 fn no_row_of_the_town_is_foreign(rt: HostRuntime) -> Result<(), Fail> {
@@ -256,19 +185,5 @@ fn two_traces_are_matched_in_order(rt: HostRuntime) -> Result<(), Fail> {
     let net = read_network(rt.alloc(), TWO_EDGES)?;
     let store = RowStore::open(rt.alloc(), &net, DEFAULTS.bound)?;
     assert!(rt; are_two_matched(&rt, rt.alloc(), &net, &store)?);
-    assert!(rt; are_numbered_from_5(rt.alloc(), &net, &store)?);
-    Ok(())
-}
-
-#[test]
-fn a_foreign_row_misleads_nobody(rt: HostRuntime) -> Result<(), Fail> {
-    let net = read_network(rt.alloc(), TWO_EDGES)?;
-    for more in wrong() {
-        assert!(rt; 1 < net.node_count());
-        let store = RowStore::open(rt.alloc(), &net, DEFAULTS.bound)?;
-        let row = offered(rt.alloc(), more)?.ok_or("no row")?;
-        plant(&store, row)?;
-        assert!(rt; is_matched_all_the_same(&rt, rt.alloc(), &net, &store)?);
-    }
     Ok(())
 }

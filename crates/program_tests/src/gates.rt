@@ -24,9 +24,9 @@ fn gives<R: Threads + Sync, G: Gate>(
     text: &[u8],
     gate: &G,
 ) -> Result<bool, AllocError> {
-    let shelf = shelf(alloc, TWO_EDGES, traces, &[])?;
+    let mut shelf = shelf(alloc, TWO_EDGES, traces, &[])?;
     let words = ["match", "net", "tra", "--workers", "2"];
-    let ended = run_to_end(rt, alloc, &words, shelf, [&[], &[]], gate)?;
+    let ended = run_to_end(rt, alloc, &words, &mut shelf, [&[], &[]], gate)?;
     Ok(ended.is(0, text, b""))
 }
 
@@ -212,5 +212,70 @@ fn share_the_store<R: Threads + Sync>(rt: &R, alloc: Global) -> Result<bool, All
 #[test]
 fn workers_share_the_store(rt: HostRuntime) -> Result<(), Fail> {
     assert!(rt; share_the_store(&rt, rt.alloc())?);
+    Ok(())
+}
+
+// How many traces begin and end at each place, and last how many at any other place.
+#[derive(Drop)]
+struct Places {
+    begun: Vec<AtomicU64>,
+    ended: Vec<AtomicU64>,
+}
+
+fn noughts(alloc: Global, count: u64) -> Result<Vec<AtomicU64>, AllocError> {
+    let mut all = Vec::new(alloc);
+    for _ in 0..count {
+        all.push(AtomicU64::new(0))?;
+    }
+    Ok(all)
+}
+
+fn count_at(counts: &[AtomicU64], place: u64) {
+    if let Some(count) = counts.get(place as usize).or(counts.last()) {
+        count.fetch_add(1, SeqCst);
+    }
+}
+
+// Whether each of these counts is 1, except the last, which is 0.
+fn are_once_each(counts: &[AtomicU64]) -> bool {
+    let [each @ .., others] = counts else {
+        return false;
+    };
+    for count in each {
+        if count.load(SeqCst) != 1 {
+            return false;
+        }
+    }
+    others.load(SeqCst) == 0
+}
+
+impl Gate for Places {
+    fn begin(&self, trace: u64, _store: &RowStore<'_>) {
+        count_at(self.begun.as_slice(), trace);
+    }
+
+    fn end(&self, trace: u64, _store: &RowStore<'_>) {
+        count_at(self.ended.as_slice(), trace);
+    }
+}
+
+const MANY: &[u8] = b"total traces 600 points 600 pieces 600 rows 0\n";
+
+// Whether the gate hears of each place from 0 to 599 once.
+fn are_heard_once<R: Threads + Sync>(rt: &R, alloc: Global) -> Result<bool, AllocError> {
+    let traces = many_traces(alloc, 600)?;
+    let text = whole_text(alloc, 600, MANY)?;
+    let gate = Places {
+        begun: noughts(alloc, 601)?,
+        ended: noughts(alloc, 601)?,
+    };
+    let given = gives(rt, alloc, traces.as_slice(), text.as_slice(), &gate)?;
+    Ok(given && are_once_each(gate.begun.as_slice()) && are_once_each(gate.ended.as_slice()))
+}
+
+// A run that counts the places of each batch from 0 fails here.
+#[test]
+fn each_place_of_the_file_is_heard_once(rt: HostRuntime) -> Result<(), Fail> {
+    assert!(rt; are_heard_once(&rt, rt.alloc())?);
     Ok(())
 }

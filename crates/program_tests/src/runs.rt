@@ -1,5 +1,5 @@
 use decimal_text::write_unsigned;
-use edge_io::{MemoryShelf, MemorySink};
+use edge_io::{MemoryShelf, MemorySink, Shelf};
 use match_pool::{Gate, OpenGate};
 use polyline_geometry::List;
 use program_run::run;
@@ -12,7 +12,7 @@ const MATCH: &[&str] = &["match", "net", "tra"];
 
 const PROVE: &[&str] = &["prove", "net", "tra"];
 
-const TWO_TRACES: &[u8] = b"trace,x,y\n1,1000,0\n2,1000,0\n";
+pub const TWO_TRACES: &[u8] = b"trace,x,y\n1,1000,0\n2,1000,0\n";
 
 pub const FAULTY: &[u8] = b"trace,x,y\n1,1000,0\n2,1000,0\n7,2000,0\n7,12x,0\n";
 
@@ -167,26 +167,26 @@ impl Ended {
 }
 
 // Ends the run of these words over a shelf, where the puts of these numbers on out and on err fail.
-pub fn run_to_end<R: Threads + Sync, G: Gate>(
+pub fn run_to_end<R: Threads + Sync, S: Shelf, G: Gate>(
     rt: &R,
     alloc: Global,
     all: &[&str],
-    mut shelf: MemoryShelf,
+    shelf: &mut S,
     puts: [&[u64]; 2],
     gate: &G,
 ) -> Result<Ended, AllocError> {
     let mut out = MemorySink::new(alloc, numbers(alloc, puts[0])?);
     let mut err = MemorySink::new(alloc, numbers(alloc, puts[1])?);
     let words = words(alloc, all)?;
-    let status = run(rt, alloc, &words, &mut shelf, &mut out, &mut err, gate);
+    let status = run(rt, alloc, &words, shelf, &mut out, &mut err, gate);
     Ok(Ended { status, out, err })
 }
 
 // Whether a run gives what the case wants.
 fn is_as_wanted<R: Threads + Sync>(rt: &R, alloc: Global, case: &Case) -> Result<bool, AllocError> {
     let [reads, outs, errs] = case.fail;
-    let shelf = shelf(alloc, TWO_EDGES, case.traces, reads)?;
-    let ended = run_to_end(rt, alloc, case.words, shelf, [outs, errs], &OpenGate)?;
+    let mut shelf = shelf(alloc, TWO_EDGES, case.traces, reads)?;
+    let ended = run_to_end(rt, alloc, case.words, &mut shelf, [outs, errs], &OpenGate)?;
     Ok(ended.is(case.status, case.out, case.err))
 }
 
@@ -226,8 +226,8 @@ pub fn many_texts(alloc: Global, count: u64) -> Result<List<u8>, AllocError> {
 // A network of more than 65,536 bytes comes with two calls, and its end with the third.
 fn is_long_network_cut<R: Threads + Sync>(rt: &R, alloc: Global) -> Result<bool, AllocError> {
     let long = many_traces(alloc, 6_000)?;
-    let shelf = shelf(alloc, long.as_slice(), TWO_TRACES, &[3])?;
-    let ended = run_to_end(rt, alloc, MATCH, shelf, [&[], &[]], &OpenGate)?;
+    let mut shelf = shelf(alloc, long.as_slice(), TWO_TRACES, &[3])?;
+    let ended = run_to_end(rt, alloc, MATCH, &mut shelf, [&[], &[]], &OpenGate)?;
     Ok(ended.is(3, b"", b"fmm: cannot read network\n"))
 }
 
@@ -237,19 +237,31 @@ fn a_long_network_is_read_in_chunks(rt: HostRuntime) -> Result<(), Fail> {
     Ok(())
 }
 
-// Of 6,000 traces, in two chunks, 23 batches are written before the fifth call, which is to tell
-// the end of the file.
-fn are_long_traces_cut<R: Threads + Sync>(rt: &R, alloc: Global) -> Result<bool, AllocError> {
-    let long = many_traces(alloc, 6_000)?;
-    let texts = many_texts(alloc, 5_888)?;
-    let shelf = shelf(alloc, TWO_EDGES, long.as_slice(), &[5])?;
-    let ended = run_to_end(rt, alloc, MATCH, shelf, [&[], &[]], &OpenGate)?;
+// Whether of so many traces exactly the first are written before this call for the shelf fails.
+fn are_traces_cut<R: Threads + Sync>(
+    rt: &R,
+    alloc: Global,
+    traces: u64,
+    call: u64,
+    written: u64,
+) -> Result<bool, AllocError> {
+    let long = many_traces(alloc, traces)?;
+    let texts = many_texts(alloc, written)?;
+    let mut shelf = shelf(alloc, TWO_EDGES, long.as_slice(), &[call])?;
+    let ended = run_to_end(rt, alloc, MATCH, &mut shelf, [&[], &[]], &OpenGate)?;
     Ok(ended.is(3, texts.as_slice(), b"fmm: cannot read traces\n"))
 }
 
+// Of 600 traces, in one chunk, two batches are written before the fourth call, which is to tell the end
+// of the file. Of 6,000 traces, in two chunks, it is 23 batches before the fifth call.
 #[test]
-fn long_traces_are_read_in_chunks(rt: HostRuntime) -> Result<(), Fail> {
-    assert!(rt; are_long_traces_cut(&rt, rt.alloc())?);
+fn whole_batches_are_written(rt: HostRuntime) -> Result<(), Fail> {
+    for (traces, call, written) in [(600, 4, 512), (6_000, 5, 5_888)] {
+        assert!(rt;
+            are_traces_cut(&rt, rt.alloc(), traces, call, written)?,
+            "{traces}"
+        );
+    }
     Ok(())
 }
 
@@ -257,8 +269,8 @@ fn long_traces_are_read_in_chunks(rt: HostRuntime) -> Result<(), Fail> {
 fn is_fault_said_first<R: Threads + Sync>(rt: &R, alloc: Global) -> Result<bool, AllocError> {
     let mut long = bytes(alloc, FAULTY)?;
     long.extend_from_slice(many_traces(alloc, 6_000)?.as_slice())?;
-    let shelf = shelf(alloc, TWO_EDGES, long.as_slice(), &[4])?;
-    let ended = run_to_end(rt, alloc, MATCH, shelf, [&[], &[]], &OpenGate)?;
+    let mut shelf = shelf(alloc, TWO_EDGES, long.as_slice(), &[4])?;
+    let ended = run_to_end(rt, alloc, MATCH, &mut shelf, [&[], &[]], &OpenGate)?;
     Ok(ended.is(6, TWO_TEXTS, b"traces line 5 field 2: bad number\n"))
 }
 

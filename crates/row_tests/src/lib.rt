@@ -1,10 +1,11 @@
 //! Tests of the crates from the grid to the table file: cells, candidates, rows, their stores, walks, and
 //! the match of layers. They stand in a crate of their own, so that none of these crates is proved a second
-//! time for them. [`small`] has the networks and the rows that other crates of tests use too.
+//! time for them. Other crates of tests use the networks and rows of [`small`], and [`lawful_traces`].
 #![tactic(auto)]
 
 #[cfg(test)]
 mod cells;
+pub mod lawful_traces;
 #[cfg(test)]
 mod layers;
 #[cfg(test)]

@@ -70,8 +70,8 @@ fn edges_of(store: &RowStore<'_>) -> Result<u32, AllocError> {
     Ok(store.reader()?.store().network().edge_count())
 }
 
-/// Whether a row that one reader offers for node 1 is foreign to it and to another, and neither is
-/// misled by it.
+/// Whether a row that one reader offers for node 1 is foreign to it and to another, both agree that it
+/// is there, and neither is misled by it.
 fn is_foreign_to_both(
     store: &RowStore<'_>,
     row: Row,
@@ -83,8 +83,10 @@ fn is_foreign_to_both(
     let mut a = store.reader()?;
     let mut b = store.reader()?;
     let held = a.offer(NodeId(1), row)?.entries().get(1).copied() == more;
-    let seen = is_foreign(a.look(NodeId(1))?, more) && is_foreign(b.look(NodeId(1))?, more);
-    Ok(held && seen && gives_whole(&mut a)? && gives_whole(&mut b)?)
+    let first = is_foreign(a.look(NodeId(1))?, more);
+    let second = is_foreign(b.look(NodeId(1))?, more);
+    let agreed = agree(&mut a, &mut b, NodeId(1)).entries().get(1).copied() == more;
+    Ok(held && first && second && agreed && gives_whole(&mut a)? && gives_whole(&mut b)?)
 }
 
 #[test]
