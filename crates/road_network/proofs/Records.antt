@@ -1,8 +1,6 @@
 -- The records of a text, read one after the other.
-use Rattle.std.proofs.Common.{◌≡◌, ℕ, zero, suc, ◌+◌, ◌<◌, ◌≤◌, ◌==◌, ◌++◌, Bool, true, false, cond, List, [], ◌∷◌, Option, None, Some, inl, inr, refl, sym, ap, ◌∙◌, ◌⊎◌, subst, arith, add-one, length, length-append}
+use Rattle.std.proofs.Common.{◌≡◌, ℕ, zero, suc, ◌+◌, ◌<◌, ◌==◌, ◌++◌, Bool, true, false, cond, List, [], ◌∷◌, Option, None, Some, inl, inr, refl, sym, ap, ◌∙◌, ◌⊎◌, subst, arith, add-one, length}
 use Rattle.std.proofs.lemmas.Bool.{cases_Bool}
-use Rattle.std.proofs.lemmas.List.Sums.{sum_by-append}
-use Rattle.std.specs.List.{sum_by}
 use Rattle.csv.specs.Machine.{Read, after_end, ends_at_end, ends_with, field_after, fields_after, in_field, is_end, next_record, start_field, start_record, step}
 use Rattle.csv.specs.Reading.{default_config, records_from, records_next}
 use Rattle.csv.specs.declared.parser.Action.{Action}
@@ -11,7 +9,7 @@ use Rattle.csv.specs.declared.parser.Config.{Config}
 use Rattle.csv.specs.declared.parser.State.{State}
 use Rattle.csv.specs.declared.parser.State.TheVariants as st
 use Rattle.csv.specs.declared.parser.Terminator.TheVariants as term
-use Rattle.csv.specs.Reading.{Reached, ReadRecord, is_bom, is_flexible, records, strip_bom}
+use Rattle.csv.specs.Reading.{Reached, ReadRecord, is_flexible, records, strip_bom}
 use Rattle.csv.proofs.ReadFacts.{rows-end, rows-more}
 use Rattle.road_network.specs.declared.text.Text.{Text}
 use Rattle.std.specs.Prelude.{unwrap_or}
@@ -53,22 +51,10 @@ settled st.AfterQuote c = either-settles (c == 34) _ _ (goes-on st.InQuoted act.
 settled st.InComment c = either-settles (c == 10) _ _ (goes-on st.StartRecord act.Skip refl) (goes-on st.InComment act.Skip refl)
 settled st.AfterCr c = either-settles (c == 10) _ _ (goes-on st.StartRecord act.Skip refl) (settled-record c)
 
--- the bytes of some fields
-abbrev pub byte_count : List (List ℕ) → ℕ
-byte_count fields = sum_by (λ f. length f) fields
-
--- one byte brings at most one byte
-bytes-more : (a : Action) (c : ℕ) (fields : List (List ℕ)) (field : List ℕ) → byte_count (fields_after a fields field) + length (field_after a c field) ≤ byte_count fields + length field + 1
-bytes-more act.EndField c fields field = let e = sum_by-append (λ (f : List ℕ). length f) fields (field ∷ []) in omega (arith, e)
-bytes-more act.Skip c fields field = omega arith
-bytes-more act.Copy c fields field = omega (arith, length-append field (c ∷ []))
-bytes-more act.EndRecord c fields field = let e = sum_by-append (λ (f : List ℕ). length f) fields (field ∷ []) in omega (arith, e)
-
--- what a record that was read leaves, and what it has
+-- what a record that was read leaves
 pub record IsRead (s : State) (fields : List (List ℕ)) (field text : List ℕ) (p : Read) : Type 0 where
   pub state : ends_at_end p.1 ≡ false
   pub shorter : length p.2 < length text ⊎ (text ≡ []) × (p.2 ≡ [])
-  pub small : byte_count p.0 ≤ byte_count fields + length field + length text
 
 same-read : (p q : Read) → Some p ≡ Some q → p ≡ q
 same-read p q e = cc
@@ -82,27 +68,23 @@ is-read s fields field [] p h =
           subst (λ q. IsRead s fields field [] q) e (record {
             state = refl;
             shorter = inr (refl, refl);
-            small = omega (arith, sum_by-append (λ (f : List ℕ). length f) fields (field ∷ []));
           })
       | inr f ↦ let no : None ≡ Some p = rw f at h in cc
     ]
 is-read s fields field (c ∷ rest) p h =
     let x = step cfg s c in
-    let more = bytes-more x.1 c fields field in
     elim (cases_Bool (is_end x.1)) [
       | inl t ↦
           let e = same-read (fields_after x.1 fields field, x.0, rest) p (rw t at h) in
           subst (λ q. IsRead s fields field (c ∷ rest) q) e (record {
             state = settled s c t;
             shorter = inl (omega arith);
-            small = omega (arith, more);
           })
       | inr f ↦
           let r = is-read x.0 (fields_after x.1 fields field) (field_after x.1 c field) rest p (rw f at h) in
           record {
             state = r.state;
             shorter = elim r.shorter [ inl lt ↦ inl (omega arith) | inr none ↦ inl (rw (none.0, none.1) (omega arith)) ];
-            small = omega (arith, r.small, more);
           }
     ]
 
@@ -110,7 +92,6 @@ is-read s fields field (c ∷ rest) p h =
 pub record IsReadHere (text : List ℕ) (p : Read) : Type 0 where
   pub state : ends_at_end p.1 ≡ false
   pub shorter : length p.2 < length text
-  pub small : byte_count p.0 ≤ length text
 
 pub read-here : (s : State) (text : List ℕ) (p : Read) → ends_at_end s ≡ false → next_record cfg s [] [] text ≡ Some p → IsReadHere text p
 unfolding next_record
@@ -120,7 +101,6 @@ read-here s (c ∷ rest) p h e =
     record {
       state = r.state;
       shorter = elim r.shorter [ inl lt ↦ lt | inr none ↦ absurd (cc none.0) ];
-      small = omega (arith, r.small);
     }
 
 -- how often a text may be read does not matter once it is often enough
@@ -185,19 +165,11 @@ read-next a b fields h r =
       };
       first = records-first a.state y p h.state g.2.1 ∙ joined p.0 fields p.1 b.state p.2 (text_left b) z fields-are state rest left;
       shorter = rw (left, ← rest) here.shorter;
-      small = rw fields-are here.small;
     }
 
 -- a read that found none
 pub read-none : (a b : TextReader) (fields : List (List ℕ)) → IsBetween a → ReadRecord (λ t. Some (text_in t)) a b false fields → records_left a ≡ []
 read-none a b fields h r = records-none a.state (text_left a) (rows-end (λ t. Some (text_in t)) a b fields default_config (text_left a) h.config h.known r)
-
-strip-short : (text : List ℕ) → length (strip_bom text) ≤ length text
-unfolding strip_bom
-strip-short [] = omega arith
-strip-short (a ∷ []) = omega arith
-strip-short (a ∷ b ∷ []) = omega arith
-strip-short (a ∷ b ∷ c ∷ rest) = elim (cases_Bool (is_bom a b c)) [ inl t ↦ rw t (omega arith) | inr f ↦ rw f (omega arith) ]
 
 -- a reader that was opened on a file has its records to give
 pub record IsOpened (r : TextReader) (bytes : List ℕ) : Type 0 where
@@ -206,6 +178,3 @@ pub record IsOpened (r : TextReader) (bytes : List ℕ) : Type 0 where
 
 pub opened-records : (r : TextReader) (bytes : List ℕ) → IsOpened r bytes → records_left r ≡ records default_config (strip_bom bytes)
 opened-records r bytes h = rw (h.state, ap (λ o. unwrap_or o []) h.known) refl
-
-pub opened-small : (r : TextReader) (bytes : List ℕ) → IsOpened r bytes → length (text_left r) ≤ length bytes
-opened-small r bytes h = rw (ap (λ o. unwrap_or o []) h.known) (strip-short bytes)

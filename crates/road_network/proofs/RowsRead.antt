@@ -2,7 +2,7 @@
 use Rattle.std.proofs.Common.{◌≡◌, ℕ, zero, suc, ◌+◌, ◌<◌, ◌≤◌, List, [], ◌∷◌, true, false, Option, None, Some, Result, Ok, Err, inl, inr, refl, ◌∙◌, arith, length, get_or}
 use Rattle.std.specs.Result.{result_err, result_unwrap_or}
 use Rattle.std.specs.Prelude.{option_map, IsSome}
-use Rattle.std.specs.List.{position_or_len, sum_by}
+use Rattle.std.specs.List.{position_or_len}
 use Rattle.std.proofs.lemmas.Bool.{cases_lt}
 use Rattle.std.proofs.lemmas.List.Sums.{fails_before_first, position_or_len_is}
 use Rattle.csv.specs.Records.{field_at}
@@ -119,6 +119,3 @@ four-are (p ∷ q ∷ []) a b c d h = absurd (omega (arith, h.count))
 four-are (p ∷ q ∷ r ∷ []) a b c d h = absurd (omega (arith, h.count))
 four-are (p ∷ q ∷ r ∷ s ∷ []) a b c d h = cc (h.first, h.second, h.third, h.fourth)
 four-are (p ∷ q ∷ r ∷ s ∷ t ∷ fields) a b c d h = absurd (omega (arith, h.count))
-
-pub last-small : (fields : List (List ℕ)) (a b c d : List ℕ) → AreFour fields a b c d → length d ≤ sum_by (λ f. length f) fields
-last-small fields a b c d h = rw (four-are fields a b c d h) (omega arith)

@@ -1,6 +1,5 @@
 -- A reader of records that stands between two of them.
-use Rattle.std.specs.Prelude.{ℕ, ◌≡◌, ◌+◌, ◌<◌, ◌≤◌, ◌∷◌, false, true, List, [], length, reverse, Option, Some, unwrap_or}
-use Rattle.std.specs.List.{sum_by}
+use Rattle.std.specs.Prelude.{ℕ, ◌≡◌, ◌+◌, ◌<◌, ◌∷◌, false, true, List, [], length, reverse, Option, Some, unwrap_or}
 use Rattle.csv.specs.Machine.{ends_at_end}
 use Rattle.csv.specs.Reading.{Ready, default_config, is_flexible, records_from, source_of}
 use Rattle.csv.specs.declared.parser.State.{State}
@@ -45,4 +44,3 @@ pub record IsNext (old new : TextReader) (fields : List (List ℕ)) : Type 0 whe
   pub between : IsBetween new
   pub first : records_left old ≡ fields ∷ records_left new
   pub shorter : length (text_left new) < length (text_left old)
-  pub small : sum_by (λ f. length f) fields ≤ length (text_left old)

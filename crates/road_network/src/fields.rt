@@ -1,6 +1,6 @@
 //! The four fields of a record, read. Serves `read_records`; decided by `specs/NetworkFile.antt`.
 ghost use Rattle.std.specs.Prelude.{◌≡◌, ◌≢◌, ◌+◌, ◌<◌, ◌≤◌, ◌∷◌, [], true, IfOk, IfErr, OnOk, IfSome, MatchOption, length, take};
-ghost use Rattle.std.specs.List.{All, list_all, position_or_len, sum_by};
+ghost use Rattle.std.specs.List.{All, list_all, position_or_len};
 ghost use Rattle.decimal_text.specs.Blank.{is_blank};
 ghost use Rattle.csv.specs.Records.{field_at, fields_of};
 ghost use Rattle.polyline_geometry.specs.Plane.{InRange};
@@ -137,7 +137,6 @@ fn put_point(
 ) -> Result<Option<NumberFault>, AllocError>
     ensures value { IfOk result (λ after. both onto_end (unless fault line.old) point ≡ unless after line.new) }
     ensures within { IfOk point InRange → All InRange line.old → OnOk result (All InRange line.new) }
-    ensures few { OnOk result (length line.new ≤ length line.old + 1) }
 {
     match point {
         Ok(point) => {
@@ -152,7 +151,6 @@ fn put_point(
 fn read_line(field: &[u8], line: &mut List<Point>) -> Result<Option<NumberFault>, AllocError>
     ensures value { IfOk result (λ fault. line_of field.now ≡ unless fault line.new) }
     ensures within { OnOk result (All InRange line.new) }
-    ensures few { OnOk result (length line.new ≤ length field.now + 1) }
 {
     line.truncate(0);
     let mut fault = None;
@@ -219,7 +217,6 @@ fn read_fields(
     ensures row { IfOk result (λ head. row_of rec (name.now ∷ from.now ∷ to.now ∷ points.now ∷ [])
         ≡ Ok (row_with head line.new)) }
     ensures within { OnOk result (All InRange line.new) }
-    ensures few { OnOk result (length line.new ≤ length points.now + 1) }
     ensures fault { IfErr result (λ e. e ≢ NetworkFault.Memory
         → row_of rec (name.now ∷ from.now ∷ to.now ∷ points.now ∷ []) ≡ Err e) }
 {
@@ -252,7 +249,6 @@ pub(crate) fn read_row(
     ensures row { IfOk result
         (λ head. row_of rec (fields_of fields.now) ≡ Ok (row_with head line.new)) }
     ensures within { OnOk result (All InRange line.new) }
-    ensures few { OnOk result (length line.new ≤ sum_by length (fields_of fields.now) + 1) }
     ensures fault { IfErr result
         (λ e. e ≢ NetworkFault.Memory → row_of rec (fields_of fields.now) ≡ Err e) }
 {

@@ -46,17 +46,11 @@ returns-in_err-fault-clause-row c = let p = err_from_is_err_and c.from_residual.
 pub returns-in_err-fault-clause-within : goal.returns-in_err-fault-clause-within
 returns-in_err-fault-clause-within c = let p = err_from_is_err_and c.from_residual.result c.from_residual.ensures.1 in rw p.1 tt
 
-pub returns-in_err-fault-clause-few : goal.returns-in_err-fault-clause-few
-returns-in_err-fault-clause-few c = let p = err_from_is_err_and c.from_residual.result c.from_residual.ensures.1 in rw p.1 tt
-
 pub returns-in_err-check_fields-clause-row : goal.returns-in_err-check_fields-clause-row
 returns-in_err-check_fields-clause-row c = let p = err_from_is_err_and c.from_residual-in_err-check_fields.result c.from_residual-in_err-check_fields.ensures.1 in rw p.1 tt
 
 pub returns-in_err-check_fields-clause-within : goal.returns-in_err-check_fields-clause-within
 returns-in_err-check_fields-clause-within c = let p = err_from_is_err_and c.from_residual-in_err-check_fields.result c.from_residual-in_err-check_fields.ensures.1 in rw p.1 tt
-
-pub returns-in_err-check_fields-clause-few : goal.returns-in_err-check_fields-clause-few
-returns-in_err-check_fields-clause-few c = let p = err_from_is_err_and c.from_residual-in_err-check_fields.result c.from_residual-in_err-check_fields.ensures.1 in rw p.1 tt
 
 pub returns-in_err-fault-clause-fault : goal.returns-in_err-fault-clause-fault
 returns-in_err-fault-clause-fault c = let p = err_from_is_err_and c.from_residual.result c.from_residual.ensures.1 in rw (p.1, p.2) (λ known. absurd (known refl))

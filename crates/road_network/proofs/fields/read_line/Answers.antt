@@ -1,5 +1,4 @@
 use Rattle.road_network.proofs.Points.{point-last, point-more}
-use Rattle.std.proofs.Common.{arith}
 use Rattle.road_network.proofs.fields.read_line.Goals as goal
 
 pub returns-in_default-clause-value : goal.returns-in_default-clause-value
@@ -11,9 +10,7 @@ loop-fault-preserved c =
     let inv = c.loop-fault.invariant in
     let first = c.first_point-point.ensures in
     let put = c.in_ok-fault.ensures in
-    let shorter = rw c.in-Some.is at first.shorter in
     record {
       read = point-more c.args.field.now c.loop-fault.rest.now c.in-Some.behind.now _ _ c.first_point-point.result.0 inv.read (rw c.in-Some.is at first.line) put.value;
       within = put.within first.within inv.within;
-      few = omega (arith, inv.few, put.few, shorter);
     }

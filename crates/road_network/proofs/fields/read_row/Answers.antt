@@ -1,7 +1,6 @@
-use Rattle.std.proofs.Common.{◌≤◌, ◌+◌, ◌∙◌, rules, arith, length}
-use Rattle.std.proofs.lemmas.Result.{on_ok_weaker}
+use Rattle.std.proofs.Common.{◌∙◌, rules}
 use Rattle.csv.specs.Records.{fields_of}
-use Rattle.road_network.proofs.RowsRead.{AreFour, four-are, last-small, row-uneven}
+use Rattle.road_network.proofs.RowsRead.{AreFour, four-are, row-uneven}
 use Rattle.road_network.proofs.fields.read_row.Goals as goal
 
 pub returns-then-len-ne4-clause-fault : goal.returns-then-len-ne4-clause-fault
@@ -16,17 +15,6 @@ returns-clause-row c =
     let e = c.field_at-points.result.now in
     let four : AreFour fields a b d e = record { count = search rules; first = c.field_at-name.ensures; second = c.field_at-from.ensures; third = c.field_at-to.ensures; fourth = c.field_at-points.ensures } in
     rw (four-are fields a b d e four) c.read_fields.ensures.row
-
-pub returns-clause-few : goal.returns-clause-few
-returns-clause-few c =
-    let fields = fields_of c.args.fields.now in
-    let a = c.field_at-name.result.now in
-    let b = c.field_at-from.result.now in
-    let d = c.field_at-to.result.now in
-    let e = c.field_at-points.result.now in
-    let four : AreFour fields a b d e = record { count = search rules; first = c.field_at-name.ensures; second = c.field_at-from.ensures; third = c.field_at-to.ensures; fourth = c.field_at-points.ensures } in
-    let small = last-small fields a b d e four in
-    on_ok_weaker c.read_fields.result (λ (le : length c.read_fields.new.line ≤ length e + 1). omega (arith, le, small)) c.read_fields.ensures.few
 
 pub returns-clause-fault : goal.returns-clause-fault
 returns-clause-fault c =
