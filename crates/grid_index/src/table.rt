@@ -15,6 +15,9 @@ use polyline_geometry::Point;
 use road_network::Network;
 use std::alloc::{AllocError, Global};
 
+/// After so many entries, the memory of those that were read is returned.
+const BLOCK: usize = 1_024;
+
 /// The runs of a network by slot.
 pub(crate) struct Table {
     pub(crate) layout: Layout,
@@ -37,11 +40,20 @@ impl Drop for Table {
     }
 }
 
-/// The runs of entries.
-fn runs_of(alloc: Global, entries: &[Entry]) -> Result<Vec<Run>, AllocError>
-    ensures { IfOk result (λ runs. runs.items ≡ map (λ x. x.run) entries.now) }
+/// The runs of entries. The memory of the entries is returned while the runs are stored.
+fn runs_of(alloc: Global, entries: Vec<Entry>) -> Result<Vec<Run>, AllocError>
+    ensures { IfOk result (λ runs. runs.items ≡ map (λ x. x.run) entries.items) }
 {
-    entries.iter().map(|entry| entry.run).collect(alloc)
+    let mut runs = Vec::with_capacity(alloc, entries.len())?;
+    let mut left = entries;
+    left.reverse();
+    while let Some(entry) = left.pop() {
+        runs.push(entry.run)?;
+        if left.len() % BLOCK == 0 {
+            left.shrink_to_fit();
+        }
+    }
+    Ok(runs)
 }
 
 /// Appends a run if its box has a point within squared distance `far2` from p.
@@ -79,8 +91,8 @@ impl Table {
         entries.sort_by_slot();
         let slots = layout.width * layout.width;
         let starts = starts_of(alloc, entries.at_slots.as_slice(), slots)?;
-        let members = runs_of(alloc, entries.at_slots.as_slice())?;
-        let Entries { at_slots: _, wide } = entries;
+        let Entries { at_slots, wide } = entries;
+        let members = runs_of(alloc, at_slots)?;
         Ok(Table {
             layout,
             starts,

@@ -1,4 +1,4 @@
-use Rattle.std.proofs.Common.{◌+◌, ◌*◌, map, ◌∙◌, ap, subst, sym, refl}
+use Rattle.std.proofs.Common.{◌+◌, ◌*◌, subst, sym, refl}
 use Rattle.grid_index.specs.declared.entries.Entry.{Entry}
 use Rattle.grid_index.specs.GridOf.{IsGrid}
 use Rattle.grid_index.specs.Starts.{AreStarts}
@@ -14,7 +14,7 @@ returns-clause-table c =
     let members = c.in_ok-members.members.items in
     let sorted = c.sort_by_slot.new.self.at_slots.items in
     let starts_are = subst (λ xs. AreStarts xs starts (l.width * l.width + 1)) c.as_slice.ensures.value c.in_ok-starts.ensures in
-    let members_are = c.in_ok-members.ensures ∙ ap (map (λ (x : Entry). x.run)) c.as_slice-2.ensures.value in
+    let members_are = c.in_ok-members.ensures in
     let is = table_of net l.side l.width c.in_ok-entries.entries sorted starts members l.width_some c.in_ok-entries.ensures c.sort_by_slot.ensures.same starts_are members_are in
     record {
       parts = is.0;
