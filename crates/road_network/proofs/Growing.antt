@@ -143,7 +143,7 @@ pub record KeepsLimits (n : Net) (line : ℕ) : Type 0 where
   pub few_points : point_count n.edges ≤ 4_000_000_000
   pub short_line : line ≤ 1_000_000
 
-keeps-limits : (l : NetworkLimits) (rec : ℕ) (n : Net) (line : ℕ) → first_fault (limit_faults l rec (length n.edges) (length n.nodes) (point_count n.edges) line) ≡ None → KeepsLimits n line
+pub keeps-limits : (l : NetworkLimits) (rec : ℕ) (n : Net) (line : ℕ) → first_fault (limit_faults l rec (length n.edges) (length n.nodes) (point_count n.edges) line) ≡ None → KeepsLimits n line
 keeps-limits l rec n line h =
     let faults = limit_faults l rec (length n.edges) (length n.nodes) (point_count n.edges) line in
     let edges = when-none (ltb (edge_limit l) (length n.edges)) (fault.TooManyEdges rec) (drop 1 faults) h in

@@ -191,8 +191,8 @@ impl Draft {
             from,
             to,
             length,
-            first,
-            end,
+            first: first as u32,
+            end: end as u32,
         };
         self.points.extend_from_slice(line)?;
         self.edges.push(edge)?;

@@ -70,8 +70,8 @@ struct StoredEdge {
     from: NodeId,
     to: NodeId,
     length: u32,
-    first: usize,
-    end: usize,
+    first: u32,
+    end: u32,
 }
 
 /// A network: nodes and directed edges with lines. All points are in one list, their offsets in a
@@ -161,7 +161,7 @@ impl Network {
         ensures { result.now ≡ edge_line self.now e.0 }
     {
         let edge = &self.edges[e.0 as usize];
-        &self.points[edge.first..edge.end]
+        &self.points[edge.first as usize..edge.end as usize]
     }
 
     /// How far along the edge each point of its line lies, in cm.
@@ -170,7 +170,7 @@ impl Network {
         ensures { result.now ≡ line_offsets (edge_line self.now e.0) }
     {
         let edge = &self.edges[e.0 as usize];
-        &self.offsets[edge.first..edge.end]
+        &self.offsets[edge.first as usize..edge.end as usize]
     }
 
     /// The edge's id in the file.
