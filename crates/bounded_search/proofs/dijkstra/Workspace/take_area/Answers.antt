@@ -29,7 +29,7 @@ pub take_region-requires-clause-region : goal.take_region-requires-clause-region
 take_region-requires-clause-region c =
     let old = c.requires.sized.marks in
     let now = c.loop-region.invariant.sized.marks (length c.args.self.now.words.items) old in
-    omega (arith, c.requires.area, c.loop-region-test.true, old.areas, old.regions, now.areas, now.regions, now.blocks)
+    omega (arith, c.requires.area, c.loop-region-test.true, old.areas, old.regions, now.areas, now.regions, now.octets)
 
 pub take_region-requires-clause-sized : goal.take_region-requires-clause-sized
 take_region-requires-clause-sized c = sized_here (length c.args.self.now.words.items) c.args.self.now c.loop-region.self c.requires.sized c.loop-region.invariant.sized

@@ -14,8 +14,8 @@ returns-then-mark-eq0-clause-takes c =
 pub returns-then-mark-eq0-clause-sized : goal.returns-then-mark-eq0-clause-sized
 returns-then-mark-eq0-clause-sized c = keeps_none c.args.self.now
 
-pub loop-block-init : goal.loop-block-init
-loop-block-init c =
+pub loop-octet-init : goal.loop-octet-init
+loop-octet-init c =
     let w = c.args.self.now in
     let from : c.args.region * 512 ≡ c.args.region * 64 * 8 = omega arith in
     record {
@@ -25,37 +25,37 @@ loop-block-init c =
       queue = refl;
     }
 
-pub take_block-requires-clause-block : goal.take_block-requires-clause-block
-take_block-requires-clause-block c =
+pub take_octet-requires-clause-octet : goal.take_octet-requires-clause-octet
+take_octet-requires-clause-octet c =
     let old = c.requires.sized.marks in
-    let now = c.loop-block.invariant.sized.marks (length c.args.self.now.words.items) old in
-    omega (arith, c.requires.region, c.loop-block-test.true, old.areas, old.regions, now.areas, now.regions, now.blocks)
+    let now = c.loop-octet.invariant.sized.marks (length c.args.self.now.words.items) old in
+    omega (arith, c.requires.region, c.loop-octet-test.true, old.areas, old.regions, now.areas, now.regions, now.octets)
 
-pub take_block-requires-clause-sized : goal.take_block-requires-clause-sized
-take_block-requires-clause-sized c = sized_here (length c.args.self.now.words.items) c.args.self.now c.loop-block.self c.requires.sized c.loop-block.invariant.sized
+pub take_octet-requires-clause-sized : goal.take_octet-requires-clause-sized
+take_octet-requires-clause-sized c = sized_here (length c.args.self.now.words.items) c.args.self.now c.loop-octet.self c.requires.sized c.loop-octet.invariant.sized
 
-pub loop-block-preserved : goal.loop-block-preserved
-loop-block-preserved c =
-    let inv = c.loop-block.invariant in
-    let e = c.in_ok-take_block.ensures in
+pub loop-octet-preserved : goal.loop-octet-preserved
+loop-octet-preserved c =
+    let inv = c.loop-octet.invariant in
+    let e = c.in_ok-take_octet.ensures in
     record {
-      inside = omega (arith, c.loop-block-test.true);
-      sized = keeps_both c.args.self.now c.loop-block.self c.take_block.new.self inv.sized e.sized;
+      inside = omega (arith, c.loop-octet-test.true);
+      sized = keeps_both c.args.self.now c.loop-octet.self c.take_octet.new.self inv.sized e.sized;
       taken = λ before h. e.takes.taken before (inv.taken before h);
       queue = e.takes.queue ∙ inv.queue;
     }
 
-pub returns-in_err-take_block-clause-takes : goal.returns-in_err-take_block-clause-takes
-returns-in_err-take_block-clause-takes c = let p = err_from_is_err_and c.from_residual.result c.from_residual.ensures.1 in rw p.1 tt
+pub returns-in_err-take_octet-clause-takes : goal.returns-in_err-take_octet-clause-takes
+returns-in_err-take_octet-clause-takes c = let p = err_from_is_err_and c.from_residual.result c.from_residual.ensures.1 in rw p.1 tt
 
-pub returns-in_err-take_block-clause-sized : goal.returns-in_err-take_block-clause-sized
-returns-in_err-take_block-clause-sized c = keeps_both c.args.self.now c.loop-block.self c.take_block.new.self c.loop-block.invariant.sized c.in_err-take_block.ensures.sized
+pub returns-in_err-take_octet-clause-sized : goal.returns-in_err-take_octet-clause-sized
+returns-in_err-take_octet-clause-sized c = keeps_both c.args.self.now c.loop-octet.self c.take_octet.new.self c.loop-octet.invariant.sized c.in_err-take_octet.ensures.sized
 
 pub returns-clause-takes : goal.returns-clause-takes
 returns-clause-takes c =
-    let inv = c.loop-block.invariant in
-    let w = c.loop-block.self in
-    let to : c.loop-block.block * 8 ≡ (c.args.region + 1) * 512 = omega (arith, inv.inside, c.loop-block-test.false) in
+    let inv = c.loop-octet.invariant in
+    let w = c.loop-octet.self in
+    let to : c.loop-octet.octet * 8 ≡ (c.args.region + 1) * 512 = omega (arith, inv.inside, c.loop-octet-test.false) in
     record {
       taken = λ before h. region_gone c.args.region before w _ refl refl refl (subst (λ (k : ℕ). IsTaken before k w) to (inv.taken before h));
       queue = inv.queue;
@@ -63,8 +63,8 @@ returns-clause-takes c =
 
 pub returns-clause-sized : goal.returns-clause-sized
 returns-clause-sized c =
-    let inv = c.loop-block.invariant in
-    let w = c.loop-block.self in
+    let inv = c.loop-octet.invariant in
+    let w = c.loop-octet.self in
     record {
       bound = inv.sized.bound;
       words_count = inv.sized.words_count;
