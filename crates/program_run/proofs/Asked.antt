@@ -1,7 +1,6 @@
--- The plan of the words is that of their command.
-use Rattle.std.proofs.Common.{◌≡◌, ℕ, List, Result, Ok, refl, sym, ◌∙◌, ap, subst}
-use Rattle.command_line.specs.Work.{plain, plain_work}
-use Rattle.command_line.specs.Work.PlainWork.{match_town}
+-- What a command does is what the words ask for.
+use Rattle.std.proofs.Common.{◌≡◌, ℕ, List, Result, Ok, refl, sym, subst}
+use Rattle.command_line.specs.Work.{PlainCommand, plain, plain_work}
 use Rattle.command_line.specs.Words.{command_of}
 use Rattle.command_line.specs.declared.work.Command.{Command}
 use Rattle.command_line.specs.declared.work.Work.{Work}
@@ -10,12 +9,15 @@ use Rattle.edge_io.specs.State.{ShelfState, SinkState}
 use Rattle.program_frame.specs.Performs.{Performs}
 use Rattle.program_frame.specs.declared.stop.Stop.{Stop}
 use Rattle.program_frame.proofs.Asked.{asked_is}
-use Rattle.program_run.specs.Words.{asked_by, every_work}
+use Rattle.road_network.specs.declared.limits.NetworkLimits.{NetworkLimits}
+use Rattle.program_run.specs.Words.{asked_within, command_plan, every_work, work_plan}
 use Rattle.town_work.specs.Towns.{town_plan}
 
--- the words ask for a town
-pub asked_town : (words : List (List ℕ)) (command : Command) (side traces seed : ℕ) (shelf : ShelfState) (out out' : SinkState) (ended : Result (Unit {0}) Stop) → command_of words ≡ Ok (plain command) → command.work ≡ Town side traces seed → Performs (Ok (town_plan side traces seed command.options)) shelf shelf out out' ended → Performs (asked_by words) shelf shelf out out' ended
-asked_town words command side traces seed shelf out out' ended known is performs =
-    subst (λ a. Performs a shelf shelf out out' ended)
-    (sym (asked_is every_work words (record { work = match_town side traces seed; options = command.options }) (town_plan side traces seed command.options)
-    (known ∙ ap (λ (w : Work). Ok (record { work = plain_work w; options = command.options })) is) refl)) performs
+pub asked_command : (limits : NetworkLimits) (words : List (List ℕ)) (command : PlainCommand) (shelf shelf' : ShelfState) (out out' : SinkState) (ended : Result (Unit {0}) Stop) → command_of words ≡ Ok command → Performs (Ok (command_plan limits command)) shelf shelf' out out' ended → Performs (asked_within limits words) shelf shelf' out out' ended
+asked_command limits words command shelf shelf' out out' ended known performs =
+    subst (λ a. Performs a shelf shelf' out out' ended) (sym (asked_is (every_work limits) words command (command_plan limits command) known refl)) performs
+
+-- a town reads no file, so it leaves any shelf as it is
+pub town_performs : (limits : NetworkLimits) (command : Command) (side traces seed : ℕ) (shelf : ShelfState) (out out' : SinkState) (ended : Result (Unit {0}) Stop) → command.work ≡ Town side traces seed → Performs (Ok (town_plan side traces seed command.options)) shelf shelf out out' ended → Performs (Ok (command_plan limits (plain command))) shelf shelf out out' ended
+town_performs limits command side traces seed shelf out out' ended is performs =
+    subst (λ (w : Work). Performs (Ok (work_plan limits (plain_work w) command.options)) shelf shelf out out' ended) (sym is) performs

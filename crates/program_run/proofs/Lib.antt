@@ -1,6 +1,7 @@
 pub mod AcceptedOptions
 pub mod Asked
 pub mod Lines
+pub mod LargeProgram
 pub mod LiveProgram
 pub mod ProvedTexts
 pub mod TableFiles

@@ -16,6 +16,7 @@ use Rattle.program_frame.specs.Stream.{works_traces}
 use Rattle.program_frame.specs.WholeTraces.{traces_or_line, traces_said}
 use Rattle.program_frame.specs.declared.stop.File.TheVariants.{Certificate, Traces}
 use Rattle.road_network.specs.Net.{Net}
+use Rattle.road_network.specs.declared.limits.NetworkLimits.{NetworkLimits}
 use Rattle.trace_reader.specs.Fault.{fault_line}
 use Rattle.trace_reader.specs.Reading.{file_fault, file_traces}
 use Rattle.trace_reader.specs.declared.fault.TraceFault.{TraceFault}
@@ -25,7 +26,7 @@ use Rattle.table_file.specs.TableText.{text_limit}
 use Rattle.potential_certificate.specs.CertificateText.{text_limit as certificate_limit}
 use Rattle.program_run.specs.RunLines.{run_lines}
 use Rattle.trace_match.specs.Setting.{Setting}
-use Rattle.program_run.specs.Words.{asked_by, every_work, work_plan}
+use Rattle.program_run.specs.Words.{asked_within, every_work, work_plan}
 use Rattle.follow_work.specs.Follow.{follow_job}
 use Rattle.check_work.specs.Check.{check_said}
 use Rattle.match_work.specs.Matches.{match_plan, match_text}
@@ -82,39 +83,39 @@ table_file_end : (net : Net) (bound : ℕ) (bytes : List ℕ) (said : Result (Un
 table_file_end net bound bytes (Ok done) next status line known rest is = rest is
 table_file_end net bound bytes (Err said) next status line known rest is = inr (inr (inr (inl (sym is.0, (net, bound, bytes, known ∙ ap (λ l. Err l) is.1)))))
 
-table_match_end : (network table traces : List ℕ) (options : Params) (status : ℕ) (line : List ℕ) → status ≢ 0 → IsLineOf (table_match_plan network table traces options) status line → run_lines status line
-table_match_end network table traces options status line refused is =
-    network_end run_lines has_refusals is.0 (network_said is.0) (λ net. preloads table net options.bound (works_traces traces (match_text (record { network = net; params = options })))) status line refl
+table_match_end : (limits : NetworkLimits) (network table traces : List ℕ) (options : Params) (status : ℕ) (line : List ℕ) → status ≢ 0 → IsLineOf (table_match_plan limits network table traces options) status line → run_lines status line
+table_match_end limits network table traces options status line refused is =
+    network_end run_lines has_refusals limits is.0 (network_said limits is.0) (λ net. preloads table net options.bound (works_traces traces (match_text (record { network = net; params = options })))) status line refl
     (λ net more. table_file_end net options.bound more.0 (table_file_said net options.bound more.0) (works_traces traces (match_text (record { network = net; params = options }))) status line refl (matches_end (record { network = net; params = options }) traces status line refused) more.1) is.1
 
-match_end : (network traces : List ℕ) (options : Params) (status : ℕ) (line : List ℕ) → status ≢ 0 → IsLineOf (match_plan network traces options) status line → run_lines status line
-match_end network traces options status line refused is =
-    network_end run_lines has_refusals is.0 (network_said is.0) (λ net. works_traces traces (match_text (record { network = net; params = options }))) status line refl (λ net. matches_end (record { network = net; params = options }) traces status line refused) is.1
+match_end : (limits : NetworkLimits) (network traces : List ℕ) (options : Params) (status : ℕ) (line : List ℕ) → status ≢ 0 → IsLineOf (match_plan limits network traces options) status line → run_lines status line
+match_end limits network traces options status line refused is =
+    network_end run_lines has_refusals limits is.0 (network_said limits is.0) (λ net. works_traces traces (match_text (record { network = net; params = options }))) status line refl (λ net. matches_end (record { network = net; params = options }) traces status line refused) is.1
 
-work_end : (work : PlainWork) (options : Params) (status : ℕ) (line : List ℕ) → status ≢ 0 → IsLineOf (work_plan work options) status line → run_lines status line
-work_end (match_files network traces None) options status line refused is = match_end network traces options status line refused is
-work_end (match_files network traces (Some table)) options status line refused is = table_match_end network table traces options status line refused is
-work_end (follow_files network traces) options status line refused is =
-    network_end run_lines has_refusals is.0 (network_said is.0) (λ net. works_traces traces (follow_job (record { network = net; params = options }))) status line refl (λ net. follows_end (record { network = net; params = options }) traces status line refused) is.1
-work_end (table_of_network network) options status line refused is =
-    network_end run_lines has_refusals is.0 (network_said is.0) (λ net. accepts 8 (table_said net options.bound) (λ text. ends (done_with text))) status line refl
+work_end : (limits : NetworkLimits) (work : PlainWork) (options : Params) (status : ℕ) (line : List ℕ) → status ≢ 0 → IsLineOf (work_plan limits work options) status line → run_lines status line
+work_end limits (match_files network traces None) options status line refused is = match_end limits network traces options status line refused is
+work_end limits (match_files network traces (Some table)) options status line refused is = table_match_end limits network table traces options status line refused is
+work_end limits (follow_files network traces) options status line refused is =
+    network_end run_lines has_refusals limits is.0 (network_said limits is.0) (λ net. works_traces traces (follow_job (record { network = net; params = options }))) status line refl (λ net. follows_end (record { network = net; params = options }) traces status line refused) is.1
+work_end limits (table_of_network network) options status line refused is =
+    network_end run_lines has_refusals limits is.0 (network_said limits is.0) (λ net. accepts 8 (table_said net options.bound) (λ text. ends (done_with text))) status line refl
     (λ net. table_end network options (table_said net options.bound) net status line refl refused) is.1
-work_end (stream_files network traces) options status line refused is =
-    network_end run_lines has_refusals is.0 (network_said is.0) (λ net. works_traces traces (streams_job (record { network = net; params = options }))) status line refl
+work_end limits (stream_files network traces) options status line refused is =
+    network_end run_lines has_refusals limits is.0 (network_said limits is.0) (λ net. works_traces traces (streams_job (record { network = net; params = options }))) status line refl
     (λ net more. streams_end (record { network = net; params = options }) _ _ more.0 (full_id [] (points_in (file_traces more.0))) status line refused more.1) is.1
-work_end (prove_files network traces) options status line refused is =
-    network_end run_lines has_refusals is.0 (network_said is.0) (λ net. loads Traces traces trace_limit 6 traces_said (λ taken. accepts 8 (prove_said (record { network = net; params = options }) taken) (λ text. ends (done_with text)))) status line refl
+work_end limits (prove_files network traces) options status line refused is =
+    network_end run_lines has_refusals limits is.0 (network_said limits is.0) (λ net. loads Traces traces trace_limit 6 traces_said (λ taken. accepts 8 (prove_said (record { network = net; params = options }) taken) (λ text. ends (done_with text)))) status line refl
     (λ net more. loaded_end more.0 (file_fault more.0) (λ taken. accepts 8 (prove_said (record { network = net; params = options }) taken) (λ text. ends (done_with text))) status line refl
     (λ taken. proofs_end (record { network = net; params = options }) taken (prove_said (record { network = net; params = options }) taken) status line refl refused) more.1) is.1
-work_end (check_files network traces certificate) options status line refused is =
-    network_end run_lines has_refusals is.0 (network_said is.0) (λ net. loads Traces traces trace_limit 6 traces_said (λ taken. loads Certificate certificate certificate_limit 7 (check_said (record { network = net; params = options }) taken) (λ text. ends (done_with text)))) status line refl
+work_end limits (check_files network traces certificate) options status line refused is =
+    network_end run_lines has_refusals limits is.0 (network_said limits is.0) (λ net. loads Traces traces trace_limit 6 traces_said (λ taken. loads Certificate certificate certificate_limit 7 (check_said (record { network = net; params = options }) taken) (λ text. ends (done_with text)))) status line refl
     (λ net more. loaded_end more.0 (file_fault more.0) (λ taken. loads Certificate certificate certificate_limit 7 (check_said (record { network = net; params = options }) taken) (λ text. ends (done_with text))) status line refl
     (λ taken last. check_end (record { network = net; params = options }) taken last.0 (check_said (record { network = net; params = options }) taken last.0) status line refl refused last.1) more.1) is.1
-work_end (match_town side traces seed) options status line refused is = absurd (refused (sym is.0))
+work_end limits (match_town side traces seed) options status line refused is = absurd (refused (sym is.0))
 
-command_end : (command : PlainCommand) (known : Plan) (status : ℕ) (line : List ℕ) → every_work command ≡ Some known → status ≢ 0 → IsLineOf known status line → run_lines status line
-command_end command known status line planned refused is =
-    work_end command.work command.options status line refused (subst (λ (p : Plan). IsLineOf p status line) (sym (cc planned)) is)
+command_end : (limits : NetworkLimits) (command : PlainCommand) (known : Plan) (status : ℕ) (line : List ℕ) → every_work limits command ≡ Some known → status ≢ 0 → IsLineOf known status line → run_lines status line
+command_end limits command known status line planned refused is =
+    work_end limits command.work command.options status line refused (subst (λ (p : Plan). IsLineOf p status line) (sym (cc planned)) is)
 
-pub lines_covered : (words : List (List ℕ)) → Covers run_lines (asked_by words)
-lines_covered words = asked_covered run_lines has_refusals every_work words command_end
+pub lines_covered : (limits : NetworkLimits) (words : List (List ℕ)) → Covers run_lines (asked_within limits words)
+lines_covered limits words = asked_covered run_lines has_refusals (every_work limits) words (command_end limits)

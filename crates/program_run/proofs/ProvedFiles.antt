@@ -19,9 +19,9 @@ network_read (Ok m) n e = ap (λ (k : Net). let r : Result Net NetworkFault = Ok
 network_read (Err f) n e = absurd (cc e)
 
 pub proved_files_are_accepted : ProvedFilesAreAccepted
-proved_files_are_accepted network traces p n taken text accepted net_is traces_are e =
-    let read = network_read (network_of network) n net_is in
+proved_files_are_accepted limits network traces p n taken text accepted net_is traces_are e =
+    let read = network_read (network_of limits network) n net_is in
     let same = traces_taken (file_traces traces) (file_fault traces) taken traces_are in
-    let short : HaveShortIds n taken = record { of_edges = read_names network n read; of_traces = subst (λ (ts : List Trace). All (λ (x : Trace). x.id < 2 ^ 32) ts) same (read_ids traces) } in
-    proved_texts_are_accepted (record { network = n; params = p }) taken text (read_lawful network n read) accepted
+    let short : HaveShortIds n taken = record { of_edges = read_names limits network n read; of_traces = subst (λ (ts : List Trace). All (λ (x : Trace). x.id < 2 ^ 32) ts) same (read_ids traces) } in
+    proved_texts_are_accepted (record { network = n; params = p }) taken text (read_lawful limits network n read) accepted
     (taken_lawful traces taken traces_are) short e

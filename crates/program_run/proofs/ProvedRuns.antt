@@ -15,14 +15,16 @@ use Rattle.program_frame.specs.Asked.{asked_of}
 use Rattle.program_frame.specs.Outcome.{Outcome, done_with, refused_with, seen}
 use Rattle.program_frame.specs.Plan.{Plan, accepts, and_then, loads, outcome_of, plan_of}
 use Rattle.program_frame.specs.Plan.Plan.{ends}
-use Rattle.program_frame.specs.Refusals.{network_limit, network_said, trace_limit}
+use Rattle.program_frame.specs.Refusals.{network_said, trace_limit}
 use Rattle.program_frame.specs.WholeTraces.{traces_said}
 use Rattle.program_frame.specs.declared.stop.File.{File}
 use Rattle.program_frame.specs.declared.stop.File.TheVariants.{Certificate as OfCertificate, Network, Traces}
+use Rattle.road_network.specs.Limits.{file_limit}
+use Rattle.road_network.specs.declared.limits.NetworkLimits.{NetworkLimits}
 use Rattle.trace_reader.specs.declared.trace.Trace.{Trace}
 use Rattle.program_run.specs.ProvedRuns.{ProvedRunsAreAccepted}
 use Rattle.trace_match.specs.Setting.{Setting}
-use Rattle.program_run.specs.Words.{asked_by, command_plan, every_work}
+use Rattle.program_run.specs.Words.{asked_within, command_plan, every_work}
 use Rattle.check_work.specs.Check.{certificate_in, check_said, proved_line, proved_or_refused, verdict_said}
 use Rattle.prove_work.specs.Prove.{prove_plan, prove_said, text_of_proofs}
 use Rattle.program_run.proofs.AcceptedOptions.{accepted_words}
@@ -101,16 +103,16 @@ proved_of on traces text line (Err l) is e = absurd (cc e)
 -- ---- the runs
 
 -- the plan of words that are accepted
-plan_is : (words : List (List ℕ)) (c : PlainCommand) → command_of words ≡ Ok c → plan_of (asked_by words) ≡ command_plan c
-plan_is words c is = ap (λ (r : Result PlainCommand WordsFault). plan_of (asked_of every_work r)) is
+plan_is : (limits : NetworkLimits) (words : List (List ℕ)) (c : PlainCommand) → command_of words ≡ Ok c → plan_of (asked_within limits words) ≡ command_plan limits c
+plan_is limits words c is = ap (λ (r : Result PlainCommand WordsFault). plan_of (asked_of (every_work limits) r)) is
 
 pub proved_runs_are_accepted : ProvedRunsAreAccepted
-proved_runs_are_accepted proves checks files files' o runs is done =
+proved_runs_are_accepted limits proves checks files files' o runs is done =
     let p = runs.options in
     let accepted = accepted_words proves _ runs.proves_is in
-    let proved : outcome_of (prove_plan runs.network runs.traces p) files ≡ Some o =
-    ap (λ (plan : Plan). outcome_of plan files) (sym (plan_is proves _ runs.proves_is)) ∙ is in
-    let net = loaded Network runs.network network_limit 5 network_said _ files o (omega arith) proved done in
+    let proved : outcome_of (prove_plan limits runs.network runs.traces p) files ≡ Some o =
+    ap (λ (plan : Plan). outcome_of plan files) (sym (plan_is limits proves _ runs.proves_is)) ∙ is in
+    let net = loaded Network runs.network (file_limit limits) 5 (network_said limits) _ files o (omega arith) proved done in
     let tra = loaded Traces runs.traces trace_limit 6 traces_said _ files o (omega arith) net.then_is done in
     let on : Setting = record { network = net.value; params = p } in
     let said = taken 8 (prove_said on tra.value) (λ text. ends (done_with text)) files o (omega arith) tra.then_is done in
@@ -119,12 +121,12 @@ proved_runs_are_accepted proves checks files files' o runs is done =
     let short = subst (λ (t : List ℕ). length t ≤ text_limit) (written (text_of_proofs on tra.value) text (nat_lt text_limit (length (text_of_proofs on tra.value))) refl said.value_is).0
     (written (text_of_proofs on tra.value) text (nat_lt text_limit (length (text_of_proofs on tra.value))) refl said.value_is).1 in
     let held : files' runs.certificate ≡ Some text = runs.text_is ∙ ap (λ (x : Outcome). let r : Option (List ℕ) = Some (x.out) in r) (sym same) in
-    let checked = proved_files_are_accepted net.bytes tra.bytes p net.value tra.value text accepted net.value_is tra.value_is said.value_is in
+    let checked = proved_files_are_accepted limits net.bytes tra.bytes p net.value tra.value text accepted net.value_is tra.value_is said.value_is in
     let of = proved_of on tra.value text _ (certificate_in p text) refl checked in (
       of.c,
       subst (λ (t : List ℕ). certificate_in p t ≡ Ok of.c) (ap (λ (x : Outcome). x.out) same) of.is,
-      ap (λ (plan : Plan). outcome_of plan files') (plan_is checks _ runs.checks_is)
-          ∙ leads_on Network runs.network network_limit 5 network_said _ files' net.bytes net.value (ap (seen network_limit) runs.same_network ∙ net.bytes_are) net.value_is
+      ap (λ (plan : Plan). outcome_of plan files') (plan_is limits checks _ runs.checks_is)
+          ∙ leads_on Network runs.network (file_limit limits) 5 (network_said limits) _ files' net.bytes net.value (ap (seen (file_limit limits)) runs.same_network ∙ net.bytes_are) net.value_is
           ∙ leads_on Traces runs.traces trace_limit 6 traces_said _ files' tra.bytes tra.value (ap (seen trace_limit) runs.same_traces ∙ tra.bytes_are) tra.value_is
           ∙ leads_on OfCertificate runs.certificate text_limit 7 (check_said on tra.value) (λ t. ends (done_with t)) files' text _ (seen_whole text_limit (files' runs.certificate) text held short) checked
           ∙ ap (λ (l : List ℕ). let r : Option Outcome = Some (done_with l) in r) of.line_is,

@@ -14,6 +14,8 @@ use Rattle.polyline_geometry.specs.declared.plane.Point.{Point}
 use Rattle.polyline_geometry.specs.Plane.{InRange}
 use Rattle.road_network.specs.declared.fault.NetworkFault.{NetworkFault}
 use Rattle.road_network.specs.declared.fault.NetworkFault.TheVariants as fault
+use Rattle.road_network.specs.declared.limits.NetworkLimits.{NetworkLimits}
+use Rattle.road_network.specs.Limits.{file_limit}
 use Rattle.road_network.specs.Net.{Edge, IsLawful, Net}
 use Rattle.road_network.specs.NetworkFile.{Row, add_record, add_records, add_row, both, edge_with, field_faults, first_fault, has_name, is_header, line_faults, line_of, make_point, network_of, network_of_records, next, nodes_with, no_net, point_of, points_of, row_faults, row_from, row_of, unless, with_row}
 use Rattle.road_network.proofs.Growing.{IsFaultless, lawful-more, limits_with}
@@ -136,16 +138,16 @@ no_name : (b : Bool) (x : NetworkFault) (faults : List (Option NetworkFault)) �
 no_name true x faults e = absurd (cc e)
 no_name false x faults e = (refl, e)
 
-row_added : (n m : Net) (r : Row) → IsReadable n → IsShortRow r → add_row n r ≡ Ok m → IsReadable m
+row_added : (l : NetworkLimits) (n m : Net) (r : Row) → IsReadable n → IsShortRow r → add_row l n r ≡ Ok m → IsReadable m
 unfolding add_row
-row_added n m r h short e =
+row_added l n m r h short e =
     let rec = length n.edges + 1 in
-    let u = unless_ok (first_fault (row_faults n rec r)) (with_row n r) m e in
-    let name = no_name (has_name n r.name) (fault.DuplicateEdge rec) (line_faults rec r.line ++ limits_with n r) u.0 in
-    let parts = first_parts (line_faults rec r.line) (limits_with n r) name.1 in
-    let faultless : IsFaultless n r = record { named = name.0; line = parts.0; limits = parts.1; within = short.within } in
+    let u = unless_ok (first_fault (row_faults l n rec r)) (with_row n r) m e in
+    let name = no_name (has_name n r.name) (fault.DuplicateEdge rec) (line_faults rec r.line ++ limits_with l n r) u.0 in
+    let parts = first_parts (line_faults rec r.line) (limits_with l n r) name.1 in
+    let faultless : IsFaultless l n r = record { named = name.0; line = parts.0; limits = parts.1; within = short.within } in
     subst IsReadable u.1 (record {
-      lawful = lawful-more n r h.lawful faultless;
+      lawful = lawful-more l n r h.lawful faultless;
       names = All-push (λ (x : Edge). x.name < 2 ^ 32) n.edges (edge_with (nodes_with n.nodes r) r) h.names short.name;
     })
 
@@ -158,18 +160,18 @@ next_read : {A B : Type 0} (x : Result A NetworkFault) (f : A → Result B Netwo
 next_read (Ok a) f b e = record { first = a; first-is = refl; then-is = e }
 next_read (Err g) f b e = absurd (cc e)
 
-record_added : (n m : Net) (fields : List (List ℕ)) → IsReadable n → add_record n fields ≡ Ok m → IsReadable m
+record_added : (l : NetworkLimits) (n m : Net) (fields : List (List ℕ)) → IsReadable n → add_record l n fields ≡ Ok m → IsReadable m
 unfolding add_record
-record_added n m fields h e =
-    let f = next_read (row_of (length n.edges + 1) fields) (add_row n) m e in
-    row_added n m f.first h (row_short (length n.edges + 1) fields f.first f.first-is) f.then-is
+record_added l n m fields h e =
+    let f = next_read (row_of (length n.edges + 1) fields) (add_row l n) m e in
+    row_added l n m f.first h (row_short (length n.edges + 1) fields f.first f.first-is) f.then-is
 
-records_added : (n m : Net) (records : List (List (List ℕ))) → IsReadable n → add_records n records ≡ Ok m → IsReadable m
+records_added : (l : NetworkLimits) (n m : Net) (records : List (List (List ℕ))) → IsReadable n → add_records l n records ≡ Ok m → IsReadable m
 unfolding add_records
-records_added n m [] h e = let same : n ≡ m = cc e in subst IsReadable same h
-records_added n m (fields ∷ records) h e =
-    let f = next_read (add_record n fields) (λ k. add_records k records) m e in
-    records_added f.first m records (record_added n f.first fields h f.first-is) f.then-is
+records_added l n m [] h e = let same : n ≡ m = cc e in subst IsReadable same h
+records_added l n m (fields ∷ records) h e =
+    let f = next_read (add_record l n fields) (λ k. add_records l k records) m e in
+    records_added l f.first m records (record_added l n f.first fields h f.first-is) f.then-is
 
 nothing_readable : IsReadable no_net
 nothing_readable = record {
@@ -180,6 +182,7 @@ nothing_readable = record {
     sources = λ e lt. absurd (omega (arith, lt));
     targets = λ e lt. absurd (omega (arith, lt));
     lines = λ e lt. absurd (omega (arith, lt));
+    short_lines = λ e lt. absurd (omega (arith, lt));
     not_empty = λ e lt. absurd (omega (arith, lt));
     not_long = λ e lt. absurd (omega (arith, lt));
     names_differ = λ e f lt. absurd (omega (arith, lt));
@@ -195,17 +198,18 @@ not_ok : {A : Type 0} (b : Bool) (g : NetworkFault) (x : Result A NetworkFault) 
 not_ok true g x a e = absurd (cc e)
 not_ok false g x a e = e
 
-records_read : (records : List (List (List ℕ))) (n : Net) → network_of_records records ≡ Ok n → IsReadable n
+records_read : (l : NetworkLimits) (records : List (List (List ℕ))) (n : Net) → network_of_records l records ≡ Ok n → IsReadable n
 unfolding network_of_records
-records_read [] n e = absurd (cc e)
-records_read (names ∷ records) n e = records_added no_net n records nothing_readable (on_ok (is_header names) fault.BadHeader (add_records no_net records) n e)
+records_read l [] n e = absurd (cc e)
+records_read l (names ∷ records) n e =
+    records_added l no_net n records nothing_readable (on_ok (is_header names) fault.BadHeader (add_records l no_net records) n e)
 
-read_network : (bytes : List ℕ) (n : Net) → network_of bytes ≡ Ok n → IsReadable n
+read_network : (l : NetworkLimits) (bytes : List ℕ) (n : Net) → network_of l bytes ≡ Ok n → IsReadable n
 unfolding network_of
-read_network bytes n e = records_read _ n (not_ok (nat_lt 134_217_728 (length bytes)) fault.FileTooLong _ n e)
+read_network l bytes n e = records_read l _ n (not_ok (nat_lt (file_limit l) (length bytes)) fault.FileTooLong _ n e)
 
-pub read_lawful : (bytes : List ℕ) (n : Net) → network_of bytes ≡ Ok n → IsLawful n
-read_lawful bytes n e = (read_network bytes n e).lawful
+pub read_lawful : (l : NetworkLimits) (bytes : List ℕ) (n : Net) → network_of l bytes ≡ Ok n → IsLawful n
+read_lawful l bytes n e = (read_network l bytes n e).lawful
 
-pub read_names : (bytes : List ℕ) (n : Net) → network_of bytes ≡ Ok n → All (λ (e : Edge). e.name < 2 ^ 32) n.edges
-read_names bytes n e = (read_network bytes n e).names
+pub read_names : (l : NetworkLimits) (bytes : List ℕ) (n : Net) → network_of l bytes ≡ Ok n → All (λ (e : Edge). e.name < 2 ^ 32) n.edges
+read_names l bytes n e = (read_network l bytes n e).names

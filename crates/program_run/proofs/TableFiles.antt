@@ -2,9 +2,11 @@
 use Rattle.std.proofs.Common.{◌≡◌, ◌≢◌, ℕ, List, Option, Some, None, Result, Ok, Err, sym, ap}
 use Rattle.program_frame.specs.Outcome.{Outcome, refused_with, seen}
 use Rattle.program_frame.specs.Plan.{Plan, accepts, and_then, outcome_of}
-use Rattle.program_frame.specs.Refusals.{network_limit, network_said}
+use Rattle.program_frame.specs.Refusals.{network_said}
 use Rattle.program_frame.specs.Stream.{works_traces}
+use Rattle.road_network.specs.Limits.{file_limit}
 use Rattle.road_network.specs.Net.{Net}
+use Rattle.road_network.specs.declared.limits.NetworkLimits.{NetworkLimits}
 use Rattle.table_file.specs.TableText.{text_limit}
 use Rattle.program_run.specs.TableFiles.{TableFilesChangeNothing}
 use Rattle.match_work.specs.Matches.{match_text}
@@ -23,11 +25,12 @@ module _ (files : List ℕ → Option (List ℕ)) (o : Outcome) (other : o.statu
   by_net table bound next (Ok net) e = by_table (next net) net bound (seen text_limit (files table)) e
   by_net table bound next (Err line) e = e
 
-  pub by_network : (table : List ℕ) (bound : ℕ) (next : Net → Plan) (read : Option (List ℕ)) → and_then read (λ bytes. outcome_of (accepts 5 (network_said bytes) (λ net. preloads table net bound (next net))) files) ≡ Some o
-      → and_then read (λ bytes. outcome_of (accepts 5 (network_said bytes) (λ net. next net)) files) ≡ Some o
-  by_network table bound next None e = e
-  by_network table bound next (Some bytes) e = by_net table bound next (network_said bytes) e
+  pub by_network : (limits : NetworkLimits) (table : List ℕ) (bound : ℕ) (next : Net → Plan) (read : Option (List ℕ)) → and_then read (λ bytes. outcome_of (accepts 5 (network_said limits bytes) (λ net. preloads table net bound (next net))) files) ≡ Some o
+      → and_then read (λ bytes. outcome_of (accepts 5 (network_said limits bytes) (λ net. next net)) files) ≡ Some o
+  by_network limits table bound next None e = e
+  by_network limits table bound next (Some bytes) e =
+      by_net table bound next (network_said limits bytes) e
 
 pub table_files_change_nothing : TableFilesChangeNothing
-table_files_change_nothing network traces table options files o e other =
-    by_network files o other table options.bound (λ net. works_traces traces (match_text (record { network = net; params = options }))) (seen network_limit (files network)) e
+table_files_change_nothing limits network traces table options files o e other =
+    by_network files o other limits table options.bound (λ net. works_traces traces (match_text (record { network = net; params = options }))) (seen (file_limit limits) (files network)) e

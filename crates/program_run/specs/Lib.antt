@@ -2,6 +2,7 @@ pub mod ProvedTexts
 pub mod ProvedFiles
 pub mod ProvedRuns
 pub mod RunLines
+pub mod LargeProgram
 pub mod LiveProgram
 pub mod TableFiles
 pub mod Workers

@@ -2,6 +2,7 @@
 use Rattle.std.specs.Prelude.{◌≡◌, ℕ}
 use Rattle.command_line.specs.Work.{PlainWork}
 use Rattle.cost_model.specs.declared.params.Params.{Params}
+use Rattle.road_network.specs.declared.limits.NetworkLimits.{NetworkLimits}
 use Rattle.program_run.specs.Words.{work_plan}
 
 -- these options with another number of workers
@@ -20,5 +21,5 @@ with_workers workers options = record {
 -- each work has the same plan for any number of workers, and so the same outcome for all files
 abbrev pub WorkersChangeNothing : Type 0
 WorkersChangeNothing =
-    (work : PlainWork) (options : Params) (workers : ℕ)
-    → work_plan work (with_workers workers options) ≡ work_plan work options
+    (limits : NetworkLimits) (work : PlainWork) (options : Params) (workers : ℕ)
+    → work_plan limits work (with_workers workers options) ≡ work_plan limits work options

@@ -2,6 +2,7 @@
 ghost use Rattle.program_run.specs.ProvedFiles.{ProvedFilesAreAccepted};
 ghost use Rattle.program_run.specs.ProvedRuns.{ProvedRunsAreAccepted};
 ghost use Rattle.program_run.specs.ProvedTexts.{ProvedTextsAreAccepted};
+ghost use Rattle.program_run.specs.LargeProgram.{LargeLimitsChangeNothing};
 ghost use Rattle.program_run.specs.LiveProgram.{LiveProgramPlansAlike};
 ghost use Rattle.program_run.specs.TableFiles.{TableFilesChangeNothing};
 ghost use Rattle.program_run.specs.Workers.{WorkersChangeNothing};
@@ -32,8 +33,14 @@ pub fn proved_runs_are_accepted()
     ensures { ProvedRunsAreAccepted }
 {}
 
-/// The words ask of the live program what they ask of this program, the line of a refusal included; or
-/// the live program refuses them as a faulty command line.
+/// The words ask of the live program what they ask of this program with `follow` before them, the line of a
+/// refusal included.
 pub fn live_program_plans_alike()
     ensures { LiveProgramPlansAlike }
+{}
+
+/// If the network file that the words name keeps the standard limits, the outcome within the large limits is
+/// the outcome within the standard limits.
+pub fn large_limits_change_nothing()
+    ensures { LargeLimitsChangeNothing }
 {}

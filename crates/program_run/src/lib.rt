@@ -2,7 +2,8 @@
 //! and two sinks.
 //!
 //! [`run`] has the promise: what it writes is a function of the words and the files. The crate
-//! `match_program` calls it with the real files and streams.
+//! `match_program` calls it with the real files and streams. [`run_within`] promises the same for other
+//! limits of the network; the crate `large_program` calls it with the large ones.
 //!
 //! - The crate `command_line` reads the words, and `run` calls the crate of their command: `match_work`,
 //!   `follow_work`, `stream_work`, `table_work`, `prove_work`, `check_work`, `town_work`.
@@ -16,4 +17,4 @@
 pub mod laws;
 mod top;
 
-pub use top::run;
+pub use top::{run, run_within};
