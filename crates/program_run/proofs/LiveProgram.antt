@@ -5,10 +5,11 @@ use Rattle.clap.specs.Walk.{Names, Row, Rule, Text, Walk, first_of, walk_from, n
 use Rattle.clap.specs.Words.{Kinds, fault_of}
 use Rattle.command_line.specs.Options.{and_then, options_of}
 use Rattle.command_line.specs.Syntax.{program}
-use Rattle.command_line.specs.Work.{PlainCommand}
+use Rattle.command_line.specs.Work.{PlainCommand, PlainWork}
+use Rattle.command_line.specs.Work.PlainWork.{follow_files}
 use Rattle.command_line.specs.Words.{command_named, command_of, entered_of, if_taken}
 use Rattle.command_line.specs.declared.fault.WordsFault.{WordsFault}
-use Rattle.command_line.specs.works.Follow.{follow_of}
+use Rattle.command_line.specs.works.TraceFiles.{both_names}
 use Rattle.cost_model.specs.declared.params.Params.{Params}
 use Rattle.follow_work.specs.Alone.{follow_alone}
 use Rattle.program_frame.specs.Asked.{asked_of}
@@ -31,7 +32,7 @@ stays_stopped rules names name w past [] is = record { words = past; is = is }
 stays_stopped rules names name w past (word ∷ words) is =
     stays_stopped rules names name (walked rules names w word) (past ++ word ∷ []) words (ap (λ (p : Option (Text × List Text)). (walked_from rules names p w word).stopped) is)
 
-named_alike : (options : Result Params WordsFault) (network traces : Option (List ℕ)) → AreAlike (and_then options (λ o. and_then (follow_of network traces) (λ work. Ok (record { work = work; options = o }))))
+named_alike : (options : Result Params WordsFault) (network traces : Option (List ℕ)) → AreAlike (and_then options (λ o. and_then (and_then (both_names network traces) (λ (names : List ℕ × List ℕ). let work : Result PlainWork WordsFault = Ok (follow_files names.0 names.1) in work)) (λ work. Ok (record { work = work; options = o }))))
 named_alike (Err fault) network traces = refl
 named_alike (Ok options) (Some network) (Some traces) = refl
 named_alike (Ok options) (Some network) None = refl
