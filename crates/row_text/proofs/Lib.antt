@@ -1,5 +1,7 @@
 pub mod DigitsPut
 pub mod Entries
+pub mod LineEnds
+pub mod LineFaults
 pub mod Kept
 pub mod Rules
 pub mod RowLines

@@ -1,3 +1,4 @@
 pub mod RowLine
 pub mod Reading
 pub mod Laws
+pub mod LineFaults

@@ -1,4 +1,5 @@
 pub mod Drafts
 pub mod FirstLines
 pub mod RowsOfText
+pub mod TableFaults
 pub mod Tables

@@ -21,10 +21,10 @@ use Rattle.table_file.specs.declared.fault.TableFault.TheVariants.{TooLong}
 use Rattle.table_file.specs.declared.reading.Counts.{Counts}
 use Rattle.table_file.proofs.RowsOfText.{row_takes}
 
-abbrev counts_of : ℕ → ℕ → Counts
+abbrev pub counts_of : ℕ → ℕ → Counts
 counts_of nodes edges = record { nodes = nodes; edges = edges }
 
-both : (a b : Bool) → a && b ≡ true → (a ≡ true) × (b ≡ true)
+pub both : (a b : Bool) → a && b ≡ true → (a ≡ true) × (b ≡ true)
 both true b h = (refl, h)
 both false b h = absurd cc
 
@@ -43,7 +43,7 @@ entries_test nodes edges [] h = refl
 entries_test nodes edges (x ∷ entries) h =
     rw (lt-ltb x.node.0 nodes h.0.node, edge_test edges x.last h.0.last) (entries_test nodes edges entries h.1)
 
-entries_met : (nodes edges : ℕ) (entries : List Entry) → list_all (is_entry_below (counts_of nodes edges)) entries ≡ true → AllByRecursion (IsEntryBelow nodes edges) entries
+pub entries_met : (nodes edges : ℕ) (entries : List Entry) → list_all (is_entry_below (counts_of nodes edges)) entries ≡ true → AllByRecursion (IsEntryBelow nodes edges) entries
 entries_met nodes edges [] h = tt
 entries_met nodes edges (x ∷ entries) h =
     let parts = both (is_entry_below (counts_of nodes edges) x) (list_all (is_entry_below (counts_of nodes edges)) entries) h in
@@ -55,7 +55,7 @@ row_test nodes edges least row is =
     let rises : nat_le least row.origin ≡ true = search (rules, is.rises) in
     rw rises (entries_test nodes edges row.entries is.below)
 
-row_again : (nodes edges least : ℕ) (row : TableRow) (rest : List ℕ) → IsTableRow nodes edges least row → row_allowed_at (counts_of nodes edges) least (row_line row ++ rest) ≡ Some (row, rest)
+pub row_again : (nodes edges least : ℕ) (row : TableRow) (rest : List ℕ) → IsTableRow nodes edges least row → row_allowed_at (counts_of nodes edges) least (row_line row ++ rest) ≡ Some (row, rest)
 row_again nodes edges least row rest is =
     bind_some _ (if_allowed (counts_of nodes edges) least) (row, rest) (rows_read_back row rest is.value) ∙ rw (row_test nodes edges least row is) refl
 

@@ -3,3 +3,4 @@ pub mod Draft
 pub mod WriterInside
 pub mod Reading
 pub mod Laws
+pub mod Faults

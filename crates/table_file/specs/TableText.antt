@@ -1,5 +1,5 @@
 -- The text of a table: its first line, a line for each row, and its last line.
-use Rattle.std.specs.Prelude.{ℕ, List, [], ◌∷◌, ◌++◌, codes, length}
+use Rattle.std.specs.Prelude.{ℕ, List, [], ◌∷◌, ◌++◌, codes, length, map}
 use Rattle.std.specs.List.{flat_map}
 use Rattle.bounded_search.specs.Table.{TableRow}
 use Rattle.decimal_text.specs.Number.{decimal}
@@ -27,3 +27,8 @@ row_lines rows = flat_map row_line rows
 abbrev pub table_text : (bound nodes edges : ℕ) → List TableRow → List ℕ
 table_text bound nodes edges rows =
     first_line bound nodes edges ++ (row_lines rows ++ end_line (length rows))
+
+-- the lines of this text
+abbrev pub table_lines : (bound nodes edges : ℕ) → List TableRow → List (List ℕ)
+table_lines bound nodes edges rows =
+    first_line bound nodes edges ∷ (map row_line rows ++ end_line (length rows) ∷ [])

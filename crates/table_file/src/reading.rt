@@ -1,7 +1,9 @@
 //! Reads a table text line by line. Serves the program; decided by `table_of`.
-ghost use Rattle.std.specs.Prelude.{◌≡◌, ◌≤◌, ◌==◌, length, IfOk, option_copied};
+ghost use Rattle.std.specs.Prelude.{◌≡◌, ◌≤◌, ◌==◌, ℕ, length, IfOk, IsErrOf, option_copied};
 ghost use Rattle.std.specs.List.{list_all, list_any};
 ghost use Rattle.match_text.specs.Reading.{after_bytes, seen};
+ghost use Rattle.row_text.specs.LineFaults.{IsCutOf, IsFirstBadLineOf};
+ghost use Rattle.table_file.specs.Faults.{IsTable};
 ghost use Rattle.table_file.specs.TableText.{end_line, text_limit};
 ghost use Rattle.table_file.specs.Reading.{ReadsRows, ReadsTable, fault_at, is_entry_below, is_row_allowed, row_allowed_at};
 
@@ -25,6 +27,23 @@ struct Counts {
 ///
 /// It reads the text once, from its start to its end or to its first bad line.
 pub fn read_table(
+    alloc: Global,
+    bound: u32,
+    nodes: u32,
+    edges: u32,
+    text: &[u8],
+) -> Result<List<Row>, TableFault>
+    ensures read { ReadsTable bound nodes edges text.now result }
+    // Which line is bad, and what a text that is cut lacks.
+    ensures bad_line { (n : ℕ) → IsErrOf result (TableFault.BadLine n)
+        → IsFirstBadLineOf (IsTable bound nodes edges) n text.now }
+    ensures cut { IsErrOf result TableFault.Cut → IsCutOf (IsTable bound nodes edges) text.now }
+{
+    read_text(alloc, bound, nodes, edges, text)
+}
+
+// The rows of the table text, or the fault of its first bad line.
+fn read_text(
     alloc: Global,
     bound: u32,
     nodes: u32,

@@ -7,4 +7,4 @@ pub returns-in-Ok-clause-nodes : goal.returns-in-Ok-clause-nodes
 returns-in-Ok-clause-nodes c =
     let call : IsCallFor c.args.roads.now c.args.text.items c.node_count.result c.edge_count.result c.deref.result.now =
     record { nodes_are = c.node_count.ensures; edges_are = c.edge_count.ensures; text_is = c.deref.ensures.value } in
-    have_nodes c.args.roads.now c.args.bound c.args.text.items c.in-Ok.rows (sym (called c.args.roads.now c.args.bound c.args.text.items c.node_count.result c.edge_count.result c.deref.result.now call) ∙ c.in-Ok.ensures)
+    have_nodes c.args.roads.now c.args.bound c.args.text.items c.in-Ok.rows (sym (called c.args.roads.now c.args.bound c.args.text.items c.node_count.result c.edge_count.result c.deref.result.now call) ∙ c.in-Ok.ensures.read)
