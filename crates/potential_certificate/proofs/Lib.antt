@@ -8,3 +8,7 @@ pub mod ProofTexts
 pub mod Certificates
 pub mod Gatherings
 pub mod Drawings
+pub mod EndsOfLines
+pub mod RowFaults
+pub mod ProofFaults
+pub mod CertificateFaults

@@ -3,6 +3,8 @@ use Rattle.std.proofs.Common.{◌≡◌, ℕ, ◌+◌, ◌-◌, ◌^◌, ◌<◌
 use Rattle.std.specs.List.{AllByRecursion, concat}
 use Rattle.std.specs.Option.{IfSome}
 use Rattle.std.proofs.lemmas.Bool.{ne_eqb}
+use Rattle.std.proofs.lemmas.List.{append-nil}
+use Rattle.std.proofs.lemmas.List.Folds.{concat-append}
 use Rattle.std.proofs.lemmas.Option.{none-some, same_Some}
 use Rattle.match_text.specs.Grammar.{Continues, EndsPiece, labels_of, pieces_of, start}
 use Rattle.match_text.specs.MatchText.{IsLawful, IsRising, LabelFits, PieceFits, end_line, label_line, piece_after, piece_line, trace_line}
@@ -15,14 +17,14 @@ use Rattle.match_text.specs.declared.place.Line.TheVariants.{Point, Piece as Pie
 use Rattle.match_text.proofs.Laid.{RisesFrom, at, rising_weaker, trace_of, traced}
 use Rattle.match_text.proofs.Lawful.{has_text}
 use Rattle.matching.specs.declared.parts.Cell.{Cell}
-use Rattle.potential_certificate.specs.CertificateText.{layer_line, point_lines, proof_text}
+use Rattle.potential_certificate.specs.CertificateText.{layer_line, point_lines, proof_lines, proof_text}
 use Rattle.potential_certificate.specs.HasText.{ArePoints, IsProof, label_of, match_of}
 use Rattle.potential_certificate.specs.Reading.{in_match}
 use Rattle.potential_certificate.specs.declared.proof.TraceProof.{TraceProof}
 use Rattle.potential_certificate.specs.declared.proof_line.ProofLine.{ProofLine}
 use Rattle.potential_certificate.specs.declared.proof_line.ProofLine.TheVariants.{Missing, Layer, Piece, End}
 use Rattle.potential_certificate.proofs.ProofLines.{FitsLine}
-use Rattle.potential_certificate.proofs.ProofsRead.{lines_text, proof_of}
+use Rattle.potential_certificate.proofs.ProofsRead.{lines_text, proof_of, texts_joined, texts_of}
 
 -- ---- the text of lines
 
@@ -33,7 +35,7 @@ text_from i (Some first) proof = piece_after (i - 1) proof.pieces (point_lines i
 
 record Laid (id i : ℕ) (waiting : Option ℕ) (lines : List ProofLine) : Type 0 where
   rising : RisesFrom i waiting (proof_of id lines).pieces
-  texts : lines_text (at id i waiting) lines ≡ concat (text_from i waiting (proof_of id lines)) ++ end_line id
+  texts : texts_of (at id i waiting) lines ≡ text_from i waiting (proof_of id lines) ++ end_line id ∷ []
 
 passes : (i : ℕ) (pieces : List Routed) (rest : List Routed → List (List ℕ)) → IsRising (i + 1) pieces → piece_after i pieces rest ≡ rest pieces
 passes i [] rest rising = refl
@@ -56,18 +58,16 @@ laid_missing id i lines laid =
     let proof = proof_of id lines in
     record {
       rising = rising_weaker (i + 1) i proof.pieces (omega arith) laid.rising;
-      texts = ap (λ (t : List ℕ). label_line i NoRoad ++ t)
-          (laid.texts ∙ ap (λ (ts : List (List ℕ)). concat ts ++ end_line id) (sym (passes i proof.pieces (point_lines (i + 1) proof.ranks proof.tables) laid.rising)))
-          ∙ sym (append_assoc (label_line i NoRoad) (concat (piece_after i proof.pieces (point_lines (i + 1) proof.ranks proof.tables))) (end_line id));
+      texts = ap (λ (ts : List (List ℕ)). label_line i NoRoad ∷ ts)
+          (laid.texts ∙ ap (λ (ts : List (List ℕ)). ts ++ end_line id ∷ []) (sym (passes i proof.pieces (point_lines (i + 1) proof.ranks proof.tables) laid.rising)));
     }
 
 layer_texts : (id i first rank : ℕ) (cells : List Cell) (lines : List ProofLine) → Laid id (i + 1) (Some first) lines
-    → layer_line i rank cells ++ lines_text (at id (i + 1) (Some first)) lines ≡ concat (text_from i None (proof_of id (Layer rank cells ∷ lines))) ++ end_line id
+    → layer_line i rank cells ∷ texts_of (at id (i + 1) (Some first)) lines ≡ text_from i None (proof_of id (Layer rank cells ∷ lines)) ++ end_line id ∷ []
 layer_texts id i first rank cells lines laid =
     let proof = proof_of id lines in
-    ap (λ (t : List ℕ). layer_line i rank cells ++ t)
-    (laid.texts ∙ ap (λ (n : ℕ). concat (piece_after n proof.pieces (point_lines (i + 1) proof.ranks proof.tables)) ++ end_line id) (let e : i + 1 - 1 ≡ i = omega arith in e))
-    ∙ sym (append_assoc (layer_line i rank cells) (concat (piece_after i proof.pieces (point_lines (i + 1) proof.ranks proof.tables))) (end_line id))
+    ap (λ (ts : List (List ℕ)). layer_line i rank cells ∷ ts)
+    (laid.texts ∙ ap (λ (n : ℕ). piece_after n proof.pieces (point_lines (i + 1) proof.ranks proof.tables) ++ end_line id ∷ []) (let e : i + 1 - 1 ≡ i = omega arith in e))
 
 laid_first : (id i rank : ℕ) (cells : List Cell) (lines : List ProofLine) → Laid id (i + 1) (Some i) lines → Laid id i None (Layer rank cells ∷ lines)
 laid_first id i rank cells lines laid = record { rising = first_rising i (proof_of id lines).pieces laid.rising; texts = layer_texts id i i rank cells lines laid }
@@ -78,7 +78,7 @@ laid_next id i first rank cells lines lt laid =
     record {
       rising = waiting_rising i first (proof_of id lines).pieces laid.rising;
       texts = layer_texts id i first rank cells lines laid
-          ∙ ap (λ (ts : List (List ℕ)). concat ts ++ end_line id) (sym (passes_waiting i first (proof_of id lines).pieces (point_lines i all.ranks all.tables) lt laid.rising));
+          ∙ ap (λ (ts : List (List ℕ)). ts ++ end_line id ∷ []) (sym (passes_waiting i first (proof_of id lines).pieces (point_lines i all.ranks all.tables) lt laid.rising));
     }
 
 laid_piece : (id i first : ℕ) (piece : Routed) (lines : List ProofLine) → EndsPiece (at id i (Some first)) piece → Laid id i None lines → Laid id i (Some first) (Piece piece ∷ lines)
@@ -88,9 +88,7 @@ laid_piece id i first piece lines ends laid =
     rw (eq-eqb piece.last (i - 1) (omega (arith, ends.last))) refl in
     record {
       rising = (sym (same_Some first piece.first ends.first), omega (arith, ends.last), subst (λ (n : ℕ). IsRising n proof.pieces) (sym ends.last) laid.rising);
-      texts = ap (λ (t : List ℕ). piece_line piece ++ t) laid.texts
-          ∙ sym (append_assoc (piece_line piece) (concat (point_lines i proof.ranks proof.tables proof.pieces)) (end_line id))
-          ∙ ap (λ (ts : List (List ℕ)). concat ts ++ end_line id) (sym after);
+      texts = ap (λ (ts : List (List ℕ)). piece_line piece ∷ ts) laid.texts ∙ ap (λ (ts : List (List ℕ)). ts ++ end_line id ∷ []) (sym after);
     }
 
 laid : (id i : ℕ) (waiting : Option ℕ) (lines : List ProofLine) → IfSome waiting (λ first. first < i) → Continues (at id i waiting) (map in_match lines) → Laid id i waiting lines
@@ -111,13 +109,28 @@ id_of_lines n (Layer rank cells ∷ ls) = id_of_lines n ls
 id_of_lines n (Piece piece ∷ ls) = id_of_lines n ls
 id_of_lines n (End ∷ ls) = id_of_lines n ls
 
+-- the lines of a proof
+pub texts_of_lines : (id : ℕ) (lines : List ProofLine) → Continues (start id) (map in_match lines) → proof_lines (proof_of id lines) ≡ trace_line id ∷ texts_of (start id) lines
+texts_of_lines id lines continues =
+    let proof = proof_of id lines in
+    ap (λ (n : ℕ). trace_line n ∷ (point_lines 0 proof.ranks proof.tables proof.pieces ++ end_line n ∷ [])) (id_of_lines id lines)
+    ∙ ap (λ (ts : List (List ℕ)). trace_line id ∷ ts) (sym (laid id 0 None lines tt continues).texts)
+
+joined : (id : ℕ) (lines : List ProofLine) → Continues (start id) (map in_match lines)
+    → concat (point_lines 0 (proof_of id lines).ranks (proof_of id lines).tables (proof_of id lines).pieces) ++ end_line id ≡ lines_text (start id) lines
+joined id lines continues =
+    let proof = proof_of id lines in
+    let points = point_lines 0 proof.ranks proof.tables proof.pieces in
+    ap (λ (t : List ℕ). concat points ++ t) (sym (append-nil (end_line id))) ∙ sym (concat-append points (end_line id ∷ []))
+    ∙ ap concat (sym (laid id 0 None lines tt continues).texts) ∙ texts_joined (start id) lines
+
 -- the text of a proof is that of its lines
 pub text_of_lines : (id : ℕ) (lines : List ProofLine) (rest : List ℕ) → Continues (start id) (map in_match lines) → proof_text (proof_of id lines) ++ rest ≡ trace_line (proof_of id lines).id ++ (lines_text (start id) lines ++ rest)
 text_of_lines id lines rest continues =
     let proof = proof_of id lines in
     append_assoc (trace_line proof.id) (concat (point_lines 0 proof.ranks proof.tables proof.pieces) ++ end_line proof.id) rest
     ∙ ap (λ (n : ℕ). trace_line proof.id ++ ((concat (point_lines 0 proof.ranks proof.tables proof.pieces) ++ end_line n) ++ rest)) (id_of_lines id lines)
-    ∙ ap (λ (t : List ℕ). trace_line proof.id ++ (t ++ rest)) (sym (laid id 0 None lines tt continues).texts)
+    ∙ ap (λ (t : List ℕ). trace_line proof.id ++ (t ++ rest)) (joined id lines continues)
 
 -- ---- the proof of lines has a text
 

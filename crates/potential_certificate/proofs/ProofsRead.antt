@@ -1,6 +1,6 @@
 -- The lines of a proof and the proofs of a text, read one after the other.
 use Rattle.std.proofs.Common.{◌≡◌, ℕ, zero, suc, ◌+◌, ◌^◌, ◌<◌, List, [], ◌∷◌, ◌++◌, length, map, Option, Some, None, Ok, Err, refl, sym, ap, subst, ◌∙◌, append_assoc, arith, length-append}
-use Rattle.std.specs.List.{AllByRecursion}
+use Rattle.std.specs.List.{AllByRecursion, concat}
 use Rattle.std.proofs.lemmas.List.{append-nil}
 use Rattle.match_text.specs.Grammar.{Continues, IsEnd, place_after, start}
 use Rattle.match_text.specs.MatchText.{end_line, trace_line}
@@ -27,7 +27,16 @@ abbrev pub lines_text : Place → List ProofLine → List ℕ
 lines_text place [] = end_line place.id
 lines_text place (line ∷ lines) = line_text place line ++ lines_text (place_after place (in_match line)) lines
 
-same_id : (place : Place) (line : ProofLine) → (place_after place (in_match line)).id ≡ place.id
+-- each of them by itself
+abbrev pub texts_of : Place → List ProofLine → List (List ℕ)
+texts_of place [] = end_line place.id ∷ []
+texts_of place (line ∷ lines) = line_text place line ∷ texts_of (place_after place (in_match line)) lines
+
+pub texts_joined : (place : Place) (lines : List ProofLine) → concat (texts_of place lines) ≡ lines_text place lines
+texts_joined place [] = append-nil (end_line place.id)
+texts_joined place (line ∷ lines) = ap (λ (t : List ℕ). line_text place line ++ t) (texts_joined (place_after place (in_match line)) lines)
+
+pub same_id : (place : Place) (line : ProofLine) → (place_after place (in_match line)).id ≡ place.id
 same_id place Missing = refl
 same_id place (Layer rank cells) = refl
 same_id place (Piece piece) = refl
@@ -87,7 +96,7 @@ lines_take whole (suc fuel) place text proof rest e = by_line (λ p t q r h. lin
     by_line takes None is e = absurd cc
     by_line takes (Some (line, next)) is e = by_kind takes line next is e
 
-other_line : (whole : List ℕ) (fuel : ℕ) (place : Place) (line : ProofLine) (text : List ℕ) → ¬ IsEnd (in_match line)
+pub other_line : (whole : List ℕ) (fuel : ℕ) (place : Place) (line : ProofLine) (text : List ℕ) → ¬ IsEnd (in_match line)
     → line_and_more (lines_at whole fuel) place line text ≡ adding line (lines_at whole fuel (place_after place (in_match line)) text)
 other_line whole fuel place Missing text h = refl
 other_line whole fuel place (Layer rank cells) text h = refl

@@ -88,3 +88,14 @@ abbrev pub certificate_text : Params → Certificate → List ℕ
 certificate_text p c =
     first_line p ++ (flat_map proof_text c.proofs
     ++ (flat_map row_line c.rows ++ last_line (length c.proofs) (length c.rows)))
+
+-- ---- its lines
+
+abbrev pub proof_lines : TraceProof → List (List ℕ)
+proof_lines proof = trace_line proof.id
+    ∷ (point_lines 0 proof.ranks proof.tables proof.pieces ++ end_line proof.id ∷ [])
+
+abbrev pub certificate_lines : Params → Certificate → List (List ℕ)
+certificate_lines p c =
+    first_line p ∷ (flat_map proof_lines c.proofs
+    ++ (map row_line c.rows ++ last_line (length c.proofs) (length c.rows) ∷ []))

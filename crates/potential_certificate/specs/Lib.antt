@@ -5,3 +5,4 @@ pub mod Reading
 pub mod Gathering
 pub mod ReaderInside
 pub mod Laws
+pub mod Faults

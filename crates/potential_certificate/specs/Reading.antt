@@ -1,7 +1,7 @@
 -- A certificate, read from its text line by line.
 use Rattle.std.specs.Prelude.{ℕ, zero, suc, ◌-◌, ◌+◌, ◌^◌, ◌==◌, ◌&&◌, nat_le, nat_lt, Bool, false, if◌then◌else◌, List, [], ◌∷◌, length, codes}
 use Rattle.std.specs.Prelude.{Option, Some, None, Result, Ok, Err}
-use Rattle.std.specs.List.{count_by, list_any}
+use Rattle.std.specs.List.{list_any}
 use Rattle.std.specs.Option.{option_map, option_or}
 use Rattle.bounded_search.specs.Table.{TableRow}
 use Rattle.cost_model.specs.declared.params.Params.{Params}
@@ -15,6 +15,7 @@ use Rattle.match_text.specs.declared.place.Line.TheVariants.{Point, Piece as Pie
 use Rattle.match_text.specs.declared.place.Place.{Place}
 use Rattle.matching.specs.Cells.{empty_cell}
 use Rattle.matching.specs.declared.parts.Cell.{Cell}
+pub use Rattle.row_text.specs.LineFaults.{line_count}
 use Rattle.row_text.specs.Reading.{row_at}
 use Rattle.potential_certificate.specs.CertificateText.{first_line, last_line, text_limit}
 use Rattle.potential_certificate.specs.declared.fault.CertFault.{CertFault}
@@ -25,9 +26,6 @@ use Rattle.potential_certificate.specs.declared.proof_line.ProofLine.{ProofLine}
 use Rattle.potential_certificate.specs.declared.proof_line.ProofLine.TheVariants.{Missing, Layer, Piece, End}
 
 -- ---- faults
-
-abbrev pub line_count : List ℕ → ℕ
-line_count text = count_by (λ b. b == 10) text
 
 -- the number, from 1, of the line that begins the rest `left` of a text
 abbrev pub line_number : (whole left : List ℕ) → ℕ
