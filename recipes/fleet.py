@@ -35,6 +35,7 @@ def main(words):
         return 0
     except Refused as fault:
         print_note(fault)
+        return fault.status
     except OSError as fault:
         print_note(f"{fault.filename or 'system'}: {fault.strerror or fault}")
     except KeyboardInterrupt:

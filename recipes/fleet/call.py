@@ -16,6 +16,7 @@ from .memory import Grid
 SLACK = 32 << 20  # bytes of a job for a batch of traces and the task itself
 FOLDER_NAMES = {"lock", "groups", "parts", "logs", "slurm", "sort", "index", "index.tmp", "call.json", "call.json.tmp",
                 "manifest.json", "manifest.json.tmp", "match.txt", "match.txt.tmp"}
+OPTION_NAMES = ("k", "radius", "sigma", "beta", "bound", "back", "gap", "workers")
 
 
 class Parser(argparse.ArgumentParser):
@@ -66,14 +67,18 @@ def find_program(script, name):
 
 
 def fmm_options(words):
-    """The options that FMM is given, as numbers. FMM itself says whether they are right."""
+    """The options that FMM is given, as numbers. FMM itself says whether their values are right."""
     options, words = {}, iter(words)
     for word in words:
         name, equals, value = word.removeprefix("--").partition("=")
-        value = value if equals else next(words, "")
+        value = value if equals else next(words, None)
+        if name == "table":
+            raise Refused("the option --table is not for a fleet", 2)
+        if name not in OPTION_NAMES or not word.startswith("--"):
+            raise Refused(f"{word} is no option of FMM (those are --{', --'.join(OPTION_NAMES)})", 2)
+        if name in options or value is None:
+            raise Refused(f"the option --{name} {'stands twice' if name in options else 'has no value'}", 2)
         options[name] = int(value) if value.isdecimal() else value
-    if "table" in options:
-        raise Refused("the option --table is not for a fleet")
     return options
 
 
@@ -106,7 +111,8 @@ def probe(program, network, words):
             if process.returncode:
                 error_file.seek(0)
                 why = engines.last_line(error_file.read()) or f"status {process.returncode}"
-                raise Refused(f"{os.path.basename(program)}: {why}")
+                file = f" ({network})" if process.returncode == 5 else ""
+                raise Refused(f"{os.path.basename(program)}: {why}{file}", 2 if process.returncode == 2 else 1)
             return running, ended[1].ru_maxrss * 1024
 
 
@@ -121,13 +127,17 @@ def lock(folder):
 
 
 def prepare_folder(folder):
+    """Makes the folder if it is not there, and returns whether it was made."""
+    is_new = not os.path.exists(folder)
     try:
-        os.makedirs(folder, exist_ok=True)
+        if is_new:
+            os.mkdir(folder)
         strange = sorted(set(os.listdir(folder)) - FOLDER_NAMES)
     except OSError as error:
         raise Refused(f"cannot use {folder}: {error.strerror}")
     if strange:
         raise Refused(f"{folder} has a file of something else, {strange[0]}: name a new folder")
+    return is_new
 
 
 def prepare_groups(values, folder, program, options, base, jobs):
@@ -148,7 +158,7 @@ def prepare_groups(values, folder, program, options, base, jobs):
     room = (values.memory << 20) - base - SLACK
     if room < 0:
         raise Refused(f"--memory {values.memory} is too little: the network alone needs {base + SLACK >> 20} MB")
-    print_note(f"of {values.memory} MB for a job, {room >> 20} MB are for rows")
+    print_note(f"a job has {values.memory} MB: {base + SLACK >> 20} MB for the network, and the rest for rows of the table")
     reading = Progress("grouping", os.path.getsize(values.network) + 2 * os.path.getsize(values.traces))
     grid = Grid(values.network, {"bound": 300_000, "radius": 10_000, "k": 8, **options}, reading)
     made, large = groups.make_groups(folder, values.traces, grid, room, values.points, jobs, reading)
@@ -170,15 +180,31 @@ def run_fleet(values):
     for path in (values.network, values.traces):
         if not os.path.isfile(path):
             raise Refused(f"{path} is no file")
-    folder, network = os.path.abspath(values.into), os.path.abspath(values.network)
-    prepare_folder(folder)
-    held = lock(folder)
+    groups.TraceFile(values.traces).check_header()
+    folder = os.path.abspath(values.into)
+    is_new = prepare_folder(folder)
+    with lock(folder):
+        try:
+            total = match_fleet(values, folder, program, options)
+        except BaseException:
+            if is_new and not os.path.exists(os.path.join(folder, "manifest.json")):
+                shutil.rmtree(folder, ignore_errors=True)
+            raise
+        print_note(f"all traces are matched in {os.path.join(values.into, 'match.txt')}")
+        print(total)
+
+
+def match_fleet(values, folder, program, options):
+    """Matches the groups of the folder that have no part, and joins all; returns the total line."""
+    network = os.path.abspath(values.network)
     before = [state(network), state(values.traces)]
     words = values.options if "workers" in options else [*values.options, "--workers", "1"]
     print_note("reading the files")
     running, base = probe(program, network, words)
     jobs = values.jobs or local_jobs(values)
     prepare_groups(values, folder, sorted({checksum(program), checksum(running)}), options, base, jobs)
+    if os.path.exists(os.path.join(folder, "match.txt")):
+        os.remove(os.path.join(folder, "match.txt"))
     os.makedirs(os.path.join(folder, "parts"), exist_ok=True)
     run = parts.Run(folder)
     call = {"script": values.script, "program": program, "network": network, "network_state": before[0],
@@ -205,8 +231,7 @@ def run_fleet(values):
     if [state(network), state(values.traces)] != before:
         os.remove(os.path.join(folder, "match.txt"))
         raise Refused("the network or the trace file was changed during the run")
-    print(total)
-    held.close()
+    return total
 
 
 def local_jobs(values):

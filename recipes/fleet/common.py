@@ -7,7 +7,11 @@ import time
 
 
 class Refused(Exception):
-    """An error that the user can act on; its text is one line."""
+    """An error that the user can act on; its text is one line. The call ends with `status`, which is 2 if its words are wrong."""
+
+    def __init__(self, text, status=1):
+        super().__init__(text)
+        self.status = status
 
 
 def checksum(path, progress=None):
@@ -71,13 +75,15 @@ def print_note(text):
 
 
 class Progress:
-    """A bar with the remaining time on standard error, only if that is a terminal. Call `add` or `show`, then `close`."""
+    """The progress with the remaining time on standard error: a bar if that is a terminal, and otherwise a line after each minute.
+    Call `add` or `show`, then `close`."""
 
     def __init__(self, what, total, done=0):
         self.what, self.total, self.first, self.done = what, max(total, 1), done, done
         self.begin = time.monotonic()
-        self.next = 0.0
-        self.shown = sys.stderr.isatty()
+        self.is_bar = sys.stderr.isatty()
+        self.pause = 0.5 if self.is_bar else 60
+        self.next = self.begin + (0 if self.is_bar else 60)
 
     def add(self, more):
         self.show(self.done + more)
@@ -85,20 +91,23 @@ class Progress:
     def show(self, done):
         self.done = done
         now = time.monotonic()
-        if not self.shown or now < self.next and done < self.total:
+        if now < self.next and not (self.is_bar and done >= self.total):
             return
-        self.next = now + 0.5
+        self.next = now + self.pause
         part = min(1.0, done / self.total)
-        fresh = done - self.first
+        fresh, passed = done - self.first, now - self.begin
         left = "--:--:--"
-        if fresh > 0:
-            seconds = int((now - self.begin) * max(0, self.total - done) / fresh)
+        if fresh > 0 and passed > 2:
+            seconds = int(passed * max(0, self.total - done) / fresh)
             left = f"{seconds // 3600}:{seconds // 60 % 60:02d}:{seconds % 60:02d}"
+        if not self.is_bar:
+            print_note(f"{self.what} {100 * part:.0f} %, {left} left")
+            return
         bar = "#" * int(30 * part)
         sys.stderr.write(f"\r{self.what} [{bar:.<30}] {100 * part:3.0f} %, {left} left\x1b[K")
         sys.stderr.flush()
 
     def close(self):
-        if self.shown:
+        if self.is_bar:
             sys.stderr.write("\r\x1b[K")
             sys.stderr.flush()

@@ -23,7 +23,7 @@ FIELDS = [(UNSIGNED, 0, 4294967295), (SIGNED, -1000000000, 1000000000), (SIGNED,
 class TraceFile:
     """Reads the positions of a trace file, refuses its faults, and leaves its checksum in `checksum`."""
 
-    def __init__(self, path, progress):
+    def __init__(self, path, progress=None):
         self.path, self.progress = path, progress
         self.checksum = self.header = None
 
@@ -36,7 +36,8 @@ class TraceFile:
         with open(self.path, "rb") as file:
             while block := file.read(1 << 20):
                 digest.update(block)
-                self.progress.add(len(block))
+                if self.progress:
+                    self.progress.add(len(block))
                 lines = (rest + block).split(b"\n")
                 rest = lines.pop()
                 yield lines
@@ -72,6 +73,10 @@ class TraceFile:
                 yield number, trace, x, y, values[1:]
         if fields is None:
             raise Refused(f"{self.path}: bad header")
+
+    def check_header(self):
+        """Refuses a bad header, or another fault up to the first position."""
+        next(self.positions(), None)
 
     def take_header(self, line):
         self.header = b",".join(name.strip(BLANK) for name in line.removesuffix(b"\r").split(b",")).decode("latin-1")
