@@ -4,6 +4,7 @@ mod Fields
 mod Growing
 pub mod Lawful
 pub mod Laws
+mod LineByLine
 pub mod Lines
 mod Magnitudes
 mod Places

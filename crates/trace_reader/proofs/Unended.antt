@@ -22,7 +22,7 @@ unfolding read_byte
 refused_stays closed fault [] = refl
 refused_stays closed fault (b ∷ bytes) = refused_stays closed fault bytes
 
-one_byte : (p : Progress) (b : ℕ) → p.bytes < file_limit → length p.line < line_limit → (b == 10) ≡ false → read_byte (reads p) b ≡ reads (with_part p (b ∷ []))
+pub one_byte : (p : Progress) (b : ℕ) → p.bytes < file_limit → length p.line < line_limit → (b == 10) ≡ false → read_byte (reads p) b ≡ reads (with_part p (b ∷ []))
 unfolding read_byte
 one_byte p b file line other = rw (lt-leb file_limit p.bytes file, other, lt-leb line_limit (length p.line) line)
 
@@ -47,7 +47,7 @@ line_too_long : (p : Progress) (b : ℕ) → p.bytes < file_limit → line_limit
 unfolding read_byte
 line_too_long p b file full other = rw (lt-leb file_limit p.bytes file, other, le-leb line_limit (length p.line) full)
 
-line_end : (p : Progress) → p.bytes < file_limit → read_byte (reads p) 10 ≡ end_line p (read_line (p.lines + 1) p.content p.line)
+pub line_end : (p : Progress) → p.bytes < file_limit → read_byte (reads p) 10 ≡ end_line p (read_line (p.lines + 1) p.content p.line)
 unfolding read_byte
 line_end p file = rw (lt-leb file_limit p.bytes file)
 

@@ -1,6 +1,7 @@
 pub mod Content
 pub mod Fault
 pub mod FirstField
+pub mod LineByLine
 pub mod Parts
 pub mod Reader
 pub mod Reading

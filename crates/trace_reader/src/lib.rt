@@ -19,6 +19,8 @@ mod row;
 mod trace;
 
 pub use fault::TraceFault;
-pub use laws_of_reading::{closed_traces_stay, known_faults_stay, traces_are_lawful};
+pub use laws_of_reading::{
+    closed_traces_stay, files_are_read_by_line, known_faults_stay, traces_are_lawful,
+};
 pub use reader::TraceReader;
 pub use trace::{Fix, Trace};
