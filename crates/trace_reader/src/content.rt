@@ -79,6 +79,7 @@ impl ContentReader {
         }
     }
 
+    // Adds a row: to the open trace if its id is the same, or as the first of a new trace.
     fn add_row(&mut self, number: u64, row: Row, into: &mut List<Trace>) -> Result<(), TraceFault>
         ensures ok { OnOk result (add_row number (content_of self.old into.old) row
             ≡ Ok (content_of self.new into.new)) }
@@ -88,7 +89,13 @@ impl ContentReader {
         ensures one { length into.new ≤ length into.old + 1 }
     {
         match &mut self.open {
-            Some(trace) if trace.id == row.id => extend_trace(trace, number, row.fix),
+            Some(trace) if trace.id == row.id => {
+                if trace.fixes.len() >= POINT_LIMIT {
+                    return Err(TraceFault::TraceTooLong(number));
+                }
+                trace.fixes.push(row.fix)?;
+                Ok(())
+            }
             _ => {
                 let next = begin_trace(self.alloc, row)?;
                 if let Some(closed) = self.open.replace(next) {
@@ -128,20 +135,6 @@ fn begin_trace(alloc: Global, row: Row) -> Result<Trace, TraceFault>
     let mut fixes = List::new(alloc);
     fixes.push(row.fix)?;
     Ok(Trace { id: row.id, fixes })
-}
-
-// Adds a position to the trace; `number` is the number of its line.
-fn extend_trace(trace: &mut Trace, number: u64, fix: Fix) -> Result<(), TraceFault>
-    ensures ok { OnOk result ((length trace.old.fixes < point_limit)
-        × (trace.new ≡ record { id = trace.old.id; fixes = trace.old.fixes ++ fix ∷ [] })) }
-    ensures err { IfErr result (λ fault. fault ≢ TraceFault.Memory
-        → (point_limit ≤ length trace.old.fixes) × (fault ≡ TraceFault.TraceTooLong number)) }
-{
-    if trace.fixes.len() >= POINT_LIMIT {
-        return Err(TraceFault::TraceTooLong(number));
-    }
-    trace.fixes.push(fix)?;
-    Ok(())
 }
 
 // Whether the line has only spaces and tabs.

@@ -18,8 +18,11 @@ pub fn unsigned_field(text: &[u8]) -> (Result<u32, NumberFault>, Option<&[u8]>)
     ensures rest { MatchOption result.1 (fields_of text.now ≡ first_of text.now ∷ [])
         (λ rest. fields_of text.now ≡ first_of text.now ∷ fields_of rest.now) }
 {
-    if let Some((number, rest)) = plain_number(text) {
-        return (Ok(number), rest);
+    let (number, count) = digits_at_front(text);
+    if count > 0 {
+        if let Some(rest) = behind_field(text, count) {
+            return (Ok(number), rest);
+        }
     }
     let (field, rest) = first_field(text);
     (read_u32(field), rest)
@@ -31,8 +34,10 @@ pub fn coordinate_field(text: &[u8]) -> (Result<i32, NumberFault>, Option<&[u8]>
     ensures rest { MatchOption result.1 (fields_of text.now ≡ first_of text.now ∷ [])
         (λ rest. fields_of text.now ≡ first_of text.now ∷ fields_of rest.now) }
 {
-    if let Some((number, rest)) = plain_coordinate(text) {
-        return (Ok(number), rest);
+    if let Some((number, count)) = signed_at_front(text) {
+        if let Some(rest) = behind_field(text, count) {
+            return (Ok(number), rest);
+        }
     }
     let (field, rest) = first_field(text);
     (parse_signed(trim(field), COORDINATE_LIMIT), rest)
@@ -57,29 +62,6 @@ fn first_field(text: &[u8]) -> (&[u8], Option<&[u8]>)
         Some(place) => (&text[..place], Some(&text[place + 1..])),
         None => (text, None),
     }
-}
-
-// As `plain_number`, for a coordinate of 1 to 9 digits with an optional `-`.
-fn plain_coordinate(text: &[u8]) -> Option<(i32, Option<&[u8]>)>
-    ensures number { IfSome result (λ read. coordinate_of (first_of text.now) ≡ Ok read.0) }
-    ensures rest { IfSome result (λ read. MatchOption read.1 (fields_of text.now ≡ first_of text.now ∷ [])
-        (λ rest. fields_of text.now ≡ first_of text.now ∷ fields_of rest.now)) }
-{
-    let (number, count) = signed_at_front(text)?;
-    Some((number, behind_field(text, count)?))
-}
-
-// The number in the first field and the text after its comma, if the field is 1 to 9 digits.
-fn plain_number(text: &[u8]) -> Option<(u32, Option<&[u8]>)>
-    ensures number { IfSome result (λ read. u32_of (first_of text.now) ≡ Ok read.0) }
-    ensures rest { IfSome result (λ read. MatchOption read.1 (fields_of text.now ≡ first_of text.now ∷ [])
-        (λ rest. fields_of text.now ≡ first_of text.now ∷ fields_of rest.now)) }
-{
-    let (number, count) = digits_at_front(text);
-    if count == 0 {
-        return None;
-    }
-    Some((number, behind_field(text, count)?))
 }
 
 // The text after the comma, if the first field has this many bytes and a comma or the end follows.

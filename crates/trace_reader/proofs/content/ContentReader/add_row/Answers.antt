@@ -1,5 +1,4 @@
-use Rattle.std.proofs.Common.{◌≡◌, ◌∙◌, ap, sym, Some, None, Err}
-use Rattle.std.proofs.lemmas.Result.{on_ok_weaker, IfErr-weaker}
+use Rattle.std.proofs.Common.{◌≡◌, ◌∙◌, ap, sym, Some, None, arith}
 use Rattle.trace_reader.specs.Reader.{content_of}
 use Rattle.trace_reader.specs.declared.trace.Trace.{Trace}
 use Rattle.trace_reader.proofs.Lines.{add_first, add_longer, add_too_long, add_next}
@@ -12,18 +11,14 @@ same trace other e = cc e
 apart : (trace : Trace) → Some trace ≡ None → ⊥
 apart trace e = absurd (cc e)
 
-pub returns-in-Some-clause-ok : goal.returns-in-Some-clause-ok
-returns-in-Some-clause-ok c =
-    on_ok_weaker c.extend_trace.result
-    (λ told. rw told.1 (add_longer c.args.number (content_of c.args.self.now c.args.into.now) c.args.row c.in-Some.trace c.in-Some.is c.if-trace-row.true told.0))
-    c.extend_trace.ensures.ok
+pub returns-then-len-ge-POINT_LIMIT-clause-err : goal.returns-then-len-ge-POINT_LIMIT-clause-err
+returns-then-len-ge-POINT_LIMIT-clause-err c known =
+    add_too_long c.args.number (content_of c.args.self.now c.args.into.now) c.args.row c.in-Some.trace c.in-Some.is c.if-trace-row.true (omega (arith, c.len.ensures, c.if-len-ge-POINT_LIMIT.true))
 
-pub returns-in-Some-clause-err : goal.returns-in-Some-clause-err
-returns-in-Some-clause-err c =
-    IfErr-weaker c.extend_trace.result _ _
-    (λ fault given known. let told = given known in
-    add_too_long c.args.number (content_of c.args.self.now c.args.into.now) c.args.row c.in-Some.trace c.in-Some.is c.if-trace-row.true told.0 ∙ ap Err (sym told.1))
-    c.extend_trace.ensures.err
+pub returns-in_ok-push-in-Some-clause-ok : goal.returns-in_ok-push-in-Some-clause-ok
+returns-in_ok-push-in-Some-clause-ok c =
+    rw c.in_ok-push-in-Some.ensures.ok
+    (add_longer c.args.number (content_of c.args.self.now c.args.into.now) c.args.row c.in-Some.trace c.in-Some.is c.if-trace-row.true (omega (arith, c.len.ensures, c.if-len-ge-POINT_LIMIT.false)))
 
 pub returns-in_ok-push-in_default-clause-ok : goal.returns-in_ok-push-in_default-clause-ok
 returns-in_ok-push-in_default-clause-ok c =
