@@ -64,7 +64,11 @@ impl<R: Files + Drop> FileShelf<R> {
             Some(left) if left.at == at && left.name.as_slice() == name.as_bytes() => left,
             _ => open_at(self.alloc, &self.rt, name, at)?,
         };
-        let count = read_front(&mut found.file, &mut self.piece, most)?;
+        if self.piece.is_empty() {
+            self.piece.resize(PIECE, 0)?;
+        }
+        let wanted = self.piece.len().min(most as usize);
+        let count = read_again(&mut found.file, &mut self.piece[..wanted])?;
         found.at = at + count as u64;
         self.current = Some(found);
         into.extend_from_slice(&self.piece[..count])?;
@@ -100,19 +104,6 @@ pub fn read_again<F: Read>(file: &mut F, buffer: &mut [u8]) -> io::Result<usize>
         }
     }
     Err(io::Error::from(ErrorKind::Interrupted))
-}
-
-// Reads once into the front of a buffer, and returns the number of bytes.
-fn read_front<F: Read>(file: &mut F, piece: &mut Vec<u8>, most: u32) -> io::Result<usize>
-    ensures within { IfOk result (λ count. count ≤ most) }
-    ensures front { IfOk result (λ count. count ≤ length piece.new.items) }
-{
-    if piece.is_empty() {
-        piece.resize(PIECE, 0)?;
-    }
-    let wanted = piece.len().min(most as usize);
-    let count = read_again(file, &mut piece[..wanted])?;
-    Ok(count)
 }
 
 impl<R: Files + Drop> Shelf for FileShelf<R> {
