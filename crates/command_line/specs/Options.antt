@@ -1,7 +1,7 @@
 -- The options that every command takes, and how they are read.
 use Rattle.std.specs.Prelude.{ℕ, List, [], ◌∷◌, Option, Some, None, Result, Ok, Err}
 use Rattle.cost_model.specs.declared.params.Params.{Params}
-use Rattle.cost_model.specs.declared.params.TheConstants.Params.{DEFAULT}
+use Rattle.cost_model.specs.Options.{default_options}
 use Rattle.command_line.specs.Values.{name_of, value_of}
 use Rattle.command_line.specs.declared.fault.WordsFault.{WordsFault}
 use Rattle.command_line.specs.declared.value.ValueName.{ValueName}
@@ -27,14 +27,14 @@ and_then (Err e) next = Err e
 -- the options that the words give, or the fault of the first whose text is bad
 unfoldable pub options_of : (List ℕ → Option (List ℕ)) → Result Params WordsFault
 options_of text =
-    and_then (option_of K DEFAULT.k text) (λ k.
-    and_then (option_of Radius DEFAULT.radius text) (λ radius.
-    and_then (option_of Sigma DEFAULT.sigma text) (λ sigma.
-    and_then (option_of Beta DEFAULT.beta text) (λ beta.
-    and_then (option_of Bound DEFAULT.bound text) (λ bound.
-    and_then (option_of Workers DEFAULT.workers text) (λ workers.
-    and_then (option_of Back DEFAULT.back text) (λ back.
-    and_then (option_of Gap DEFAULT.gap text) (λ gap.
+    and_then (option_of K default_options.k text) (λ k.
+    and_then (option_of Radius default_options.radius text) (λ radius.
+    and_then (option_of Sigma default_options.sigma text) (λ sigma.
+    and_then (option_of Beta default_options.beta text) (λ beta.
+    and_then (option_of Bound default_options.bound text) (λ bound.
+    and_then (option_of Workers default_options.workers text) (λ workers.
+    and_then (option_of Back default_options.back text) (λ back.
+    and_then (option_of Gap default_options.gap text) (λ gap.
     Ok (record {
       k = k;
       radius = radius;

@@ -19,5 +19,5 @@ mod works;
 
 pub use command::read_command;
 pub use fault::WordsFault;
-pub use value::{ValueName, ValueRange};
+pub use value::ValueName;
 pub use work::{Command, Work};

@@ -3,6 +3,8 @@
 ghost use Rattle.std.specs.Prelude.{◌≡◌};
 ghost use Rattle.command_line.specs.Values.{name_of, range_of};
 
+use cost_model::{Params, ValueRange};
+
 /// A value that is given as a number. An option has the name of its field of `Params`, and an
 /// argument the name in the usage line.
 #[derive(Clone, Copy, Debug)]
@@ -21,15 +23,6 @@ pub enum ValueName {
     T,
     /// The seed of a generated town.
     Seed,
-}
-
-/// The range of a value.
-#[derive(Clone, Copy)]
-pub struct ValueRange {
-    /// The least value.
-    pub least: u32,
-    /// The greatest value.
-    pub most: u32,
 }
 
 impl ValueName {
@@ -68,19 +61,27 @@ impl ValueName {
     pub fn range(self) -> ValueRange
         ensures { result ≡ range_of self }
     {
-        let (least, most) = match self {
-            ValueName::K => (1, 32),
-            ValueName::Radius => (1, 100_000),
-            ValueName::Sigma => (1, 100_000),
-            ValueName::Beta => (1, 1_000_000),
-            ValueName::Bound => (0, 10_000_000),
-            ValueName::Workers => (1, 64),
-            ValueName::Back => (0, 100_000),
-            ValueName::Gap => (0, u32::MAX),
-            ValueName::N => (2, 100),
-            ValueName::T => (1, 2_000),
-            ValueName::Seed => (0, u32::MAX),
-        };
-        ValueRange { least, most }
+        match self {
+            ValueName::K => Params::K_RANGE,
+            ValueName::Radius => Params::RADIUS_RANGE,
+            ValueName::Sigma => Params::SIGMA_RANGE,
+            ValueName::Beta => Params::BETA_RANGE,
+            ValueName::Bound => Params::BOUND_RANGE,
+            ValueName::Workers => Params::WORKERS_RANGE,
+            ValueName::Back => Params::BACK_RANGE,
+            ValueName::Gap => Params::GAP_RANGE,
+            ValueName::N => ValueRange {
+                least: 2,
+                most: 100,
+            },
+            ValueName::T => ValueRange {
+                least: 1,
+                most: 2_000,
+            },
+            ValueName::Seed => ValueRange {
+                least: 0,
+                most: u32::MAX,
+            },
+        }
     }
 }

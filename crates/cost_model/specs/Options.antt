@@ -18,6 +18,19 @@ pub record IsAccepted (p : Params) : Type 0 where
   pub workers : IsWithin 1 64 p.workers
   pub back : p.back ≤ 100_000
 
+-- the options of words that give none
+abbrev pub default_options : Params
+default_options = record {
+  k = 8;
+  radius = 10_000;
+  sigma = 1_000;
+  beta = 1_000;
+  bound = 300_000;
+  workers = 4;
+  back = 0;
+  gap = 4_294_967_295;
+}
+
 -- the option that the fault names is out of its range, and those before it are in theirs
 abbrev pub IsFirstFault : Params → ParamFault → Type 0
 IsFirstFault p KRange = ¬ IsWithin 1 32 p.k

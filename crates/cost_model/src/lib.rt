@@ -13,4 +13,4 @@ mod costs;
 mod params;
 
 pub use costs::{emission, point_cost_is_bounded, transition};
-pub use params::{ParamFault, Params};
+pub use params::{ParamFault, Params, ValueRange};

@@ -10,9 +10,8 @@ use Rattle.command_line.specs.Work.{PlainCommand}
 use Rattle.command_line.specs.declared.fault.WordsFault.{WordsFault}
 use Rattle.command_line.specs.declared.value.ValueName.{ValueName}
 use Rattle.command_line.specs.declared.value.ValueName.TheVariants.{K, Radius, Sigma, Beta, Bound, Workers, Back, Gap}
-use Rattle.cost_model.specs.Options.{IsAccepted, IsWithin}
+use Rattle.cost_model.specs.Options.{IsAccepted, IsWithin, default_options}
 use Rattle.cost_model.specs.declared.params.Params.{Params}
-use Rattle.cost_model.specs.declared.params.TheConstants.Params.{DEFAULT}
 use Rattle.decimal_text.specs.Number.{unsigned_within}
 use Rattle.decimal_text.specs.declared.number.NumberFault.{NumberFault}
 use Rattle.decimal_text.proofs.Laws.{Spells-unsigned_within}
@@ -57,24 +56,24 @@ option_within name default (Some text) m within e = value_within name text m e
 accepted_options : (text : List ℕ → Option (List ℕ)) (p : Params) → options_of text ≡ Ok p → IsAccepted p
 unfolding options_of
 accepted_options text p e =
-    let k = both_read (option_of K DEFAULT.k text) _ p e in
-    let radius = both_read (option_of Radius DEFAULT.radius text) _ p k.then_is in
-    let sigma = both_read (option_of Sigma DEFAULT.sigma text) _ p radius.then_is in
-    let beta = both_read (option_of Beta DEFAULT.beta text) _ p sigma.then_is in
-    let bound = both_read (option_of Bound DEFAULT.bound text) _ p beta.then_is in
-    let workers = both_read (option_of Workers DEFAULT.workers text) _ p bound.then_is in
-    let back = both_read (option_of Back DEFAULT.back text) _ p workers.then_is in
-    let gap = both_read (option_of Gap DEFAULT.gap text) _ p back.then_is in
+    let k = both_read (option_of K default_options.k text) _ p e in
+    let radius = both_read (option_of Radius default_options.radius text) _ p k.then_is in
+    let sigma = both_read (option_of Sigma default_options.sigma text) _ p radius.then_is in
+    let beta = both_read (option_of Beta default_options.beta text) _ p sigma.then_is in
+    let bound = both_read (option_of Bound default_options.bound text) _ p beta.then_is in
+    let workers = both_read (option_of Workers default_options.workers text) _ p bound.then_is in
+    let back = both_read (option_of Back default_options.back text) _ p workers.then_is in
+    let gap = both_read (option_of Gap default_options.gap text) _ p back.then_is in
     let made : Params = record { k = k.first; radius = radius.first; sigma = sigma.first; beta = beta.first; bound = bound.first; workers = workers.first; back = back.first; gap = gap.first } in
     let is : made ≡ p = cc (gap.then_is) in
     subst IsAccepted is (record {
-      k = option_within K DEFAULT.k (text (name_of K)) k.first (omega arith, omega arith) k.first_is;
-      radius = option_within Radius DEFAULT.radius (text (name_of Radius)) radius.first (omega arith, omega arith) radius.first_is;
-      sigma = option_within Sigma DEFAULT.sigma (text (name_of Sigma)) sigma.first (omega arith, omega arith) sigma.first_is;
-      beta = option_within Beta DEFAULT.beta (text (name_of Beta)) beta.first (omega arith, omega arith) beta.first_is;
-      bound = (option_within Bound DEFAULT.bound (text (name_of Bound)) bound.first (omega arith, omega arith) bound.first_is).1;
-      workers = option_within Workers DEFAULT.workers (text (name_of Workers)) workers.first (omega arith, omega arith) workers.first_is;
-      back = (option_within Back DEFAULT.back (text (name_of Back)) back.first (omega arith, omega arith) back.first_is).1;
+      k = option_within K default_options.k (text (name_of K)) k.first (omega arith, omega arith) k.first_is;
+      radius = option_within Radius default_options.radius (text (name_of Radius)) radius.first (omega arith, omega arith) radius.first_is;
+      sigma = option_within Sigma default_options.sigma (text (name_of Sigma)) sigma.first (omega arith, omega arith) sigma.first_is;
+      beta = option_within Beta default_options.beta (text (name_of Beta)) beta.first (omega arith, omega arith) beta.first_is;
+      bound = (option_within Bound default_options.bound (text (name_of Bound)) bound.first (omega arith, omega arith) bound.first_is).1;
+      workers = option_within Workers default_options.workers (text (name_of Workers)) workers.first (omega arith, omega arith) workers.first_is;
+      back = (option_within Back default_options.back (text (name_of Back)) back.first (omega arith, omega arith) back.first_is).1;
     })
 
 -- ---- the words
