@@ -200,10 +200,8 @@ impl<J: Job + Drop> Batches<J> {
             (K.state out.old) (K.state out.new) result }
     {
         let mut text = List::new(alloc);
-        match self.job.finish(alloc, &mut text) {
-            Ok(()) => put_text(out, text.as_slice()),
-            Err(_) => Err(Stop::NoMemory),
-        }
+        self.job.finish(alloc, &mut text)?;
+        put_text(out, text.as_slice())
     }
 
     /// Takes the end of the file. Writes the waiting traces and the text that follows that of all traces.

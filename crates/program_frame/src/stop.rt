@@ -6,7 +6,7 @@ ghost use Rattle.program_frame.specs.Stops.{IsRefusalOr, line_of, refusal_status
 
 use edge_io::{Put, Sink};
 use polyline_geometry::List;
-use std::alloc::Global;
+use std::alloc::{AllocError, Global};
 
 /// A file that a command reads.
 #[derive(Clone, Copy)]
@@ -38,6 +38,16 @@ pub enum Stop {
     Unread(File),
     /// Writing to the output failed.
     Unwritten,
+}
+
+impl From<AllocError> for Stop {
+    ghost use Rattle.program_frame.specs.declared.stop.Stop.TheVariants.{NoMemory};
+
+    ghost from_gives = { λ _ stop. stop ≡ NoMemory };
+
+    fn from(_error: AllocError) -> Stop {
+        Stop::NoMemory
+    }
 }
 
 impl Refusal {
