@@ -1,5 +1,5 @@
 -- The spelling of numbers: which texts are numbers, and within which range.
-use Rattle.std.specs.Prelude.{ℕ, List, Bool, ◌&&◌, length, drop, nat_le, ℤ, pos, neg_ℤ, if◌then◌else◌}
+use Rattle.std.specs.Prelude.{ℕ, List, Bool, ◌&&◌, ◌==◌, length, drop, slice_index, nat_le, nat_lt, ℤ, pos, neg_ℤ, if◌then◌else◌}
 use Rattle.std.specs.Prelude.{Result, Ok, Err}
 use Rattle.std.specs.Result.{result_map_both}
 use Rattle.std.specs.List.{list_all}
@@ -13,6 +13,10 @@ pub use Rattle.std.specs.Fmt.{decimal, signed_decimal}
 -- 1 to 20 decimal digits
 abbrev pub is_unsigned : List ℕ → Bool
 is_unsigned text = list_all is_ascii_digit text && nat_le 1 (length text) && nat_le (length text) 20
+
+-- more than one digit, the first a 0
+abbrev pub has_leading_zero : List ℕ → Bool
+has_leading_zero digits = nat_lt 1 (length digits) && (slice_index digits 0 == 48)
 
 -- the unsigned number that the text spells, if it is at most `most`
 unfoldable pub unsigned_within : ℕ → List ℕ → Result ℕ NumberFault

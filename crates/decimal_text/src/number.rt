@@ -3,7 +3,7 @@ ghost use Rattle.std.specs.Prelude.{◌≡◌, ◌^◌, ◌<◌, ◌≤◌, ◌+
 ghost use Rattle.std.specs.List.{list_all};
 ghost use Rattle.std.specs.Char.{is_ascii_digit};
 ghost use Rattle.std.specs.Str.Parse.{digits_value, starts_with_minus};
-ghost use Rattle.decimal_text.specs.Number.{is_unsigned, unsigned_within, signed_within, decimal, signed_decimal};
+ghost use Rattle.decimal_text.specs.Number.{has_leading_zero, is_unsigned, unsigned_within, signed_within, decimal, signed_decimal};
 
 use itoa::Buffer;
 use polyline_geometry::List;
@@ -47,6 +47,13 @@ pub fn parse_signed(text: &[u8], most: u32) -> Result<i32, NumberFault>
     let digits = &text[usize::from(is_negative)..];
     let magnitude = parse_unsigned(digits, most as u64)? as i32;
     Ok(if is_negative { -magnitude } else { magnitude })
+}
+
+/// Whether the first of several digits is a 0.
+pub fn has_leading_zero(digits: &[u8]) -> bool
+    ensures { result ≡ has_leading_zero digits.now }
+{
+    matches!(digits, [b'0', _, ..])
 }
 
 pub(crate) fn starts_with_minus(text: &[u8]) -> bool

@@ -9,10 +9,10 @@ use Rattle.std.proofs.lemmas.Bool.{eqb-true, ne_eqb, and_right, lt-ltb}
 use Rattle.std.proofs.lemmas.Option.{some_pair_parts}
 use Rattle.std.proofs.lemmas.Fmt.{decimal_digit}
 use Rattle.std.specs.Char.{is_ascii_digit}
-use Rattle.decimal_text.specs.Number.{decimal, unsigned_within}
+use Rattle.decimal_text.specs.Number.{decimal, has_leading_zero, unsigned_within}
 use Rattle.decimal_text.specs.declared.number.NumberFault.{NumberFault}
 use Rattle.decimal_text.proofs.Laws.{Spells-unsigned_within, decimal-unsigned_within, unsigned_within-decimal, all_digits-decimal, no_leading_zero-decimal}
-use Rattle.match_text.specs.Reading.{◌>>=◌, after_bytes, has_leading_zero, number_of, number_at, number_after}
+use Rattle.match_text.specs.Reading.{◌>>=◌, after_bytes, number_of, number_at, number_after}
 
 starts_after : (bytes text : List ℕ) → true ≡ pointwise nat_eq bytes (take (length bytes) text) → after_bytes bytes text ≡ Some (drop (length bytes) text)
 starts_after [] text h = refl

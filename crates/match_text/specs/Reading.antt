@@ -1,11 +1,11 @@
 -- Reading from left to right: what stands at the front of a text, and the rest.
-use Rattle.std.specs.Prelude.{ℕ, ◌-◌, ◌^◌, List, [], ◌∷◌, length, take, drop, Option, Some, None, Bool, ◌&&◌, ◌||◌, not, is_some, nat_lt, slice_index, ◌==◌, if◌then◌else◌, codes}
+use Rattle.std.specs.Prelude.{ℕ, ◌-◌, ◌^◌, List, [], ◌∷◌, length, take, drop, Option, Some, None, ◌||◌, not, is_some, ◌==◌, if◌then◌else◌, codes}
 use Rattle.std.specs.Borrow.{Bor}
 use Rattle.std.specs.Option.{option_map}
 use Rattle.std.specs.Result.{result_ok}
 use Rattle.std.specs.List.{prefix_len}
 use Rattle.std.specs.Char.{is_ascii_digit}
-use Rattle.decimal_text.specs.Number.{unsigned_within}
+use Rattle.decimal_text.specs.Number.{has_leading_zero, unsigned_within}
 use Rattle.match_text.specs.declared.matched.Label.TheVariants.{Missing, On}
 use Rattle.match_text.specs.declared.place.Line.{Line}
 use Rattle.match_text.specs.declared.place.Line.TheVariants.{Point, End}
@@ -25,10 +25,6 @@ abbrev pub after_bytes : List ℕ → List ℕ → Option (List ℕ)
 after_bytes [] text = Some text
 after_bytes (c ∷ cs) [] = None
 after_bytes (c ∷ cs) (b ∷ bs) = if c == b then after_bytes cs bs else None
-
--- more than one digit, the first a 0
-abbrev pub has_leading_zero : List ℕ → Bool
-has_leading_zero digits = nat_lt 1 (length digits) && (slice_index digits 0 == 48)
 
 -- the number that these digits spell, and the rest
 abbrev pub number_of : ℕ → List ℕ → List ℕ → Option (ℕ × List ℕ)

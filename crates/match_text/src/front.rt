@@ -4,9 +4,9 @@ ghost use Rattle.std.specs.Prelude.{◌≡◌, ◌-◌, ◌^◌, ◌≤◌, leng
 ghost use Rattle.std.specs.Option.{option_copied};
 ghost use Rattle.std.specs.List.{prefix_len};
 ghost use Rattle.std.specs.Char.{is_ascii_digit};
-ghost use Rattle.match_text.specs.Reading.{seen, after_bytes, has_leading_zero, number_at, number_after};
+ghost use Rattle.match_text.specs.Reading.{seen, after_bytes, number_at, number_after};
 
-use decimal_text::parse_unsigned;
+use decimal_text::{has_leading_zero, parse_unsigned};
 
 /// The text after these bytes, if it begins with them.
 pub fn after<'a>(text: &'a [u8], bytes: &[u8]) -> Option<&'a [u8]>
@@ -39,12 +39,6 @@ fn digit_count(text: &[u8]) -> usize
     ensures within { result ≤ length text.now }
 {
     text.iter().take_while(|byte| byte.is_ascii_digit()).count()
-}
-
-fn has_leading_zero(digits: &[u8]) -> bool
-    ensures { result ≡ has_leading_zero digits.now }
-{
-    matches!(digits, [b'0', _, ..])
 }
 
 /// The number of at most `most` after these bytes at the front, and the text after it.

@@ -6,7 +6,7 @@ ghost use Rattle.match_text.specs.MatchText.{trace_line, label_line, piece_line,
 ghost use Rattle.match_text.specs.Parts.{piece_head, numbers_text};
 
 use crate::matched::{Label, Routed};
-use itoa::write_digits;
+use decimal_text::{put_worded, write_worded};
 use polyline_geometry::List;
 use std::alloc::AllocError;
 
@@ -18,7 +18,7 @@ pub fn write_trace(id: u32, into: &mut List<u8>) -> Result<(), AllocError>
     ensures ok { OnOk result (into.new ≡ into.old ++ trace_line id) }
     ensures err { OnErr result (into.new ≡ into.old) }
 {
-    write_word(b"trace ", u64::from(id), into)
+    write_line(b"trace ", u64::from(id), into)
 }
 
 /// Appends the line `end ID`. On `Err`, `into` is unchanged.
@@ -26,7 +26,7 @@ pub fn write_end(id: u32, into: &mut List<u8>) -> Result<(), AllocError>
     ensures ok { OnOk result (into.new ≡ into.old ++ end_line id) }
     ensures err { OnErr result (into.new ≡ into.old) }
 {
-    write_word(b"end ", u64::from(id), into)
+    write_line(b"end ", u64::from(id), into)
 }
 
 /// Appends the line of the point with this number: `at I edge E offset O d2 D` or `none I`.
@@ -36,13 +36,13 @@ pub fn write_label(point: u64, label: Label, into: &mut List<u8>) -> Result<(), 
     ensures err { OnErr result (into.new ≡ into.old) }
 {
     match label {
-        Label::Missing => write_word(b"none ", point, into),
+        Label::Missing => write_line(b"none ", point, into),
         Label::On { edge, offset, d2 } => {
             let mut line = [b'\n'; ROOM];
-            let start = put_before(b" d2 ", d2, &mut line, ROOM - 1);
-            let start = put_before(b" offset ", u64::from(offset), &mut line, start);
-            let start = put_before(b" edge ", u64::from(edge), &mut line, start);
-            let start = put_before(b"at ", point, &mut line, start);
+            let start = put_worded(b" d2 ", d2, &mut line, ROOM - 1);
+            let start = put_worded(b" offset ", u64::from(offset), &mut line, start);
+            let start = put_worded(b" edge ", u64::from(edge), &mut line, start);
+            let start = put_worded(b"at ", point, &mut line, start);
             into.extend_from_slice(&line[start..])
         }
     }
@@ -78,9 +78,9 @@ fn write_head(piece: &Routed, into: &mut List<u8>) -> Result<(), AllocError>
 {
     let mut line = [0; ROOM];
     line[ROOM - 6..].copy_from_slice(b" route");
-    let start = put_before(b" cost ", piece.cost, &mut line, ROOM - 6);
-    let start = put_before(b" ", u64::from(piece.last), &mut line, start);
-    let start = put_before(b"piece ", u64::from(piece.first), &mut line, start);
+    let start = put_worded(b" cost ", piece.cost, &mut line, ROOM - 6);
+    let start = put_worded(b" ", u64::from(piece.last), &mut line, start);
+    let start = put_worded(b"piece ", u64::from(piece.first), &mut line, start);
     into.extend_from_slice(&line[start..])
 }
 
@@ -91,43 +91,18 @@ fn append_numbers(numbers: &[u32], into: &mut List<u8>) -> Result<(), AllocError
     ensures err { OnErr result (take (length into.old) into.new ≡ into.old) }
 {
     for number in numbers {
-        write_number(*number, into)?;
+        write_worded(b" ", u64::from(*number), into)?;
     }
     Ok(())
 }
 
-// Appends a space and the number. On `Err`, `into` is unchanged.
-fn write_number(number: u32, into: &mut List<u8>) -> Result<(), AllocError>
-    ensures ok { OnOk result (into.new ≡ into.old ++ 32 ∷ decimal number) }
-    ensures err { OnErr result (into.new ≡ into.old) }
-{
-    let mut part = [0; 32];
-    let start = put_before(b" ", u64::from(number), &mut part, 32);
-    into.extend_from_slice(&part[start..])
-}
-
-// Appends a line of a word and a number. After Err `into` is as before.
-fn write_word(word: &[u8], number: u64, into: &mut List<u8>) -> Result<(), AllocError>
+// Appends a line of a word and a number. On `Err`, `into` is unchanged.
+fn write_line(word: &[u8], number: u64, into: &mut List<u8>) -> Result<(), AllocError>
     requires { length word.now ≤ 8 }
     ensures ok { OnOk result (into.new ≡ into.old ++ (word.now ++ (decimal number ++ 10 ∷ []))) }
     ensures err { OnErr result (into.new ≡ into.old) }
 {
     let mut line = [b'\n'; 32];
-    let start = put_before(word, number, &mut line, 31);
+    let start = put_worded(word, number, &mut line, 31);
     into.extend_from_slice(&line[start..])
-}
-
-// Writes a word and a number so that they end at `end`, and returns where they start.
-#[inline(always)]
-fn put_before(word: &[u8], number: u64, line: &mut [u8], end: usize) -> usize
-    requires room { length word.now + 20 ≤ end }
-    requires within { end ≤ length line.old }
-    ensures written { drop result line.new ≡ word.now ++ (decimal number ++ drop end line.old) }
-    ensures near { end ≤ result + length word.now + 20 }
-    ensures within { (result ≤ length line.new) × (length line.new ≡ length line.old) }
-{
-    let start = write_digits(number, line, end);
-    let front = start - word.len();
-    line[front..start].copy_from_slice(word);
-    front
 }

@@ -1,12 +1,12 @@
 //! The first and the last line of a certificate. Serves the writer and the reader; decided by
 //! `first_line` and `last_line`.
-ghost use Rattle.std.specs.Prelude.{◌≡◌, ◌++◌, OnOk};
+ghost use Rattle.std.specs.Prelude.{◌≡◌, ◌≤◌, ◌++◌, OnOk, length};
 ghost use Rattle.decimal_text.specs.Number.{decimal};
 ghost use Rattle.potential_certificate.specs.CertificateText.{back_words, first_line, form, gap_words, last_line, option_words};
 ghost use Rattle.potential_certificate.specs.Words.{words_text};
 
 use cost_model::Params;
-use decimal_text::write_unsigned;
+use decimal_text::{write_unsigned, write_worded};
 use polyline_geometry::List;
 use std::alloc::AllocError;
 
@@ -64,12 +64,12 @@ fn append_gap(p: &Params, into: &mut List<u8>) -> Result<(), AllocError>
     Ok(())
 }
 
-// Appends bytes and a number after them.
-fn append_number(bytes: &[u8], number: u32, into: &mut List<u8>) -> Result<(), AllocError>
-    ensures { OnOk result (into.new ≡ into.old ++ (bytes.now ++ decimal number)) }
+// Appends a word and a number after it.
+fn append_number(word: &[u8], number: u32, into: &mut List<u8>) -> Result<(), AllocError>
+    requires { length word.now ≤ 20 }
+    ensures { OnOk result (into.new ≡ into.old ++ (word.now ++ decimal number)) }
 {
-    into.extend_from_slice(bytes)?;
-    write_unsigned(u64::from(number), into)
+    write_worded(word, u64::from(number), into)
 }
 
 /// Appends the last line. On `Err`, a part of it may remain at the end.

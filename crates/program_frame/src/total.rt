@@ -2,7 +2,7 @@
 ghost use Rattle.std.specs.Prelude.{◌≡◌, ◌+◌, ◌++◌, ◌<◌, ◌^◌, length, OnOk};
 ghost use Rattle.program_frame.specs.Jobs.{points_of};
 
-use decimal_text::write_unsigned;
+use decimal_text::write_worded;
 use polyline_geometry::List;
 use std::alloc::AllocError;
 use trace_reader::Trace;
@@ -24,7 +24,7 @@ fn count_points(traces: &[Trace]) -> u64
 }
 
 impl Tally {
-    ghost use Rattle.program_frame.specs.Total.{Adds, Fits, total_line, worded};
+    ghost use Rattle.program_frame.specs.Total.{Adds, Fits, total_line};
 
     pub const NONE: Tally = Tally {
         traces: 0,
@@ -42,23 +42,15 @@ impl Tally {
         self.pieces += pieces;
     }
 
-    // Appends a word and a number.
-    fn append_worded(into: &mut List<u8>, word: &[u8], n: u64) -> Result<(), AllocError>
-        ensures { OnOk result (into.new ≡ into.old ++ worded word.now n) }
-    {
-        into.extend_from_slice(word)?;
-        write_unsigned(n, into)
-    }
-
     /// Appends the total line of a run that asked for the rows of this many nodes.
     pub fn append_line(self, rows: u64, into: &mut List<u8>) -> Result<(), AllocError>
         ensures { OnOk result
             (into.new ≡ into.old ++ total_line self.traces self.points self.pieces rows) }
     {
-        Tally::append_worded(into, b"total traces ", self.traces)?;
-        Tally::append_worded(into, b" points ", self.points)?;
-        Tally::append_worded(into, b" pieces ", self.pieces)?;
-        Tally::append_worded(into, b" rows ", rows)?;
+        write_worded(b"total traces ", self.traces, into)?;
+        write_worded(b" points ", self.points, into)?;
+        write_worded(b" pieces ", self.pieces, into)?;
+        write_worded(b" rows ", rows, into)?;
         into.extend_from_slice(b"\n")
     }
 }

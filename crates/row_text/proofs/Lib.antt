@@ -1,4 +1,4 @@
-pub mod DigitsPut
+pub mod FewDigits
 pub mod Entries
 pub mod LineEnds
 pub mod LineFaults

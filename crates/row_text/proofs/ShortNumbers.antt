@@ -4,8 +4,8 @@ use Rattle.std.specs.List.{list_all, prefix_len}
 use Rattle.std.specs.Char.{is_ascii_digit}
 use Rattle.std.specs.Str.Parse.{digits_value}
 use Rattle.std.proofs.lemmas.Grind.{common_steps}
-use Rattle.decimal_text.specs.Number.{unsigned_within}
-use Rattle.match_text.specs.Reading.{has_leading_zero, most32, number_at, number_of}
+use Rattle.decimal_text.specs.Number.{has_leading_zero, unsigned_within}
+use Rattle.match_text.specs.Reading.{most32, number_at, number_of}
 
 at_count : (text : List ℕ) (count : ℕ) → prefix_len is_ascii_digit text ≡ count → number_at most32 text ≡ number_of most32 (take count text) (drop count text)
 unfolding number_at

@@ -1,16 +1,17 @@
 //! Entries as bytes, written from the last byte to the first. Serves `write_row`; decided by
 //! `entry_word`.
 ghost use Rattle.std.specs.Prelude.{◌≡◌, ◌+◌, ◌≤◌, ◌∷◌, ◌++◌, drop, length};
-ghost use Rattle.decimal_text.specs.Number.{decimal};
 ghost use Rattle.row_text.specs.RowLine.{entry_word, last_word};
 
 use bounded_search::Entry;
+use itoa::write_digits;
 use road_network::EdgeId;
 
 /// The most bytes of an entry with the space before it: three numbers of ten digits.
 pub const ENTRY_BYTES: usize = 33;
 
 /// Writes the entry and the space before it so that they end at `end`. Returns where they begin.
+#[tactic(auto, using(crate::proofs::FewDigits::few_digits))]
 pub fn put_entry(bytes: &mut [u8], end: usize, x: &Entry) -> usize
     requires room { 33 ≤ end }
     requires end { end ≤ length bytes.old }
@@ -18,12 +19,13 @@ pub fn put_entry(bytes: &mut [u8], end: usize, x: &Entry) -> usize
 {
     let at = put_last(bytes, end, x.last);
     let at = put_byte(bytes, at, b':');
-    let at = put_number(bytes, at, x.distance);
+    let at = write_digits(u64::from(x.distance), bytes, at);
     let at = put_byte(bytes, at, b':');
-    let at = put_number(bytes, at, x.node.0);
+    let at = write_digits(u64::from(x.node.0), bytes, at);
     put_byte(bytes, at, b' ')
 }
 
+#[tactic(auto, using(crate::proofs::FewDigits::few_digits))]
 fn put_last(bytes: &mut [u8], end: usize, last: Option<EdgeId>) -> usize
     requires room { 10 ≤ end }
     requires end { end ≤ length bytes.old }
@@ -31,7 +33,7 @@ fn put_last(bytes: &mut [u8], end: usize, last: Option<EdgeId>) -> usize
     ensures place { (end ≤ result + 10) × (result ≤ end) }
 {
     match last {
-        Some(edge) => put_number(bytes, end, edge.0),
+        Some(edge) => write_digits(u64::from(edge.0), bytes, end),
         None => put_byte(bytes, end, b'-'),
     }
 }
@@ -45,20 +47,4 @@ fn put_byte(bytes: &mut [u8], end: usize, byte: u8) -> usize
 {
     bytes[end - 1] = byte;
     end - 1
-}
-
-// Writes the digits of a number before place `end`.
-fn put_number(bytes: &mut [u8], end: usize, number: u32) -> usize
-    requires room { 10 ≤ end }
-    requires end { end ≤ length bytes.old }
-    ensures bytes { drop result bytes.new ≡ decimal number ++ drop end bytes.old }
-    ensures place { (end ≤ result + 10) × (result ≤ end) }
-{
-    let mut at = end;
-    let mut rest = number;
-    while rest >= 10 {
-        at = put_byte(bytes, at, b'0' + (rest % 10) as u8);
-        rest /= 10;
-    }
-    put_byte(bytes, at, b'0' + rest as u8)
 }

@@ -1,8 +1,8 @@
 //! Numbers at the front of a text, read in one pass. Serves `read_row`; decided by `number_after`.
 ghost use Rattle.std.specs.Prelude.{◌≡◌, ◌∷◌, []};
-ghost use Rattle.match_text.specs.Reading.{has_leading_zero, most32, number_after, number_at, seen};
+ghost use Rattle.match_text.specs.Reading.{most32, number_after, number_at, seen};
 
-use decimal_text::digits_at_front;
+use decimal_text::{digits_at_front, has_leading_zero};
 use match_text::front::number;
 
 // Numbers with fewer digits are read here, others by `number`.
@@ -35,12 +35,6 @@ fn short_number(text: &[u8]) -> Option<(u32, &[u8])>
         return None;
     }
     Some((number, rest))
-}
-
-fn has_leading_zero(digits: &[u8]) -> bool
-    ensures { result ≡ has_leading_zero digits.now }
-{
-    matches!(digits, [b'0', _, ..])
 }
 
 fn long_number(text: &[u8]) -> Option<(u32, &[u8])>

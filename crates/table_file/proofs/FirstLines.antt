@@ -2,7 +2,7 @@
 use Rattle.std.proofs.Common.{◌≡◌, ℕ, ◌+◌, ◌^◌, ◌<◌, ◌≤◌, List, [], ◌∷◌, ◌++◌, length, refl, sym, ap, ◌∙◌, append_assoc, arith, length-append}
 use Rattle.std.specs.Prelude.{codes}
 use Rattle.decimal_text.specs.Number.{decimal}
-use Rattle.row_text.proofs.DigitsPut.{few_digits}
+use Rattle.row_text.proofs.FewDigits.{few_digits}
 use Rattle.table_file.specs.TableText.{first_line, text_limit}
 
 -- what stands behind the bound, and behind the count of nodes
@@ -34,5 +34,5 @@ first_short bound nodes edges b_fits n_fits e_fits =
     )
 
 -- words and a number behind them
-pub worded : (old words new : List ℕ) (n number : ℕ) → number ≡ n → new ≡ (old ++ words) ++ decimal number → new ≡ old ++ (words ++ decimal n)
-worded old words new n number same is = is ∙ ap (λ (k : ℕ). (old ++ words) ++ decimal k) same ∙ append_assoc old words (decimal n)
+pub worded : (old words new : List ℕ) (n number : ℕ) → number ≡ n → new ≡ old ++ (words ++ decimal number) → new ≡ old ++ (words ++ decimal n)
+worded old words new n number same is = is ∙ ap (λ (k : ℕ). old ++ (words ++ decimal k)) same

@@ -1,10 +1,9 @@
 //! The first and the last line of a table text. Serves the writer and the reader; decided by
 //! `first_line` and `end_line`.
-ghost use Rattle.std.specs.Prelude.{◌≡◌, ◌++◌, OnOk, codes};
-ghost use Rattle.decimal_text.specs.Number.{decimal};
+ghost use Rattle.std.specs.Prelude.{◌≡◌, ◌++◌, OnOk};
 ghost use Rattle.table_file.specs.TableText.{end_line, first_line};
 
-use decimal_text::write_unsigned;
+use decimal_text::write_worded;
 use polyline_geometry::List;
 use std::alloc::AllocError;
 
@@ -17,9 +16,9 @@ pub fn append_first(
 ) -> Result<(), AllocError>
     ensures { OnOk result (into.new ≡ into.old ++ first_line bound nodes edges) }
 {
-    append_worded(b"fmm-table 1 bound ", u64::from(bound), into)?;
-    append_worded(b" nodes ", u64::from(nodes), into)?;
-    append_worded(b" edges ", u64::from(edges), into)?;
+    write_worded(b"fmm-table 1 bound ", u64::from(bound), into)?;
+    write_worded(b" nodes ", u64::from(nodes), into)?;
+    write_worded(b" edges ", u64::from(edges), into)?;
     into.extend_from_slice(b"\n")
 }
 
@@ -27,14 +26,6 @@ pub fn append_first(
 pub fn append_end(rows: u64, into: &mut List<u8>) -> Result<(), AllocError>
     ensures { OnOk result (into.new ≡ into.old ++ end_line rows) }
 {
-    append_worded(b"end rows ", rows, into)?;
+    write_worded(b"end rows ", rows, into)?;
     into.extend_from_slice(b"\n")
-}
-
-// Appends words and a number after them.
-fn append_worded(words: &[u8], number: u64, into: &mut List<u8>) -> Result<(), AllocError>
-    ensures { OnOk result (into.new ≡ into.old ++ words.now ++ decimal number) }
-{
-    into.extend_from_slice(words)?;
-    write_unsigned(number, into)
 }

@@ -1,7 +1,7 @@
 use Rattle.std.proofs.Common.{◌≡◌, ◌≤◌, ℕ, List, Some, sym, ◌∙◌, ap, arith, length, take, length-take-le}
 use Rattle.std.specs.List.{prefix_len}
 use Rattle.std.specs.Char.{is_ascii_digit}
-use Rattle.match_text.specs.Reading.{has_leading_zero}
+use Rattle.decimal_text.specs.Number.{has_leading_zero}
 use Rattle.row_text.proofs.ShortNumbers.{leading_zero, no_digits, spelt}
 use Rattle.row_text.proofs.numbers.short_number.Goals as goal
 

@@ -10,4 +10,4 @@ on_appended (Ok done) base i1 i2 i3 i4 new a b c d e h1 h2 h3 h4 h5 = appended b
 on_appended (Err error) base i1 i2 i3 i4 new a b c d e h1 h2 h3 h4 h5 = h5
 
 pub returns : goal.returns
-returns c = on_appended _ _ _ _ _ _ _ _ _ _ _ _ c.in_ok-append_worded.ensures c.in_ok-append_worded-2.ensures c.in_ok-append_worded-3.ensures c.in_ok-append_worded-4.ensures c.extend_from_slice.ensures.ok
+returns c = on_appended _ _ _ _ _ _ _ _ _ _ _ _ c.in_ok-write_worded.ensures.ok c.in_ok-write_worded-2.ensures.ok c.in_ok-write_worded-3.ensures.ok c.in_ok-write_worded-4.ensures.ok c.extend_from_slice.ensures.ok

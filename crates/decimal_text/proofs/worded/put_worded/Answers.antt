@@ -1,6 +1,6 @@
 use Rattle.std.proofs.Common.{◌-◌, ◌∙◌, drop, length, length-drop, length-take-le, arith}
 use Rattle.decimal_text.proofs.Laws.{length-decimal}
-use Rattle.match_text.proofs.line.put_before.Goals as goal
+use Rattle.decimal_text.proofs.worded.put_worded.Goals as goal
 
 pub write_digits-start-requires : goal.write_digits-start-requires
 write_digits-start-requires c =
