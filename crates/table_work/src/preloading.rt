@@ -97,10 +97,8 @@ fn offer_row(
     if !searcher.check(origin, &row) {
         return Err(refuse_row(alloc, roads.node_name(origin)));
     }
-    match reader.offer_right(origin, row) {
-        Ok(_) => Ok(()),
-        Err(_) => Err(Stop::NoMemory),
-    }
+    reader.offer_right(origin, row)?;
+    Ok(())
 }
 
 // Checks all rows in order, and offers each right one.
@@ -136,12 +134,8 @@ fn accept_table(
     ensures { Accepts Refusal.Table (table_file_said roads.now bound text.items) result }
 {
     let rows = read_rows(alloc, roads, bound, text)?;
-    let Ok(mut searcher) = Searcher::open(alloc, roads, bound) else {
-        return Err(Stop::NoMemory);
-    };
-    let Ok(mut reader) = store.reader() else {
-        return Err(Stop::NoMemory);
-    };
+    let mut searcher = Searcher::open(alloc, roads, bound)?;
+    let mut reader = store.reader()?;
     offer_rows(alloc, roads, &mut searcher, &mut reader, rows)
 }
 

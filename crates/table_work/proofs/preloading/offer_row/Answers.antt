@@ -9,8 +9,8 @@ returns-then-not-check-clause-said c =
     record { lawful = c.known.ensures; has = c.requires.node; network = c.requires.networks.0; of_origin = c.origin-origin.ensures; answer = c.check.ensures.row } in
     wrong_said c.args.roads.now c.args.searcher.now c.args.row c.origin-origin.result.0 c.node_name.result c.refuse_row.result (rw no at tried) c.node_name.ensures c.refuse_row.ensures
 
-pub returns-in-Ok-clause-said : goal.returns-in-Ok-clause-said
-returns-in-Ok-clause-said c =
+pub returns-clause-said : goal.returns-clause-said
+returns-clause-said c =
     let yes : c.check.result ≡ true = search rules in
     let tried : IsTried c.args.roads.now c.args.searcher.now c.args.row c.origin-origin.result.0 c.check.result =
     record { lawful = c.known.ensures; has = c.requires.node; network = c.requires.networks.0; of_origin = c.origin-origin.ensures; answer = c.check.ensures.row } in
