@@ -63,8 +63,7 @@ fn a_network_has_its_nodes(rt: HostRuntime) -> Result<(), Fail> {
         (NodeId(1), NodeId(2))
     );
     assert_eq!(rt; net.node_name(NodeId(2)), 3);
-    assert_eq!(rt; net.out(NodeId(1)), [EdgeId(1)].as_slice());
-    assert_eq!(rt; net.out(NodeId(2)), [].as_slice());
+    assert_eq!(rt; net.arcs(NodeId(2)), [].as_slice());
     Ok(())
 }
 
@@ -87,7 +86,16 @@ fn two_edges_between_the_same_nodes(rt: HostRuntime) -> Result<(), Fail> {
     assert_eq!(rt; (net.edge_count(), net.node_count()), (2, 2));
     assert_eq!(rt; net.name(EdgeId(1)), 5);
     assert_eq!(rt; net.node_name(NodeId(0)), 12_000_000_000);
-    assert_eq!(rt; net.out(NodeId(0)), [EdgeId(0), EdgeId(1)].as_slice());
+    let first = Arc {
+        edge: EdgeId(0),
+        length: 10_000,
+        to: NodeId(1),
+    };
+    let second = Arc {
+        edge: EdgeId(1),
+        ..first
+    };
+    assert_eq!(rt; net.arcs(NodeId(0)), [first, second].as_slice());
     Ok(())
 }
 

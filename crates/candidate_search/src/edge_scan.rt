@@ -5,7 +5,7 @@ ghost use Rattle.cost_model.specs.Options.{IsAccepted};
 ghost use Rattle.road_network.specs.Near.{candidates};
 
 use crate::boxes::{EdgeBox, boxes_of};
-use crate::groups::{empty_lists, list_group};
+use crate::groups::{Among, empty_lists, list_group};
 use crate::placed::with_places;
 use cost_model::Params;
 use polyline_geometry::{List, Point};
@@ -67,32 +67,12 @@ impl<'n> EdgeScan<'n> {
     {
         let group = with_places(alloc, points)?;
         let mut lists = empty_lists(alloc, points.len())?;
-        list_group(
-            alloc,
-            self.net,
+        let among = Among {
+            net: self.net,
             p,
-            self.boxes.as_slice(),
-            group.as_slice(),
-            &mut lists,
-        )?;
+            boxes: self.boxes.as_slice(),
+        };
+        list_group(alloc, among, group.as_slice(), &mut lists)?;
         Ok(List::from_vec(lists))
     }
-}
-
-/// The candidates of each point, by a scan of all edges made for this call. For many calls use an
-/// [`EdgeScan`].
-pub fn candidates_plain_all(
-    alloc: Global,
-    net: &Network,
-    p: &Params,
-    points: &[Point],
-) -> Result<List<List<Candidate>>, AllocError>
-    requires options { IsAccepted p.now }
-    requires points { All InRange points.now }
-    requires few { length points.now < 2 ^ 32 }
-    ensures { IfOk result (λ lists.
-        lists ≡ map (candidates net.now p.now.k p.now.radius) points.now) }
-{
-    let scan = EdgeScan::open(alloc, net)?;
-    scan.candidates(alloc, p, points)
 }

@@ -18,6 +18,14 @@ use polyline_geometry::{List, Point};
 use road_network::{Candidate, Network};
 use std::alloc::{AllocError, Global};
 
+/// Among which edges the candidates of a group are searched, and by which options.
+#[derive(Clone, Copy)]
+pub(crate) struct Among<'a> {
+    pub(crate) net: &'a Network,
+    pub(crate) p: &'a Params,
+    pub(crate) boxes: &'a [EdgeBox],
+}
+
 /// This many empty lists.
 pub(crate) fn empty_lists(alloc: Global, count: usize) -> Result<Vec<List<Candidate>>, AllocError>
     ensures { IfOk result (λ lists. lists.items ≡ replicate count []) }
@@ -32,21 +40,19 @@ pub(crate) fn empty_lists(alloc: Global, count: usize) -> Result<Vec<List<Candid
 /// The candidates of a point among the edges of these boxes.
 fn candidates_among(
     alloc: Global,
-    net: &Network,
-    p: &Params,
-    boxes: &[EdgeBox],
+    among: Among<'_>,
     at: Point,
 ) -> Result<List<Candidate>, AllocError>
-    requires options { IsAccepted p.now }
+    requires options { IsAccepted among.p.now }
     requires at_in { InRange at }
-    requires boxes { AreBoxes net.now boxes.now }
-    requires enough { AreEnough net.now p.now.radius boxes.now at }
-    ensures { IfOk result (λ list. list ≡ candidates net.now p.now.k p.now.radius at) }
+    requires boxes { AreBoxes among.net.now among.boxes.now }
+    requires enough { AreEnough among.net.now among.p.now.radius among.boxes.now at }
+    ensures { IfOk result (λ list. list ≡ candidates among.entry.net.now among.entry.p.now.k among.entry.p.now.radius at) }
 {
-    let search = search_for(p, at);
+    let search = search_for(among.p, at);
     let mut found = Vec::with_capacity(alloc, search.k + 1)?;
-    for place in 0..boxes.len() {
-        consider(net, &mut found, search, boxes[place].edge)?;
+    for place in 0..among.boxes.len() {
+        consider(among.net, &mut found, search, among.boxes[place].edge)?;
     }
     Ok(List::from_vec(found))
 }
@@ -54,21 +60,19 @@ fn candidates_among(
 /// Writes the candidates of each point of a group at its place.
 fn list_each(
     alloc: Global,
-    net: &Network,
-    p: &Params,
-    boxes: &[EdgeBox],
+    among: Among<'_>,
     group: &[Placed],
     lists: &mut [List<Candidate>],
 ) -> Result<(), AllocError>
-    requires options { IsAccepted p.now }
+    requires options { IsAccepted among.p.now }
     requires group { All (IsAsked (length lists.old)) group.now }
-    requires boxes { AreBoxesFor net.now p.now.radius boxes.now group.now }
+    requires boxes { AreBoxesFor among.net.now among.p.now.radius among.boxes.now group.now }
     ensures { OnOk result ((points : ListOf PointOf) → All (IsPlaced points) group.now
-        → AreWritten (candidates net.now p.now.k p.now.radius) points lists.old lists.new group.now) }
+        → AreWritten (candidates among.entry.net.now among.entry.p.now.k among.entry.p.now.radius) points lists.old lists.new group.now) }
 {
     for index in 0..group.len() {
         let point = group[index];
-        lists[point.place as usize] = candidates_among(alloc, net, p, boxes, point.at)?;
+        lists[point.place as usize] = candidates_among(alloc, among, point.at)?;
     }
     Ok(())
 }
@@ -76,19 +80,17 @@ fn list_each(
 /// The boxes that are near a group with this extent.
 fn boxes_for(
     alloc: Global,
-    net: &Network,
-    p: &Params,
-    boxes: &[EdgeBox],
+    among: Among<'_>,
     group: &[Placed],
     extent: Extent,
 ) -> Result<Vec<EdgeBox>, AllocError>
-    requires options { IsAccepted p.now }
+    requires options { IsAccepted among.p.now }
     requires extent { HoldsPoints (points_of group.now) extent }
-    requires boxes { AreBoxesFor net.now p.now.radius boxes.now group.now }
-    ensures { IfOk result (λ near. AreBoxesFor net.now p.now.radius near.items group.now) }
+    requires boxes { AreBoxesFor among.net.now among.p.now.radius among.boxes.now group.now }
+    ensures { IfOk result (λ near. AreBoxesFor among.entry.net.now among.entry.p.now.radius near.items group.now) }
 {
-    net.known();
-    let near = boxes_near(alloc, boxes, grown(extent, p.radius))?;
+    among.net.known();
+    let near = boxes_near(alloc, among.boxes, grown(extent, among.p.radius))?;
     Ok(near)
 }
 
@@ -96,29 +98,28 @@ fn boxes_for(
 /// that are near the whole group.
 pub(crate) fn list_group(
     alloc: Global,
-    net: &Network,
-    p: &Params,
-    boxes: &[EdgeBox],
+    among: Among<'_>,
     group: &[Placed],
     lists: &mut [List<Candidate>],
 ) -> Result<(), AllocError>
-    requires options { IsAccepted p.now }
+    requires options { IsAccepted among.p.now }
     requires group { All (IsAsked (length lists.old)) group.now }
-    requires boxes { AreBoxesFor net.now p.now.radius boxes.now group.now }
+    requires boxes { AreBoxesFor among.net.now among.p.now.radius among.boxes.now group.now }
     ensures { OnOk result ((points : ListOf PointOf) → All (IsPlaced points) group.now
-        → AreWritten (candidates net.now p.now.k p.now.radius) points lists.old lists.new group.now) }
+        → AreWritten (candidates among.entry.net.now among.entry.p.now.k among.entry.p.now.radius) points lists.old lists.new group.now) }
 {
     if group.is_empty() {
         return Ok(());
     }
     let extent = extent_of(group);
-    let near = boxes_for(alloc, net, p, boxes, group, extent)?;
+    let near = boxes_for(alloc, among, group, extent)?;
     let boxes = near.as_slice();
+    let closer = Among { boxes, ..among };
     match cut_in_two(alloc, group, extent)? {
-        None => list_each(alloc, net, p, boxes, group, lists),
+        None => list_each(alloc, closer, group, lists),
         Some(halves) => {
-            list_group(alloc, net, p, boxes, halves.below.as_slice(), lists)?;
-            list_group(alloc, net, p, boxes, halves.above.as_slice(), lists)?;
+            list_group(alloc, closer, halves.below.as_slice(), lists)?;
+            list_group(alloc, closer, halves.above.as_slice(), lists)?;
             Ok(())
         }
     }

@@ -9,7 +9,7 @@
 //! the network stores the offsets of the points of its lines.
 //!
 //! An [`EdgeScan`] gives the same result for many points, by a scan of all edges that nearby points
-//! share; [`candidates_plain_all`] makes one for a single call.
+//! share.
 #![tactic(auto)]
 
 mod best;
@@ -22,5 +22,5 @@ mod search;
 mod visit;
 mod wanted;
 
-pub use edge_scan::{EdgeScan, candidates_plain_all};
+pub use edge_scan::EdgeScan;
 pub use search::{candidates, candidates_plain};

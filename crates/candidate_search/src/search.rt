@@ -7,7 +7,7 @@ ghost use Rattle.candidate_search.specs.Nearest.{AreNearestEdges, IsNearestOn};
 
 use crate::best::NearEdge;
 use crate::nearest::consider;
-use crate::visit::{look_at_cells, look_at_wide};
+use crate::visit::{Look, look_at_cells, look_at_wide};
 use crate::wanted::Search;
 use cost_model::Params;
 use grid_index::Grid;
@@ -85,14 +85,9 @@ fn nearest_edges(
     if grid.is_far(search.at, reach) {
         return Ok(found);
     }
-    look_at_cells(
-        net,
-        grid,
-        &mut found,
-        search,
-        grid.cells_near(search.at, reach),
-    )?;
-    look_at_wide(net, grid, &mut found, search)?;
+    let look = Look { net, grid, search };
+    look_at_cells(look, &mut found, grid.cells_near(search.at, reach))?;
+    look_at_wide(look, &mut found)?;
     Ok(found)
 }
 

@@ -3,7 +3,6 @@
 ghost use Rattle.std.specs.Prelude.{◌≡◌, ◌<◌, OnOk};
 ghost use Rattle.polyline_geometry.specs.Plane.{InRange};
 ghost use Rattle.road_network.specs.Net.{Net};
-ghost use Rattle.grid_index.specs.NearestCell.{IsNearestCell};
 ghost use Rattle.grid_index.specs.Runs.{IsBoxDistance, IsRun};
 ghost use Rattle.candidate_search.specs.Best.{AreBest, AreNearestIn, HasSeen, HasSeenCell, HasSeenRow, HasSeenRows, HasSeenWide, IsLimit, IsNearestOfTwin, Steps};
 
@@ -13,6 +12,14 @@ use grid_index::{Cells, Grid, Run};
 use polyline_geometry::{NearSegments, distance2, nearest_in_box, nearest_segments};
 use road_network::{EdgeId, Network};
 use std::alloc::AllocError;
+
+/// What a visit of cells looks for, and where.
+#[derive(Clone, Copy)]
+pub(crate) struct Look<'a, 'n> {
+    pub(crate) net: &'a Network,
+    pub(crate) grid: &'a Grid<'n>,
+    pub(crate) search: Search,
+}
 
 /// The nearest segment of the twin of a run: the last of the nearest, counted from the end of the
 /// run's line.
@@ -54,29 +61,8 @@ fn take_both(
     }
 }
 
-/// Measures the segments of a run, for its own edge and for the twin.
-fn measure_run(
-    net: &Network,
-    found: &mut Vec<NearEdge>,
-    search: Search,
-    run: Run,
-    limit: u64,
-) -> Result<(), AllocError>
-    requires run { IsRun net.now run }
-    requires best { AreBest net.now search found.old.items }
-    requires limit { IsLimit search found.old.items limit }
-    ensures steps { OnOk result (Steps net.now search found.old.items found.new.items) }
-    ensures seen { OnOk result (HasSeen net.now search found.new.items run) }
-{
-    net.known();
-    let (first, end) = (run.first as usize, run.end as usize);
-    match nearest_segments(net.line(run.edge), first, end, search.at, limit) {
-        None => Ok(()),
-        Some(near) => take_both(net, found, search, run, near),
-    }
-}
-
-/// Visits a run, given the distance to its box: its segments are measured if the box is near enough.
+/// Visits a run, given the distance to its box: its segments are measured if the box is near enough,
+/// for its own edge and for the twin.
 fn look_at_box(
     net: &Network,
     found: &mut Vec<NearEdge>,
@@ -92,10 +78,13 @@ fn look_at_box(
 {
     net.known();
     let limit = limit_for(found.as_slice(), search);
-    if d2 < limit {
-        measure_run(net, found, search, run, limit)
-    } else {
-        Ok(())
+    if d2 >= limit {
+        return Ok(());
+    }
+    let (first, end) = (run.first as usize, run.end as usize);
+    match nearest_segments(net.line(run.edge), first, end, search.at, limit) {
+        None => Ok(()),
+        Some(near) => take_both(net, found, search, run, near),
     }
 }
 
@@ -116,162 +105,132 @@ fn look_at_run(
 }
 
 /// Visits the runs that are in no cell.
-pub(crate) fn look_at_wide(
-    net: &Network,
-    grid: &Grid,
-    found: &mut Vec<NearEdge>,
-    search: Search,
-) -> Result<(), AllocError>
-    requires network { grid.now.net ≡ net.now }
-    requires best { AreBest net.now search found.old.items }
-    ensures steps { OnOk result (Steps net.now search found.old.items found.new.items) }
-    ensures seen { OnOk result (HasSeenWide net.now grid.now search found.new.items) }
+pub(crate) fn look_at_wide(look: Look<'_, '_>, found: &mut Vec<NearEdge>) -> Result<(), AllocError>
+    requires network { look.grid.now.net ≡ look.net.now }
+    requires best { AreBest look.net.now look.search found.old.items }
+    ensures steps { OnOk result (Steps look.entry.net.now look.entry.search found.old.items found.new.items) }
+    ensures seen { OnOk result (HasSeenWide look.entry.net.now look.entry.grid.now look.entry.search found.new.items) }
 {
-    grid.known();
-    let runs = grid.wide_runs();
+    look.grid.known();
+    let runs = look.grid.wide_runs();
     for run in runs {
-        look_at_run(net, found, search, *run)?;
+        look_at_run(look.net, found, look.search, *run)?;
     }
     Ok(())
 }
 
-/// Visits a run if its nearest point lies in this cell, so that each run is visited once.
-fn look_at_run_once(
-    net: &Network,
-    grid: &Grid,
-    found: &mut Vec<NearEdge>,
-    search: Search,
-    run: &Run,
-    column: u32,
-    row: u32,
-) -> Result<(), AllocError>
-    requires network { grid.now.net ≡ net.now }
-    requires run { IsRun net.now run.now }
-    requires best { AreBest net.now search found.old.items }
-    ensures steps { OnOk result (Steps net.now search found.old.items found.new.items) }
-    ensures seen { OnOk result (IsNearestCell grid.now.side search.at run.now column row
-        → HasSeen net.now search found.new.items run.now) }
-{
-    match grid.distance2_in_cell(run, search.at, column, row) {
-        None => Ok(()),
-        Some(d2) => look_at_box(net, found, search, *run, d2),
-    }
-}
-
-/// Visits the runs of a cell, if it is near enough.
+/// Visits the runs of a cell, if it is near enough. A run is visited only in the cell of its nearest
+/// point, so that it is visited once.
 fn look_at_cell(
-    net: &Network,
-    grid: &Grid,
+    look: Look<'_, '_>,
     found: &mut Vec<NearEdge>,
-    search: Search,
     column: u32,
     row: u32,
 ) -> Result<(), AllocError>
-    requires network { grid.now.net ≡ net.now }
-    requires best { AreBest net.now search found.old.items }
-    ensures steps { OnOk result (Steps net.now search found.old.items found.new.items) }
-    ensures seen { OnOk result (HasSeenCell net.now grid.now search found.new.items column row) }
+    requires network { look.grid.now.net ≡ look.net.now }
+    requires best { AreBest look.net.now look.search found.old.items }
+    ensures steps { OnOk result (Steps look.entry.net.now look.entry.search found.old.items found.new.items) }
+    ensures seen { OnOk result (HasSeenCell look.entry.net.now look.entry.grid.now look.entry.search found.new.items column row) }
 {
-    grid.known();
-    net.known();
-    let runs = grid.runs_at(column, row);
+    look.grid.known();
+    look.net.known();
+    let runs = look.grid.runs_at(column, row);
     if runs.is_empty() {
         return Ok(());
     }
-    if grid.cell_distance2(search.at, column, row) >= limit_for(found.as_slice(), search) {
+    if look.grid.cell_distance2(look.search.at, column, row)
+        >= limit_for(found.as_slice(), look.search)
+    {
         return Ok(());
     }
     for run in runs {
-        look_at_run_once(net, grid, found, search, run, column, row)?;
+        if let Some(d2) = look
+            .grid
+            .distance2_in_cell(run, look.search.at, column, row)
+        {
+            look_at_box(look.net, found, look.search, *run, d2)?;
+        }
     }
     Ok(())
 }
 
 /// Visits the cells of a row in a range of columns.
 fn look_at_columns(
-    net: &Network,
-    grid: &Grid,
+    look: Look<'_, '_>,
     found: &mut Vec<NearEdge>,
-    search: Search,
     left: u32,
     right: u32,
     row: u32,
 ) -> Result<(), AllocError>
-    requires network { grid.now.net ≡ net.now }
-    requires best { AreBest net.now search found.old.items }
-    ensures steps { OnOk result (Steps net.now search found.old.items found.new.items) }
+    requires network { look.grid.now.net ≡ look.net.now }
+    requires best { AreBest look.net.now look.search found.old.items }
+    ensures steps { OnOk result (Steps look.entry.net.now look.entry.search found.old.items found.new.items) }
     ensures seen { OnOk result
-        (HasSeenRow net.now grid.now search found.new.items left right row) }
+        (HasSeenRow look.entry.net.now look.entry.grid.now look.entry.search found.new.items left right row) }
 {
     for column in left..right {
-        look_at_cell(net, grid, found, search, column, row)?;
+        look_at_cell(look, found, column, row)?;
     }
     Ok(())
 }
 
 /// Visits the cells of a row, the point's own column first.
 fn look_at_row(
-    net: &Network,
-    grid: &Grid,
+    look: Look<'_, '_>,
     found: &mut Vec<NearEdge>,
-    search: Search,
     cells: Cells,
     row: u32,
 ) -> Result<(), AllocError>
-    requires network { grid.now.net ≡ net.now }
-    requires best { AreBest net.now search found.old.items }
-    ensures steps { OnOk result (Steps net.now search found.old.items found.new.items) }
-    ensures seen { OnOk result (HasSeenRow net.now grid.now search found.new.items cells.left
+    requires network { look.grid.now.net ≡ look.net.now }
+    requires best { AreBest look.net.now look.search found.old.items }
+    ensures steps { OnOk result (Steps look.entry.net.now look.entry.search found.old.items found.new.items) }
+    ensures seen { OnOk result (HasSeenRow look.entry.net.now look.entry.grid.now look.entry.search found.new.items cells.left
         cells.right row) }
 {
-    let own = grid.column_of(search.at);
+    let own = look.grid.column_of(look.search.at);
     let next = own.saturating_add(1);
-    look_at_cell(net, grid, found, search, own, row)?;
-    look_at_columns(net, grid, found, search, next, cells.right, row)?;
-    look_at_columns(net, grid, found, search, cells.left, own, row)?;
+    look_at_cell(look, found, own, row)?;
+    look_at_columns(look, found, next, cells.right, row)?;
+    look_at_columns(look, found, cells.left, own, row)?;
     Ok(())
 }
 
 /// Visits the rows of cells in a range.
 fn look_at_rows(
-    net: &Network,
-    grid: &Grid,
+    look: Look<'_, '_>,
     found: &mut Vec<NearEdge>,
-    search: Search,
     cells: Cells,
     bottom: u32,
     top: u32,
 ) -> Result<(), AllocError>
-    requires network { grid.now.net ≡ net.now }
-    requires best { AreBest net.now search found.old.items }
-    ensures steps { OnOk result (Steps net.now search found.old.items found.new.items) }
+    requires network { look.grid.now.net ≡ look.net.now }
+    requires best { AreBest look.net.now look.search found.old.items }
+    ensures steps { OnOk result (Steps look.entry.net.now look.entry.search found.old.items found.new.items) }
     ensures seen { OnOk result
-        (HasSeenRows net.now grid.now search found.new.items cells bottom top) }
+        (HasSeenRows look.entry.net.now look.entry.grid.now look.entry.search found.new.items cells bottom top) }
 {
     for row in bottom..top {
-        look_at_row(net, grid, found, search, cells, row)?;
+        look_at_row(look, found, cells, row)?;
     }
     Ok(())
 }
 
 /// Visits cells, those of the point's own row first.
 pub(crate) fn look_at_cells(
-    net: &Network,
-    grid: &Grid,
+    look: Look<'_, '_>,
     found: &mut Vec<NearEdge>,
-    search: Search,
     cells: Cells,
 ) -> Result<(), AllocError>
-    requires network { grid.now.net ≡ net.now }
-    requires best { AreBest net.now search found.old.items }
-    ensures steps { OnOk result (Steps net.now search found.old.items found.new.items) }
+    requires network { look.grid.now.net ≡ look.net.now }
+    requires best { AreBest look.net.now look.search found.old.items }
+    ensures steps { OnOk result (Steps look.entry.net.now look.entry.search found.old.items found.new.items) }
     ensures seen { OnOk result
-        (HasSeenRows net.now grid.now search found.new.items cells cells.bottom cells.top) }
+        (HasSeenRows look.entry.net.now look.entry.grid.now look.entry.search found.new.items cells cells.bottom cells.top) }
 {
-    let own = grid.row_of(search.at);
+    let own = look.grid.row_of(look.search.at);
     let next = own.saturating_add(1);
-    look_at_row(net, grid, found, search, cells, own)?;
-    look_at_rows(net, grid, found, search, cells, next, cells.top)?;
-    look_at_rows(net, grid, found, search, cells, cells.bottom, own)?;
+    look_at_row(look, found, cells, own)?;
+    look_at_rows(look, found, cells, next, cells.top)?;
+    look_at_rows(look, found, cells, cells.bottom, own)?;
     Ok(())
 }

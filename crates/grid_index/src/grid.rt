@@ -18,7 +18,7 @@ use crate::extent::Extent;
 use crate::nearest_cell::{cell_distance2, distance2_in_cell};
 use crate::runs::Run;
 use crate::size::{room_for, runs_expected, width_bits_for};
-use crate::table::Table;
+use crate::table::{Disc, Table};
 use polyline_geometry::{List, Point};
 use road_network::{EdgeId, Network};
 use std::alloc::{AllocError, Global};
@@ -128,7 +128,7 @@ impl<'n> Grid<'n> {
         let cells = Cells::of_square(p, reach, self.table.layout.side);
         let mut found = Vec::new(alloc);
         self.table.gather_wide(&mut found, p, far2)?;
-        self.table.gather(&mut found, cells, p, far2)?;
+        self.table.gather(&mut found, cells, Disc { at: p, far2 })?;
         Ok(found)
     }
 

@@ -21,21 +21,25 @@ fn first_from(entries: &[Entry], from: usize, slot: u32) -> usize
     place
 }
 
-/// For each slot the index of its first entry, or where that would be; then the end of all.
+/// For each slot the index of its first entry, or where that would be; then the end of all. A start has
+/// four bytes; `Entries` enters no more runs than that allows.
 pub(crate) fn starts_of(
     alloc: Global,
     entries: &[Entry],
     slots: u32,
-) -> Result<Vec<usize>, AllocError>
+) -> Result<Vec<u32>, AllocError>
     requires { IsNonDecreasingBy (λ e. e.slot) entries.now }
     ensures { IfOk result (λ starts. AreStarts entries.now starts.items (slots + 1)) }
 {
+    if entries.len() > u32::MAX as usize {
+        return Err(AllocError);
+    }
     let mut starts = Vec::with_capacity(alloc, slots as usize + 1)?;
     starts.push(0)?;
     let mut place = 0;
     for slot in 0..slots {
         place = first_from(entries, place, slot + 1);
-        starts.push(place)?;
+        starts.push(place as u32)?;
     }
     Ok(starts)
 }

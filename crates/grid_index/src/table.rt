@@ -16,13 +16,21 @@ use road_network::Network;
 use std::alloc::{AllocError, Global};
 
 /// After so many entries, the memory of those that were read is returned.
-const BLOCK: usize = 1_024;
+const BLOCK: usize = 512;
+
+/// The places within a distance of a point.
+#[derive(Clone, Copy)]
+pub(crate) struct Disc {
+    pub(crate) at: Point,
+    /// The squared distance, in cm².
+    pub(crate) far2: u64,
+}
 
 /// The runs of a network by slot.
 pub(crate) struct Table {
     pub(crate) layout: Layout,
     /// Where the runs of each slot begin in `members`, and the end of the last.
-    starts: Vec<usize>,
+    starts: Vec<u32>,
     members: Vec<Run>,
     /// The runs whose box meets too many cells.
     pub(crate) wide: Vec<Run>,
@@ -107,7 +115,7 @@ impl Table {
         ensures { (net : Net) → result.now ≡ runs_at (grid_of net self.now) column row }
     {
         let slot = self.layout.slot(column, row) as usize;
-        &self.members[self.starts[slot]..self.starts[slot + 1]]
+        &self.members[self.starts[slot] as usize..self.starts[slot + 1] as usize]
     }
 
     /// Appends the near ones among the wide runs.
@@ -131,16 +139,15 @@ impl Table {
         found: &mut Vec<Run>,
         cells: Cells,
         row: u32,
-        p: Point,
-        far2: u64,
+        disc: Disc,
     ) -> Result<(), AllocError>
         requires parts { HasParts self.now }
-        requires p_in { InRange p }
-        ensures { (net : Net) → OnOk result (Gathers (grid_of net self.now) p far2 found.old.items
+        requires at_in { InRange disc.at }
+        ensures { (net : Net) → OnOk result (Gathers (grid_of net self.now) disc.at disc.far2 found.old.items
             found.new.items cells.left cells.right row (row + 1)) }
     {
         for column in cells.left..cells.right {
-            append_near(found, self.runs_at(column, row), p, far2)?;
+            append_near(found, self.runs_at(column, row), disc.at, disc.far2)?;
         }
         Ok(())
     }
@@ -150,16 +157,15 @@ impl Table {
         &self,
         found: &mut Vec<Run>,
         cells: Cells,
-        p: Point,
-        far2: u64,
+        disc: Disc,
     ) -> Result<(), AllocError>
         requires parts { HasParts self.now }
-        requires p_in { InRange p }
-        ensures { (net : Net) → OnOk result (Gathers (grid_of net self.now) p far2 found.old.items
+        requires at_in { InRange disc.at }
+        ensures { (net : Net) → OnOk result (Gathers (grid_of net self.now) disc.at disc.far2 found.old.items
             found.new.items cells.left cells.right cells.bottom cells.top) }
     {
         for row in cells.bottom..cells.top {
-            self.gather_row(found, cells, row, p, far2)?;
+            self.gather_row(found, cells, row, disc)?;
         }
         Ok(())
     }

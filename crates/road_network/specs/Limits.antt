@@ -2,7 +2,6 @@
 use Rattle.std.specs.Prelude.{ℕ}
 use Rattle.road_network.specs.declared.limits.NetworkLimits.{NetworkLimits}
 use Rattle.road_network.specs.declared.limits.NetworkLimits.TheVariants.{Standard, Large}
-use Rattle.road_network.specs.declared.limits.TheConstants.{LINE_POINT_LIMIT}
 
 -- bytes of the file
 abbrev pub file_limit : NetworkLimits → ℕ
@@ -24,4 +23,12 @@ point_limit Large = 4_000_000_000
 
 -- points of one line, under any limits
 abbrev pub line_point_limit : ℕ
-line_point_limit = LINE_POINT_LIMIT
+line_point_limit = 1_000_000
+
+-- the length of an edge in cm, under any limits
+abbrev pub length_limit : ℕ
+length_limit = 100_000_000
+
+-- the absolute value of a coordinate in cm, under any limits
+abbrev pub coordinate_limit : ℕ
+coordinate_limit = 1_000_000_000

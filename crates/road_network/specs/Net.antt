@@ -1,10 +1,9 @@
 -- What a network is to every contract: its nodes with their names, and its edges in the order
 -- of the file.
 use Rattle.std.specs.Prelude.{ℕ, zero, suc, ◌≡◌, ◌<◌, ◌≤◌, ◌==◌, ◌++◌, ◌∷◌, [], if◌then◌else◌, List, length, slice_index, slice_index_or}
-use Rattle.std.specs.List.{Contains, sum_by}
+use Rattle.std.specs.List.{All, Contains, sum_by}
 use Rattle.polyline_geometry.specs.declared.plane.Point.{Point}
 use Rattle.polyline_geometry.specs.Plane.{IsLine, line_length}
-use Rattle.road_network.specs.declared.limits.TheConstants.{LENGTH_LIMIT}
 use Rattle.road_network.specs.declared.Arc.{Arc}
 use Rattle.road_network.specs.declared.EdgeId.{EdgeId}
 
@@ -72,7 +71,7 @@ pub record IsLawful (n : Net) : Type 0 where
   pub lines : (e : ℕ) → HasEdge n e → IsLine (edge_line n e)
   pub short_lines : (e : ℕ) → HasEdge n e → length (edge_line n e) ≤ 1_000_000
   pub not_empty : (e : ℕ) → HasEdge n e → 1 ≤ span n e
-  pub not_long : (e : ℕ) → HasEdge n e → span n e ≤ LENGTH_LIMIT
+  pub not_long : (e : ℕ) → HasEdge n e → span n e ≤ 100_000_000
   pub names_differ : (e f : ℕ) → HasEdge n e → HasEdge n f → edge_name n e ≡ edge_name n f → e ≡ f
 
 -- the edges below e that begin at node v, by rising number
@@ -89,6 +88,13 @@ leaving n v = leaving_below n v (length n.edges)
 abbrev pub ContainsLeaving : Net → ℕ → List EdgeId → Type 0
 ContainsLeaving n v edges =
     (e : ℕ) → HasEdge n e → source n e ≡ v → Contains edges (record { 0 = e })
+
+-- the edges that leave a node are edges of the network that begin there, and all of these
+abbrev pub LeavingIsExact : Type 0
+LeavingIsExact =
+    (n : Net) (v : ℕ)
+    → All (λ e. HasEdge n e.0 × (source n e.0 ≡ v)) (leaving n v)
+    × ContainsLeaving n v (leaving n v)
 
 -- an edge with its length and the node where it ends
 abbrev pub arc_of : Net → EdgeId → Arc

@@ -14,8 +14,7 @@ use Rattle.polyline_geometry.specs.Plane.{line_length}
 use Rattle.road_network.specs.declared.fault.NetworkFault.{NetworkFault}
 use Rattle.road_network.specs.declared.fault.NetworkFault.TheVariants as fault
 use Rattle.road_network.specs.declared.limits.NetworkLimits.{NetworkLimits}
-use Rattle.road_network.specs.declared.limits.TheConstants.{COORDINATE_LIMIT, LENGTH_LIMIT}
-use Rattle.road_network.specs.Limits.{edge_limit, file_limit, line_point_limit, node_limit, point_limit}
+use Rattle.road_network.specs.Limits.{coordinate_limit, edge_limit, file_limit, length_limit, line_point_limit, node_limit, point_limit}
 use Rattle.road_network.specs.Net.{Edge, Net, point_count}
 
 -- The fields of a record
@@ -37,8 +36,8 @@ abbrev pub point_of : List ℕ → Result Point NumberFault
 point_of part =
     let text : List ℕ = trim part in
     both make_point
-    (signed_within COORDINATE_LIMIT (before_first is_blank text))
-    (signed_within COORDINATE_LIMIT (trim (after_first is_blank text)))
+    (signed_within coordinate_limit (before_first is_blank text))
+    (signed_within coordinate_limit (trim (after_first is_blank text)))
 
 -- the points of the parts of a line
 abbrev pub points_of : List (List ℕ) → Result (List Point) NumberFault
@@ -161,7 +160,7 @@ abbrev pub line_faults : ℕ → List Point → List (Option NetworkFault)
 line_faults rec line =
     when (nat_lt (length line) 2) (fault.ShortLine rec)
     ∷ option_map (λ place. fault.RepeatedPoint rec place) (repeated_point line)
-    ∷ when (nat_lt LENGTH_LIMIT (line_length line)) (fault.EdgeTooLong rec)
+    ∷ when (nat_lt length_limit (line_length line)) (fault.EdgeTooLong rec)
     ∷ []
 
 -- the limits that a network of so many edges, nodes and points of all lines has passed with

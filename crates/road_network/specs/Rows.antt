@@ -4,11 +4,16 @@ use Rattle.decimal_text.specs.declared.number.NumberFault.{NumberFault}
 use Rattle.decimal_text.specs.declared.number.NumberFault.TheVariants.{Misspelt, OutOfRange}
 use Rattle.polyline_geometry.specs.declared.plane.Point.{Point}
 use Rattle.road_network.specs.declared.draft.RowHead.{RowHead}
+use Rattle.road_network.specs.declared.fields.RowFields.{RowFields}
 use Rattle.road_network.specs.NetworkFile.{Row, both}
 
 -- the row of a record's first three fields and its line
 abbrev pub row_with : RowHead → List Point → Row
 row_with head line = record { name = head.name; «from» = head.from; to = head.to; line = line }
+
+-- the texts of the four fields of a record
+abbrev pub field_texts : RowFields → List (List ℕ)
+field_texts f = f.name.now ∷ f.from.now ∷ f.to.now ∷ f.points.now ∷ []
 
 -- what is said of two faults: a misspelling stands before a value out of range
 abbrev pub worse : Option NumberFault → NumberFault → NumberFault

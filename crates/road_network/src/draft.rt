@@ -205,7 +205,6 @@ impl Draft {
         ensures network { IfOk result (λ n. n ≡ drafted self) }
         ensures memory { IfErr result (λ e. e ≡ NetworkFault.Memory) }
     {
-        let adjacency = adjacency_of(alloc, self.nodes.len(), self.edges.as_slice())?;
         let nodes = self.nodes.as_slice().to_vec(alloc)?;
         let Draft {
             nodes: node_set,
@@ -216,6 +215,7 @@ impl Draft {
             alloc: _,
         } = self;
         leave_sets(node_set, names);
+        let adjacency = adjacency_of(alloc, nodes.len(), edges.as_slice())?;
         Ok(Network {
             nodes,
             edges: edges.into_vec(),

@@ -5,7 +5,7 @@ ghost use Rattle.decimal_text.specs.Blank.{is_blank};
 ghost use Rattle.csv.specs.Records.{field_at, fields_of};
 ghost use Rattle.polyline_geometry.specs.Plane.{InRange};
 ghost use Rattle.road_network.specs.NetworkFile.{both, field_faults, field_with, first_fault, is_fault, line_of, make_point, point_of, row_of, row_from, unless};
-ghost use Rattle.road_network.specs.Rows.{is_within_part, onto_end, row_with, with_point, worse};
+ghost use Rattle.road_network.specs.Rows.{field_texts, is_within_part, onto_end, row_with, with_point, worse};
 ghost use Rattle.decimal_text.specs.Number.{unsigned_within};
 
 use crate::draft::RowHead;
@@ -205,25 +205,31 @@ fn check_fields(rec: u32, readings: &[Option<NumberFault>]) -> Result<(), Networ
     Ok(())
 }
 
+/// The four fields of a record.
+#[derive(Clone, Copy)]
+struct RowFields<'a> {
+    name: &'a [u8],
+    from: &'a [u8],
+    to: &'a [u8],
+    points: &'a [u8],
+}
+
 /// Reads the four fields of record number `rec`, the points of the line into `line`.
 fn read_fields(
     rec: u32,
-    name: &[u8],
-    from: &[u8],
-    to: &[u8],
-    points: &[u8],
+    fields: RowFields<'_>,
     line: &mut List<Point>,
 ) -> Result<RowHead, NetworkFault>
-    ensures row { IfOk result (λ head. row_of rec (name.now ∷ from.now ∷ to.now ∷ points.now ∷ [])
-        ≡ Ok (row_with head line.new)) }
+    ensures row { IfOk result
+        (λ head. row_of rec (field_texts fields.entry) ≡ Ok (row_with head line.new)) }
     ensures within { OnOk result (All InRange line.new) }
-    ensures fault { IfErr result (λ e. e ≢ NetworkFault.Memory
-        → row_of rec (name.now ∷ from.now ∷ to.now ∷ points.now ∷ []) ≡ Err e) }
+    ensures fault { IfErr result
+        (λ e. e ≢ NetworkFault.Memory → row_of rec (field_texts fields.entry) ≡ Err e) }
 {
-    let name = parse_unsigned(name, u64::from(u32::MAX));
-    let from = parse_unsigned(from, u64::MAX);
-    let to = parse_unsigned(to, u64::MAX);
-    let fault = read_line(points, line)?;
+    let name = parse_unsigned(fields.name, u64::from(u32::MAX));
+    let from = parse_unsigned(fields.from, u64::MAX);
+    let to = parse_unsigned(fields.to, u64::MAX);
+    let fault = read_line(fields.points, line)?;
     check_fields(rec, &[name.err(), from.err(), to.err(), fault])?;
     Ok(RowHead {
         name: name.unwrap_or(0) as u32,
@@ -259,5 +265,11 @@ pub(crate) fn read_row(
     let from = field_at(fields, 1);
     let to = field_at(fields, 2);
     let points = field_at(fields, 3);
-    read_fields(rec, name, from, to, points, line)
+    let texts = RowFields {
+        name,
+        from,
+        to,
+        points,
+    };
+    read_fields(rec, texts, line)
 }

@@ -1,9 +1,12 @@
 //! The text of a file, whose memory is returned while it is read. Serves `read_network_text`; decided by
 //! `text_in`.
-ghost use Rattle.std.specs.Prelude.{◌≡◌, Some};
+ghost use Rattle.std.specs.Prelude.{◌≡◌, Some, take};
 ghost use Rattle.road_network.specs.Between.{text_in};
 
 use std::io::{Read, Result};
+
+/// So many bytes that were read are returned at once, since each return costs a call of the system.
+const BLOCK: usize = 65_536;
 
 /// A text that is read from its start to its end. Its bytes are stored in reverse order, so that the
 /// bytes that were read are at the end and can be cut off.
@@ -21,6 +24,16 @@ impl Text {
         reversed.reverse();
         Text { reversed }
     }
+
+    /// Cuts off the bytes from a place on, and returns their memory when a block of it is free.
+    fn cut(&mut self, rest: usize)
+        ensures { self.new.reversed.items ≡ take rest self.old.reversed.items }
+    {
+        self.reversed.truncate(rest);
+        if self.reversed.capacity() >= rest.saturating_add(BLOCK) {
+            self.reversed.shrink_to_fit();
+        }
+    }
 }
 
 impl Read for Text {
@@ -32,8 +45,7 @@ impl Read for Text {
         let part = &mut buf[..count];
         part.copy_from_slice(&self.reversed[rest..]);
         part.reverse();
-        self.reversed.truncate(rest);
-        self.reversed.shrink_to_fit();
+        self.cut(rest);
         Ok(count)
     }
 }

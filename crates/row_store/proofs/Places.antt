@@ -1,16 +1,18 @@
 -- Places of a reader, one for each node.
-use Rattle.std.proofs.Common.{◌≡◌, ◌≢◌, ◌↔◌, ℕ, zero, suc, ◌+◌, ◌<◌, List, [], ◌∷◌, ◌++◌, map, length, get_or, set, Option, Some, None, Result, Ok, Err, IfSome, OnOk, OnErr, IsOk, IsSome, get_or-set_same, Bool, Bor, is_some, true, replicate, length-set, refl, sym, ap, ◌∙◌, subst, inl, inr, ⊎_elim, arith}
+use Rattle.std.proofs.Common.{◌≡◌, ◌≢◌, ℕ, zero, suc, ◌+◌, ◌<◌, List, [], ◌∷◌, ◌++◌, map, length, get_or, set, Option, Some, None, Result, Ok, Err, IfSome, OnOk, OnErr, IsOk, IsSome, get_or-set_same, is_some, replicate, length-set, refl, sym, ap, ◌∙◌, subst, inl, inr, ⊎_elim, arith}
 use Rattle.std.specs.Prelude.{slice_get, slice_index, slice_index_or}
 use native.Mathlib.Decide.{ℕ_discrete}
 use mathlib.Core.Logic.{dite}
 use Rattle.std.specs.declared.alloc.Global.{Global as Heap}
 use Rattle.once_cell.specs.Once.{cell_name, Agrees}
-use Rattle.bounded_search.specs.Table.{TableRow, IsRow}
+use Rattle.bounded_search.specs.Table.{TableRow}
 use Rattle.bounded_search.specs.Known.{Extends, Adds, known_nodes}
 use Rattle.bounded_search.specs.Rows.{AsksAll}
 use Rattle.bounded_search.proofs.KnownNodes.{adds, get_set, get_set_else, inside}
 use Rattle.row_store.specs.declared.place.Place.{Place}
-use Rattle.row_store.specs.Places.{Fits, KeepsSight, StaysBlind, now_of}
+use Rattle.row_store.specs.declared.place.Seen.{Seen}
+use Rattle.row_store.specs.declared.place.Seen.TheVariants.{Nothing}
+use Rattle.row_store.specs.Places.{Fits, IsCheckedFor, KeepsSight, StaysBlind, row_in}
 use Rattle.row_store.specs.ReaderInside.{AllFit, reading}
 use Rattle.row_store.specs.Store.{Stored, Reading, Sees, knows, rows_state}
 
@@ -94,14 +96,10 @@ settled_err r store places n x q is h e none =
 pub known_there : (r : Reading) (store : Stored) (places : List Place) (n : ℕ) (x : Place) → reading store places ≡ r → n < length places → x ≡ get_or places n x → slice_get r.places n ≡ Some x.note.known
 known_there r store places n x is h e = subst (λ (y : Reading). slice_get y.places n ≡ Some x.note.known) is (there places n x h e)
 
--- a reference is there where the note knows a row
-pub shows : (o : Option (Bor TableRow)) (k : Option TableRow) (r : Reading) (n : ℕ) → k ≡ now_of o → slice_get r.places n ≡ Some k → is_some o ≡ knows r n
-shows o k r n e f = same o ∙ ap is_some (sym e) ∙ ap is_some (sym (get_default r.places n k f))
+-- a row of the cell is known where the note knows one
+pub shows : (s : Seen) (k : Option TableRow) (r : Reading) (n : ℕ) → k ≡ row_in s → slice_get r.places n ≡ Some k → is_some (row_in s) ≡ knows r n
+shows s k r n e f = ap is_some (sym e) ∙ ap is_some (sym (get_default r.places n k f))
   where
-    same : (o : Option (Bor TableRow)) → is_some o ≡ is_some (now_of o)
-    same None = refl
-    same (Some x) = refl
-
     get_default : (l : List (Option TableRow)) (i : ℕ) (o : Option TableRow) → slice_get l i ≡ Some o → slice_index_or l i None ≡ o
     get_default [] i o e = absurd (cc)
     get_default (x ∷ xs) zero o e = cc
@@ -114,23 +112,18 @@ within r store places n is long h = subst (λ (m : ℕ). n < m) (sym long) (subs
 pub known_not : (o : Option TableRow) (ps : List (Option TableRow)) (n : ℕ) → slice_get ps n ≡ Some o → (row : TableRow) × (slice_get ps n ≡ Some (Some row)) → o ≡ None → ⊥
 known_not o ps n e k none = let a : Some o ≡ Some (Some k.0) = sym e ∙ k.1 in cc
 
-pub not_blind : (o : Option (Bor TableRow)) (k : Option TableRow) (ps : List (Option TableRow)) (n : ℕ) → k ≡ now_of o → slice_get ps n ≡ Some k → (row : TableRow) × (slice_get ps n ≡ Some (Some row)) → o ≡ None → ⊥
-not_blind None k ps n e f t none = let a = t.1 in cc
-not_blind (Some r) k ps n e f t none = cc
+pub not_blind : (s : Seen) (k : Option TableRow) (ps : List (Option TableRow)) (n : ℕ) → k ≡ row_in s → slice_get ps n ≡ Some k → (row : TableRow) × (slice_get ps n ≡ Some (Some row)) → s ≡ Nothing → ⊥
+not_blind s k ps n e f t none = known_not k ps n f t (e ∙ ap row_in none)
 
-right_of : (k : Option TableRow) (r : TableRow) (b : Bool) (T : TableRow → Type 0) → k ≡ Some r → IfSome k (λ y. (b ≡ true) ↔ T y) → (b ≡ true) ↔ T r
-right_of None r b T e h = absurd (cc)
-right_of (Some y) r b T e h = let same : y ≡ r = cc in subst (λ (z : TableRow). (b ≡ true) ↔ T z) same h
+pub sight_row : (r : Reading) (store : Stored) (places : List Place) (n name : ℕ) (x : Place) (s : Seen) → reading store places ≡ r → n < length places → x ≡ get_or places n x → Fits store.network store.bound n name x → x.seen ≡ s
+    → slice_get r.places n ≡ Some (row_in s)
+sight_row r store places n name x s is h e f seen = known_there r store places n x is h e ∙ ap Some (f.known ∙ ap row_in seen)
 
-pub sight_row : (r : Reading) (store : Stored) (places : List Place) (n name : ℕ) (x : Place) (row : Bor TableRow) → reading store places ≡ r → n < length places → x ≡ get_or places n x → Fits store.network store.bound n name x → x.seen ≡ Some row
-    → slice_get r.places n ≡ Some (Some row.now)
-sight_row r store places n name x row is h e f s = known_there r store places n x is h e ∙ ap Some (f.known ∙ ap now_of s)
-
-pub sight_table : (r : Reading) (store : Stored) (places : List Place) (n name : ℕ) (x : Place) (row : Bor TableRow) → reading store places ≡ r → Fits store.network store.bound n name x → x.seen ≡ Some row
-    → (x.right ≡ true) ↔ IsRow r.store.network r.store.bound n row.now
-sight_table r store places n name x row is f s =
-    subst (λ (y : Reading). (x.right ≡ true) ↔ IsRow y.store.network y.store.bound n row.now) is
-    (right_of x.note.known row.now x.right (λ y. IsRow store.network store.bound n y) (f.known ∙ ap now_of s) f.right)
+pub sight_checked : (r : Reading) (store : Stored) (places : List Place) (n name : ℕ) (x : Place) (s : Seen) → reading store places ≡ r → Fits store.network store.bound n name x → x.seen ≡ s
+    → IsCheckedFor r.store.network r.store.bound n s
+sight_checked r store places n name x s is f seen =
+    subst (λ (y : Reading). IsCheckedFor y.store.network y.store.bound n s) is
+    (subst (IsCheckedFor store.network store.bound n) seen f.checked)
 
 -- a new place at the end
 pub fits_more : (store : Stored) (places : List Place) (x : Place) → AllFit store places → Fits store.network store.bound (length places) (slice_index store.cells (length places)) x → AllFit store (places ++ x ∷ [])
@@ -150,16 +143,11 @@ fits_more store places x all mine k p e = dite (ℕ_discrete k (length places))
     front (y ∷ ys) x zero p ne e = e
     front (y ∷ ys) x (suc k) p ne e = front ys x k p (λ q. ne (ap suc q)) e
 
-if_none : {A : Type 0} (P : A → Type 0) (o : Option A) → o ≡ None → IfSome o P
-if_none P None e = tt
-if_none P (Some a) e = absurd (cc)
-
-pub empty_fits : (store : Stored) (n name : ℕ) (x : Place) → x.note.cell ≡ name → x.note.known ≡ None → x.seen ≡ None → x.own ≡ None → Fits store.network store.bound n name x
-empty_fits store n name x cell known seen own = record {
+pub empty_fits : (store : Stored) (n name : ℕ) (x : Place) → x.note.cell ≡ name → x.note.known ≡ None → x.seen ≡ Nothing → Fits store.network store.bound n name x
+empty_fits store n name x cell known seen = record {
   cell = cell;
-  known = known ∙ sym (ap now_of seen);
-  right = subst (λ (k : Option TableRow). IfSome k (λ r. (x.right ≡ true) ↔ IsRow store.network store.bound n r)) (sym known) tt;
-  own = if_none (λ b. IsRow store.network store.bound n b.value) x.own own;
+  known = known ∙ sym (ap row_in seen);
+  checked = subst (IsCheckedFor store.network store.bound n) (sym seen) tt;
 }
 
 pub none_more : (places : List Place) (x : Place) (n : ℕ) → map known_of places ≡ replicate n None → x.note.known ≡ None → map known_of (places ++ x ∷ []) ≡ replicate (n + 1) None

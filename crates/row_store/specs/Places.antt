@@ -1,27 +1,40 @@
 -- What a reader keeps for one node.
-use Rattle.std.specs.Prelude.{◌≡◌, ◌↔◌, ◌⊎◌, IsSome, ℕ, true, Option, Some, None, length, slice_index}
+use Rattle.std.specs.Prelude.{◌≡◌, ℕ, Option, Some, None, length, slice_index}
 use Rattle.std.specs.Option.{IfSome}
 use Rattle.road_network.specs.Net.{HasNode, Net}
 use Rattle.bounded_search.specs.Table.{BoundedTable, TableRow, IsRow}
 use Rattle.row_store.specs.Store.{Stored}
 use Rattle.row_store.specs.declared.place.Place.{Place}
-use denote.Ref.{Bor}
+use Rattle.row_store.specs.declared.place.Seen.{Seen}
+use Rattle.row_store.specs.declared.place.Seen.TheVariants.{Nothing, Right, Foreign, Replaced}
 
-abbrev pub now_of : Option (Bor TableRow) → Option TableRow
-now_of None = None
-now_of (Some r) = Some r.now
+-- the row that is known of a cell
+abbrev pub row_in : Seen → Option TableRow
+row_in Nothing = None
+row_in (Right r) = Some r.now
+row_in (Foreign r) = Some r.now
+row_in (Replaced b) = Some b.value.foreign.now
 
--- the place of node v, at the cell of this name: its note, the row that the note knows, whether that row
--- is the node's, and the node's row where one was made
+-- the row of the cell of node v is told right or foreign truly, and one that was made here is the row of v
+abbrev pub IsCheckedFor : Net → ℕ → ℕ → Seen → Type 0
+IsCheckedFor net bound v Nothing = Unit {0}
+IsCheckedFor net bound v (Right r) = IsRow net bound v r.now
+IsCheckedFor net bound v (Foreign r) = IsRow net bound v r.now → ⊥
+IsCheckedFor net bound v (Replaced b) =
+    (IsRow net bound v b.value.foreign.now → ⊥) × IsRow net bound v b.value.own
+
+-- the place of node v, at the cell of this name: its note, and what it says of the row that the note knows
 pub record Fits (net : Net) (bound v name : ℕ) (p : Place) : Type 0 where
   pub cell : p.note.cell ≡ name
-  pub known : p.note.known ≡ now_of p.seen
-  pub right : IfSome p.note.known (λ r. (p.right ≡ true) ↔ IsRow net bound v r)
-  pub own : IfSome p.own (λ b. IsRow net bound v b.value)
+  pub known : p.note.known ≡ row_in p.seen
+  pub checked : IsCheckedFor net bound v p.seen
 
--- the node's row is at hand
-abbrev pub IsReady : Place → Type 0
-IsReady p = (p.right ≡ true) ⊎ IsSome p.own
+-- the node's row is at hand, if any row is known
+abbrev pub IsReady : Seen → Type 0
+IsReady Nothing = Unit {0}
+IsReady (Right r) = Unit {0}
+IsReady (Foreign r) = ⊥
+IsReady (Replaced b) = Unit {0}
 
 -- the place knows a row afterwards, and if it knew one before, it is the same
 abbrev pub KeepsSight : Option TableRow → Option TableRow → Type 0

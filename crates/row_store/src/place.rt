@@ -1,9 +1,10 @@
 //! What a reader stores for one node. Serves `Reader`; decided by `Fits`.
-ghost use Rattle.std.specs.Prelude.{◌≡◌, ℕ, ◌<◌, slice_index, ◌⊎◌, OnErr, OnOk, IfSome, IsOk, IsTrue, Some, None, IsSome, length};
+ghost use Rattle.std.specs.Prelude.{◌≡◌, ℕ, ◌<◌, slice_index, ◌⊎◌, ◌↔◌, OnErr, OnOk, IfSome, IsOk, IsTrue, Some, None, IsSome, is_some, length};
 ghost use Rattle.road_network.specs.Net.{Net};
 ghost use Rattle.once_cell.specs.Once.{cell_name, Agrees};
 ghost use Rattle.bounded_search.specs.Table.{IsRow};
-ghost use Rattle.row_store.specs.Places.{Fits, IsPlaceOf, IsReady, KeepsSight, StaysBlind};
+ghost use Rattle.row_store.specs.Places.{Fits, IsCheckedFor, IsPlaceOf, IsReady, KeepsSight, StaysBlind, row_in};
+ghost use Rattle.row_store.specs.declared.place.Seen.TheVariants.{Nothing};
 
 use crate::store::RowStore;
 use bounded_search::{Row, Searcher};
@@ -11,28 +12,64 @@ use once_cell::race::{Note, OnceBox};
 use road_network::NodeId;
 use std::alloc::AllocError;
 
-/// The note of the cell, the row that it knows, whether that is the node's row, and the node's row
-/// if the cell contains another.
+/// What is known of a cell. Few cells have a foreign row, so the node's own row is in a box.
+#[derive(Drop)]
+pub enum Seen<'s> {
+    Nothing,
+    /// The cell contains the node's row.
+    Right(&'s Row),
+    /// The cell contains another row.
+    Foreign(&'s Row),
+    /// The cell contains another row, and the node's row was made here.
+    Replaced(Box<Replacement<'s>>),
+}
+
+/// The foreign row of a cell, and the node's row.
+#[derive(Drop)]
+pub struct Replacement<'s> {
+    pub foreign: &'s Row,
+    pub own: Row,
+}
+
+impl<'s> Seen<'s> {
+    /// A row of a cell that was checked.
+    fn checked(row: &'s Row, right: bool) -> Seen<'s>
+        ensures row { row_in result ≡ Some row.now }
+        ensures fits { (net : Net) (bound v : ℕ) → (IsTrue right ↔ IsRow net bound v row.now)
+            → IsCheckedFor net bound v result }
+    {
+        if right {
+            Seen::Right(row)
+        } else {
+            Seen::Foreign(row)
+        }
+    }
+}
+
+/// The note of the cell, and what is known of it.
 #[derive(Drop)]
 pub struct Place<'s> {
     pub note: Note<Row>,
-    pub seen: Option<&'s Row>,
-    pub right: bool,
-    pub own: Option<Box<Row>>,
+    pub seen: Seen<'s>,
 }
 
 impl<'s> Place<'s> {
     /// The initial state: nothing is known of the cell.
     pub fn empty(cell: &OnceBox<Row>) -> Place<'s>
         ensures note { (result.note.cell ≡ cell_name cell.now) × (result.note.known ≡ None) }
-        ensures rows { (result.seen ≡ None) × (result.own ≡ None) }
+        ensures seen { result.seen ≡ Nothing }
     {
         Place {
             note: cell.note(),
-            seen: None,
-            right: false,
-            own: None,
+            seen: Seen::Nothing,
         }
+    }
+
+    /// Whether a row of the cell is known.
+    pub fn is_known(&self) -> bool
+        ensures { result ≡ is_some (row_in self.now.seen) }
+    {
+        !matches!(self.seen, Seen::Nothing)
     }
 
     /// Puts the node's row into an empty cell, and reads what it then contains.
@@ -56,8 +93,7 @@ impl<'s> Place<'s> {
         let Some(row) = cell.get_as(&mut self.note) else {
             unreachable!()
         };
-        self.right = first || searcher.check(n, row);
-        self.seen = Some(row);
+        self.seen = Seen::checked(row, first || searcher.check(n, row));
     }
 
     /// Reads the cell. False if it is empty; then nothing is known.
@@ -67,15 +103,14 @@ impl<'s> Place<'s> {
         ensures seen { IsTrue result → KeepsSight self.old.note.known self.new.note.known }
         ensures empty { IsTrue result ⊎ StaysBlind self.old.note.known self.new.note.known }
     {
-        if self.seen.is_some() {
+        if self.is_known() {
             return true;
         }
         let cell = &store.cells[n.0 as usize];
         let Some(row) = cell.get_as(&mut self.note) else {
             return false;
         };
-        self.right = searcher.check(n, row);
-        self.seen = Some(row);
+        self.seen = Seen::checked(row, searcher.check(n, row));
         true
     }
 
@@ -92,14 +127,13 @@ impl<'s> Place<'s> {
         ensures seen { OnOk result (KeepsSight self.old.note.known self.new.note.known) }
         ensures err { OnErr result (StaysBlind self.old.note.known self.new.note.known) }
     {
-        if self.seen.is_some() {
+        if self.is_known() {
             return Ok(());
         }
         let cell = &store.cells[n.0 as usize];
         let offered = Box::new(store.alloc, row)?;
         let held = cell.get_or_init_as(move || offered, &mut self.note);
-        self.right = searcher.check(n, held);
-        self.seen = Some(held);
+        self.seen = Seen::checked(held, searcher.check(n, held));
         Ok(())
     }
 
@@ -117,7 +151,7 @@ impl<'s> Place<'s> {
         ensures seen { OnOk result (KeepsSight self.old.note.known self.new.note.known) }
         ensures err { OnErr result (StaysBlind self.old.note.known self.new.note.known) }
     {
-        if self.seen.is_some() {
+        if self.is_known() {
             return Ok(());
         }
         let made = Box::new(store.alloc, row)?;
@@ -135,13 +169,13 @@ impl<'s> Place<'s> {
         requires { IsPlaceOf store.now n.0 searcher.old self.old }
         ensures place { IsPlaceOf store.now n.0 searcher.new self.new }
         ensures same { self.new.note.known ≡ self.old.note.known }
-        ensures ready { OnOk result (IsReady self.new) }
+        ensures ready { OnOk result (IsReady self.new.seen) }
         ensures again { IfSome self.old.note.known
             (λ row. IsRow store.now.network store.now.bound n.0 row → IsOk result) }
     {
-        if !self.right && self.own.is_none() {
-            let row = Box::new(store.alloc, searcher.row(n)?)?;
-            self.own = Some(row);
+        if let Seen::Foreign(foreign) = self.seen {
+            let own = searcher.row(n)?;
+            self.seen = Seen::Replaced(Box::new(store.alloc, Replacement { foreign, own })?);
         }
         Ok(())
     }
@@ -150,12 +184,10 @@ impl<'s> Place<'s> {
     pub fn right_row(&self) -> Option<&Row>
         ensures { (net : Net) (bound v name : ℕ) → Fits net bound v name self.now → IfSome result (λ row. IsRow net bound v row.now) }
     {
-        if self.right {
-            return self.seen;
-        }
-        match &self.own {
-            Some(row) => Some(&**row),
-            None => None,
+        match &self.seen {
+            Seen::Right(row) => Some(*row),
+            Seen::Replaced(replacement) => Some(&replacement.own),
+            Seen::Nothing | Seen::Foreign(_) => None,
         }
     }
 
@@ -164,15 +196,13 @@ impl<'s> Place<'s> {
         requires fits { Fits store.now.network store.now.bound n.0
             (slice_index store.now.cells n.0) self.now }
         requires known { IsSome self.now.note.known }
-        requires ready { IsReady self.now }
+        requires ready { IsReady self.now.seen }
         ensures { IsRow store.now.network store.now.bound n.0 result.now }
     {
-        match &self.own {
-            Some(row) => row,
-            None => match self.seen {
-                Some(row) => row,
-                None => unreachable!(),
-            },
+        match &self.seen {
+            Seen::Right(row) => row,
+            Seen::Replaced(replacement) => &replacement.own,
+            Seen::Nothing | Seen::Foreign(_) => unreachable!(),
         }
     }
 

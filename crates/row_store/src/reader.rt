@@ -10,7 +10,7 @@ ghost use Rattle.row_store.specs.Store.{IsKnown, KnowsRow, Sees, knows, rows_sta
 ghost use Rattle.row_store.specs.Sights.{row_seen, IsTable};
 
 use crate::accepted::Accepted;
-use crate::place::Place;
+use crate::place::{Place, Seen};
 use crate::sight::Sight;
 use crate::store::RowStore;
 use bounded_search::{Row, Rows, Searcher};
@@ -90,7 +90,7 @@ impl<'s> Reader<'s> {
         requires { HasNode self.now.store.network n.0 }
         ensures { result ≡ knows self.now n.0 }
     {
-        self.places[n.0 as usize].seen.is_some()
+        self.places[n.0 as usize].is_known()
     }
 
     /// Reads the cell of n, and makes its row known. False if it is empty.
@@ -160,14 +160,11 @@ impl<'s> Reader<'s> {
         ensures table { IsTable result
             ↔ IsRow self.now.store.network self.now.store.bound n.0 (row_seen result) }
     {
-        let place = &self.places[n.0 as usize];
-        match place.seen {
-            Some(row) => if place.right {
-                Sight::Table(row)
-            } else {
-                Sight::Foreign(row)
-            },
-            None => unreachable!(),
+        match &self.places[n.0 as usize].seen {
+            Seen::Right(row) => Sight::Table(*row),
+            Seen::Foreign(row) => Sight::Foreign(*row),
+            Seen::Replaced(replacement) => Sight::Foreign(replacement.foreign),
+            Seen::Nothing => unreachable!(),
         }
     }
 
@@ -258,8 +255,8 @@ pub fn agree<'s>(a: &mut Reader<'s>, b: &mut Reader<'s>, n: NodeId) -> &'s Row
 impl<'s> Rows for Reader<'s> {
     ghost state = { λ r. rows_state r };
 
-    /// If the cell contains another row, the reader makes the row of n for itself, and keeps it. At a node
-    /// whose row is known, nothing is allocated.
+    /// If the cell contains another row, the reader makes the row of n for itself, and keeps it. If the
+    /// known row is the row of n, the call is Ok.
     fn row(&mut self, n: NodeId) -> Result<&Row, AllocError>
         requires { HasNode self.old.store.network n.0 }
         ensures value { IfOk result (λ row. IsRow self.old.store.network self.old.store.bound n.0 row.now) }

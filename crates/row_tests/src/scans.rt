@@ -1,5 +1,5 @@
 use crate::small::TWO_ROADS;
-use candidate_search::{EdgeScan, candidates_plain_all};
+use candidate_search::EdgeScan;
 use cost_model::Params;
 use polyline_geometry::{List, Point};
 use road_network::{Candidate, read_network};
@@ -38,7 +38,8 @@ fn each_point_has_its_own_list(rt: HostRuntime) -> Result<(), Fail> {
         },
         Point { x: 90_000, y: 0 },
     ];
-    let lists = candidates_plain_all(alloc, &net, &Params::DEFAULT, &points)?;
+    let scan = EdgeScan::open(alloc, &net)?;
+    let lists = scan.candidates(alloc, &Params::DEFAULT, &points)?;
     expect_edges(&rt, &lists, &[&[0, 1], &[1, 0], &[0], &[]])
 }
 

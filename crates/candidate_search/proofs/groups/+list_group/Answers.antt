@@ -10,8 +10,8 @@ use Rattle.candidate_search.proofs.groups.+list_group.Goals as goal
 
 pub list_group-requires : goal.list_group-requires
 list_group-requires t c =
-    let net = c.args.net.now in
-    let radius = c.args.p.now.radius in
+    let net = c.args.among.net.now in
+    let radius = c.args.among.p.now.radius in
     let n = length c.args.lists.now in
     let group = c.args.group.now in
     let below = c.in-Some.halves.below.items in
@@ -32,8 +32,8 @@ list_group-requires t c =
 
 pub list_group-requires-in-Some : goal.list_group-requires-in-Some
 list_group-requires-in-Some t c =
-    let net = c.args.net.now in
-    let radius = c.args.p.now.radius in
+    let net = c.args.among.net.now in
+    let radius = c.args.among.p.now.radius in
     let n = length c.args.lists.now in
     let group = c.args.group.now in
     let below = c.in-Some.halves.below.items in
@@ -55,7 +55,7 @@ list_group-requires-in-Some t c =
 
 pub returns : goal.returns
 returns t c = λ points placed.
-    let own = candidates c.args.net.now c.args.p.now.k c.args.p.now.radius in
+    let own = candidates c.args.among.net.now c.args.among.p.now.k c.args.among.p.now.radius in
     let group = c.args.group.now in
     let below = c.in-Some.halves.below.items in
     let above = c.in-Some.halves.above.items in

@@ -13,11 +13,11 @@ consider-requires-clause-found c = c.loop-place.invariant.found c.loop-place.pla
 pub loop-place-preserved : goal.loop-place-preserved
 loop-place-preserved c =
     let s = c.loop-place in
-    let boxes = c.args.boxes.now in
+    let boxes = c.args.among.boxes.now in
     let search = c.search_for-search.result in
     let b = get_or boxes s.place no_box in
     record {
-      list = taken_box c.args.net.now search.at search.k search.radius s.place boxes s.found.items c.consider.new.found.items c.requires.boxes c.loop-place-test.true s.invariant.list c.in_ok-consider.ensures.list;
+      list = taken_box c.args.among.net.now search.at search.k search.radius s.place boxes s.found.items c.consider.new.found.items c.requires.boxes c.loop-place-test.true s.invariant.list c.in_ok-consider.ensures.list;
       found = λ j d le lt.
           let rises = c.requires.boxes.rising s.place j no_box (omega (arith, le)) lt in
           let same = get_or_default boxes j d no_box lt in
@@ -30,7 +30,7 @@ loop-place-init c =
     let found = c.in_ok-found.found.items in
     record {
       list = taken_none search.k search.radius found c.in_ok-found.ensures.items;
-      found = λ j d le lt. none_found search.k (get_or c.args.boxes.now j d).edge.0 found c.in_ok-found.ensures.items;
+      found = λ j d le lt. none_found search.k (get_or c.args.among.boxes.now j d).edge.0 found c.in_ok-found.ensures.items;
     }
 
 pub consider-requires-clause-edge : goal.consider-requires-clause-edge
@@ -39,9 +39,9 @@ consider-requires-clause-edge c = (c.requires.boxes.each c.loop-place.place no_b
 pub returns : goal.returns
 returns c =
     let s = c.loop-place in
-    let net = c.args.net.now in
-    let p = c.args.p.now in
-    let boxes = c.args.boxes.now in
+    let net = c.args.among.net.now in
+    let p = c.args.among.p.now in
+    let boxes = c.args.among.boxes.now in
     let search = c.search_for-search.result in
     let then = c.search_for-search.ensures in
     let done = take s.place boxes in

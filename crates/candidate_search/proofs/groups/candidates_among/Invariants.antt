@@ -6,6 +6,6 @@ use Rattle.candidate_search.proofs.groups.candidates_among.Given as goal
 
 abbrev pub invariant-loop-place : goal.invariant-loop-place
 invariant-loop-place l = record {
-  list : l.found.items ≡ nearest l.search.k l.search.radius (map (of_box l.net l.search.at) (take l.place l.boxes));
-  found : (j : ℕ) (d : EdgeBox) → l.place ≤ j → j < length l.boxes → IsFound l.search.k (get_or l.boxes j d).edge.0 l.found.items;
+  list : l.found.items ≡ nearest l.search.k l.search.radius (map (of_box l.fn.among.net.now l.search.at) (take l.place l.fn.among.boxes.now));
+  found : (j : ℕ) (d : EdgeBox) → l.place ≤ j → j < length l.fn.among.boxes.now → IsFound l.search.k (get_or l.fn.among.boxes.now j d).edge.0 l.found.items;
 }

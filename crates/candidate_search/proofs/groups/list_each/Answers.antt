@@ -11,7 +11,7 @@ use Rattle.candidate_search.proofs.groups.list_each.Goals as goal
 
 pub loop-index-preserved : goal.loop-index-preserved
 loop-index-preserved c = λ points placed.
-    let own = candidates c.args.net.now c.args.p.now.k c.args.p.now.radius in
+    let own = candidates c.args.among.net.now c.args.among.p.now.k c.args.among.p.now.radius in
     let s = c.loop-index in
     let group = c.args.group.now in
     let old : Lists = c.args.lists.now in
@@ -25,4 +25,4 @@ loop-index-preserved c = λ points placed.
 pub returns : goal.returns
 returns c = λ points placed.
     let s = c.loop-index in
-    subst (AreWritten (candidates c.args.net.now c.args.p.now.k c.args.p.now.radius) points c.args.lists.now s.lists) (take_all s.index c.args.group.now c.loop-index-test.false) (s.invariant points placed)
+    subst (AreWritten (candidates c.args.among.net.now c.args.among.p.now.k c.args.among.p.now.radius) points c.args.lists.now s.lists) (take_all s.index c.args.group.now c.loop-index-test.false) (s.invariant points placed)

@@ -6,4 +6,4 @@ use Rattle.candidate_search.proofs.groups.list_each.Given as goal
 
 abbrev pub invariant-loop-index : goal.invariant-loop-index
 invariant-loop-index l =
-    (points : List Point) → All (IsPlaced points) l.group → AreWritten (candidates l.net l.p.k l.p.radius) points l.fn.lists l.lists (take l.index l.group)
+    (points : List Point) → All (IsPlaced points) l.group → AreWritten (candidates l.fn.among.net.now l.fn.among.p.now.k l.fn.among.p.now.radius) points l.fn.lists l.lists (take l.index l.group)

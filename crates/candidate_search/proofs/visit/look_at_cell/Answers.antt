@@ -1,65 +1,76 @@
-use Rattle.std.proofs.Common.{get_or, arith, subst, sym, ◌≤◌, List, length}
+use Rattle.std.proofs.Common.{ap, get_or, arith, subst, sym, ◌≤◌, List, length}
 use Rattle.std.proofs.lemmas.List.{get_or_default}
 use Rattle.grid_index.specs.declared.runs.Run.{Run}
-use Rattle.candidate_search.specs.Best.{AreApart, IsLimit}
+use Rattle.candidate_search.specs.Best.{AreApart, HasSeen, IsLimit, Steps}
 use Rattle.candidate_search.proofs.Visiting.{far_cell, goes_on, nothing, seen_cell, seen_one_more, stays}
 use Rattle.candidate_search.specs.declared.best.NearEdge.{NearEdge}
 use Rattle.candidate_search.proofs.visit.look_at_cell.Goals as goal
+use Rattle.candidate_search.proofs.visit.look_at_cell.Goals.{in-Some+in_ok-look_at_box, in_default}
 
 pub limit_for-requires-clause-apart : goal.limit_for-requires-clause-apart
 limit_for-requires-clause-apart c = subst AreApart (sym c.as_slice.ensures.value) c.requires.best.apart
 
 pub returns-then-cell_distance2-limit_for-clause-seen : goal.returns-then-cell_distance2-limit_for-clause-seen
 returns-then-cell_distance2-limit_for-clause-seen c =
-    let search = c.args.search in
+    let search = c.args.look.search in
     let limit = c.limit_for.result in
     let is = subst (λ l. IsLimit search l limit) c.as_slice.ensures.value c.limit_for.ensures in
-    far_cell c.args.net.now c.args.grid.now search c.args.found.now.items c.args.column c.args.row limit c.cell_distance2.result c.known-2.ensures c.requires.network c.known.ensures is
+    far_cell c.args.look.net.now c.args.look.grid.now search c.args.found.now.items c.args.column c.args.row limit c.cell_distance2.result c.known-2.ensures c.requires.network c.known.ensures is
     c.if-cell_distance2-limit_for.true c.cell_distance2.ensures
 
 pub loop-run-init : goal.loop-run-init
 loop-run-init c = record {
-  steps = stays c.args.net.now c.args.search c.args.found.now.items c.requires.best;
+  steps = stays c.args.look.net.now c.args.look.search c.args.found.now.items c.requires.best;
   seen = λ i d lt. absurd (omega (arith, lt));
 }
 
 pub loop-run-preserved : goal.loop-run-preserved
 loop-run-preserved c =
     let s = c.loop-run in
-    let net = c.args.net.now in
-    let search = c.args.search in
+    let net = c.args.look.net.now in
+    let g = c.args.look.grid.now in
+    let search = c.args.look.search in
     let runs = c.runs_at-runs.result.now in
     let x : Run = get_or runs s.run-index nothing in
-    let new = c.look_at_run_once.new.found.items in
-    let steps = c.in_ok-look_at_run_once.ensures.steps in
-    record {
-      steps = goes_on net search c.args.found.now.items s.found.items new s.invariant.steps steps;
-      seen = seen_one_more net c.args.grid.now search s.found.items new runs c.args.column c.args.row s.run-index x c.loop-run-test.true (get_or_default runs s.run-index x nothing c.loop-run-test.true)
-          s.invariant.seen steps c.in_ok-look_at_run_once.ensures.seen;
-    }
+    let x_is = get_or_default runs s.run-index x nothing c.loop-run-test.true in
+    let new = c.match-distance2_in_cell.found.items in
+    elim c.match-distance2_in_cell.branch [
+      | in-Some+in_ok-look_at_box w ↦
+          let is = sym (ap (λ v. v.items) w.found-is) in
+          let steps : Steps net search s.found.items new = subst (λ l. Steps net search s.found.items l) is w.in_ok-look_at_box.ensures.steps in
+          let here : HasSeen net search new x = subst (λ l. HasSeen net search l x) is w.in_ok-look_at_box.ensures.seen in
+          record {
+            steps = goes_on net search c.args.found.now.items s.found.items new s.invariant.steps steps;
+            seen = seen_one_more net g search s.found.items new runs c.args.column c.args.row s.run-index x c.loop-run-test.true x_is s.invariant.seen steps (λ cell. here);
+          }
+      | in_default w ↦
+          let is = sym (ap (λ v. v.items) w.found-is) in
+          let steps : Steps net search s.found.items new = subst (λ l. Steps net search s.found.items l) is (stays net search s.found.items s.invariant.steps.best) in
+          record {
+            steps = goes_on net search c.args.found.now.items s.found.items new s.invariant.steps steps;
+            seen = seen_one_more net g search s.found.items new runs c.args.column c.args.row s.run-index x c.loop-run-test.true x_is s.invariant.seen steps (λ cell. absurd (w.in_default.ensures cell));
+          }
+    ]
 
 pub returns-clause-seen : goal.returns-clause-seen
 returns-clause-seen c =
     let s = c.loop-run in
-    seen_cell c.args.net.now c.args.grid.now c.args.search s.found.items c.runs_at-runs.result.now c.args.column c.args.row s.run-index c.runs_at-runs.ensures (omega (arith, c.loop-run-test.false)) s.invariant.seen
+    seen_cell c.args.look.net.now c.args.look.grid.now c.args.look.search s.found.items c.runs_at-runs.result.now c.args.column c.args.row s.run-index c.runs_at-runs.ensures (omega (arith, c.loop-run-test.false)) s.invariant.seen
 
 pub returns-then-is_empty-clause-steps : goal.returns-then-is_empty-clause-steps
-returns-then-is_empty-clause-steps c = stays c.args.net.now c.args.search c.args.found.now.items c.requires.best
+returns-then-is_empty-clause-steps c = stays c.args.look.net.now c.args.look.search c.args.found.now.items c.requires.best
 
 pub cell_distance2-requires : goal.cell_distance2-requires
-cell_distance2-requires c = record { p_in = c.args.search.at_in }
+cell_distance2-requires c = record { p_in = c.args.look.search.at_in }
 
 pub limit_for-requires-clause-few : goal.limit_for-requires-clause-few
-limit_for-requires-clause-few c = subst (λ (l : List NearEdge). length l ≤ c.args.search.k) (sym c.as_slice.ensures.value) c.requires.best.few
+limit_for-requires-clause-few c = subst (λ (l : List NearEdge). length l ≤ c.args.look.search.k) (sym c.as_slice.ensures.value) c.requires.best.few
 
 pub returns-then-cell_distance2-limit_for-clause-steps : goal.returns-then-cell_distance2-limit_for-clause-steps
-returns-then-cell_distance2-limit_for-clause-steps c = stays c.args.net.now c.args.search c.args.found.now.items c.requires.best
+returns-then-cell_distance2-limit_for-clause-steps c = stays c.args.look.net.now c.args.look.search c.args.found.now.items c.requires.best
 
-pub look_at_run_once-requires-clause-network : goal.look_at_run_once-requires-clause-network
-look_at_run_once-requires-clause-network c = c.requires.network
-
-pub look_at_run_once-requires-clause-best : goal.look_at_run_once-requires-clause-best
-look_at_run_once-requires-clause-best c = c.loop-run.invariant.steps.best
+pub look_at_box-requires-clause-best : goal.look_at_box-requires-clause-best
+look_at_box-requires-clause-best c = c.loop-run.invariant.steps.best
 
 pub returns-clause-steps : goal.returns-clause-steps
 returns-clause-steps c = c.loop-run.invariant.steps

@@ -4,6 +4,6 @@ use Rattle.candidate_search.proofs.visit.look_at_cell.Given as goal
 
 abbrev pub invariant-loop-run : goal.invariant-loop-run
 invariant-loop-run l = record {
-  steps : Steps l.net l.fn.search l.fn.found.items l.found.items;
-  seen : HasSeenUpTo l.net l.grid l.fn.search l.found.items l.runs l.fn.column l.fn.row l.run-index;
+  steps : Steps l.fn.look.net.now l.fn.look.search l.fn.found.items l.found.items;
+  seen : HasSeenUpTo l.fn.look.net.now l.fn.look.grid.now l.fn.look.search l.found.items l.runs l.fn.column l.fn.row l.run-index;
 }

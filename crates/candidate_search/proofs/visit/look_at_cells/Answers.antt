@@ -4,8 +4,8 @@ use Rattle.candidate_search.proofs.visit.look_at_cells.Goals as goal
 
 pub returns-clause-steps : goal.returns-clause-steps
 returns-clause-steps c =
-    let net = c.args.net.now in
-    let search = c.args.search in
+    let net = c.args.look.net.now in
+    let search = c.args.look.search in
     let one = c.look_at_row.new.found.items in
     let two = c.look_at_rows.new.found.items in
     goes_on net search c.args.found.now.items two c.look_at_rows-2.new.found.items
@@ -16,5 +16,5 @@ returns-clause-seen c =
     let own = c.row_of-own.result in
     let next = c.saturating_add-next.result in
     let le : next ≤ own + 1 = omega (arith, c.saturating_add-next.ensures) in
-    rows_joined c.args.net.now c.args.grid.now c.args.search c.look_at_row.new.found.items c.look_at_rows.new.found.items c.look_at_rows-2.new.found.items c.args.cells own next le
+    rows_joined c.args.look.net.now c.args.look.grid.now c.args.look.search c.look_at_row.new.found.items c.look_at_rows.new.found.items c.look_at_rows-2.new.found.items c.args.cells own next le
     c.in_ok-look_at_row.ensures.seen c.in_ok-look_at_rows.ensures.steps c.in_ok-look_at_rows.ensures.seen c.in_ok-look_at_rows-2.ensures.steps c.in_ok-look_at_rows-2.ensures.seen

@@ -3,6 +3,6 @@ use Rattle.candidate_search.proofs.visit.look_at_columns.Given as goal
 
 abbrev pub invariant-loop-column : goal.invariant-loop-column
 invariant-loop-column l = record {
-  steps : Steps l.net l.fn.search l.fn.found.items l.found.items;
-  seen : HasSeenRow l.net l.grid l.fn.search l.found.items l.fn.left l.column l.fn.row;
+  steps : Steps l.fn.look.net.now l.fn.look.search l.fn.found.items l.found.items;
+  seen : HasSeenRow l.fn.look.net.now l.fn.look.grid.now l.fn.look.search l.found.items l.fn.left l.column l.fn.row;
 }

@@ -6,15 +6,15 @@ use Rattle.candidate_search.proofs.visit.look_at_wide.Goals as goal
 
 pub loop-run-init : goal.loop-run-init
 loop-run-init c = record {
-  steps = stays c.args.net.now c.args.search c.args.found.now.items c.requires.best;
+  steps = stays c.args.look.net.now c.args.look.search c.args.found.now.items c.requires.best;
   seen = λ i d lt. absurd (omega (arith, lt));
 }
 
 pub loop-run-preserved : goal.loop-run-preserved
 loop-run-preserved c =
     let s = c.loop-run in
-    let net = c.args.net.now in
-    let search = c.args.search in
+    let net = c.args.look.net.now in
+    let search = c.args.look.search in
     let runs = c.wide_runs-runs.result.now in
     let x : Run = get_or runs s.run-index nothing in
     let new = c.look_at_run.new.found.items in
@@ -27,4 +27,4 @@ loop-run-preserved c =
 pub returns-clause-seen : goal.returns-clause-seen
 returns-clause-seen c =
     let s = c.loop-run in
-    seen_wide c.args.net.now c.args.grid.now c.args.search s.found.items c.wide_runs-runs.result.now s.run-index c.wide_runs-runs.ensures (omega (arith, c.loop-run-test.false)) s.invariant.seen
+    seen_wide c.args.look.net.now c.args.look.grid.now c.args.look.search s.found.items c.wide_runs-runs.result.now s.run-index c.wide_runs-runs.ensures (omega (arith, c.loop-run-test.false)) s.invariant.seen

@@ -11,16 +11,16 @@ returns-in_err-check_fields-clause-fault c =
     let x = c.parse_unsigned-name.result in
     let y = c.parse_unsigned-from.result in
     let z = c.parse_unsigned-to.result in
-    let all : AreReadings a.name.now a.from.now a.to.now a.points.now x y z c.in_ok-fault.fault c.read_line.new.line =
+    let all : AreReadings a.fields.name.now a.fields.from.now a.fields.to.now a.fields.points.now x y z c.in_ok-fault.fault c.read_line.new.line =
     record {
-      name = c.parse_unsigned-name.ensures.value ∙ ap (λ k. unsigned_within k a.name.now) c.from.ensures;
+      name = c.parse_unsigned-name.ensures.value ∙ ap (λ k. unsigned_within k a.fields.name.now) c.from.ensures;
       start = c.parse_unsigned-from.ensures.value;
       stop = c.parse_unsigned-to.ensures.value;
       points = c.in_ok-fault.ensures.value;
     } in
     let first = rw (c.err.ensures.value, c.err-2.ensures.value, c.err-3.ensures.value) at c.in_err-check_fields.ensures.fault in
     let p = err_from_is_err_and c.from_residual-in_err-check_fields.result c.from_residual-in_err-check_fields.ensures.1 in
-    rw (p.1, p.2) (λ _. row-refused a.rec a.name.now a.from.now a.to.now a.points.now x y z c.in_ok-fault.fault c.read_line.new.line _ all first)
+    rw (p.1, p.2) (λ _. row-refused a.rec a.fields.name.now a.fields.from.now a.fields.to.now a.fields.points.now x y z c.in_ok-fault.fault c.read_line.new.line _ all first)
 
 pub returns-clause-row : goal.returns-clause-row
 returns-clause-row c =
@@ -28,9 +28,9 @@ returns-clause-row c =
     let x = c.parse_unsigned-name.result in
     let y = c.parse_unsigned-from.result in
     let z = c.parse_unsigned-to.result in
-    let all : AreReadings a.name.now a.from.now a.to.now a.points.now x y z c.in_ok-fault.fault c.read_line.new.line =
+    let all : AreReadings a.fields.name.now a.fields.from.now a.fields.to.now a.fields.points.now x y z c.in_ok-fault.fault c.read_line.new.line =
     record {
-      name = c.parse_unsigned-name.ensures.value ∙ ap (λ k. unsigned_within k a.name.now) c.from.ensures;
+      name = c.parse_unsigned-name.ensures.value ∙ ap (λ k. unsigned_within k a.fields.name.now) c.from.ensures;
       start = c.parse_unsigned-from.ensures.value;
       stop = c.parse_unsigned-to.ensures.value;
       points = c.in_ok-fault.ensures.value;
@@ -38,7 +38,7 @@ returns-clause-row c =
     let first : first_fault (field_faults a.rec (readings x y z c.in_ok-fault.fault)) ≡ None =
     rw (c.err.ensures.value, c.err-2.ensures.value, c.err-3.ensures.value) at c.in_ok-check_fields.ensures.ok in
     rw (c.unwrap_or.ensures, c.unwrap_or-2.ensures, c.unwrap_or-3.ensures)
-    (row-read a.rec a.name.now a.from.now a.to.now a.points.now x y z c.in_ok-fault.fault c.read_line.new.line all first)
+    (row-read a.rec a.fields.name.now a.fields.from.now a.fields.to.now a.fields.points.now x y z c.in_ok-fault.fault c.read_line.new.line all first)
 
 pub returns-in_err-fault-clause-row : goal.returns-in_err-fault-clause-row
 returns-in_err-fault-clause-row c = let p = err_from_is_err_and c.from_residual.result c.from_residual.ensures.1 in rw p.1 tt

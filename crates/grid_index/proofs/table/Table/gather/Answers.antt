@@ -5,9 +5,9 @@ use Rattle.grid_index.proofs.table.Table.gather.Goals as goal
 pub loop-row-preserved : goal.loop-row-preserved
 loop-row-preserved c = λ net.
     let s = c.loop-row in
-    gathers_row (grid_of net c.args.self.now) c.args.p c.args.far2 c.args.found.now.items s.found.items c.gather_row.new.found.items c.args.cells.left c.args.cells.right c.args.cells.bottom s.row (s.invariant net) (c.in_ok-gather_row.ensures net)
+    gathers_row (grid_of net c.args.self.now) c.args.disc.at c.args.disc.far2 c.args.found.now.items s.found.items c.gather_row.new.found.items c.args.cells.left c.args.cells.right c.args.cells.bottom s.row (s.invariant net) (c.in_ok-gather_row.ensures net)
 
 pub returns : goal.returns
 returns c = λ net.
     let s = c.loop-row in
-    gathers_higher (grid_of net c.args.self.now) c.args.p c.args.far2 c.args.found.now.items s.found.items c.args.cells.left c.args.cells.right c.args.cells.bottom s.row c.args.cells.top (s.invariant net) c.loop-row-test.false
+    gathers_higher (grid_of net c.args.self.now) c.args.disc.at c.args.disc.far2 c.args.found.now.items s.found.items c.args.cells.left c.args.cells.right c.args.cells.bottom s.row c.args.cells.top (s.invariant net) c.loop-row-test.false

@@ -18,9 +18,9 @@ append_near-requires-clause-corners c =
 pub loop-column-preserved : goal.loop-column-preserved
 loop-column-preserved c = λ net.
     let s = c.loop-column in
-    gathers_cell (grid_of net c.args.self.now) c.args.p c.args.far2 c.args.found.now.items s.found.items c.append_near.new.found.items c.runs_at.result.now c.args.cells.left s.column c.args.row (s.invariant net) (c.runs_at.ensures net) c.in_ok-append_near.ensures
+    gathers_cell (grid_of net c.args.self.now) c.args.disc.at c.args.disc.far2 c.args.found.now.items s.found.items c.append_near.new.found.items c.runs_at.result.now c.args.cells.left s.column c.args.row (s.invariant net) (c.runs_at.ensures net) c.in_ok-append_near.ensures
 
 pub returns : goal.returns
 returns c = λ net.
     let s = c.loop-column in
-    gathers_more (grid_of net c.args.self.now) c.args.p c.args.far2 c.args.found.now.items s.found.items c.args.cells.left s.column c.args.cells.right c.args.row (c.args.row + 1) (s.invariant net) c.loop-column-test.false
+    gathers_more (grid_of net c.args.self.now) c.args.disc.at c.args.disc.far2 c.args.found.now.items s.found.items c.args.cells.left s.column c.args.cells.right c.args.row (c.args.row + 1) (s.invariant net) c.loop-column-test.false

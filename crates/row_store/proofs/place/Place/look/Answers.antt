@@ -3,8 +3,8 @@ use Rattle.bounded_search.specs.Table.{BoundedTable}
 use Rattle.road_network.specs.Net.{HasNode}
 use Rattle.row_store.proofs.place.Place.look.Goals as goal
 
-pub returns-then-is_some-clause-place : goal.returns-then-is_some-clause-place
-returns-then-is_some-clause-place c = c.requires
+pub returns-then-is_known-clause-place : goal.returns-then-is_known-clause-place
+returns-then-is_known-clause-place c = c.requires
 
-pub check-self-requires : goal.check-self-requires
-check-self-requires c = subst (λ (t : BoundedTable). HasNode t.network c.args.n.0) (sym c.requires.searcher) c.requires.node
+pub check-requires : goal.check-requires
+check-requires c = subst (λ (t : BoundedTable). HasNode t.network c.args.n.0) (sym c.requires.searcher) c.requires.node

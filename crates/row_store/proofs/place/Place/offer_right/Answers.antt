@@ -2,8 +2,8 @@ use Rattle.std.proofs.Common.{sym, subst}
 use Rattle.bounded_search.specs.Table.{IsRow}
 use Rattle.row_store.proofs.place.Place.offer_right.Goals as goal
 
-pub returns-then-is_some-clause-place : goal.returns-then-is_some-clause-place
-returns-then-is_some-clause-place c = c.requires.place
+pub returns-then-is_known-clause-place : goal.returns-then-is_known-clause-place
+returns-then-is_known-clause-place c = c.requires.place
 
 pub put-requires-clause-place : goal.put-requires-clause-place
 put-requires-clause-place c = c.requires.place

@@ -3,5 +3,5 @@ use Rattle.bounded_search.specs.Table.{BoundedTable}
 use Rattle.road_network.specs.Net.{HasNode}
 use Rattle.row_store.proofs.place.Place.put.Goals as goal
 
-pub check-self-requires : goal.check-self-requires
-check-self-requires c = subst (λ (t : BoundedTable). HasNode t.network c.args.n.0) (sym c.requires.place.searcher) c.requires.place.node
+pub check-requires : goal.check-requires
+check-requires c = subst (λ (t : BoundedTable). HasNode t.network c.args.n.0) (sym c.requires.place.searcher) c.requires.place.node

@@ -11,4 +11,4 @@ returns c =
     let x = c.index.result.now in
     let f = fits_at _ items n x i.fit h c.index.ensures in
     let k = known_there c.args.self.now _ items n x c.self.view_is h c.index.ensures in
-    c.is_some.ensures ∙ shows x.seen x.note.known c.args.self.now n f.known k
+    c.is_known.ensures ∙ shows x.seen x.note.known c.args.self.now n f.known k

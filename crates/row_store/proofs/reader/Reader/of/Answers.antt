@@ -23,7 +23,7 @@ loop-cell-preserved c =
     record {
       count = omega (arith, ap (λ (l : List Place). length l) e, length-append c.loop-cell.places.items (c.empty.result ∷ []));
       none = rw e (none_more _ _ _ i.none m.note.1);
-      fit = rw e (fits_more c.args.store.now _ _ i.fit (empty_fits c.args.store.now _ _ _ name m.note.1 m.rows.0 m.rows.1));
+      fit = rw e (fits_more c.args.store.now _ _ i.fit (empty_fits c.args.store.now _ _ _ name m.note.1 m.seen));
     }
 
 pub loop-cell-init : goal.loop-cell-init
