@@ -63,7 +63,8 @@ fn a_network_has_its_nodes(rt: HostRuntime) -> Result<(), Fail> {
         (NodeId(1), NodeId(2))
     );
     assert_eq!(rt; net.node_name(NodeId(2)), 3);
-    assert_eq!(rt; net.arcs(NodeId(2)), [].as_slice());
+    assert_eq!(rt; net.out(NodeId(1)), [EdgeId(1)].as_slice());
+    assert_eq!(rt; net.out(NodeId(2)), [].as_slice());
     Ok(())
 }
 
@@ -95,6 +96,7 @@ fn two_edges_between_the_same_nodes(rt: HostRuntime) -> Result<(), Fail> {
         edge: EdgeId(1),
         ..first
     };
+    assert_eq!(rt; net.out(NodeId(0)), [EdgeId(0), EdgeId(1)].as_slice());
     assert_eq!(rt; net.arcs(NodeId(0)), [first, second].as_slice());
     Ok(())
 }

@@ -1,7 +1,7 @@
 -- What a network is to every contract: its nodes with their names, and its edges in the order
 -- of the file.
 use Rattle.std.specs.Prelude.{ℕ, zero, suc, ◌≡◌, ◌<◌, ◌≤◌, ◌==◌, ◌++◌, ◌∷◌, [], if◌then◌else◌, List, length, slice_index, slice_index_or}
-use Rattle.std.specs.List.{All, Contains, sum_by}
+use Rattle.std.specs.List.{Contains, sum_by}
 use Rattle.polyline_geometry.specs.declared.plane.Point.{Point}
 use Rattle.polyline_geometry.specs.Plane.{IsLine, line_length}
 use Rattle.road_network.specs.declared.Arc.{Arc}
@@ -88,13 +88,6 @@ leaving n v = leaving_below n v (length n.edges)
 abbrev pub ContainsLeaving : Net → ℕ → List EdgeId → Type 0
 ContainsLeaving n v edges =
     (e : ℕ) → HasEdge n e → source n e ≡ v → Contains edges (record { 0 = e })
-
--- the edges that leave a node are edges of the network that begin there, and all of these
-abbrev pub LeavingIsExact : Type 0
-LeavingIsExact =
-    (n : Net) (v : ℕ)
-    → All (λ e. HasEdge n e.0 × (source n e.0 ≡ v)) (leaving n v)
-    × ContainsLeaving n v (leaving n v)
 
 -- an edge with its length and the node where it ends
 abbrev pub arc_of : Net → EdgeId → Arc

@@ -5,7 +5,7 @@ use Rattle.std.specs.List.{All}
 use Rattle.polyline_geometry.specs.declared.plane.Point.{Point}
 use Rattle.polyline_geometry.specs.Plane.{line_length}
 use Rattle.polyline_geometry.specs.Offsets.{line_offsets}
-use Rattle.road_network.specs.declared.Arc.{Arc}
+use Rattle.road_network.specs.declared.EdgeId.{EdgeId}
 use Rattle.road_network.specs.declared.StoredEdge.{StoredEdge}
 use Rattle.road_network.specs.declared.Network.TheInside.{Inside}
 use Rattle.road_network.specs.Net.{Edge, Net, IsLawful, arc_of, leaving}
@@ -23,12 +23,12 @@ net_of nodes edges points = record { nodes = nodes; edges = map (edge_of points)
 abbrev pub shown : Inside → Net
 shown a = net_of a.nodes.items a.edges.items a.points.items
 
--- the part of the list of arcs that is node v's
-abbrev pub IsArcList : Net → List ℕ → List Arc → ℕ → Type 0
-IsArcList n starts arcs v =
+-- the part of the list of leaving edges that is node v's
+abbrev pub IsLeavingList : Net → List ℕ → List EdgeId → ℕ → Type 0
+IsLeavingList n starts leaving_edges v =
     (slice_index starts v ≤ slice_index starts (v + 1))
-    × (slice_index starts (v + 1) ≤ length arcs)
-    × (slice_range arcs (slice_index starts v) (slice_index starts (v + 1)) ≡ map (arc_of n) (leaving n v))
+    × (slice_index starts (v + 1) ≤ length leaving_edges)
+    × (slice_range leaving_edges (slice_index starts v) (slice_index starts (v + 1)) ≡ leaving n v)
 
 -- what a stored edge meets: its line is a part of the list of all points, and its length is that
 -- of its line
@@ -51,4 +51,5 @@ pub record IsKept (a : Inside) : Type 0 where
   pub offsets : AreOffsets a.points.items a.edges.items a.offsets.items
   pub starts : length a.adjacency.starts.items ≡ length a.nodes.items + 1
   pub lists : (v : ℕ) → v < length a.nodes.items
-      → IsArcList (shown a) a.adjacency.starts.items a.adjacency.arcs.items v
+      → IsLeavingList (shown a) a.adjacency.starts.items a.adjacency.leaving.items v
+  pub arcs : a.adjacency.arcs.items ≡ map (arc_of (shown a)) a.adjacency.leaving.items

@@ -1,6 +1,5 @@
 //! Laws of the definitions. Each function exists for its clause and does nothing.
 ghost use Rattle.road_network.specs.LimitLaws.{LimitsAgree};
-ghost use Rattle.road_network.specs.Net.{LeavingIsExact};
 ghost use Rattle.road_network.specs.NearLaws.{CandidatesAreNearest, CandidatesDiffer};
 
 /// The candidates of a point are its k nearest edges within the radius (all of them if there are
@@ -12,11 +11,6 @@ pub fn candidates_are_nearest()
 /// The candidates of a point lie on different edges.
 pub fn candidates_differ()
     ensures { CandidatesDiffer }
-{}
-
-/// The edges that leave a node are exactly the edges that begin there.
-pub fn leaving_is_exact()
-    ensures { LeavingIsExact }
 {}
 
 /// A file that has a network within the standard limits, or a fault that does not depend on them, has

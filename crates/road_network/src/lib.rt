@@ -13,8 +13,9 @@
 #![tactic(auto)]
 
 ghost use Rattle.std.specs.Prelude.{◌≡◌, ◌<◌, ◌≤◌, length, map};
+ghost use Rattle.std.specs.List.{All};
 ghost use Rattle.polyline_geometry.specs.Offsets.{line_offsets};
-ghost use Rattle.road_network.specs.Net.{Net, HasEdge, HasNode, IsLawful, arc_of, edge_line, edge_name, leaving, node_name, source, span, target};
+ghost use Rattle.road_network.specs.Net.{Net, ContainsLeaving, HasEdge, HasNode, IsLawful, arc_of, edge_line, edge_name, leaving, node_name, source, span, target};
 
 mod counting;
 mod draft;
@@ -29,7 +30,7 @@ mod text;
 use counting::Adjacency;
 pub use fault::NetworkFault;
 pub use file::{read_network, read_network_text, read_network_within};
-pub use laws::{candidates_are_nearest, candidates_differ, leaving_is_exact, limits_agree};
+pub use laws::{candidates_are_nearest, candidates_differ, limits_agree};
 pub use limits::{COORDINATE_LIMIT, LENGTH_LIMIT, LINE_POINT_LIMIT, NetworkLimits};
 use polyline_geometry::Point;
 use std::marker::Model;
@@ -74,7 +75,7 @@ struct StoredEdge {
 }
 
 /// A network: nodes and directed edges with lines. All points are in one list, their offsets in a
-/// second list in the same order, and `adjacency` has the arcs of each node.
+/// second list in the same order, and `adjacency` has the outgoing edges of each node.
 pub struct Network {
     nodes: Vec<u64>,
     edges: Vec<StoredEdge>,
@@ -186,6 +187,18 @@ impl Network {
         ensures { result ≡ node_name self.now n.0 }
     {
         self.nodes[n.0 as usize]
+    }
+
+    /// The edges that begin at a node, by ascending number.
+    pub fn out(&self, n: NodeId) -> &[EdgeId]
+        requires { HasNode self.now n.0 }
+        ensures list { result.now ≡ leaving self.now n.0 }
+        ensures each { All (λ e. HasEdge self.now e.0 × (source self.now e.0 ≡ n.0)) result.now }
+        ensures every { ContainsLeaving self.now n.0 result.now }
+    {
+        let first = self.adjacency.starts[n.0 as usize] as usize;
+        let end = self.adjacency.starts[n.0 as usize + 1] as usize;
+        &self.adjacency.leaving[first..end]
     }
 
     /// The edges that begin at a node, by ascending number, each with its length and its end. They are

@@ -27,7 +27,8 @@ invariant_of-result c =
       stored = rw (edges, points) c.requires.parts.stored;
       offsets = rw (edges, points, offsets) c.requires.offsets;
       starts = rw nodes a.starts.count;
-      lists = rw (nodes, edges, points) (finished d.nodes.keys d.edges d.points kept.starts.items a.leaving kept.arcs.items a.starts a.placed (a.arcs d.points c.requires.parts.stored));
+      lists = rw (nodes, edges, points) (finished d.nodes.keys d.edges d.points kept.starts.items kept.leaving.items a.starts a.placed);
+      arcs = rw (nodes, edges, points) (a.arcs d.points c.requires.parts.stored);
     }
 
 pub returns-in_err-adjacency-clause-network : goal.returns-in_err-adjacency-clause-network
