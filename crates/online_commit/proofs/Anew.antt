@@ -34,6 +34,7 @@ use Rattle.online_commit.proofs.Beginning.{ended, ended-handed, missing-items, n
 use Rattle.online_commit.proofs.ClosedSession.{closing-best, closing-items}
 use Rattle.online_commit.proofs.Ending.{IsOver, no-length, split_missing}
 use Rattle.online_commit.proofs.Extending.{IsFresh, fresh-committed, fresh-labels, last-ends, so_far-longer}
+use Rattle.online_commit.proofs.Growing.{fed-stays}
 use Rattle.online_commit.proofs.Handed.{closed-later, labels_between, no_pieces}
 use Rattle.online_commit.proofs.Labels.{IsSplitAt, best-is, best-length, split-of, stands-by}
 use Rattle.online_commit.proofs.Passing.{IsTabled}
@@ -372,6 +373,7 @@ anew-fed s l new first-items items h left b = record {
   params = refl;
   stands = λ fed st. (anew-hands s l new first-items items fed h left st b).0;
   handed-on = λ fed st. (anew-hands s l new first-items items fed h left st b).1;
+  stays = λ fed more st. fed-stays s.network s.params fed more l (first-items ++ items) (anew-hands s l new first-items items fed h left st b).1;
 }
 
 -- a piece without points may take its first

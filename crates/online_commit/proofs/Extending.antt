@@ -30,7 +30,7 @@ use Rattle.online_commit.specs.Masks.{AreMasks, HasFewRanks, IsOnly, mask_at}
 use Rattle.online_commit.specs.Pieces.{IsExtended, MayGrow, Piece, session_with}
 use Rattle.online_commit.specs.Session.{IsFed, IsFedLayer, Session, StandsFor, points_of}
 use Rattle.online_commit.specs.Steps.{AreSettled, IsSession, last_cells, last_layer, rank_in, ranked_items}
-use Rattle.online_commit.proofs.Growing.{grown, grown-handed}
+use Rattle.online_commit.proofs.Growing.{fed-stays, grown, grown-handed}
 use Rattle.online_commit.proofs.Handed.{labels_between}
 use Rattle.online_commit.proofs.Labels.{IsBestOf, open-labels, split-of, stands-by, tail-rank}
 use Rattle.online_commit.proofs.Passing.{IsBoundary, IsTabled, chosen-single, committed-boundary, last_of}
@@ -322,4 +322,5 @@ grown-fed s l cells new items h ext = record {
   params = refl;
   stands = λ fed st. (grown-stands s l cells new items fed h ext st).0;
   handed-on = λ fed st. (grown-stands s l cells new items fed h ext st).1;
+  stays = λ fed more st. fed-stays s.network s.params fed more l items (grown-stands s l cells new items fed h ext st).1;
 }

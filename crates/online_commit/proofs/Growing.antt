@@ -13,6 +13,7 @@ use Rattle.matching.specs.Value.{best_of, solution}
 use Rattle.matching.proofs.CommittedValues.{closed_split, committed_split, committed_stays, front, front-within, longer_piece, whole}
 use Rattle.matching.proofs.Lists.{all-cons}
 use Rattle.matching.proofs.Splits.{from_point, from_joins, OneOrNone, Splits, split_now, split_open, splits}
+use Rattle.online_commit.specs.declared.items.Item.{Item}
 use Rattle.online_commit.specs.Items.{closed_at, handed, items_of, items_with, label_at, points_from}
 use Rattle.online_commit.specs.Session.{BeginsWith, HandedGrows, HandedStays}
 use Rattle.online_commit.proofs.Composed.{after, all-left, composed}
@@ -129,6 +130,11 @@ handed-stays n p fed more =
     let b = begins n p fed more s tail.pieces (length (fed ++ more)) (tail-ends n p s.closed xs more s.last) (after t (length (xs ++ more)) s.closed (xs ++ more))
     (omega (arith, w, low, length-drop s.closed fed, length-append fed more)) in
     (b.0, ap (λ ps. items_with n p (fed ++ more) (solution t (fed ++ more)).ranks ps (length (fed ++ more))) is ∙ b.1)
+
+-- what was handed out with some points more stays too
+pub fed-stays : (n : Net) (p : Params) (fed more : List Layer) (l : Layer) (items : List Item) → handed n p (fed ++ l ∷ []) ≡ handed n p fed ++ items
+    → BeginsWith (items_of n p ((fed ++ l ∷ []) ++ more)) (handed n p fed ++ items)
+fed-stays n p fed more l items grew = subst (BeginsWith (items_of n p ((fed ++ l ∷ []) ++ more))) grew (handed-stays n p (fed ++ l ∷ []) more)
 
 -- and more points hand out no less
 

@@ -51,14 +51,21 @@ CanFeed s l = IsFedLayer s.network s.params l × (points_of s < 100_000)
 abbrev pub AsksPoints : Net → Params → List Layer → ℕ → Type 0
 AsksPoints n p layers v = AsksTrace n p layers (solution (trellis n p) layers).pieces v
 
+-- the list begins with these items
+abbrev pub BeginsWith : List Item → List Item → Type 0
+BeginsWith all front = (rest : List Item) × (all ≡ front ++ rest)
+
 -- a session of the same network and options that stands for one point more, where these items were
--- handed out
+-- handed out: all items so far stay, whatever points follow
 pub record IsFed (old : Session) (l : Layer) (new : Session) (items : List Item) : Type 0 where
   pub network : new.network ≡ old.network
   pub params : new.params ≡ old.params
   pub stands : (fed : List Layer) → StandsFor old fed → StandsFor new (fed ++ l ∷ [])
   pub handed-on : (fed : List Layer) → StandsFor old fed
       → handed old.network old.params (fed ++ l ∷ []) ≡ handed old.network old.params fed ++ items
+  pub stays : (fed more : List Layer) → StandsFor old fed
+      → BeginsWith (items_of old.network old.params ((fed ++ l ∷ []) ++ more))
+      (handed old.network old.params fed ++ items)
 
 -- all that is left was handed out, and the session is as newly opened
 pub record IsFinished (old new : Session) (items : List Item) : Type 0 where
@@ -82,10 +89,6 @@ pub record AsksFinished (old : Session) (rows new : RowsState) : Type 0 where
   pub keeps : Keeps rows new
   pub only : (fed : List Layer) → StandsFor old fed
       → AsksOnly rows new (AsksPoints old.network old.params fed)
-
--- the list begins with these items
-abbrev pub BeginsWith : List Item → List Item → Type 0
-BeginsWith all front = (rest : List Item) × (all ≡ front ++ rest)
 
 -- what is handed out stays, whatever points follow
 abbrev pub HandedStays : Type 0

@@ -54,7 +54,6 @@ fn as_some(alloc: Global, ranks: &[u32]) -> Result<Vec<Option<u32>>, AllocError>
 
 /// The remaining items of the open piece, if there is one: those of its points, and the piece.
 pub fn closing_items<R: Rows>(
-    alloc: Global,
     net: &Network,
     p: &Params,
     rows: &mut R,
@@ -69,9 +68,10 @@ pub fn closing_items<R: Rows>(
         (AsksIn net.now p.now piece.now.layers.items piece.now.tables.items) }
 {
     if piece.layers.len() == 0 {
-        return Ok(List::new(alloc));
+        return Ok(List::new(piece.alloc));
     }
     net.known();
+    let alloc = piece.alloc;
     let end = piece.layers.len() - 1;
     let tables = piece.tables.as_slice();
     let last = least_cell(tables[end].as_slice());

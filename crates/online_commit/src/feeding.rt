@@ -23,6 +23,7 @@ use trellis::{Cell, Layer, Potentials, first_layer, is_near, least_cell, next_la
 /// The open piece, or the place where the next one may begin: its first point, how many of its points
 /// were returned, and for each point the layer, the cells and the ranks that are still possible.
 pub struct OpenPiece {
+    pub alloc: Global,
     pub first: u32,
     pub told: u32,
     pub layers: Vec<Layer>,
@@ -34,6 +35,7 @@ pub struct OpenPiece {
 impl Drop for OpenPiece {
     fn drop(self) {
         let OpenPiece {
+            alloc: _,
             first: _,
             told: _,
             layers: _,
@@ -48,6 +50,7 @@ pub fn no_piece(alloc: Global, first: u32) -> OpenPiece
     ensures { piece_of result ≡ record { first = first; told = 0; layers = []; tables = []; masks = [] } }
 {
     OpenPiece {
+        alloc,
         first,
         told: 0,
         layers: Vec::new(alloc),
@@ -59,7 +62,6 @@ pub fn no_piece(alloc: Global, first: u32) -> OpenPiece
 /// The cells of the layer that continues the open piece, or `None` if it does not continue it or no
 /// piece is open.
 pub fn next_cells<R: Rows>(
-    alloc: Global,
     net: &Network,
     p: &Params,
     rows: &mut R,
@@ -83,7 +85,7 @@ pub fn next_cells<R: Rows>(
     if !is_near(p, before, layer) {
         return Ok(None);
     }
-    let cells = next_layer(alloc, net, p, rows, before, costs, layer)?;
+    let cells = next_layer(piece.alloc, net, p, rows, before, costs, layer)?;
     if least_cell(cells.as_slice()).cost.is_none() {
         return Ok(None);
     }
@@ -136,7 +138,6 @@ fn make_room(piece: &mut OpenPiece) -> Result<(), AllocError>
 /// The masks that change if a point with these cells follows the piece, and the items of the
 /// points that it commits.
 fn settle(
-    alloc: Global,
     piece: &OpenPiece,
     layer: &Layer,
     cells: &[Cell],
@@ -144,7 +145,7 @@ fn settle(
     requires { MayGrow (piece_of piece.now) cells.now }
     ensures { IfOk result (λ made. Settles (piece_of piece.now) layer.now cells.now made.0.items made.1) }
 {
-    let changed = changed_masks(alloc, &piece.tables, &piece.masks, cells)?;
+    let changed = changed_masks(piece.alloc, &piece.tables, &piece.masks, cells)?;
     let growing = Growing {
         first: piece.first,
         layers: &piece.layers,
@@ -152,14 +153,13 @@ fn settle(
         masks: &piece.masks,
         changed: &changed,
     };
-    let items = settled_items(alloc, &growing, piece.told as usize)?;
+    let items = settled_items(piece.alloc, &growing, piece.told as usize)?;
     Ok((changed, items))
 }
 
 /// Appends a point with its cells to the open piece, and returns the items of the points that it
 /// commits.
 pub fn extend(
-    alloc: Global,
     piece: &mut OpenPiece,
     layer: Layer,
     cells: Potentials,
@@ -168,7 +168,7 @@ pub fn extend(
     ensures ok { IfOk result (IsExtended (piece_of piece.old) layer cells (piece_of piece.new)) }
     ensures err { OnErr result (piece_of piece.new ≡ piece_of piece.old) }
 {
-    let (changed, items) = settle(alloc, piece, &layer, cells.as_slice())?;
+    let (changed, items) = settle(piece, &layer, cells.as_slice())?;
     make_room(piece)?;
     append_point(piece, layer, cells, &changed)?;
     piece.told += items.len() as u32;
@@ -196,6 +196,6 @@ pub fn begin(
         return Ok((piece, items));
     }
     let cells = first_layer(alloc, p, &layer)?;
-    let items = extend(alloc, &mut piece, layer, cells)?;
+    let items = extend(&mut piece, layer, cells)?;
     Ok((piece, items))
 }

@@ -20,7 +20,6 @@ use trellis::Layer;
 /// A session of one trace. A contract sees the network, the options and what is kept of the points;
 /// `StandsFor` says which points the session represents.
 pub struct Online<'n> {
-    alloc: Global,
     net: &'n Network,
     params: Params,
     piece: OpenPiece,
@@ -30,7 +29,6 @@ pub struct Online<'n> {
 impl<'n> Drop for Online<'n> {
     fn drop(self) {
         let Online {
-            alloc: _,
             net: _,
             params: _,
             piece: _,
@@ -67,7 +65,6 @@ impl<'n> Online<'n> {
         ensures stands { StandsFor result [] }
     {
         Online {
-            alloc,
             net,
             params: *p,
             piece: no_piece(alloc, 0),
@@ -108,16 +105,9 @@ impl<'n> Online<'n> {
         ensures asks { AsksFed self.old layer (R.state rows.old) result (R.state rows.new) }
     {
         self.net.known();
-        let next = next_cells(
-            self.alloc,
-            self.net,
-            &self.params,
-            rows,
-            &self.piece,
-            &layer,
-        )?;
+        let next = next_cells(self.net, &self.params, rows, &self.piece, &layer)?;
         match next {
-            Some(cells) => extend(self.alloc, &mut self.piece, layer, cells),
+            Some(cells) => extend(&mut self.piece, layer, cells),
             None => self.begin_anew(layer, rows),
         }
     }
@@ -132,9 +122,9 @@ impl<'n> Online<'n> {
             (AsksIn self.old.network self.old.params self.old.layers self.old.tables) }
     {
         self.net.known();
-        let mut items = closing_items(self.alloc, self.net, &self.params, rows, &self.piece)?;
+        let mut items = closing_items(self.net, &self.params, rows, &self.piece)?;
         let index = self.piece.first + self.piece.layers.len() as u32;
-        let (piece, more) = begin(self.alloc, &self.params, index, layer)?;
+        let (piece, more) = begin(self.piece.alloc, &self.params, index, layer)?;
         append_items(&mut items, more)?;
         self.piece = piece;
         Ok(items)
@@ -148,8 +138,8 @@ impl<'n> Online<'n> {
         ensures err { OnErr result (self.new ≡ self.old) }
         ensures asks { AsksFinished self.old (R.state rows.old) (R.state rows.new) }
     {
-        let items = closing_items(self.alloc, self.net, &self.params, rows, &self.piece)?;
-        self.piece = no_piece(self.alloc, 0);
+        let items = closing_items(self.net, &self.params, rows, &self.piece)?;
+        self.piece = no_piece(self.piece.alloc, 0);
         Ok(items)
     }
 }

@@ -1,5 +1,5 @@
 -- The answers to the calls of an id are those to these calls alone.
-use Rattle.std.proofs.Common.{◌≡◌, ℕ, Bool, true, false, cond, List, [], ◌∷◌, ◌++◌, Some, None, refl, sym, ap, ◌∙◌, arith, length, map, nat_eq, unwrap_or}
+use Rattle.std.proofs.Common.{◌≡◌, ℕ, Bool, true, false, cond, List, [], ◌∷◌, ◌++◌, Some, None, refl, sym, ap, subst, ◌∙◌, arith, length, map, nat_eq, unwrap_or}
 use Rattle.std.specs.List.{filter}
 use Rattle.std.specs.Map.{lookup, remove_entry}
 use Rattle.std.proofs.lemmas.Bool.Decides.{nat_tests}
@@ -9,10 +9,10 @@ use Rattle.road_network.specs.Net.{Net}
 use Rattle.trace_reader.specs.declared.trace.Fix.{Fix}
 use Rattle.online_commit.specs.declared.items.Item.{Item}
 use Rattle.trace_match.specs.Match.{layer_of}
-use Rattle.trace_sessions.specs.Calls.{Call, IdsAreAnsweredAlone, answers, id_of, items_of_call, pairs_after}
-use Rattle.trace_sessions.specs.Calls.Call.{closes, feeds}
+use Rattle.trace_sessions.specs.Calls.{CallGives, CallsGive, IdsAreAnsweredAlone, answers, id_of, pairs_after}
 use Rattle.trace_sessions.specs.FollowText.{handed_at, left_of}
-use Rattle.trace_sessions.specs.Sessions.{Pair, fixes_of}
+use Rattle.trace_sessions.specs.Sessions.{Call, Keeps, Pair, SessionsState, fixes_of, items_of_call}
+use Rattle.trace_sessions.specs.Sessions.Call.{closes, feeds}
 use Rattle.trace_sessions.specs.StreamText.{Point}
 use Rattle.trace_sessions.proofs.StreamPoints.{Once, fixes-with, once-insert}
 
@@ -115,5 +115,41 @@ alone n p id pairs pairs' (call ∷ calls) once once' same =
         ∙ ap (λ rows. (id_of call, items_of_call n p pairs' call) ∷ rows) (more (pairs_after pairs' call) (once-after pairs' call once') after)
     step false is more = more pairs' once' (after-other id pairs call is ∙ same)
 
+-- what a call gives is what the definition says
+record IsStep (n : Net) (p : Params) (new : SessionsState) (pairs : List Pair) (call : Call) (items : List Item) : Type 0 where
+  pub are : items ≡ items_of_call n p pairs call
+  pub network : new.network ≡ n
+  pub params : new.params ≡ p
+  pub keeps : Keeps new (pairs_after pairs call)
+
+step-of : (n : Net) (p : Params) (s new : SessionsState) (pairs : List Pair) (call : Call) (items : List Item) → s.network ≡ n → s.params ≡ p → Keeps s pairs → CallGives s call new items
+    → IsStep n p new pairs call items
+step-of n p s new pairs (feeds k fix) items net par keeps gives = record {
+  are = subst (λ m. items ≡ items_of_call m p pairs (feeds k fix)) net (subst (λ q. items ≡ items_of_call s.network q pairs (feeds k fix)) par (gives.are pairs keeps));
+  network = gives.network ∙ net;
+  params = gives.params ∙ par;
+  keeps = gives.stands pairs keeps;
+}
+step-of n p s new pairs (closes k) items net par keeps gives = record {
+  are = subst (λ m. items ≡ items_of_call m p pairs (closes k)) net (subst (λ q. items ≡ items_of_call s.network q pairs (closes k)) par (gives.are pairs keeps));
+  network = gives.network ∙ net;
+  params = gives.params ∙ par;
+  keeps = gives.stands pairs keeps;
+}
+
+given-are : (n : Net) (p : Params) (s : SessionsState) (pairs : List Pair) (calls : List Call) (given : List (ℕ × List Item)) → s.network ≡ n → s.params ≡ p → Keeps s pairs → CallsGive s calls given
+    → given ≡ answers n p pairs calls
+given-are n p s pairs [] [] net par keeps h = refl
+given-are n p s pairs [] (answer ∷ given) net par keeps h = absurd h
+given-are n p s pairs (call ∷ calls) [] net par keeps h = absurd h
+given-are n p s pairs (call ∷ calls) (answer ∷ given) net par keeps h =
+    let is = step-of n p s h.0 pairs call answer.1 net par keeps h.2 in
+    ap (λ k. (k, answer.1) ∷ given) h.1
+    ∙ ap (λ xs. (id_of call, xs) ∷ given) is.are
+    ∙ ap (λ rest. (id_of call, items_of_call n p pairs call) ∷ rest) (given-are n p h.0 (pairs_after pairs call) calls given is.network is.params is.keeps h.3)
+
 pub ids_are_answered_alone : IdsAreAnsweredAlone
-ids_are_answered_alone n p id calls = alone n p id [] [] calls tt tt refl
+ids_are_answered_alone n p s t id calls given own s_empty t_empty s_gives t_gives =
+    let all = given-are n p s [] calls given s_empty.network s_empty.params s_empty.none s_gives in
+    let only = given-are n p t [] (filter (λ call. nat_eq id (id_of call)) calls) own t_empty.network t_empty.params t_empty.none t_gives in
+    ap (filter (λ (answer : ℕ × List Item). nat_eq id answer.0)) all ∙ alone n p id [] [] calls tt tt refl ∙ sym only

@@ -15,3 +15,5 @@ pub mod CallsAlone
 pub mod StreamTakes
 pub mod StreamLines
 pub mod StreamEnds
+pub mod ByteLines
+pub mod CommonLabels

@@ -1,10 +1,10 @@
 -- What is done to the session of one id, in the words of its fixes.
-use Rattle.std.proofs.Common.{◌≡◌, ◌⊎◌, inl, inr, ℕ, ◌<◌, ◌≤◌, List, [], ◌∷◌, ◌++◌, Option, Some, None, Result, Ok, Err, IfOk, IfErr, OnOk, OnErr, IsErr, IsSome, refl, sym, ap, subst, ◌∙◌, arith, length, map, nat_eq, slice_get, unwrap_or, length-append}
+use Rattle.std.proofs.Common.{◌≡◌, ◌⊎◌, inl, inr, ℕ, suc, ◌+◌, ◌<◌, ◌≤◌, List, [], ◌∷◌, ◌++◌, Option, Some, None, Result, Ok, Err, IfOk, IfErr, OnOk, OnErr, IsErr, IsSome, refl, sym, ap, subst, ◌∙◌, arith, length, map, take, drop, nat_eq, slice_get, unwrap_or, length-append}
 use Rattle.std.specs.Prelude.{Contains}
 use Rattle.std.specs.List.{IsDistinct}
 use Rattle.std.specs.Map.{keys_of, lookup, set_value}
 use Rattle.std.specs.Option.{option_map}
-use Rattle.std.proofs.lemmas.List.{length-map, map-append}
+use Rattle.std.proofs.lemmas.List.{drop_at, length-map, map-append, take_all, take_at}
 use Rattle.std.proofs.lemmas.Map.Steps.{set_value_same}
 use Rattle.std.proofs.lemmas.Option.{slice_get-map}
 use Rattle.polyline_geometry.specs.Plane.{InRange}
@@ -23,6 +23,7 @@ use Rattle.online_commit.specs.Session.{AsksFed, AsksFinished, AsksPoints, IsFed
 use Rattle.online_commit.proofs.Opened.{opened-stands}
 use Rattle.trace_sessions.specs.declared.sessions.SessionFault.{SessionFault}
 use Rattle.trace_sessions.specs.declared.sessions.SessionFault.TheVariants.{Memory, NotOpen, TooLong}
+use Rattle.trace_sessions.specs.FollowText.{handed_at}
 use Rattle.trace_sessions.specs.Sessions.{AsksClosed, AsksFedTo, Closes, HasPair, IsCloseFault, IsFeedFault, IsSessionOf, Keeps, KeepsEach, Pair, SessionsState, TakesFix, fixes_and, fixes_of, length_of, with_fix, without}
 use Rattle.trace_sessions.specs.SessionsInside.{AreOf, FeedsAt, FinishesAt, session_at, session_in}
 use Rattle.trace_sessions.proofs.SessionPairs.{Both, are-at, are-insert, kept-insert, kept-keys, kept-lookup, kept-remove, set-inserts}
@@ -79,6 +80,20 @@ handed_to n p s t fixes fix l items is same fed =
     ap (handed n p) (one_more n p fixes fix l same)
     ∙ carry (λ (m : Net) (q : Params). handed m q (layers n p fixes ++ l ∷ []) ≡ handed m q (layers n p fixes) ++ items) is.network is.params
     (fed.handed-on (layers n p fixes) is.stands)
+
+-- what the fix makes certain is what is handed out with it
+handed-here : (n : Net) (p : Params) (fixes : List Fix) (fix : Fix) (items : List Item)
+    → handed n p (layers n p (fixes ++ fix ∷ [])) ≡ handed n p (layers n p fixes) ++ items → items ≡ handed_at n p (layers n p (fixes ++ fix ∷ [])) (length fixes)
+handed-here n p fixes fix items grown =
+    let all = layers n p (fixes ++ fix ∷ []) in
+    let count : length (layers n p fixes) ≡ length fixes = length-map fixes (layer_of n p) in
+    let long : length all ≡ length fixes + 1 = length-map (fixes ++ fix ∷ []) (layer_of n p) ∙ length-append fixes (fix ∷ []) in
+    let front : take (length fixes) all ≡ layers n p fixes = ap (take (length fixes)) (map-append (layer_of n p) fixes (fix ∷ [])) ∙ take_at (layers n p fixes) (layer_of n p fix ∷ []) (length fixes) count in
+    let whole_is : take (suc (length fixes)) all ≡ all = take_all (suc (length fixes)) all (omega (arith, long)) in
+    sym (ap (λ ls. drop (length (handed n p ls)) (handed n p (take (suc (length fixes)) all))) front
+    ∙ ap (λ ls. drop (length (handed n p (layers n p fixes))) (handed n p ls)) whole_is
+    ∙ ap (drop (length (handed n p (layers n p fixes)))) grown
+    ∙ drop_at (handed n p (layers n p fixes)) items (length (handed n p (layers n p fixes))) refl)
 
 -- ---- feed
 
@@ -141,6 +156,7 @@ takes n p id fix es new d l items own same few at =
           (kept-insert n p id es pairs at.session (fixes_and pairs id fix) h.each now some) in
           record { each = each; different = subst (IsDistinct nat_eq) (kept-keys n p new (with_fix pairs id fix) each) at.different };
       handed-on = λ pairs h. handed_to n p s at.session (fixes_of pairs id) fix l items (stands-in n p id es pairs d own h) same at.fed;
+      are = λ pairs h. handed-here n p (fixes_of pairs id) fix items (handed_to n p s at.session (fixes_of pairs id) fix l items (stands-in n p id es pairs d own h) same at.fed);
     }
 
 pub too-long : (n : Net) (p : Params) (id : ℕ) (es : List (ℕ × Session)) → 100_000 ≤ points_of (session_at es id (no_points_of n p)) → IsFeedFault (state n p es) id (TooLong id)
@@ -203,6 +219,10 @@ pub closes : {E : Type 0} (n : Net) (p : Params) (id : ℕ) (es new : List (ℕ 
     → IfOk result (Closes (state n p es) id (state n p new))
 closes n p id es new (Ok items) at =
     let found : (pairs : List Pair) → Keeps (state n p es) pairs → HasPair pairs id × IsSessionOf n p at.session (fixes_of pairs id) = λ pairs h. of_case n p at.session (lookup (nat_eq id) es) (lookup (nat_eq id) pairs) (kept-lookup n p id es pairs h.each) at.was in
+    let rest : (pairs : List Pair) → Keeps (state n p es) pairs → items_of n p (layers n p (fixes_of pairs id)) ≡ handed n p (layers n p (fixes_of pairs id)) ++ items = λ pairs h.
+    let is = (found pairs h).1 in
+    carry (λ (m : Net) (q : Params). items_of m q (layers n p (fixes_of pairs id)) ≡ handed m q (layers n p (fixes_of pairs id)) ++ items) is.network is.params
+    (at.finished.rest (layers n p (fixes_of pairs id)) is.stands) in
     record {
       network = refl;
       params = refl;
@@ -210,10 +230,10 @@ closes n p id es new (Ok items) at =
       stands = λ pairs h.
           let each = subst (λ (xs : List (ℕ × Session)). KeepsEach n p xs (without pairs id)) (sym at.entries) (kept-remove n p id es pairs h.each) in
           record { each = each; different = subst (IsDistinct nat_eq) (kept-keys n p new (without pairs id) each) at.different };
-      rest = λ pairs h.
-          let is = (found pairs h).1 in
-          carry (λ (m : Net) (q : Params). items_of m q (layers n p (fixes_of pairs id)) ≡ handed m q (layers n p (fixes_of pairs id)) ++ items) is.network is.params
-          (at.finished.rest (layers n p (fixes_of pairs id)) is.stands);
+      rest = rest;
+      are = λ pairs h.
+          let was = handed n p (layers n p (fixes_of pairs id)) in
+          sym (ap (drop (length was)) (rest pairs h) ∙ drop_at was items (length was) refl);
     }
 closes n p id es new (Err e) at = tt
 

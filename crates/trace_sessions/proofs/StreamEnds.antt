@@ -20,12 +20,12 @@ use Rattle.trace_reader.specs.Trace.{IsLawfulTrace}
 use Rattle.online_commit.specs.Items.{handed}
 use Rattle.online_commit.specs.Session.{AsksFinished, AsksPoints, Session, StandsFor}
 use Rattle.trace_sessions.specs.Following.{pieces_among}
-use Rattle.trace_sessions.specs.ItemText.{Stays}
+use Rattle.trace_sessions.specs.ItemText.{AddsPrefix}
 use Rattle.trace_sessions.specs.Sessions.{IsPairOf, IsSessionOf, Keeps, KeepsEach, Pair, SessionsState, fixes_of}
 use Rattle.trace_sessions.specs.StreamText.{closing_lines, lines_at_end, trace_of}
 use Rattle.trace_sessions.specs.Streaming.{AreLawful, AsksSome, CanEnd, CanStream, EndsPair, EndsPairs, fixes_in, pieces_of_all, pieces_told}
 use Rattle.trace_sessions.proofs.StreamLines.{few-pieces}
-use Rattle.trace_sessions.proofs.Written.{stays-behind}
+use Rattle.trace_sessions.proofs.Written.{adds-first, adds-then}
 
 -- ---- the fixes of an id that stands once
 
@@ -176,11 +176,31 @@ ended-err s whole left id session t0 t r0 r r' pieces is has asks pairs keeps =
     (ended-asks s pairs old.front next.rest next.pair id session r r' (old.parts ∙ ap (λ ps. old.front ++ ps) next.parts) keeps.different next.is asks)
     (λ v either. ⊎_elim (λ asked. asked) (λ asked. asked) either)
 
--- and what stood in the text stays
-pub ended-stays : (s : SessionsState) (more : ℕ) (whole : List (ℕ × Session)) (t0 t t' : List ℕ) (r0 r : RowsState) (pieces : ℕ) → CanStream s more → HasEnded s whole t0 t r0 r pieces → Stays t t' → Stays t0 t'
-ended-stays s more whole t0 t t' r0 r pieces can has stays =
-    let old = has can.pairs can.keeps in
-    stays-behind t0 (concat (closing_lines s.network s.params old.front)) t t' old.written stays
+-- and of its lines a prefix was written
+pub ended-cut : (s : SessionsState) (net : Net) (whole left : List (ℕ × Session)) (id : ℕ) (session : Session) (t0 t t' : List ℕ) (r0 r : RowsState) (pieces : ℕ) → net ≡ s.network
+    → whole ≡ (id, session) ∷ left → HasEnded s whole t0 t r0 r pieces
+    → ((fixes : List Fix) → IsSessionOf net session.params session fixes → AddsPrefix t (concat (lines_at_end net session.params (id, fixes))) t')
+    → (pairs : List Pair) → Keeps s pairs → AddsPrefix t0 (concat (closing_lines s.network s.params pairs)) t'
+ended-cut s net whole left id session t0 t t' r0 r pieces network is has cut pairs keeps =
+    let n = s.network in
+    let p = s.params in
+    let old = has pairs keeps in
+    let next = next-pair s pairs whole left id session t0 t r0 r pieces is old in
+    let x = next.pair in
+    let own = subst (λ m. IsSessionOf m session.params session x.1) (sym network) (own-params n p session x.1 next.is.session) in
+    let ended : AddsPrefix t (concat (lines_at_end n p x)) t' =
+    subst (λ k. AddsPrefix t (concat (lines_at_end n p (k, x.1))) t') next.is.id
+    (subst (λ m. AddsPrefix t (concat (lines_at_end m p (id, x.1))) t') network (subst (λ q. AddsPrefix t (concat (lines_at_end net q (id, x.1))) t') next.is.session.params (cut x.1 own))) in
+    let lines = closing_lines n p old.front in
+    let rest = closing_lines n p next.rest in
+    let whole_parts : pairs ≡ old.front ++ x ∷ next.rest = old.parts ∙ ap (λ ps. old.front ++ ps) next.parts in
+    let all : concat (closing_lines n p pairs) ≡ concat lines ++ (concat (lines_at_end n p x) ++ concat rest) =
+    ap (λ ps. concat (closing_lines n p ps)) whole_parts
+    ∙ ap concat (flat_map-append (lines_at_end n p) old.front (x ∷ next.rest))
+    ∙ concat-append lines (lines_at_end n p x ++ rest)
+    ∙ ap (λ u. concat lines ++ u) (concat-append (lines_at_end n p x) rest) in
+    subst (λ more. AddsPrefix t0 more t') (sym all)
+    (adds-then t0 (concat lines) (concat (lines_at_end n p x) ++ concat rest) t t' old.written (adds-first t (concat (lines_at_end n p x)) (concat rest) t' ended))
 
 -- the number of pieces stays in its range
 pub ended-few : (s : SessionsState) (more : ℕ) (left : List (ℕ × Session)) (t0 t : List ℕ) (r0 r : RowsState) (pieces : ℕ) → IsAccepted s.params → CanStream s more → HasEnded s left t0 t r0 r pieces → pieces < 2 ^ 62

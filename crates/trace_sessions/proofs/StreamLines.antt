@@ -19,7 +19,7 @@ use Rattle.online_commit.specs.Items.{handed, items_of}
 use Rattle.online_commit.specs.Session.{IsFinished, Session}
 use Rattle.trace_sessions.specs.FollowText.{finish_line, fix_line, left_of}
 use Rattle.trace_sessions.specs.Following.{pieces_among}
-use Rattle.trace_sessions.specs.ItemText.{AreItemsOf, item_line, item_lines, lead_of}
+use Rattle.trace_sessions.specs.ItemText.{AddsPrefix, AreItemsOf, item_line, item_lines, lead_of}
 use Rattle.trace_sessions.specs.Sessions.{IsSessionOf, Pair}
 use Rattle.trace_sessions.specs.StreamText.{led_by, lines_at_end, trace_of}
 use Rattle.trace_sessions.specs.Streaming.{AreLawful, fixes_in, pieces_of_all, pieces_told}
@@ -28,6 +28,7 @@ use Rattle.trace_sessions.proofs.FollowLines.{left_behind}
 use Rattle.trace_sessions.proofs.FollowedPoints.{drop_behind, lies_behind}
 use Rattle.trace_sessions.proofs.ItemEdges.{items_edges}
 use Rattle.trace_sessions.proofs.PieceCounts.{among-append, count_match}
+use Rattle.trace_sessions.proofs.Written.{adds-first, adds-then, led-only}
 
 abbrev lead : ℕ → List ℕ
 lead id = lead_of (Some id)
@@ -64,6 +65,29 @@ point-text n id point items t0 t1 t2 first rest =
     ∙ ap (λ t. t0 ++ t)
     (sym (concat-append head step) ∙ ap concat (sym (map-append (λ text. lead id ++ text) (heading id point) (fix_line point ∷ item_lines n None items))))
 
+-- a prefix of them was written
+point-parts : (n : Net) (id point : ℕ) (items : List Item) → concat (led_by id (heading id point)) ++ concat (step_lines n (Some id) point items) ≡ concat (lines_of_items n id point items)
+point-parts n id point items =
+    let head = led_by id (heading id point) in
+    let step = led_by id (fix_line point ∷ item_lines n None items) in
+    ap (λ ls. concat head ++ concat ls) (step-led n id point items) ∙ sym (concat-append head step)
+    ∙ ap concat (sym (map-append (λ text. lead id ++ text) (heading id point) (fix_line point ∷ item_lines n None items)))
+
+pub heading-cut : (n : Net) (id point : ℕ) (items : List Item) (t0 t1 : List ℕ) → AddsPrefix t0 (concat (led_by id (heading id point))) t1
+    → AddsPrefix t0 (concat (lines_of_items n id point items)) t1
+heading-cut n id point items t0 t1 cut =
+    subst (λ more. AddsPrefix t0 more t1) (point-parts n id point items) (adds-first t0 (concat (led_by id (heading id point))) (concat (step_lines n (Some id) point items)) t1 cut)
+
+pub point-cut-off : (n : Net) (id point : ℕ) (items : List Item) (t0 t1 t2 : List ℕ) → t1 ≡ t0 ++ concat (led_by id (heading id point)) → AddsPrefix t1 (concat (step_lines n (Some id) point items)) t2
+    → AddsPrefix t0 (concat (lines_of_items n id point items)) t2
+point-cut-off n id point items t0 t1 t2 whole cut =
+    subst (λ more. AddsPrefix t0 more t2) (point-parts n id point items) (adds-then t0 (concat (led_by id (heading id point))) (concat (step_lines n (Some id) point items)) t1 t2 whole cut)
+
+-- of the heading, where the trace line was not written
+pub heading-led : (id point : ℕ) (t0 t1 t2 : List ℕ) → point ≤ 0 → t1 ≡ t0 ++ lead id → t2 ≡ t1 → AddsPrefix t0 (concat (led_by id (heading id point))) t2
+heading-led id zero t0 t1 t2 first one same = adds-first t0 (lead id ++ trace_line id) [] t2 (led-only (Some id) (trace_line id) t0 t1 t2 one same)
+heading-led id (suc point) t0 t1 t2 first one same = absurd (omega (arith, first))
+
 -- ---- the end of an id
 
 rest-led : (n : Net) (id : ℕ) (items : List Item) → rest_lines n (Some id) id items ≡ led_by id ((finish_line ∷ item_lines n None items) ++ end_line id ∷ [])
@@ -75,6 +99,12 @@ pub end-text : (n : Net) (p : Params) (id : ℕ) (fixes : List Fix) (items : Lis
     → t1 ≡ t0 ++ concat (rest_lines n (Some id) id items) → t1 ≡ t0 ++ concat (lines_at_end n p (id, fixes))
 end-text n p id fixes items t0 t1 are written =
     written ∙ ap (λ ls. t0 ++ concat ls) (rest-led n id items ∙ ap (λ xs. led_by id ((finish_line ∷ item_lines n None xs) ++ end_line id ∷ [])) are)
+
+-- of which a prefix was written
+pub end-cut : (n : Net) (p : Params) (id : ℕ) (fixes : List Fix) (items : List Item) (t0 t1 : List ℕ) → items ≡ left_of n p (map (layer_of n p) fixes)
+    → AddsPrefix t0 (concat (rest_lines n (Some id) id items)) t1 → AddsPrefix t0 (concat (lines_at_end n p (id, fixes))) t1
+end-cut n p id fixes items t0 t1 are cut =
+    subst (λ ls. AddsPrefix t0 (concat ls) t1) (rest-led n id items ∙ ap (λ xs. led_by id ((finish_line ∷ item_lines n None xs) ++ end_line id ∷ [])) are) cut
 
 -- what a session of these fixes hands out at the end
 pub record IsRest (n : Net) (p : Params) (fixes : List Fix) (items : List Item) : Type 0 where

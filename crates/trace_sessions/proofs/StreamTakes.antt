@@ -1,9 +1,9 @@
 -- What taking points of a stream leaves: one point, and more behind others.
-use Rattle.std.proofs.Common.{◌≡◌, ◌⊎◌, inl, inr, ⊎_elim, ℕ, suc, ◌+◌, ◌<◌, ◌≤◌, ◌^◌, Bool, true, false, cond, List, [], ◌∷◌, ◌++◌, Some, None, Result, Ok, Err, OnOk, IsErr, get_or, refl, sym, ap, ◌∙◌, subst, arith, length, map, take, drop, nat_eq, nat_lt}
+use Rattle.std.proofs.Common.{◌≡◌, ◌⊎◌, inl, inr, ⊎_elim, ℕ, ◌+◌, ◌<◌, ◌≤◌, ◌^◌, Bool, true, false, cond, List, [], ◌∷◌, ◌++◌, Some, None, Result, Ok, Err, OnOk, IsErr, get_or, refl, sym, ap, ◌∙◌, subst, arith, length, map, take, drop, nat_eq, nat_lt}
 use Rattle.std.specs.Prelude.{Contains}
 use Rattle.std.specs.List.{All, concat}
 use Rattle.std.proofs.lemmas.Bool.Decides.{nat_tests}
-use Rattle.std.proofs.lemmas.List.{append_assoc, append-nil, drop_at, get_or_default, length-append, length-map, length-take-le, map-append, take-append-drop, take_all, take_at, take_more}
+use Rattle.std.proofs.lemmas.List.{append_assoc, append-nil, get_or_default, length-append, length-map, length-take-le, map-append, take-append-drop, take_all, take_more}
 use Rattle.std.proofs.lemmas.List.Elements.{All-append, All-cons, All-head, All-map, All-tail, All-take}
 use Rattle.std.proofs.lemmas.List.Folds.{concat-append}
 use Rattle.polyline_geometry.specs.Plane.{InRange}
@@ -28,7 +28,7 @@ use Rattle.trace_sessions.specs.declared.sessions.SessionFault.{SessionFault}
 use Rattle.trace_sessions.specs.declared.sessions.SessionFault.TheVariants.{Memory, NotOpen, TooLong}
 use Rattle.trace_sessions.specs.FollowText.{fix_line, handed_at}
 use Rattle.trace_sessions.specs.Following.{pieces_among}
-use Rattle.trace_sessions.specs.ItemText.{AreItemsOf, item_lines}
+use Rattle.trace_sessions.specs.ItemText.{AddsPrefix, AreItemsOf, item_lines}
 use Rattle.trace_sessions.specs.Sessions.{AsksFedTo, AsksFixes, IsFeedFault, Keeps, Pair, SessionsState, TakesFix, fixes_and, fixes_of, with_fix}
 use Rattle.trace_sessions.specs.SessionsInside.{session_at, session_in}
 use Rattle.trace_sessions.specs.StreamText.{Point, first_line, fixes_among, fragment_points, full_id, has_room, led_by, lines_of_fix, stream_lines, trace_of, with_points, with_taken}
@@ -40,7 +40,7 @@ use Rattle.trace_sessions.proofs.FollowedPoints.{lies_behind}
 use Rattle.trace_sessions.proofs.PieceCounts.{among-append}
 use Rattle.trace_sessions.proofs.SessionFixes.{count_of, no-ok, opened-is, stands-in}
 use Rattle.trace_sessions.proofs.StreamLines.{told-few}
-use Rattle.trace_sessions.proofs.Written.{stays-behind, stays-itself}
+use Rattle.trace_sessions.proofs.Written.{adds-none}
 use Rattle.trace_sessions.proofs.StreamPoints.{fixes-behind, fixes-with, fixes_in-behind, full-append, full-stays, lawful-insert, lines-append, none-more, not-full, one-full, sound-at, sum-insert, taken-append, taken-stays, with-append}
 
 abbrev layers : Net → Params → List Fix → List Layer
@@ -60,23 +60,6 @@ room-is pairs id low = let e : nat_lt (length (fixes_of pairs id)) 100_000 ≡ t
 
 room-not : (pairs : List Pair) (id : ℕ) → 100_000 ≤ length (fixes_of pairs id) → has_room pairs id ≡ false
 room-not pairs id full = let e : nat_lt (length (fixes_of pairs id)) 100_000 ≡ false = grind (arith, nat_tests) in e
-
-one-more : (n : Net) (p : Params) (fixes : List Fix) (fix : Fix) → layers n p (fixes ++ fix ∷ []) ≡ layers n p fixes ++ layer_of n p fix ∷ []
-one-more n p fixes fix = map-append (layer_of n p) fixes (fix ∷ [])
-
--- what the fix makes certain is what is handed out with it
-pub handed-here : (n : Net) (p : Params) (fixes : List Fix) (fix : Fix) (items : List Item)
-    → handed n p (layers n p (fixes ++ fix ∷ [])) ≡ handed n p (layers n p fixes) ++ items → items ≡ handed_at n p (layers n p (fixes ++ fix ∷ [])) (length fixes)
-handed-here n p fixes fix items grown =
-    let all = layers n p (fixes ++ fix ∷ []) in
-    let count : length (layers n p fixes) ≡ length fixes = length-map fixes (layer_of n p) in
-    let long : length all ≡ length fixes + 1 = length-map (fixes ++ fix ∷ []) (layer_of n p) ∙ length-append fixes (fix ∷ []) in
-    let front : take (length fixes) all ≡ layers n p fixes = ap (take (length fixes)) (one-more n p fixes fix) ∙ take_at (layers n p fixes) (layer_of n p fix ∷ []) (length fixes) count in
-    let whole_is : take (suc (length fixes)) all ≡ all = take_all (suc (length fixes)) all (omega (arith, long)) in
-    sym (ap (λ ls. drop (length (handed n p ls)) (handed n p (take (suc (length fixes)) all))) front
-    ∙ ap (λ ls. drop (length (handed n p (layers n p fixes))) (handed n p ls)) whole_is
-    ∙ ap (drop (length (handed n p (layers n p fixes)))) grown
-    ∙ drop_at (handed n p (layers n p fixes)) items (length (handed n p (layers n p fixes))) refl)
 
 heading-is : (id : ℕ) (fixes : List Fix) → heading id (length fixes) ≡ first_line id fixes
 heading-is id [] = refl
@@ -116,13 +99,47 @@ point-taken old new pairs id fix items point count text text' keeps fed at count
       params = fed.params;
       room = one-full pairs (id, fix) room;
       stands = fed.stands pairs keeps;
-      written = written ∙ ap (λ ls. text ++ concat ls) (point-lines n p pairs id fix point items room at (handed-here n p (fixes_of pairs id) fix items grown));
+      written = written ∙ ap (λ ls. text ++ concat ls) (point-lines n p pairs id fix point items room at (fed.are pairs keeps));
       counted = told-with n p pairs id fix items grown ∙ ap (λ k. pieces_told n p pairs + k) (sym counted);
+    }
+
+-- where its lines were written in part
+pub point-cut : (old new : SessionsState) (pairs : List Pair) (id : ℕ) (fix : Fix) (items : List Item) (point : ℕ) (text text' : List ℕ) → Keeps old pairs → TakesFix old id fix new items
+    → point ≡ length (fixes_of pairs id) → AddsPrefix text (concat (lines_of_items old.network id point items)) text' → Streams old pairs ((id, fix) ∷ []) new text text' (Err Memory)
+point-cut old new pairs id fix items point text text' keeps fed at cut =
+    let room = room-is pairs id (fed.room pairs keeps) in
+    let lines = stream_lines old.network old.params pairs ((id, fix) ∷ []) in
+    let own : AddsPrefix text (concat lines) text' =
+    subst (λ ls. AddsPrefix text (concat ls) text') (point-lines old.network old.params pairs id fix point items room at (fed.are pairs keeps)) cut in
+    record {
+      whole = [];
+      last = (id, fix) ∷ [];
+      left = [];
+      parts = refl;
+      one = omega arith;
+      network = fed.network;
+      params = fed.params;
+      room = one-full pairs (id, fix) room;
+      stands = fed.stands pairs keeps;
+      written = subst (λ t. AddsPrefix t (concat lines) text') (sym (append-nil text)) own;
     }
 
 pub point-refused : (old new : SessionsState) (pairs : List Pair) (id : ℕ) (fix : Fix) (fault : SessionFault) (text : List ℕ) → Keeps old pairs → IsFeedFault old id fault → new ≡ old
     → Streams old pairs ((id, fix) ∷ []) new text text (Err fault)
-point-refused old new pairs id fix fault text keeps (inl memory) same = subst (λ f. Streams old pairs ((id, fix) ∷ []) new text text (Err f)) (sym memory) (stays-itself text)
+point-refused old new pairs id fix fault text keeps (inl memory) same =
+    subst (λ f. Streams old pairs ((id, fix) ∷ []) new text text (Err f)) (sym memory)
+    (record {
+      whole = [];
+      last = [];
+      left = (id, fix) ∷ [];
+      parts = refl;
+      one = omega arith;
+      network = ap (λ (s : SessionsState). s.network) same;
+      params = ap (λ (s : SessionsState). s.params) same;
+      room = refl;
+      stands = subst (λ s. Keeps s pairs) (sym same) keeps;
+      written = adds-none (text ++ []) [] text (sym (append-nil text));
+    })
 point-refused old new pairs id fix fault text keeps (inr full) same =
     let none = room-not pairs id (full.1 pairs keeps) in
     let no_lines : stream_lines old.network old.params pairs ((id, fix) ∷ []) ≡ [] =
@@ -186,7 +203,38 @@ takes-then s0 s1 s2 pairs front back t0 t1 t2 k1 k2 one two =
 
 pub refused-then : (s0 s1 s2 : SessionsState) (pairs : List Pair) (front back rest : List Point) (t0 t1 t2 : List ℕ) (k : ℕ) (fault : SessionFault) → TakesPoints s0 pairs front s1 t0 t1 k
     → Streams s1 (with_points pairs front) back s2 t1 t2 (Err fault) → Streams s0 pairs (front ++ (back ++ rest)) s2 t0 t2 (Err fault)
-refused-then s0 s1 s2 pairs front back rest t0 t1 t2 k Memory one two = stays-behind t0 (concat (stream_lines s0.network s0.params pairs front)) t1 t2 one.written two
+refused-then s0 s1 s2 pairs front back rest t0 t1 t2 k Memory one two =
+    let n = s0.network in
+    let p = s0.params in
+    let next = with_points pairs front in
+    let whole = two.whole in
+    let last = two.last in
+    let lines = stream_lines n p pairs front in
+    let more = stream_lines n p next whole in
+    let cut : AddsPrefix (t1 ++ concat more) (concat (stream_lines n p (with_points next whole) last)) t2 =
+    of_state (λ m q. AddsPrefix (t1 ++ concat (stream_lines m q next whole)) (concat (stream_lines m q (with_points next whole) last)) t2) one.network one.params two.written in
+    let base : t1 ++ concat more ≡ t0 ++ concat (stream_lines n p pairs (front ++ whole)) =
+    ap (λ t. t ++ concat more) one.written ∙ append_assoc t0 (concat lines) (concat more)
+    ∙ ap (λ t. t0 ++ t) (sym (concat-append lines more) ∙ ap concat (sym (lines-append n p pairs front whole one.room))) in
+    let behind : with_points next whole ≡ with_points pairs (front ++ whole) = sym (with-append pairs front whole) in
+    let all : (front ++ whole) ++ last ≡ front ++ (whole ++ last) = append_assoc front whole last in
+    record {
+      whole = front ++ whole;
+      last = last;
+      left = two.left ++ rest;
+      parts =
+          ap (λ ps. front ++ (ps ++ rest)) two.parts
+          ∙ ap (λ ps. front ++ ps) (append_assoc whole (last ++ two.left) rest ∙ ap (λ ps. whole ++ ps) (append_assoc last two.left rest))
+          ∙ sym (append_assoc front whole (last ++ (two.left ++ rest)));
+      one = two.one;
+      network = two.network ∙ one.network;
+      params = two.params ∙ one.params;
+      room = ap (full_id pairs) all ∙ full-append pairs front (whole ++ last) one.room ∙ two.room;
+      stands = subst (Keeps s2) (sym (ap (with_points pairs) all ∙ with-append pairs front (whole ++ last))) two.stands;
+      written =
+          subst (λ t. AddsPrefix t (concat (stream_lines n p (with_points pairs (front ++ whole)) last)) t2) base
+          (subst (λ qs. AddsPrefix (t1 ++ concat more) (concat (stream_lines n p qs last)) t2) behind cut);
+    }
 refused-then s0 s1 s2 pairs front back rest t0 t1 t2 k (NotOpen id) one two = absurd two
 refused-then s0 s1 s2 pairs front back rest t0 t1 t2 k (TooLong id) one two =
     let n = s0.network in

@@ -34,6 +34,13 @@ IsItemOf n (Closed piece route) = All (λ e. HasEdge n e.0) route
 abbrev pub AreItemsOf : Net → List Item → Type 0
 AreItemsOf n items = All (IsItemOf n) items
 
+-- the text goes on with a prefix of this one
+pub record AddsPrefix (text more text' : List ℕ) : Type 0 where
+  pub front : List ℕ
+  pub rest : List ℕ
+  pub is : more ≡ front ++ rest
+  pub written : text' ≡ text ++ front
+
 -- what stood in a text still stands at its front
 abbrev pub Stays : (text text' : List ℕ) → Type 0
 Stays text text' = take (length text) text' ≡ text

@@ -7,3 +7,4 @@ pub mod StreamText
 pub mod Calls
 pub mod Streaming
 pub mod StreamingInside
+pub mod CommonLabels

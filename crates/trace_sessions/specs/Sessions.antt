@@ -12,6 +12,7 @@ use Rattle.trace_match.specs.Match.{layer_of}
 use Rattle.online_commit.specs.declared.items.Item.{Item}
 use Rattle.online_commit.specs.Items.{handed, items_of}
 use Rattle.online_commit.specs.Session.{AsksPoints, Session, StandsFor}
+use Rattle.trace_sessions.specs.FollowText.{handed_at, left_of}
 use Rattle.trace_sessions.specs.declared.sessions.SessionFault.{SessionFault}
 use Rattle.trace_sessions.specs.declared.sessions.SessionFault.TheVariants.{Memory, NotOpen, TooLong}
 
@@ -94,6 +95,17 @@ all_of s fixes = items_of s.network s.params (map (layer_of s.network s.params) 
 abbrev pub AsksFixes : SessionsState → List Fix → ℕ → Type 0
 AsksFixes s fixes v = AsksPoints s.network s.params (map (layer_of s.network s.params) fixes) v
 
+-- a call that is Ok
+pub data Call : Type 0 where
+  feeds : (id : ℕ) → Fix → Call
+  closes : (id : ℕ) → Call
+
+-- the items of the definition that it hands out
+abbrev pub items_of_call : Net → Params → List Pair → Call → List Item
+items_of_call n p pairs (feeds id fix) =
+    handed_at n p (map (layer_of n p) (fixes_and pairs id fix)) (length (fixes_of pairs id))
+items_of_call n p pairs (closes id) = left_of n p (map (layer_of n p) (fixes_of pairs id))
+
 -- the id was not full and has the fix behind its others, whose items stay; these are the new ones
 pub record TakesFix (old : SessionsState) (id : ℕ) (fix : Fix) (new : SessionsState) (items : List Item) : Type 0 where
   pub network : new.network ≡ old.network
@@ -102,6 +114,8 @@ pub record TakesFix (old : SessionsState) (id : ℕ) (fix : Fix) (new : Sessions
   pub stands : (pairs : List Pair) → Keeps old pairs → Keeps new (with_fix pairs id fix)
   pub handed-on : (pairs : List Pair) → Keeps old pairs
       → handed_of old (fixes_and pairs id fix) ≡ handed_of old (fixes_of pairs id) ++ items
+  pub are : (pairs : List Pair) → Keeps old pairs
+      → items ≡ items_of_call old.network old.params pairs (feeds id fix)
 
 -- the id had a pair, which is gone, and these are the items that were left of it
 pub record Closes (old : SessionsState) (id : ℕ) (new : SessionsState) (items : List Item) : Type 0 where
@@ -111,6 +125,8 @@ pub record Closes (old : SessionsState) (id : ℕ) (new : SessionsState) (items 
   pub stands : (pairs : List Pair) → Keeps old pairs → Keeps new (without pairs id)
   pub rest : (pairs : List Pair) → Keeps old pairs
       → all_of old (fixes_of pairs id) ≡ handed_of old (fixes_of pairs id) ++ items
+  pub are : (pairs : List Pair) → Keeps old pairs
+      → items ≡ items_of_call old.network old.params pairs (closes id)
 
 -- why a fix was not taken, and why an id was not closed
 abbrev pub IsFeedFault : SessionsState → ℕ → SessionFault → Type 0

@@ -1,5 +1,5 @@
 -- What taking the points of a stream, and ending it, leave.
-use Rattle.std.specs.Prelude.{◌≡◌, ◌⊎◌, ℕ, ◌+◌, ◌<◌, ◌^◌, List, ◌++◌, Result, Ok, Err, Some, None, OnOk, All, Contains, length, map}
+use Rattle.std.specs.Prelude.{◌≡◌, ◌⊎◌, ℕ, ◌+◌, ◌<◌, ◌≤◌, ◌^◌, List, ◌++◌, Result, Ok, Err, Some, None, OnOk, All, Contains, length, map}
 use Rattle.std.specs.List.{concat, sum_by}
 use Rattle.cost_model.specs.Options.{IsAccepted}
 use Rattle.cost_model.specs.declared.params.Params.{Params}
@@ -13,7 +13,7 @@ use Rattle.online_commit.specs.Session.{Session}
 use Rattle.trace_sessions.specs.declared.sessions.SessionFault.{SessionFault}
 use Rattle.trace_sessions.specs.declared.sessions.SessionFault.TheVariants.{Memory, NotOpen, TooLong}
 use Rattle.trace_sessions.specs.Following.{pieces_among}
-use Rattle.trace_sessions.specs.ItemText.{Stays}
+use Rattle.trace_sessions.specs.ItemText.{AddsPrefix}
 use Rattle.trace_sessions.specs.Sessions.{AsksFixes, IsSessionOf, Keeps, Pair, SessionsState, fixes_of}
 use Rattle.trace_sessions.specs.StreamText.{Point, closing_lines, full_id, lines_at_end, stream_lines, trace_of, with_points, with_taken}
 
@@ -65,14 +65,29 @@ pub record TakesUntilFull (old : SessionsState) (pairs : List Pair) (points : Li
   pub stands : Keeps new (with_taken pairs points)
   pub written : text' ≡ text ++ concat (stream_lines old.network old.params pairs points)
 
--- all were taken, or those before a full id, or memory ran out and what stood in the text still stands
+-- memory ran out: some points were taken, and their lines written, those of the last one maybe only in part
+pub record TakesUntilMemory (old : SessionsState) (pairs : List Pair) (points : List Point)
+    (new : SessionsState) (text text' : List ℕ) : Type 0 where
+  pub whole : List Point
+  pub last : List Point
+  pub left : List Point
+  pub parts : points ≡ whole ++ (last ++ left)
+  pub one : length last ≤ 1
+  pub network : new.network ≡ old.network
+  pub params : new.params ≡ old.params
+  pub room : full_id pairs (whole ++ last) ≡ None
+  pub stands : Keeps new (with_points pairs (whole ++ last))
+  pub written : AddsPrefix (text ++ concat (stream_lines old.network old.params pairs whole))
+      (concat (stream_lines old.network old.params (with_points pairs whole) last)) text'
+
+-- all were taken, or those before a full id, or those before memory ran out
 abbrev pub Streams : SessionsState → List Pair → List Point → SessionsState → List ℕ → List ℕ
     → Result ℕ SessionFault → Type 0
 Streams old pairs points new text text' (Ok pieces) = TakesPoints old pairs points new text text' pieces
 Streams old pairs points new text text' (Err (TooLong id)) =
     TakesUntilFull old pairs points new text text' id
 Streams old pairs points new text text' (Err (NotOpen id)) = ⊥
-Streams old pairs points new text text' (Err Memory) = Stays text text'
+Streams old pairs points new text text' (Err Memory) = TakesUntilMemory old pairs points new text text'
 
 -- what taking points leaves of the rows: nothing became known but what some id asks for with them, and
 -- after Ok all that it asks for is known and was not asked for before
@@ -91,10 +106,11 @@ pub record EndsPairs (old : SessionsState) (pairs : List Pair) (text text' : Lis
   pub counted : pieces_of_all old.network old.params pairs
       ≡ pieces_told old.network old.params pairs + pieces
 
--- all were ended, or memory ran out and what stood in the text still stands
+-- all were ended, or memory ran out and a prefix of the last lines was written
 abbrev pub Ends : {E : Type 0} → SessionsState → List Pair → List ℕ → List ℕ → Result ℕ E → Type 0
 Ends old pairs text text' (Ok pieces) = EndsPairs old pairs text text' pieces
-Ends old pairs text text' (Err refused) = Stays text text'
+Ends old pairs text text' (Err refused) =
+    AddsPrefix text (concat (closing_lines old.network old.params pairs)) text'
 
 -- ---- one id at its end
 
@@ -110,3 +126,8 @@ pub record EndsPair (n : Net) (p : Params) (pair : Pair) (text text' : List ℕ)
   pub written : text' ≡ text ++ concat (lines_at_end n p pair)
   pub counted : length (match_of n p (trace_of pair)).pieces
       ≡ pieces_among (handed n p (map (layer_of n p) pair.1)) + pieces
+
+-- or memory ran out and a prefix of them was written
+abbrev pub EndsOne : {E : Type 0} → Net → Params → Pair → List ℕ → List ℕ → Result ℕ E → Type 0
+EndsOne n p pair text text' (Ok pieces) = EndsPair n p pair text text' pieces
+EndsOne n p pair text text' (Err refused) = AddsPrefix text (concat (lines_at_end n p pair)) text'

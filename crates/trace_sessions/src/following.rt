@@ -6,17 +6,16 @@ ghost use Rattle.trace_match.specs.Match.{asks};
 ghost use Rattle.trace_reader.specs.Trace.{IsLawfulTrace};
 ghost use Rattle.trace_sessions.specs.FollowText.{fix_line};
 ghost use Rattle.trace_sessions.specs.Following.{IsFollowed, pieces_among};
-ghost use Rattle.trace_sessions.specs.ItemText.{AreItemsOf, Stays};
+ghost use Rattle.trace_sessions.specs.ItemText.{AddsPrefix, AreItemsOf, Stays};
 ghost use Rattle.trace_sessions.specs.StreamingInside.{rest_lines, step_lines};
 
 use crate::basis::Basis;
-use crate::items::{write_items, write_lead};
+use crate::items::{Writer, write_items, write_lead};
 use bounded_search::Rows;
 use decimal_text::write_unsigned;
 use match_text::{write_end, write_trace};
 use online_commit::{Item, Online};
 use polyline_geometry::List;
-use road_network::Network;
 use std::alloc::{AllocError, Global};
 use trace_match::layer;
 use trace_reader::Trace;
@@ -68,66 +67,67 @@ fn append_followed<R: Rows>(
 {
     on.net.known();
     write_trace(trace.id, into)?;
+    let by = Writer { alloc, net: on.net };
     let mut session = Online::open(alloc, on.net, on.params);
     let mut pieces = 0;
     for fix in trace.fixes.as_slice() {
         let point = session.count();
         let layer = layer(alloc, on.net, on.grid, on.params, fix)?;
         let items = session.feed(layer, rows)?;
-        write_step(alloc, on.net, None, point, items.as_slice(), into)?;
+        write_step(&by, None, point, items.as_slice(), into)?;
         pieces += count_pieces(items.as_slice());
     }
     let items = session.finish(rows)?;
-    write_rest(alloc, on.net, None, trace.id, items.as_slice(), into)?;
+    write_rest(&by, None, trace.id, items.as_slice(), into)?;
     Ok(pieces + count_pieces(items.as_slice()))
 }
 
 /// Appends the line `fix I` of a point and the lines of its items, each after the lead and a space if
-/// there is a lead. On `Err`, a part of them may remain at the end.
+/// there is a lead. On `Err`, a prefix of them may remain at the end.
 pub fn write_step(
-    alloc: Global,
-    net: &Network,
+    by: &Writer,
     lead: Option<u32>,
     point: u32,
     items: &[Item],
     into: &mut List<u8>,
 ) -> Result<(), AllocError>
-    requires { AreItemsOf net.now items.now }
+    requires { AreItemsOf by.now.net.now items.now }
     ensures ok { OnOk result
-        (into.new ≡ into.old ++ concat (step_lines net.now lead point items.now)) }
-    ensures err { OnErr result (Stays into.old into.new) }
+        (into.new ≡ into.old ++ concat (step_lines by.now.net.now lead point items.now)) }
+    ensures err { OnErr result
+        (AddsPrefix into.old (concat (step_lines by.now.net.now lead point items.now)) into.new) }
 {
     write_lead(lead, into)?;
     write_fix(point, into)?;
-    write_items(alloc, net, lead, items, into)
+    write_items(by.alloc, by.net, lead, items, into)
 }
 
 /// Appends the line `finish`, the lines of the remaining items, and the line that ends the trace,
-/// each after the lead and a space if there is a lead. On `Err`, a part of them may remain at the end.
+/// each after the lead and a space if there is a lead. On `Err`, a prefix of them may remain at the end.
 pub fn write_rest(
-    alloc: Global,
-    net: &Network,
+    by: &Writer,
     lead: Option<u32>,
     id: u32,
     items: &[Item],
     into: &mut List<u8>,
 ) -> Result<(), AllocError>
-    requires { AreItemsOf net.now items.now }
+    requires { AreItemsOf by.now.net.now items.now }
     ensures ok { OnOk result
-        (into.new ≡ into.old ++ concat (rest_lines net.now lead id items.now)) }
-    ensures err { OnErr result (Stays into.old into.new) }
+        (into.new ≡ into.old ++ concat (rest_lines by.now.net.now lead id items.now)) }
+    ensures err { OnErr result
+        (AddsPrefix into.old (concat (rest_lines by.now.net.now lead id items.now)) into.new) }
 {
     write_lead(lead, into)?;
     into.extend_from_slice(b"finish\n")?;
-    write_items(alloc, net, lead, items, into)?;
+    write_items(by.alloc, by.net, lead, items, into)?;
     write_lead(lead, into)?;
     write_end(id, into)
 }
 
-// Appends the line `fix I`. On `Err`, a part of it may remain at the end.
+// Appends the line `fix I`. On `Err`, a prefix of it may remain at the end.
 fn write_fix(point: u32, into: &mut List<u8>) -> Result<(), AllocError>
     ensures ok { OnOk result (into.new ≡ into.old ++ fix_line point) }
-    ensures err { OnErr result (Stays into.old into.new) }
+    ensures err { OnErr result (AddsPrefix into.old (fix_line point) into.new) }
 {
     into.extend_from_slice(b"fix ")?;
     write_unsigned(u64::from(point), into)?;

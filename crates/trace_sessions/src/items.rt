@@ -11,6 +11,13 @@ use road_network::Network;
 use std::alloc::{AllocError, Global};
 use trace_match::{label_on, routed};
 
+/// What lines of items are written with: the network whose ids they have.
+#[derive(Clone, Copy)]
+pub struct Writer<'a> {
+    pub alloc: Global,
+    pub net: &'a Network,
+}
+
 /// Appends the lines of these items, each after the id and a space if there is an id. On `Err`, `into`
 /// is unchanged.
 ///

@@ -1,7 +1,8 @@
 //! Laws of the lines of traces and of calls on sessions. Each function exists for its clause and does nothing.
 ghost use Rattle.trace_sessions.specs.Calls.{IdsAreAnsweredAlone};
+ghost use Rattle.trace_sessions.specs.CommonLabels.{CommittedIsCommonPrefix};
 ghost use Rattle.trace_sessions.specs.FollowText.{FollowIsMatch, WrittenLinesStay};
-ghost use Rattle.trace_sessions.specs.StreamText.{IdsAreFollowedAlone};
+ghost use Rattle.trace_sessions.specs.StreamText.{IdsAreFollowedAlone, IdsHaveFollowTexts};
 
 /// The follow text without its lines `fix I` and `finish` is the match text of the same trace.
 pub fn follow_is_match()
@@ -18,7 +19,19 @@ pub fn ids_are_followed_alone()
     ensures { IdsAreFollowedAlone }
 {}
 
+/// In the text of a stream, the lines that begin with an id and a space are, without these, the follow
+/// text of its points alone.
+pub fn ids_have_follow_texts()
+    ensures { IdsHaveFollowTexts }
+{}
+
 /// What calls of `feed` and `close` return for an id is what its own calls alone return.
 pub fn ids_are_answered_alone()
     ensures { IdsAreAnsweredAlone }
+{}
+
+/// If the latest position of a trace is in a piece, its committed labels are the longest common prefix of
+/// the lists of labels, one list for each best sequence to a candidate of that position.
+pub fn committed_is_common_prefix()
+    ensures { CommittedIsCommonPrefix }
 {}

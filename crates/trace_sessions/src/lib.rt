@@ -17,7 +17,7 @@
 //!
 //! [`Sessions::stream`] takes the points of a fragment and appends their lines, and [`Sessions::close_all`]
 //! those of the end. [`ids_are_followed_alone`] says that the lines of an id are the follow text of its
-//! points alone, and [`ids_are_answered_alone`] says the same of calls.
+//! points alone, [`ids_have_follow_texts`] says so of the bytes, and [`ids_are_answered_alone`] of calls.
 //!
 //! Read first: `item_lines` in `specs/ItemText.antt`, then `follow_lines` and `FollowIsMatch`; and
 //! `Keeps`, `TakesFix` and `Closes`; `stream_lines` and `closing_lines` in `specs/StreamText.antt`.
@@ -33,6 +33,7 @@ pub use basis::Basis;
 pub use following::follow_trace;
 pub use items::write_items;
 pub use laws::{
-    follow_is_match, ids_are_answered_alone, ids_are_followed_alone, written_lines_stay,
+    committed_is_common_prefix, follow_is_match, ids_are_answered_alone, ids_are_followed_alone,
+    ids_have_follow_texts, written_lines_stay,
 };
 pub use sessions::{SessionFault, Sessions};

@@ -1,28 +1,27 @@
 //! A stream of points of many traces, whose lines are written as they become certain. Serves `streams`;
 //! decided by `stream_lines` and `closing_lines`.
-ghost use Rattle.std.specs.Prelude.{◌≡◌, ◌++◌, ◌∷◌, [], List as ListOf, IfOk, OnOk, OnErr, length};
+ghost use Rattle.std.specs.Prelude.{◌≡◌, ◌++◌, ◌∷◌, [], List as ListOf, OnOk, OnErr, length};
 ghost use Rattle.std.specs.List.{concat};
 ghost use Rattle.polyline_geometry.specs.Plane.{InRange};
 ghost use Rattle.bounded_search.specs.Rows.{AreRowsOf, AsksOnly};
 ghost use Rattle.online_commit.specs.Session.{AsksFinished};
 ghost use Rattle.trace_match.specs.Match.{place_of};
 ghost use Rattle.trace_reader.specs.Trace.{IsLawfulTrace};
-ghost use Rattle.trace_sessions.specs.ItemText.{AreItemsOf, Stays};
+ghost use Rattle.trace_sessions.specs.ItemText.{AddsPrefix, AreItemsOf};
 ghost use Rattle.trace_sessions.specs.Sessions.{IsSessionOf, Keeps, Pair};
 ghost use Rattle.trace_sessions.specs.StreamText.{fragment_points, led_by};
-ghost use Rattle.trace_sessions.specs.Streaming.{AsksSome, AsksStream, CanEnd, CanStream, Ends, EndsPair, Streams};
+ghost use Rattle.trace_sessions.specs.Streaming.{AsksSome, AsksStream, CanEnd, CanStream, Ends, EndsOne, Streams};
 ghost use Rattle.trace_sessions.specs.StreamingInside.{heading, lines_of_items};
 
 use super::{SessionFault, Sessions};
 use crate::following::{count_pieces, write_rest, write_step};
-use crate::items::write_lead;
+use crate::items::{Writer, write_lead};
 use bounded_search::Rows;
 use indexmap::IndexMap;
 use match_text::write_trace;
 use online_commit::{Item, Online};
 use polyline_geometry::List;
-use road_network::Network;
-use std::alloc::{AllocError, Global};
+use std::alloc::AllocError;
 use trace_reader::{Fix, Trace};
 
 impl<'n> Sessions<'n> {
@@ -37,10 +36,15 @@ impl<'n> Sessions<'n> {
         requires { AreItemsOf self.now.network items.now }
         ensures ok { OnOk result
             (into.new ≡ into.old ++ concat (lines_of_items self.now.network id point items.now)) }
-        ensures err { OnErr result (Stays into.old into.new) }
+        ensures err { OnErr result
+            (AddsPrefix into.old (concat (lines_of_items self.now.network id point items.now)) into.new) }
     {
         write_heading(id, point, into)?;
-        write_step(self.alloc, self.net, Some(id), point, items, into)
+        let by = Writer {
+            alloc: self.alloc,
+            net: self.net,
+        };
+        write_step(&by, Some(id), point, items, into)
     }
 
     // Takes the next point of the id and appends its lines.
@@ -68,8 +72,8 @@ impl<'n> Sessions<'n> {
 
     /// Takes the points of a fragment of a trace, each as by [`Sessions::feed`], appends their lines,
     /// and returns how many pieces they closed. `TooLong` means that the id had 100,000 points before
-    /// one of them; the lines of the points before it are appended then. After `Memory`, the old content
-    /// of `into` is intact, and a part of the lines may follow it.
+    /// one of them; the lines of the points before it are appended then. After `Memory`, the sessions have
+    /// some of the points, and the lines of these are appended, those of the last one maybe only in part.
     pub fn stream<R: Rows>(
         &mut self,
         trace: &Trace,
@@ -94,8 +98,8 @@ impl<'n> Sessions<'n> {
     }
 
     /// Ends all traces, in order of first appearance: appends their last lines, and returns how many
-    /// pieces they closed. Afterwards there are no sessions, even on `Err`. On `Err`, the old content of
-    /// `into` is intact, and a part of the lines may follow it. Takes the time of the items of each trace.
+    /// pieces they closed. Afterwards there are no sessions, even on `Err`. On `Err`, a prefix of the lines
+    /// is appended. Takes the time of the items of each trace.
     pub fn close_all<R: Rows>(
         &mut self,
         rows: &mut R,
@@ -112,9 +116,13 @@ impl<'n> Sessions<'n> {
         self.known();
         let none = IndexMap::new(self.alloc);
         let sessions = std::mem::replace(&mut self.sessions, none);
+        let by = Writer {
+            alloc: self.alloc,
+            net: self.net,
+        };
         let mut pieces = 0;
         for (id, session) in sessions {
-            let count = end_session(self.alloc, self.net, id, session, rows, into)?;
+            let count = end_session(&by, id, session, rows, into)?;
             pieces += count;
         }
         Ok(pieces)
@@ -124,7 +132,8 @@ impl<'n> Sessions<'n> {
 // Appends the line that begins the trace, before its first point.
 fn write_heading(id: u32, point: u32, into: &mut List<u8>) -> Result<(), AllocError>
     ensures ok { OnOk result (into.new ≡ into.old ++ concat (led_by id (heading id point))) }
-    ensures err { OnErr result (Stays into.old into.new) }
+    ensures err { OnErr result
+        (AddsPrefix into.old (concat (led_by id (heading id point))) into.new) }
 {
     if point > 0 {
         return Ok(());
@@ -135,23 +144,21 @@ fn write_heading(id: u32, point: u32, into: &mut List<u8>) -> Result<(), AllocEr
 
 // Ends the session of the id, and appends its last lines.
 fn end_session<R: Rows>(
-    alloc: Global,
-    net: &Network,
+    by: &Writer,
     id: u32,
     session: Online,
     rows: &mut R,
     into: &mut List<u8>,
 ) -> Result<u64, AllocError>
-    requires rows { AreRowsOf (R.state rows.old) net.now session.params.bound }
-    requires can { CanEnd net.now session id }
-    ensures ends { (fixes : ListOf Fix) → IsSessionOf net.now session.entry.params session.entry fixes
-        → IfOk result (EndsPair net.now session.entry.params (id, fixes) into.old into.new) }
-    ensures err { OnErr result (Stays into.old into.new) }
+    requires rows { AreRowsOf (R.state rows.old) by.now.net.now session.params.bound }
+    requires can { CanEnd by.now.net.now session id }
+    ensures ends { (fixes : ListOf Fix) → IsSessionOf by.now.net.now session.entry.params session.entry fixes
+        → EndsOne by.now.net.now session.entry.params (id, fixes) into.old into.new result }
     ensures asks { AsksFinished session.entry (R.state rows.old) (R.state rows.new) }
 {
-    net.known();
+    by.net.known();
     let mut session = session;
     let items = session.finish(rows)?;
-    write_rest(alloc, net, Some(id), id, items.as_slice(), into)?;
+    write_rest(by, Some(id), id, items.as_slice(), into)?;
     Ok(count_pieces(items.as_slice()))
 }

@@ -10,7 +10,7 @@ use Rattle.trace_sessions.proofs.FollowedPoints.{all_counted, all_fed, all_layer
 use Rattle.trace_sessions.proofs.FollowedRows.{all_asked, next_asked, none_asked, session_rows}
 use Rattle.trace_sessions.proofs.FollowedText.{text_begins, text_ends, text_next}
 use Rattle.trace_sessions.proofs.SessionFixes.{on-err}
-use Rattle.trace_sessions.proofs.Written.{stays-behind, stays-itself}
+use Rattle.trace_sessions.proofs.Written.{adds-stays, stays-behind, stays-itself}
 use Rattle.trace_sessions.proofs.following.append_followed.Goals as goal
 
 pub loop-fix-init : goal.loop-fix-init
@@ -32,13 +32,13 @@ pub returns-in_err-items-clause-err : goal.returns-in_err-items-clause-err
 returns-in_err-items-clause-err g c = on-err c.from_residual-in_err-items.result (stays-behind c.args.into.now _ c.loop-fix.into c.loop-fix.into c.loop-fix.invariant.text (stays-itself c.loop-fix.into))
 
 pub returns-in_err-write_step-clause-err : goal.returns-in_err-write_step-clause-err
-returns-in_err-write_step-clause-err g c = on-err c.from_residual-in_err-write_step.result (stays-behind c.args.into.now _ c.loop-fix.into c.write_step.new.into c.loop-fix.invariant.text c.in_err-write_step.ensures.err)
+returns-in_err-write_step-clause-err g c = on-err c.from_residual-in_err-write_step.result (stays-behind c.args.into.now _ c.loop-fix.into c.write_step.new.into c.loop-fix.invariant.text (adds-stays c.loop-fix.into _ c.write_step.new.into c.in_err-write_step.ensures.err))
 
 pub returns-in_err-items-2-clause-err : goal.returns-in_err-items-2-clause-err
 returns-in_err-items-2-clause-err g c = on-err c.from_residual-in_err-items-2.result (stays-behind c.args.into.now _ c.loop-fix.into c.loop-fix.into c.loop-fix.invariant.text (stays-itself c.loop-fix.into))
 
 pub returns-in_err-write_rest-clause-err : goal.returns-in_err-write_rest-clause-err
-returns-in_err-write_rest-clause-err g c = on-err c.from_residual-in_err-write_rest.result (stays-behind c.args.into.now _ c.loop-fix.into c.write_rest.new.into c.loop-fix.invariant.text c.in_err-write_rest.ensures.err)
+returns-in_err-write_rest-clause-err g c = on-err c.from_residual-in_err-write_rest.result (stays-behind c.args.into.now _ c.loop-fix.into c.write_rest.new.into c.loop-fix.invariant.text (adds-stays c.loop-fix.into _ c.write_rest.new.into c.in_err-write_rest.ensures.err))
 
 pub returns-in_err-write_trace-clause-asks : goal.returns-in_err-write_trace-clause-asks
 returns-in_err-write_trace-clause-asks g c = keeps_err (keeps_itself (g.R.Rows.state c.args.rows.now)) c.from_residual.ensures.0

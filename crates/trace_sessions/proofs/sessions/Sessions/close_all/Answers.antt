@@ -1,6 +1,6 @@
 use Rattle.std.proofs.Common.{◌∙◌, ap, arith}
 use Rattle.std.proofs.lemmas.Result.{err_from_is_err_and}
-use Rattle.trace_sessions.proofs.StreamEnds.{all-ended, ended-can, ended-err, ended-few, ended-next, ended-rows, ended-stays, none-ended}
+use Rattle.trace_sessions.proofs.StreamEnds.{all-ended, ended-can, ended-cut, ended-err, ended-few, ended-next, ended-rows, none-ended}
 use Rattle.trace_sessions.proofs.sessions.Sessions.close_all.Goals as goal
 
 pub loop-id-init : goal.loop-id-init
@@ -22,7 +22,7 @@ returns-in_err-count-clause-asks g c = ended-err _ _ _ _ _ _ _ _ _ _ _ c.in-Some
 pub returns-in_err-count-clause-ends : goal.returns-in_err-count-clause-ends
 returns-in_err-count-clause-ends g c pairs keeps =
     let p = err_from_is_err_and c.from_residual.result c.from_residual.ensures.1 in
-    rw p.1 (ended-stays _ _ _ _ _ _ _ _ _ c.requires.can c.loop-id.invariant c.in_err-count.ensures.err)
+    rw p.1 (ended-cut _ c.self.inside.net.now _ _ _ _ _ _ _ _ _ _ (ap (λ s. s.network) c.self.view_is) c.in-Some.ensures.steps c.loop-id.invariant c.in_err-count.ensures.ends pairs keeps)
 
 pub overflow_add-pieces : goal.overflow_add-pieces
 overflow_add-pieces g c =

@@ -1,11 +1,12 @@
 use Rattle.std.proofs.Common.{◌∙◌, ◌++◌, Ok, OnOk, sym, ap, subst}
 use Rattle.std.specs.List.{concat}
+use Rattle.std.proofs.lemmas.Result.{err_from_is_err_and}
 use Rattle.trace_sessions.specs.declared.sessions.SessionFault.{SessionFault}
 use Rattle.trace_sessions.specs.Following.{pieces_among}
-use Rattle.trace_sessions.specs.ItemText.{AreItemsOf}
+use Rattle.trace_sessions.specs.ItemText.{AddsPrefix, AreItemsOf}
 use Rattle.trace_sessions.specs.StreamingInside.{lines_of_items}
 use Rattle.trace_sessions.proofs.SessionFixes.{no-ok}
-use Rattle.trace_sessions.proofs.StreamTakes.{items-lie, point-asks, point-taken, points-in}
+use Rattle.trace_sessions.proofs.StreamTakes.{items-lie, point-asks, point-cut, point-refused, point-taken, points-in}
 use Rattle.trace_sessions.proofs.sessions.Sessions.stream_point.Goals as goal
 
 pub returns-in_err-items-clause-asks : goal.returns-in_err-items-clause-asks
@@ -42,3 +43,20 @@ returns-clause-streams g c pairs keeps =
 pub returns-clause-asks : goal.returns-clause-asks
 returns-clause-asks g c =
     point-asks {F = SessionFault} c.args.self.now c.args.id c.args.fix _ _ c.feed.result (Ok c.count_pieces.result) c.feed.ensures.asks (λ P h. subst (λ r. OnOk r P) c.in_ok-items.was h)
+
+pub returns-in_err-write_point-clause-streams : goal.returns-in_err-write_point-clause-streams
+returns-in_err-write_point-clause-streams g c pairs keeps =
+    let s = c.args.self.now in
+    let fed = c.in_ok-items.ensures.fed in
+    let old = c.args.into.now in
+    let new = c.write_point.new.into in
+    let e = err_from_is_err_and c.from_residual-in_err-write_point.result c.from_residual-in_err-write_point.ensures.1 in
+    let cut = subst (λ xs. AddsPrefix old (concat (lines_of_items s.network c.args.id c.points-point.result xs)) new) c.as_slice.ensures
+    (subst (λ m. AddsPrefix old (concat (lines_of_items m c.args.id c.points-point.result c.as_slice.result.now)) new) fed.network c.in_err-write_point.ensures.err) in
+    rw (e.1, e.2) (point-cut s c.feed.new.self pairs c.args.id c.args.fix c.in_ok-items.items c.points-point.result old new keeps fed (c.points-point.ensures ∙ points-in s pairs c.args.id keeps) cut)
+
+pub returns-in_err-items-clause-streams : goal.returns-in_err-items-clause-streams
+returns-in_err-items-clause-streams g c pairs keeps =
+    let e = err_from_is_err_and c.from_residual.result c.from_residual.ensures.1 in
+    let refused = c.in_err-items.ensures.refused in
+    rw (e.1, e.2) (point-refused c.args.self.now c.feed.new.self pairs c.args.id c.args.fix _ c.args.into.now keeps refused.why refused.unchanged)
