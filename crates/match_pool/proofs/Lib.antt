@@ -1,13 +1,13 @@
 pub mod Columns
+pub mod Draws
 pub mod Found
-pub mod Hired
 pub mod Learning
 pub mod Lists
 pub mod OneFix
 pub mod Slots
 pub mod Spots
+pub mod Started
 pub mod Taken
-pub mod Tours
 pub mod Turns
 pub mod Unmatched
 pub mod Yields

@@ -8,7 +8,7 @@ use Rattle.std.proofs.lemmas.List.Sums.{sum_by-cons}
 use Rattle.match_text.specs.declared.matched.MatchedTrace.{MatchedTrace}
 use Rattle.bounded_search.proofs.KnownNodes.{get_set, get_set_else}
 use Rattle.tickets.specs.Tickets.{Drawn, times}
-use Rattle.match_pool.specs.declared.turn.Strip.{Strip}
+use Rattle.match_pool.specs.declared.turn.Partition.{Partition}
 use Rattle.match_pool.specs.declared.turn.Turn.{Turn}
 use Rattle.match_pool.specs.declared.worker.Done.{Done}
 use Rattle.match_pool.specs.Drawing.{number_at}
@@ -54,27 +54,27 @@ no_match = None
 
 -- the answers of some turns are put into their slots
 abbrev pub Holds : Job → List ℕ → List Turn → List (Option MatchedTrace) → List (Option MatchedTrace) → Type 0
-Holds j strip turns old new =
+Holds j partition turns old new =
     (k : ℕ) → k < length old → (slice_get new k ≡ Some (Some (matched_at j k)))
-    ⊎ ((slice_get new k ≡ slice_get old k) × ((rank : ℕ) → rank < length strip → number_at strip rank ≡ k → All (λ (t : Turn). Contains t.ticket.numbers rank → ⊥) turns))
+    ⊎ ((slice_get new k ≡ slice_get old k) × ((rank : ℕ) → rank < length partition → number_at partition rank ≡ k → All (λ (t : Turn). Contains t.ticket.numbers rank → ⊥) turns))
 
-pub holds_none : (j : Job) (strip : List ℕ) (slots : List (Option MatchedTrace)) → Holds j strip [] slots slots
-holds_none j strip slots k low = inr (refl, λ rank inside is. All-nil (λ (t : Turn). Contains t.ticket.numbers rank → ⊥))
+pub holds_none : (j : Job) (partition : List ℕ) (slots : List (Option MatchedTrace)) → Holds j partition [] slots slots
+holds_none j partition slots k low = inr (refl, λ rank inside is. All-nil (λ (t : Turn). Contains t.ticket.numbers rank → ⊥))
 
 -- the places of a turn's answers are among those of the slots
-pub places_inside : (j : Job) (strip drawn : List ℕ) (done : List Done) → AnswersFor j strip drawn done → All (λ (d : Done). (j.first ≤ d.place) × (d.place < j.first + length j.traces)) done
-places_inside j strip drawn done a =
+pub places_inside : (j : Job) (partition drawn : List ℕ) (done : List Done) → AnswersFor j partition drawn done → All (λ (d : Done). (j.first ≤ d.place) × (d.place < j.first + length j.traces)) done
+places_inside j partition drawn done a =
     let count = length j.traces in
     subst (All (λ (d : Done). (j.first ≤ d.place) × (d.place < j.first + count))) (sym a.are)
     (All-map (λ (d : Done). (j.first ≤ d.place) × (d.place < j.first + count)) (done_by j.first (matched_at j)) a.numbers
     (All-weaker (λ k. k < count) (λ k. (j.first ≤ j.first + k) × (j.first + k < j.first + count)) (λ k low. (omega arith, omega arith)) a.numbers a.below))
 
 -- one more turn
-pub holds_more : (j : Job) (strip : List ℕ) (turns : List Turn) (turn : Turn) (old mid new : List (Option MatchedTrace))
-    → AnswersFor j strip turn.ticket.numbers turn.done → length mid ≡ length old → Holds j strip turns old mid
+pub holds_more : (j : Job) (partition : List ℕ) (turns : List Turn) (turn : Turn) (old mid new : List (Option MatchedTrace))
+    → AnswersFor j partition turn.ticket.numbers turn.done → length mid ≡ length old → Holds j partition turns old mid
     → ((numbers : List ℕ) → turn.done ≡ map (done_by j.first (matched_at j)) numbers → Fills (matched_at j) numbers mid new)
-    → Holds j strip (turns ++ turn ∷ []) old new
-holds_more j strip turns turn old mid new a long h fills k low =
+    → Holds j partition (turns ++ turn ∷ []) old new
+holds_more j partition turns turn old mid new a long h fills k low =
     ⊎_elim (λ e. inl e)
     (λ r. ⊎_elim (λ e. inl (r.0 ∙ e))
     (λ s. inr (
@@ -108,23 +108,23 @@ some_ticket k (turn ∷ turns) some = elim (cases_eq (times k turn.ticket.number
   | inr more ↦ (0, turn, omega arith, refl, times_some k turn.ticket.numbers (omega (arith, more)))
 ]
 
--- where each rank was drawn, the strip's slots are filled
-pub strip_filled : (j : Job) (strip : List ℕ) (turns : List Turn) (old new : List (Option MatchedTrace)) → Holds j strip turns old new
-    → ((rank : ℕ) → rank < length strip → Any (λ (t : Turn). Contains t.ticket.numbers rank) turns) → Fills (matched_at j) strip old new
-strip_filled j strip turns old new h drawn k low =
+-- where each rank was drawn, the partition's slots are filled
+pub partition_filled : (j : Job) (partition : List ℕ) (turns : List Turn) (old new : List (Option MatchedTrace)) → Holds j partition turns old new
+    → ((rank : ℕ) → rank < length partition → Any (λ (t : Turn). Contains t.ticket.numbers rank) turns) → Fills (matched_at j) partition old new
+partition_filled j partition turns old new h drawn k low =
     ⊎_elim (λ e. inl e)
     (λ r. inr (
       r.0,
       λ c.
-          let at : number_at strip c.0 ≡ k = default_same strip c.0 0 k c.1 ∙ c.2 in
+          let at : number_at partition c.0 ≡ k = default_same partition c.0 0 k c.1 ∙ c.2 in
           let d = drawn c.0 c.1 in
           subst (λ (t : Turn). Contains t.ticket.numbers c.0 → ⊥) d.3 (r.1 c.0 c.1 at d.0 d.1 d.2) d.4,
     ))
     (h k low)
 
--- the traces of these strips have their matches
-abbrev pub AreIn : Job → List Strip → List (Option MatchedTrace) → Type 0
-AreIn j strips slots = (k : ℕ) → k < length j.traces → Any (λ (s : Strip). Contains s.numbers k) strips → slice_get slots k ≡ Some (Some (matched_at j k))
+-- the traces of these partitions have their matches
+abbrev pub AreIn : Job → List Partition → List (Option MatchedTrace) → Type 0
+AreIn j partitions slots = (k : ℕ) → k < length j.traces → Any (λ (s : Partition). Contains s.numbers k) partitions → slice_get slots k ≡ Some (Some (matched_at j k))
 
 pub none_in : (j : Job) (slots : List (Option MatchedTrace)) → AreIn j [] slots
 none_in j slots k low any = absurd (let lt = any.2 in omega arith)
@@ -135,10 +135,10 @@ any_last P [] x (suc k, y, lt, e, p) = absurd (omega arith)
 any_last P (z ∷ xs) x (zero, y, lt, e, p) = inl (zero, y, omega arith, e, p)
 any_last P (z ∷ xs) x (suc k, y, lt, e, p) = ⊎_elim (λ r. inl (suc r.0, r.1, (let l = r.2 in omega arith), r.3, r.4)) (λ q. inr q) (any_last P xs x (k, y, omega arith, e, p))
 
-pub more_in : (j : Job) (strips : List Strip) (strip : Strip) (old new : List (Option MatchedTrace)) → length old ≡ length j.traces → AreIn j strips old → Fills (matched_at j) strip.numbers old new → AreIn j (strips ++ strip ∷ []) new
-more_in j strips strip old new long are fills k low any =
+pub more_in : (j : Job) (partitions : List Partition) (partition : Partition) (old new : List (Option MatchedTrace)) → length old ≡ length j.traces → AreIn j partitions old → Fills (matched_at j) partition.numbers old new → AreIn j (partitions ++ partition ∷ []) new
+more_in j partitions partition old new long are fills k low any =
     ⊎_elim (λ e. e)
-    (λ r. ⊎_elim (λ before. r.0 ∙ are k low before) (λ here. absurd (r.1 here)) (any_last (λ (s : Strip). Contains s.numbers k) strips strip any))
+    (λ r. ⊎_elim (λ before. r.0 ∙ are k low before) (λ here. absurd (r.1 here)) (any_last (λ (s : Partition). Contains s.numbers k) partitions partition any))
     (fills k (omega arith))
 
 read_of : {A : Type 0} (l : List A) (k : ℕ) (d x : A) → slice_get l k ≡ Some x → slice_index_or l k d ≡ x

@@ -1,4 +1,4 @@
--- Spots of traces, and the strips that they are put into.
+-- Spots of traces, and the partitions that they are put into.
 use Rattle.std.proofs.Common.{◌≡◌, ℕ, zero, suc, ◌+◌, ◌<◌, ◌≤◌, List, [], ◌∷◌, ◌++◌, length, length-append, length-set, set, replicate, All, Any, Contains, refl, sym, ap, ◌∙◌, subst, inl, inr, arith}
 use Rattle.std.specs.Prelude.{slice_index_or}
 use Rattle.std.specs.List.{range_with_len}
@@ -8,8 +8,8 @@ use Rattle.std.proofs.lemmas.List.Elements.{All-cons, All-nil, All-push, All-rep
 use Rattle.std.proofs.lemmas.List.FromFn.{get_or-range_with_len, length-range_with_len}
 use Rattle.std.proofs.lemmas.List.Quantifiers.{Any-push, any-set}
 use Rattle.std.proofs.lemmas.List.Sorted.{All-permutation, Contains-permutation, length_permutation}
-use Rattle.match_pool.specs.declared.strips.Spot.{Spot}
-use Rattle.match_pool.specs.Strips.{AreSpotsOf, AreStripsOf}
+use Rattle.match_pool.specs.declared.partitions.Spot.{Spot}
+use Rattle.match_pool.specs.Partitions.{AreSpotsOf, ArePartitionsOf}
 use Rattle.match_pool.proofs.Lists.{default_same}
 
 any_left : {X : Type 0} (P : X → Type 0) (xs ys : List X) → Any P xs → Any P (xs ++ ys)
@@ -61,14 +61,14 @@ spots_permuted n old new perm are = record {
       (c.0, a.1, c.1, c.2, a.4);
 }
 
--- one strip of all numbers
+-- one partition of all numbers
 all_below : (n : ℕ) → All (λ k. k < n) (range_with_len 0 n)
 all_below n i d low =
     let lt : i < n = (let l = length-range_with_len 0 n in omega arith) in
     subst (λ (x : ℕ). x < n) (sym (get_or-range_with_len 0 n i d lt)) (omega arith)
 
-pub one_strip : (n : ℕ) → AreStripsOf n (range_with_len 0 n ∷ [])
-one_strip n = record {
+pub one_partition : (n : ℕ) → ArePartitionsOf n (range_with_len 0 n ∷ [])
+one_partition n = record {
   inside = All-cons (λ (l : List ℕ). All (λ k. k < n) l) (range_with_len 0 n) [] (all_below n) (All-nil (λ (l : List ℕ). All (λ k. k < n) l));
   short = All-cons (λ (l : List ℕ). length l ≤ n) (range_with_len 0 n) [] (let l = length-range_with_len 0 n in omega arith) (All-nil (λ (l : List ℕ). length l ≤ n));
   whole = λ k low.
@@ -76,11 +76,11 @@ one_strip n = record {
       (0, range_with_len 0 n, omega arith, refl, (k, (let l = length-range_with_len 0 n in omega arith), at));
 }
 
--- the first spots are put into strips
-pub record Cutting (n : ℕ) (spots : List Spot) (rank : ℕ) (strips : List (List ℕ)) : Type 0 where
-  pub inside : All (λ (l : List ℕ). All (λ k. k < n) l) strips
-  pub short : All (λ (l : List ℕ). length l ≤ rank) strips
-  pub placed : (i : ℕ) (d : Spot) → i < rank → Any (λ (l : List ℕ). Contains l (slice_index_or spots i d).number) strips
+-- the first spots are put into partitions
+pub record Cutting (n : ℕ) (spots : List Spot) (rank : ℕ) (partitions : List (List ℕ)) : Type 0 where
+  pub inside : All (λ (l : List ℕ). All (λ k. k < n) l) partitions
+  pub short : All (λ (l : List ℕ). length l ≤ rank) partitions
+  pub placed : (i : ℕ) (d : Spot) → i < rank → Any (λ (l : List ℕ). Contains l (slice_index_or spots i d).number) partitions
 
 pub cut_none : (n count : ℕ) (spots : List Spot) → Cutting n spots 0 (replicate count [])
 cut_none n count spots = record {
@@ -89,31 +89,31 @@ cut_none n count spots = record {
   placed = λ i d low. absurd (omega arith);
 }
 
-pub cut_more : (n rank : ℕ) (spots : List Spot) (strips : List (List ℕ)) (s x : ℕ) → s < length strips → x < n → ((d : Spot) → (slice_index_or spots rank d).number ≡ x) → Cutting n spots rank strips
-    → Cutting n spots (rank + 1) (set strips s (slice_index_or strips s [] ++ x ∷ []))
-cut_more n rank spots strips s x low lt is cut =
-    let old = slice_index_or strips s [] in
+pub cut_more : (n rank : ℕ) (spots : List Spot) (partitions : List (List ℕ)) (s x : ℕ) → s < length partitions → x < n → ((d : Spot) → (slice_index_or spots rank d).number ≡ x) → Cutting n spots rank partitions
+    → Cutting n spots (rank + 1) (set partitions s (slice_index_or partitions s [] ++ x ∷ []))
+cut_more n rank spots partitions s x low lt is cut =
+    let old = slice_index_or partitions s [] in
     let new = old ++ x ∷ [] in
     record {
-      inside = All-set (λ (l : List ℕ). All (λ k. k < n) l) strips s new (All-push (λ k. k < n) old x (cut.inside s [] low) lt) cut.inside;
-      short = All-set (λ (l : List ℕ). length l ≤ rank + 1) strips s new (let long = length-append old (x ∷ []) in let few = cut.short s [] low in omega arith)
-          (All-weaker (λ (l : List ℕ). length l ≤ rank) (λ (l : List ℕ). length l ≤ rank + 1) (λ l few. omega arith) strips cut.short);
+      inside = All-set (λ (l : List ℕ). All (λ k. k < n) l) partitions s new (All-push (λ k. k < n) old x (cut.inside s [] low) lt) cut.inside;
+      short = All-set (λ (l : List ℕ). length l ≤ rank + 1) partitions s new (let long = length-append old (x ∷ []) in let few = cut.short s [] low in omega arith)
+          (All-weaker (λ (l : List ℕ). length l ≤ rank) (λ (l : List ℕ). length l ≤ rank + 1) (λ l few. omega arith) partitions cut.short);
       placed = λ i d before. elim (cases_eq i rank) [
-        | inl same ↦ any-set (λ (l : List ℕ). Contains l (slice_index_or spots i d).number) strips s new low
+        | inl same ↦ any-set (λ (l : List ℕ). Contains l (slice_index_or spots i d).number) partitions s new low
             (subst (λ (m : ℕ). Contains new m) (sym (ap (λ (j : ℕ). (slice_index_or spots j d).number) same ∙ is d)) (Contains-push old x))
-        | inr apart ↦ any_set_same (λ (l : List ℕ). Contains l (slice_index_or spots i d).number) strips s new low
-            (λ c. Contains-append_left old (x ∷ []) (slice_index_or spots i d).number (subst (λ (l : List ℕ). Contains l (slice_index_or spots i d).number) (default_same strips s new [] low) c))
+        | inr apart ↦ any_set_same (λ (l : List ℕ). Contains l (slice_index_or spots i d).number) partitions s new low
+            (λ c. Contains-append_left old (x ∷ []) (slice_index_or spots i d).number (subst (λ (l : List ℕ). Contains l (slice_index_or spots i d).number) (default_same partitions s new [] low) c))
             (cut.placed i d (omega (arith, before, apart)))
       ];
     }
 
-pub cut_all : (n : ℕ) (spots : List Spot) (strips : List (List ℕ)) → AreSpotsOf n spots → Cutting n spots (length spots) strips → AreStripsOf n strips
-cut_all n spots strips are cut = record {
+pub cut_all : (n : ℕ) (spots : List Spot) (partitions : List (List ℕ)) → AreSpotsOf n spots → Cutting n spots (length spots) partitions → ArePartitionsOf n partitions
+cut_all n spots partitions are cut = record {
   inside = cut.inside;
-  short = subst (λ (m : ℕ). All (λ (l : List ℕ). length l ≤ m) strips) are.long cut.short;
+  short = subst (λ (m : ℕ). All (λ (l : List ℕ). length l ≤ m) partitions) are.long cut.short;
   whole = λ k low.
       let a = are.whole k low in
-      subst (λ (m : ℕ). Any (λ (l : List ℕ). Contains l m) strips) (ap (λ (s : Spot). s.number) a.3 ∙ a.4) (cut.placed a.0 a.1 a.2);
+      subst (λ (m : ℕ). Any (λ (l : List ℕ). Contains l m) partitions) (ap (λ (s : Spot). s.number) a.3 ∙ a.4) (cut.placed a.0 a.1 a.2);
 }
 
 pub range_more : (a n : ℕ) → range_with_len a (n + 1) ≡ range_with_len a n ++ (a + n) ∷ []

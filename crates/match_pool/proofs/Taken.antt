@@ -1,4 +1,4 @@
--- What a worker has after a turn at a strip.
+-- What a worker has after a turn at a partition.
 use Rattle.std.proofs.Common.{◌≡◌, inl, inr, ℕ, suc, ◌<◌, ◌≤◌, true, List, [], ◌∷◌, ◌++◌, map, length, All, Any, Contains, true≢false, refl, sym, ap, ◌∙◌, subst, ⊎_elim, append_assoc, arith}
 use Rattle.std.proofs.lemmas.Bool.{or_cases}
 use Rattle.std.specs.List.{list_any}
@@ -9,20 +9,12 @@ use Rattle.row_store.specs.Store.{Reading}
 use Rattle.tickets.specs.Tickets.{Drawn, fresh_ticket}
 use Rattle.trace_match.specs.Match.{asks}
 use Rattle.trace_reader.specs.declared.trace.Trace.{Trace}
-use Rattle.match_pool.specs.declared.turn.Strip.{Strip}
+use Rattle.match_pool.specs.declared.turn.Partition.{Partition}
 use Rattle.match_pool.specs.declared.turn.Turn.{Turn}
 use Rattle.match_pool.specs.declared.worker.Done.{Done}
-use Rattle.match_pool.specs.Drawing.{WorksAt, number_at}
-use Rattle.match_pool.specs.Turns.{IsOver, IsStripOf, Learns, LearnsOnly, asked_by}
-use Rattle.match_pool.specs.Working.{Job, asks_at, no_trace}
-
--- what the traces of some numbers ask for
-asked_job : (j : Job) (v : ℕ) (numbers : List ℕ) → All (λ k. k < length j.traces) numbers → list_any (asks_at j v) numbers ≡ true → asked_by j v ≡ true
-asked_job j v [] below is = absurd (true≢false (sym is))
-asked_job j v (n ∷ ns) below is = ⊎_elim
-    (λ head. list_any_at (λ (t : Trace). asks j.network j.params t v) j.traces n no_trace (All-head (λ k. k < length j.traces) n ns below) head)
-    (λ tail. asked_job j v ns (All-tail (λ k. k < length j.traces) n ns below) tail)
-    (or_cases (asks_at j v n) (list_any (asks_at j v) ns) is)
+use Rattle.match_pool.specs.Drawing.{WorksOn, number_at}
+use Rattle.match_pool.specs.Turns.{IsOver, IsPartitionOf, Learns}
+use Rattle.match_pool.specs.Working.{Job, asks_at}
 
 late_last : (n last : ℕ) (xs : List ℕ) → n ≤ last → Any (λ x. n ≤ x) (xs ++ last ∷ [])
 late_last n last [] late = (0, last, omega arith, refl, late)
@@ -32,42 +24,37 @@ contains_map : {A B : Type 0} (f : A → B) (xs : List A) (x : A) → Contains x
 contains_map f xs x c = (c.0, (let lt = c.1 in let same = length-map xs f in omega arith), get_or-map f xs c.0 x (f x) c.1 ∙ ap f c.2)
 
 -- the ranks that a ticket drew which had drawn nothing before
-drawn_below : (j : Job) (strip : List ℕ) (reader : Reading) (ticket : Drawn) (done : List Done) (reader' : Reading) (ticket' : Drawn) (w : WorksAt j strip reader ticket done reader' ticket') → ticket.numbers ≡ [] → (k : ℕ) → k < length strip → Contains ticket'.numbers k → Contains w.ranks k
-drawn_below j strip reader ticket done reader' ticket' w fresh k low c =
+drawn_below : (j : Job) (partition : List ℕ) (reader : Reading) (ticket : Drawn) (done : List Done) (reader' : Reading) (ticket' : Drawn) (w : WorksOn j partition reader ticket done reader' ticket') → ticket.numbers ≡ [] → (k : ℕ) → k < length partition → Contains ticket'.numbers k → Contains w.ranks k
+drawn_below j partition reader ticket done reader' ticket' w fresh k low c =
     let whole : ticket'.numbers ≡ w.ranks ++ w.last ∷ [] = w.drawn ∙ ap (λ (l : List ℕ). l ++ (w.ranks ++ w.last ∷ [])) fresh in
     let here : Contains (w.ranks ++ w.last ∷ []) k = subst (λ (l : List ℕ). Contains l k) whole c in
     ⊎_elim (λ inside. inside) (λ (same : w.last ≡ k). let above = w.above in absurd (omega (arith, same))) (Contains-push_cases w.ranks w.last k here)
 
-numbers_inside : (j : Job) (strip ranks : List ℕ) → All (λ k. k < length j.traces) strip → All (λ k. k < length strip) ranks → All (λ k. k < length j.traces) (map (number_at strip) ranks)
-numbers_inside j strip ranks inside below =
-    All-map (λ k. k < length j.traces) (number_at strip) ranks (All-weaker (λ k. k < length strip) (λ k. number_at strip k < length j.traces) (λ k low. inside k 0 low) ranks below)
+numbers_inside : (j : Job) (partition ranks : List ℕ) → All (λ k. k < length j.traces) partition → All (λ k. k < length partition) ranks → All (λ k. k < length j.traces) (map (number_at partition) ranks)
+numbers_inside j partition ranks inside below =
+    All-map (λ k. k < length j.traces) (number_at partition) ranks (All-weaker (λ k. k < length partition) (λ k. number_at partition k < length j.traces) (λ k low. inside k 0 low) ranks below)
 
-pub turn_over : (j : Job) (strip : Strip) (reader : Reading) (ticket : Drawn) (turn : Turn) (reader' : Reading) → IsStripOf j strip → ticket ≡ fresh_ticket strip.claims.name → turn.ticket.claims ≡ ticket.claims
-    → WorksAt j strip.numbers reader ticket turn.done reader' turn.ticket → IsOver j strip turn
-turn_over j strip reader ticket turn reader' is fresh claims w =
+pub turn_over : (j : Job) (partition : Partition) (reader : Reading) (ticket : Drawn) (turn : Turn) (reader' : Reading) → IsPartitionOf j partition → ticket ≡ fresh_ticket partition.claims.name → turn.ticket.claims ≡ ticket.claims
+    → WorksOn j partition.numbers reader ticket turn.done reader' turn.ticket → IsOver j partition turn
+turn_over j partition reader ticket turn reader' is fresh claims w =
     let none : ticket.numbers ≡ [] = ap (λ (t : Drawn). t.numbers) fresh in
     let whole : turn.ticket.numbers ≡ (ticket.numbers ++ w.ranks) ++ w.last ∷ [] = w.drawn ∙ sym (append_assoc ticket.numbers w.ranks (w.last ∷ [])) in
     record {
       own = claims ∙ ap (λ (t : Drawn). t.claims) fresh;
-      ended = subst (λ (l : List ℕ). Any (λ x. strip.claims.count ≤ x) l) (sym whole)
-          (late_last strip.claims.count w.last (ticket.numbers ++ w.ranks) (let above = w.above in omega (arith, is.all)));
+      ended = subst (λ (l : List ℕ). Any (λ x. partition.claims.count ≤ x) l) (sym whole)
+          (late_last partition.claims.count w.last (ticket.numbers ++ w.ranks) (let above = w.above in omega (arith, is.all)));
       answers = record {
-        numbers = map (number_at strip.numbers) w.ranks;
+        numbers = map (number_at partition.numbers) w.ranks;
         are = w.answers;
-        below = numbers_inside j strip.numbers w.ranks is.inside w.below;
-        all = λ rank low c. contains_map (number_at strip.numbers) w.ranks rank (drawn_below j strip.numbers reader ticket turn.done reader' turn.ticket w none rank low c);
+        below = numbers_inside j partition.numbers w.ranks is.inside w.below;
+        all = λ rank low c. contains_map (number_at partition.numbers) w.ranks rank (drawn_below j partition.numbers reader ticket turn.done reader' turn.ticket w none rank low c);
       };
     }
 
-pub turn_learns : (j : Job) (strip : Strip) (reader : Reading) (ticket : Drawn) (turn : Turn) (reader' : Reading) → ticket ≡ fresh_ticket strip.claims.name
-    → WorksAt j strip.numbers reader ticket turn.done reader' turn.ticket → Learns j strip turn reader'
-turn_learns j strip reader ticket turn reader' fresh w rank v low c asked =
+pub turn_learns : (j : Job) (partition : Partition) (reader : Reading) (ticket : Drawn) (turn : Turn) (reader' : Reading) → ticket ≡ fresh_ticket partition.claims.name
+    → WorksOn j partition.numbers reader ticket turn.done reader' turn.ticket → Learns j partition turn reader'
+turn_learns j partition reader ticket turn reader' fresh w rank v low c asked =
     let none : ticket.numbers ≡ [] = ap (λ (t : Drawn). t.numbers) fresh in
-    let at = number_at strip.numbers in
-    let inside : Contains (map at w.ranks) (at rank) = contains_map at w.ranks rank (drawn_below j strip.numbers reader ticket turn.done reader' turn.ticket w none rank low c) in
+    let at = number_at partition.numbers in
+    let inside : Contains (map at w.ranks) (at rank) = contains_map at w.ranks rank (drawn_below j partition.numbers reader ticket turn.done reader' turn.ticket w none rank low c) in
     (w.learns v).1 (inr (list_any_at (asks_at j v) (map at w.ranks) inside.0 (at rank) inside.1 (ap (asks_at j v) inside.2 ∙ asked)))
-
-pub turn_only : (j : Job) (strip : Strip) (reader : Reading) (ticket : Drawn) (turn : Turn) (reader' : Reading) → IsStripOf j strip
-    → WorksAt j strip.numbers reader ticket turn.done reader' turn.ticket → LearnsOnly j reader reader'
-turn_only j strip reader ticket turn reader' is w v known =
-    ⊎_elim (λ old. inl old) (λ asked. inr (asked_job j v (map (number_at strip.numbers) w.ranks) (numbers_inside j strip.numbers w.ranks is.inside w.below) asked)) ((w.learns v).0 known)

@@ -5,32 +5,34 @@ use Rattle.std.specs.Prelude.{slice_get, slice_index_or}
 use Rattle.std.proofs.lemmas.List.{map-append}
 use Rattle.std.proofs.lemmas.List.Elements.{All-head, All-nil, All-push, All-tail}
 use Rattle.std.proofs.lemmas.List.FromFn.{get_or-range_with_len, length-range_with_len}
-use Rattle.std.proofs.lemmas.List.Folds.{list_any-append}
+use Rattle.std.proofs.lemmas.List.Folds.{list_any-append, list_any_at}
 use Rattle.std.specs.List.{list_any, range_with_len}
 use Rattle.bounded_search.specs.Known.{known_nodes}
-use Rattle.bounded_search.specs.Rows.{AsksAll, Keeps}
+use Rattle.bounded_search.specs.Rows.{AsksAll, AsksOnly}
 use Rattle.bounded_search.specs.Table.{TableRow}
 use Rattle.bounded_search.proofs.KnownNodes.{known_inside, knows_by}
 use Rattle.match_text.specs.declared.matched.MatchedTrace.{MatchedTrace}
 use Rattle.row_store.specs.Store.{Reading, knows, rows_state}
 use Rattle.tickets.specs.Tickets.{Drawn}
+use Rattle.trace_match.specs.Match.{asks}
+use Rattle.trace_reader.specs.declared.trace.Trace.{Trace}
 use Rattle.match_pool.specs.declared.worker.Done.{Done}
-use Rattle.match_pool.specs.Drawing.{WorksAt, number_at}
-use Rattle.match_pool.specs.Working.{Job, Stays, Works, LearnsAsked, asks_at, done_by, matched_at}
+use Rattle.match_pool.specs.Drawing.{WorksOn, number_at}
+use Rattle.match_pool.specs.Working.{Job, Stays, Works, LearnsAsked, asks_at, done_by, matched_at, no_trace}
 
 -- what holds at each draw
-pub record Working (j : Job) (strip : List ℕ) (reader : Reading) (drawn : List ℕ) (done : List Done) (reader' : Reading) (drawn' : List ℕ) : Type 0 where
+pub record Working (j : Job) (partition : List ℕ) (reader : Reading) (drawn : List ℕ) (done : List Done) (reader' : Reading) (drawn' : List ℕ) : Type 0 where
   pub ranks : List ℕ
   pub drawn_are : drawn' ≡ drawn ++ ranks
-  pub below : All (λ k. k < length strip) ranks
-  pub answers : done ≡ map (done_by j.first (matched_at j)) (map (number_at strip) ranks)
-  pub learns : LearnsAsked j (map (number_at strip) ranks) reader reader'
+  pub below : All (λ k. k < length partition) ranks
+  pub answers : done ≡ map (done_by j.first (matched_at j)) (map (number_at partition) ranks)
+  pub learns : LearnsAsked j (map (number_at partition) ranks) reader reader'
 
-pub starts : (j : Job) (strip : List ℕ) (reader : Reading) (drawn : List ℕ) → Working j strip reader drawn [] reader drawn
-starts j strip reader drawn = record {
+pub starts : (j : Job) (partition : List ℕ) (reader : Reading) (drawn : List ℕ) → Working j partition reader drawn [] reader drawn
+starts j partition reader drawn = record {
   ranks = [];
   drawn_are = sym (append-nil drawn);
-  below = All-nil (λ k. k < length strip);
+  below = All-nil (λ k. k < length partition);
   answers = refl;
   learns = λ v. (λ h. inl h, λ h. ⊎_elim (λ old. old) (λ (is : false ≡ true). cc) h);
 }
@@ -84,25 +86,25 @@ learns_more j numbers k before mid after so_far asked v =
           h),
     )
 
-pub goes_on : (j : Job) (strip : List ℕ) (reader : Reading) (drawn : List ℕ) (done : List Done) (mid : Reading) (drawn_mid : List ℕ) (k : ℕ) (matched : MatchedTrace) (done' : List Done) (after : Reading) (drawn' : List ℕ)
-    → Working j strip reader drawn done mid drawn_mid → k < length strip → drawn' ≡ drawn_mid ++ k ∷ []
-    → matched ≡ matched_at j (number_at strip k)
-    → done' ≡ done ++ record { place = j.first + number_at strip k; matched = matched } ∷ []
-    → AsksAll (rows_state mid) (rows_state after) (λ v. asks_at j v (number_at strip k) ≡ true)
-    → Working j strip reader drawn done' after drawn'
-goes_on j strip reader drawn done mid drawn_mid k matched done' after drawn' w below drew is more asked =
-    let at = number_at strip in
+pub goes_on : (j : Job) (partition : List ℕ) (reader : Reading) (drawn : List ℕ) (done : List Done) (mid : Reading) (drawn_mid : List ℕ) (k : ℕ) (matched : MatchedTrace) (done' : List Done) (after : Reading) (drawn' : List ℕ)
+    → Working j partition reader drawn done mid drawn_mid → k < length partition → drawn' ≡ drawn_mid ++ k ∷ []
+    → matched ≡ matched_at j (number_at partition k)
+    → done' ≡ done ++ record { place = j.first + number_at partition k; matched = matched } ∷ []
+    → AsksAll (rows_state mid) (rows_state after) (λ v. asks_at j v (number_at partition k) ≡ true)
+    → Working j partition reader drawn done' after drawn'
+goes_on j partition reader drawn done mid drawn_mid k matched done' after drawn' w below drew is more asked =
+    let at = number_at partition in
     let answer = done_by j.first (matched_at j) in
     let longer : map at (w.ranks ++ k ∷ []) ≡ map at w.ranks ++ at k ∷ [] = map-append at w.ranks (k ∷ []) in
     record {
       ranks = w.ranks ++ k ∷ [];
       drawn_are = drew ∙ ap (λ (l : List ℕ). l ++ k ∷ []) w.drawn_are ∙ append_assoc drawn w.ranks (k ∷ []);
-      below = All-push (λ n. n < length strip) w.ranks k w.below below;
+      below = All-push (λ n. n < length partition) w.ranks k w.below below;
       answers = more ∙ (λ i. w.answers i ++ record { place = j.first + at k; matched = is i } ∷ []) ∙ sym (map-append answer (map at w.ranks) (at k ∷ [])) ∙ ap (map answer) (sym longer);
       learns = subst (λ (l : List ℕ). LearnsAsked j l reader after) (sym longer) (learns_more j (map at w.ranks) (at k) reader mid after w.learns asked);
     }
 
--- a strip of all numbers in their order
+-- a partition of all numbers in their order
 same_ranks : (n : ℕ) (ranks : List ℕ) → All (λ k. k < n) ranks → map (number_at (range_with_len 0 n)) ranks ≡ ranks
 same_ranks n [] below = refl
 same_ranks n (k ∷ ks) below =
@@ -110,13 +112,13 @@ same_ranks n (k ∷ ks) below =
     let tail = same_ranks n ks (All-tail (λ x. x < n) k ks below) in
     λ i. head i ∷ tail i
 
-pub works_on_all : (j : Job) (strip : List ℕ) (reader : Reading) (ticket : Drawn) (done : List Done) (reader' : Reading) (ticket' : Drawn) → strip ≡ range_with_len 0 (length j.traces)
-    → WorksAt j strip reader ticket done reader' ticket' → Works j reader ticket done reader' ticket'
-works_on_all j strip reader ticket done reader' ticket' whole w =
+pub works_on_all : (j : Job) (partition : List ℕ) (reader : Reading) (ticket : Drawn) (done : List Done) (reader' : Reading) (ticket' : Drawn) → partition ≡ range_with_len 0 (length j.traces)
+    → WorksOn j partition reader ticket done reader' ticket' → Works j reader ticket done reader' ticket'
+works_on_all j partition reader ticket done reader' ticket' whole w =
     let n = length j.traces in
-    let long : length strip ≡ n = ap (λ (l : List ℕ). length l) whole ∙ length-range_with_len 0 n in
+    let long : length partition ≡ n = ap (λ (l : List ℕ). length l) whole ∙ length-range_with_len 0 n in
     let below : All (λ k. k < n) w.ranks = subst (λ (m : ℕ). All (λ k. k < m) w.ranks) long w.below in
-    let same : map (number_at strip) w.ranks ≡ w.ranks = ap (λ (l : List ℕ). map (number_at l) w.ranks) whole ∙ same_ranks n w.ranks below in
+    let same : map (number_at partition) w.ranks ≡ w.ranks = ap (λ (l : List ℕ). map (number_at l) w.ranks) whole ∙ same_ranks n w.ranks below in
     record {
       numbers = w.ranks;
       last = w.last;
@@ -134,12 +136,22 @@ drawn_below same at =
     let low = at.1 in
     omega (arith, same, is, low)
 
--- one more draw, and rows that became known
-pub stays_more : {reader mid after : Reading} {ticket drawn drawn' : Drawn} → Stays reader ticket mid drawn → Keeps (rows_state mid) (rows_state after) → drawn'.claims ≡ drawn.claims → Stays reader ticket after drawn'
-stays_more stays keeps same = record {
-  reader = record {
-    store = (λ i. record { network = keeps.network i; bound = keeps.bound i; cells = keeps.source i }) ∙ stays.reader.store;
-    held = λ k row e. keeps.held k row (stays.reader.held k row e);
-  };
-  claims = same ∙ stays.claims;
-}
+-- one more draw, and rows that became known for the trace of number k
+pub stays_more : {j : Job} {reader mid after : Reading} {ticket drawn drawn' : Drawn} (k : ℕ) → k < length j.traces → Stays j reader ticket mid drawn → AsksOnly (rows_state mid) (rows_state after) (λ v. asks_at j v k ≡ true)
+    → drawn'.claims ≡ drawn.claims → Stays j reader ticket after drawn'
+stays_more {j} {reader} {mid} {after} k inside stays asked same =
+    let keeps = asked.keeps in
+    let before = stays.reader.stays in
+    record {
+      reader = record {
+        stays = record {
+          store = (λ i. record { network = keeps.network i; bound = keeps.bound i; cells = keeps.source i }) ∙ before.store;
+          held = λ n row e. keeps.held n row (before.held n row e);
+        };
+        only = λ v known. ⊎_elim
+            (λ old. stays.reader.only v ((knows_node mid v).1 old))
+            (λ is. inr (list_any_at (λ (t : Trace). asks j.network j.params t v) j.traces k no_trace inside is))
+            (asked.nothing_else v ((knows_node after v).0 known));
+      };
+      claims = same ∙ stays.claims;
+    }

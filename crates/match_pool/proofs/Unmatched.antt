@@ -3,7 +3,7 @@ use Rattle.std.proofs.Common.{◌≡◌, ℕ, true, List, [], ◌∷◌, map, le
 use Rattle.std.proofs.lemmas.List.{get_or-replicate, length-map, length-replicate}
 use Rattle.std.proofs.lemmas.List.Elements.{All-map, All-nil}
 use Rattle.bounded_search.specs.Rows.{AsksAll, RowsState}
-use Rattle.bounded_search.proofs.Asking.{asks_known, asks_nothing}
+use Rattle.bounded_search.proofs.Asking.{asks_known}
 use Rattle.cost_model.specs.declared.params.Params.{Params}
 use Rattle.cost_model.specs.Options.{IsAccepted}
 use Rattle.match_text.specs.declared.matched.Label.{Label}
@@ -22,7 +22,7 @@ use Rattle.trace_reader.specs.declared.trace.Trace.{Trace}
 use Rattle.trace_reader.specs.Trace.{IsLawfulTrace}
 use Rattle.trellis.specs.declared.parts.Solved.{Solved}
 use Rattle.match_pool.specs.Unmatched.{LiesFar, unmatched}
-use Rattle.match_pool.proofs.Found.{answered, asks_found}
+use Rattle.match_pool.proofs.Found.{answered, asked_by_pieces}
 
 -- no rank, no piece and no cell
 abbrev nothing_for : Trace → Solved
@@ -68,6 +68,4 @@ pub unmatched_asks : (n : Net) (p : Params) (trace : Trace) (state : RowsState) 
     → AsksAll state state (λ v. asks n p trace v ≡ true)
 unmatched_asks n p trace state accepted lawful none =
     let layers = layers_of n p trace in
-    asks_found n p trace layers (nothing_for trace) refl (nothing_solved n p trace accepted lawful none)
-    (asks_known (λ v asked. absurd (none_asked n p layers v asked)))
-    (asks_nothing state (AsksTrace n p layers []))
+    asks_known (λ v is. absurd (none_asked n p layers v (asked_by_pieces n p trace layers (nothing_for trace) v refl (nothing_solved n p trace accepted lawful none) is)))

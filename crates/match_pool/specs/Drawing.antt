@@ -1,4 +1,4 @@
--- What a worker does with the traces of one strip.
+-- What a worker does with the traces of one partition.
 use Rattle.std.specs.Prelude.{◌≡◌, ◌<◌, ◌≤◌, ℕ, List, [], ◌∷◌, ◌++◌, map, length, slice_index_or, All}
 use Rattle.row_store.specs.Store.{Reading}
 use Rattle.tickets.specs.Tickets.{Drawn}
@@ -9,18 +9,18 @@ use Rattle.match_pool.specs.Working.{Job, LearnsAsked, done_by, job, matched_at}
 abbrev pub job_of : Batch → Job
 job_of b = job b.net.now b.params.now b.first b.traces.now
 
--- the number at this rank of a strip
+-- the number at this rank of a partition
 abbrev pub number_at : List ℕ → ℕ → ℕ
-number_at strip rank = slice_index_or strip rank 0
+number_at partition rank = slice_index_or partition rank 0
 
 -- The ticket drew some ranks, in this order, and then one too great. The answers are those of the traces
--- of the strip at these ranks, and what they ask for became known.
-pub record WorksAt (j : Job) (strip : List ℕ) (reader : Reading) (ticket : Drawn) (done : List Done) (reader' : Reading)
+-- of the partition at these ranks, and what they ask for became known.
+pub record WorksOn (j : Job) (partition : List ℕ) (reader : Reading) (ticket : Drawn) (done : List Done) (reader' : Reading)
     (ticket' : Drawn) : Type 0 where
   pub ranks : List ℕ
   pub last : ℕ
   pub drawn : ticket'.numbers ≡ ticket.numbers ++ (ranks ++ last ∷ [])
-  pub below : All (λ k. k < length strip) ranks
-  pub above : length strip ≤ last
-  pub answers : done ≡ map (done_by j.first (matched_at j)) (map (number_at strip) ranks)
-  pub learns : LearnsAsked j (map (number_at strip) ranks) reader reader'
+  pub below : All (λ k. k < length partition) ranks
+  pub above : length partition ≤ last
+  pub answers : done ≡ map (done_by j.first (matched_at j)) (map (number_at partition) ranks)
+  pub learns : LearnsAsked j (map (number_at partition) ranks) reader reader'

@@ -1,17 +1,17 @@
 -- How the answers of all turns come together.
 use Rattle.std.specs.Prelude.{◌≡◌, ◌<◌, ◌⊎◌, ℕ, List, length, map, slice_get, Option, Some, All, Any, Contains}
 use Rattle.match_text.specs.declared.matched.MatchedTrace.{MatchedTrace}
-use Rattle.match_pool.specs.declared.turn.Strip.{Strip}
+use Rattle.match_pool.specs.declared.turn.Partition.{Partition}
 use Rattle.match_pool.specs.declared.turn.Turn.{Turn}
 use Rattle.match_pool.specs.declared.worker.Done.{Done}
-use Rattle.match_pool.specs.Turns.{IsOver, IsStripOf}
+use Rattle.match_pool.specs.Turns.{IsOver, IsPartitionOf}
 use Rattle.match_pool.specs.Working.{Job, done_by}
 
--- the turns of all workers at a strip are over
-pub record IsPile (j : Job) (strip : Strip) (turns : List Turn) : Type 0 where
-  pub is_strip : IsStripOf j strip
-  pub all : length turns ≡ strip.claims.seats
-  pub over : All (IsOver j strip) turns
+-- the turns of all workers at a partition are over
+pub record AreTurnsOver (j : Job) (partition : Partition) (turns : List Turn) : Type 0 where
+  pub is_partition : IsPartitionOf j partition
+  pub all : length turns ≡ partition.claims.seats
+  pub over : All (IsOver j partition) turns
 
 -- the slots of these numbers have their matches, and the others what they had
 abbrev pub Fills : (ℕ → MatchedTrace) → List ℕ → List (Option MatchedTrace) → List (Option MatchedTrace) → Type 0
@@ -26,10 +26,10 @@ PlacesAnswers first done old new =
     → done ≡ map (done_by first matched) numbers
     → Fills matched numbers old new
 
--- each rank of the strip was drawn in one of the turns
-abbrev pub AllDrawn : Strip → List Turn → Type 0
-AllDrawn strip turns = (rank : ℕ) → rank < length strip.numbers → Any (λ t. Contains t.ticket.numbers rank) turns
+-- each rank of the partition was drawn in one of the turns
+abbrev pub AllDrawn : Partition → List Turn → Type 0
+AllDrawn partition turns = (rank : ℕ) → rank < length partition.numbers → Any (λ t. Contains t.ticket.numbers rank) turns
 
--- each trace of the job stands in a strip
-abbrev pub CoverTraces : Job → List Strip → Type 0
-CoverTraces j strips = (k : ℕ) → k < length j.traces → Any (λ s. Contains s.numbers k) strips
+-- each trace of the job stands in a partition
+abbrev pub CoverTraces : Job → List Partition → Type 0
+CoverTraces j partitions = (k : ℕ) → k < length j.traces → Any (λ s. Contains s.numbers k) partitions

@@ -1,12 +1,12 @@
 pub mod Answers
-pub mod Crew
 pub mod Dealing
 pub mod Drawing
 pub mod Gathering
 pub mod Learning
 pub mod OneFix
-pub mod Strips
+pub mod Partitions
 pub mod Tables
 pub mod Turns
 pub mod Unmatched
+pub mod WorkerSet
 pub mod Working

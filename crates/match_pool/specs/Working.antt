@@ -46,9 +46,22 @@ pub record StaysReader (before after : Reading) : Type 0 where
   pub store : after.store ≡ before.store
   pub held : Extends before.places after.places
 
--- the reader is as `StaysReader` says, and the ticket is of the same claims
-pub record Stays (before : Reading) (ticket : Drawn) (after : Reading) (ticket' : Drawn) : Type 0 where
-  pub reader : StaysReader before after
+-- whether some trace of the job asks for the row of node v
+abbrev pub asked_by : Job → ℕ → Bool
+asked_by j v = list_any (λ (t : Trace). asks j.network j.params t v) j.traces
+
+-- what the reader knows it knew before, or a trace of the job asks for it
+abbrev pub LearnsOnly : Job → Reading → Reading → Type 0
+LearnsOnly j before after = (v : ℕ) → knows after v ≡ true → (knows before v ≡ true) ⊎ (asked_by j v ≡ true)
+
+-- the reader is as `StaysReader` says, and knows nothing more but what the job's traces ask for
+pub record ReadsWithin (j : Job) (before after : Reading) : Type 0 where
+  pub stays : StaysReader before after
+  pub only : LearnsOnly j before after
+
+-- the reader is as `ReadsWithin` says, and the ticket is of the same claims
+pub record Stays (j : Job) (before : Reading) (ticket : Drawn) (after : Reading) (ticket' : Drawn) : Type 0 where
+  pub reader : ReadsWithin j before after
   pub claims : ticket'.claims ≡ ticket.claims
 
 -- these traces can be matched on this network with this grid

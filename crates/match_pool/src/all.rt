@@ -3,15 +3,15 @@ ghost use Rattle.std.specs.Prelude.{◌≡◌, ◌≤◌, IfOk, OnOk, length, ma
 ghost use Rattle.std.specs.List.{AllZip};
 ghost use Rattle.trace_match.specs.Match.{match_of};
 ghost use Rattle.match_pool.specs.Learning.{AreReadersFor, LearnAsked};
-ghost use Rattle.match_pool.specs.Working.{CanMatch, StaysReader};
+ghost use Rattle.match_pool.specs.Working.{CanMatch, ReadsWithin, job};
 
 use crate::batch::Batch;
-use crate::crew::Crew;
 use crate::dealing::deal;
 use crate::gate::Gate;
 use crate::gathering::gather;
-use crate::strips::cut;
+use crate::partitions::cut;
 use crate::tables::columns_of;
+use crate::worker_set::WorkerSet;
 use cost_model::Params;
 use grid_index::Grid;
 use match_text::MatchedTrace;
@@ -24,11 +24,11 @@ use trace_reader::Trace;
 
 /// The matches of all traces, in the same order, by one worker for each reader.
 ///
-/// There are 1 to 64 readers. The traces are partitioned into as many strips of the map, so that a worker
-/// mostly meets rows that it found itself. Each worker takes the traces of its own strip, then helps with
-/// the other strips, with its own reader, in a thread of its own if one is available. `first` is the index
-/// of the first trace in the file, from 0, which the gate receives. `Err` means out of memory; the readers
-/// are intact even then.
+/// There are 1 to 64 readers. The traces are divided into as many partitions by area, so that a worker
+/// mostly meets rows that it found itself. Each worker takes the traces of its own partition, then helps with
+/// the other partitions, with its own reader, in a thread of its own if one is available. `first` is the index
+/// of the first trace in the file, from 0, which the gate receives. `Err` means out of memory; even then
+/// each reader knows what it knew, and nothing more but rows that the traces ask for.
 pub fn match_all<'s, R: Threads + Sync, G: Gate>(
     rt: &R,
     alloc: Global,
@@ -43,7 +43,8 @@ pub fn match_all<'s, R: Threads + Sync, G: Gate>(
     requires can { CanMatch net.now p.now grid.now first traces.now }
     requires readers { AreReadersFor net.now p.now readers.old }
     ensures matched { IfOk result (λ all. all ≡ map (match_of net.now p.now) traces.now) }
-    ensures readers { AllZip StaysReader readers.old readers.new }
+    ensures readers { AllZip (ReadsWithin (job net.now p.now first traces.now))
+        readers.old readers.new }
     ensures learns { OnOk result
         (LearnAsked net.now p.now traces.now readers.old readers.new) }
 {
@@ -57,11 +58,11 @@ pub fn match_all<'s, R: Threads + Sync, G: Gate>(
     };
     let workers = readers.len();
     let cuts = cut(alloc, traces, workers)?;
-    let (strips, hands) = deal(alloc, cuts, workers as u32)?;
-    let mut crew = Crew::hire(alloc, readers, hands)?;
-    let outcome = crew.run(rt, &batch, strips.as_slice(), gate);
-    let turns = crew.dismiss(readers);
+    let (partitions, by_worker) = deal(alloc, cuts, workers as u32)?;
+    let mut worker_set = WorkerSet::start(alloc, readers, by_worker)?;
+    let outcome = worker_set.run(rt, &batch, partitions.as_slice(), gate);
+    let turns = worker_set.end(readers);
     outcome?;
-    let piles = columns_of(alloc, turns, strips.len())?;
-    gather(&batch, strips, piles)
+    let by_partition = columns_of(alloc, turns, partitions.len())?;
+    gather(&batch, partitions, by_partition)
 }

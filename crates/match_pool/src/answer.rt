@@ -1,6 +1,6 @@
 //! The match of one trace. Serves `match_one`; decided by `match_of`.
 ghost use Rattle.std.specs.Prelude.{◌≡◌, true, IfOk};
-ghost use Rattle.bounded_search.specs.Rows.{AreRowsOf, AsksAs, AsksOnly};
+ghost use Rattle.bounded_search.specs.Rows.{AreRowsOf, AsksFor, AsksOnly};
 ghost use Rattle.matching.specs.PieceSteps.{AsksTrace};
 ghost use Rattle.route_rebuild.specs.Chosen.{IsSolved};
 ghost use Rattle.trace_match.specs.Ground.{IsGridFor};
@@ -8,7 +8,7 @@ ghost use Rattle.trace_match.specs.Match.{as_solution, asks, matched_of};
 ghost use Rattle.trace_reader.specs.Trace.{IsLawfulTrace};
 ghost use Rattle.match_pool.specs.Answers.{IsAnswerTo};
 
-use crate::routes::pieces;
+use crate::routes::{Found, pieces};
 use bounded_search::Rows;
 use cost_model::Params;
 use grid_index::Grid;
@@ -33,33 +33,31 @@ pub struct Answer {
     pub matched: MatchedTrace,
 }
 
-/// The match of these layers in the ids of the network file, for a trace with this id.
+/// What was found in the ids of the network file, for a trace with this id.
 fn in_ids<R: Rows>(
     alloc: Global,
-    net: &Network,
-    p: &Params,
     rows: &mut R,
     id: u32,
-    layers: &[Layer],
-    solved: &Solved,
+    found: &Found,
 ) -> Result<MatchedTrace, AllocError>
-    requires rows { AreRowsOf (R.state rows.old) net.now p.now.bound }
-    requires solved { IsSolved net.now p.now layers.now solved.now }
-    ensures matched { IfOk result
-        (λ m. m ≡ matched_of net.now p.now id layers.now (as_solution solved.now)) }
-    ensures asks { AsksOnly (R.state rows.old) (R.state rows.new)
-        (AsksTrace net.now p.now layers.now solved.now.pieces) }
+    requires rows { AreRowsOf (R.state rows.old) found.now.net.now found.now.params.now.bound }
+    requires solved { IsSolved found.now.net.now found.now.params.now found.now.layers.now found.now.solved.now }
+    ensures matched { IfOk result (λ m. m ≡ matched_of found.now.net.now found.now.params.now id
+        found.now.layers.now (as_solution found.now.solved.now)) }
+    ensures asks { AsksOnly (R.state rows.old) (R.state rows.new) (AsksTrace found.now.net.now
+        found.now.params.now found.now.layers.now found.now.solved.now.pieces) }
 {
-    net.known();
-    let labels = labels(alloc, net, layers, solved.ranks.as_slice())?;
-    let pieces = pieces(alloc, net, p, rows, layers, solved)?;
+    found.net.known();
+    let ranks = found.solved.ranks.as_slice();
+    let labels = labels(alloc, found.net, found.layers, ranks)?;
+    let pieces = pieces(alloc, rows, found)?;
     Ok(MatchedTrace { id, labels, pieces })
 }
 
 /// The match of a trace. Exactly the rows that it asks for become known.
 ///
 /// `grid` is of this network, with cells of at least the radius, and `rows` are of this network and
-/// the bound of these options. `Err` means out of memory; what was known is still known then.
+/// the bound of these options. `Err` means out of memory; then some of these rows may be unknown still.
 pub fn match_one<R: Rows>(
     alloc: Global,
     net: &Network,
@@ -72,13 +70,19 @@ pub fn match_one<R: Rows>(
     requires rows { AreRowsOf (R.state rows.old) net.now p.now.bound }
     requires trace { IsLawfulTrace trace.now }
     ensures answer { IfOk result (IsAnswerTo net.now p.now trace.now) }
-    ensures asks { AsksAs (R.state rows.old) (λ _ v. asks net.now p.now trace.now v ≡ true)
+    ensures asks { AsksFor (R.state rows.old) (λ v. asks net.now p.now trace.now v ≡ true)
         result (R.state rows.new) }
 {
     net.known();
     let layers = layers(alloc, net, grid, p, trace.fixes.as_slice())?;
     let solved = match_trace(alloc, net, p, rows, layers.as_slice())?;
-    let matched = in_ids(alloc, net, p, rows, trace.id, layers.as_slice(), &solved)?;
+    let found = Found {
+        net,
+        params: p,
+        layers: layers.as_slice(),
+        solved: &solved,
+    };
+    let matched = in_ids(alloc, rows, trace.id, &found)?;
     Ok(Answer {
         layers,
         solved,

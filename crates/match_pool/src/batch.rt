@@ -1,4 +1,4 @@
-//! A batch of traces, and what they are matched on. Serves `match_all`.
+//! A batch of traces, and what they are matched on. Serves `work_on`.
 ghost use Rattle.trace_match.specs.Ground.{IsGridFor};
 ghost use Rattle.match_pool.specs.Working.{AreJobTraces};
 

@@ -1,9 +1,9 @@
-//! The strips' claims, and the turns of those who are to draw. Serves `match_all`; decided by `AreDealt`.
+//! The partitions' claims, and the turns of those who are to draw. Serves `match_all`; decided by `AreDealt`.
 ghost use Rattle.std.specs.Prelude.{◌≡◌, ◌≤◌, ◌^◌, All, IfOk, length, map};
 ghost use Rattle.match_pool.specs.Dealing.{AreDealt, ticket_of};
 
 use crate::tables::columns_of;
-use crate::turn::{Strip, Turn};
+use crate::turn::{Partition, Turn};
 use polyline_geometry::List;
 use std::alloc::{AllocError, Global};
 use tickets::{Claims, Ticket};
@@ -20,23 +20,23 @@ fn turns_with(alloc: Global, tickets: List<Ticket>) -> Result<List<Turn>, AllocE
     Ok(List::from_vec(turns))
 }
 
-/// Strips of these numbers, and the turns of so many workers: for each worker one at each strip.
+/// Partitions of these numbers, and the turns of so many workers: for each worker one at each partition.
 pub fn deal(
     alloc: Global,
     cuts: Vec<List<usize>>,
     workers: u32,
-) -> Result<(Vec<Strip>, Vec<List<Turn>>), AllocError>
+) -> Result<(Vec<Partition>, Vec<List<Turn>>), AllocError>
     requires cuts { All (λ numbers. length numbers ≤ 2 ^ 32) cuts.items }
     requires workers { (1 ≤ workers) × (workers ≤ 64) }
     ensures { IfOk result (λ r. AreDealt cuts.items workers r.0.items r.1.items) }
 {
-    let mut strips = Vec::with_capacity(alloc, cuts.len())?;
+    let mut partitions = Vec::with_capacity(alloc, cuts.len())?;
     let mut turns = Vec::with_capacity(alloc, cuts.len())?;
     for numbers in cuts {
         let (claims, tickets) = Claims::open(alloc, numbers.len() as u64, workers)?;
         turns.push(turns_with(alloc, tickets)?)?;
-        strips.push(Strip { numbers, claims })?;
+        partitions.push(Partition { numbers, claims })?;
     }
-    let hands = columns_of(alloc, turns, workers as usize)?;
-    Ok((strips, hands))
+    let by_worker = columns_of(alloc, turns, workers as usize)?;
+    Ok((partitions, by_worker))
 }

@@ -1,6 +1,6 @@
-//! What one worker does at one strip. Serves `work` and `match_all`; decided by `WorksAt`.
+//! What one worker does at one partition. Serves `work` and `match_all`; decided by `WorksOn`.
 ghost use Rattle.std.specs.Prelude.{◌≡◌, ◌<◌, ◌≤◌, All, IfOk, length};
-ghost use Rattle.match_pool.specs.Drawing.{WorksAt, job_of};
+ghost use Rattle.match_pool.specs.Drawing.{WorksOn, job_of};
 ghost use Rattle.match_pool.specs.Working.{CanDraw, IsReaderFor, Stays};
 
 use crate::batch::Batch;
@@ -12,9 +12,9 @@ use row_store::Reader;
 use std::alloc::AllocError;
 use tickets::{Claims, Ticket};
 
-/// Matches each trace of a strip whose rank in it the ticket draws, until none is left. `numbers`
-/// are the numbers of the strip's traces in the batch.
-pub fn draw_from<'s, G: Gate>(
+/// Matches each trace of a partition whose rank in it the ticket draws, until none is left. `numbers`
+/// are the numbers of the partition's traces in the batch.
+pub fn work_on<'s, G: Gate>(
     batch: &Batch,
     numbers: &[usize],
     claims: &Claims,
@@ -25,8 +25,8 @@ pub fn draw_from<'s, G: Gate>(
     requires numbers { All (λ k. k < length batch.now.traces.now) numbers.now }
     requires ticket { CanDraw (length numbers.now) claims.now ticket.old }
     requires reader { IsReaderFor batch.now.net.now batch.now.params.now reader.old }
-    ensures stays { Stays reader.old ticket.old reader.new ticket.new }
-    ensures works { IfOk result (λ done. WorksAt (job_of batch.now) numbers.now
+    ensures stays { Stays (job_of batch.now) reader.old ticket.old reader.new ticket.new }
+    ensures works { IfOk result (λ done. WorksOn (job_of batch.now) numbers.now
         reader.old ticket.old done reader.new ticket.new) }
 {
     let mut done = List::from_vec(Vec::with_capacity(batch.alloc, numbers.len())?);

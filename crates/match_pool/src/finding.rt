@@ -1,7 +1,7 @@
-//! The match of a trace by a reader, for some traces without their layers. Serves `draw_from`; decided by
+//! The match of a trace by a reader, for some traces without their layers. Serves `work_on`; decided by
 //! `match_of`.
 ghost use Rattle.std.specs.Prelude.{◌≡◌, true, IfOk};
-ghost use Rattle.bounded_search.specs.Rows.{AsksAs};
+ghost use Rattle.bounded_search.specs.Rows.{AsksFor};
 ghost use Rattle.row_store.specs.Store.{rows_state};
 ghost use Rattle.trace_match.specs.Match.{asks, match_of};
 ghost use Rattle.trace_reader.specs.Trace.{IsLawfulTrace};
@@ -26,8 +26,8 @@ pub fn find_match<'s>(
     requires trace { IsLawfulTrace trace.now }
     ensures matched { IfOk result
         (λ matched. matched ≡ match_of batch.now.net.now batch.now.params.now trace.now) }
-    ensures asks { AsksAs (rows_state reader.old) (λ _ v. asks batch.now.net.now batch.now.params.now trace.now v ≡ true)
-        result (rows_state reader.new) }
+    ensures asks { AsksFor (rows_state reader.old)
+        (λ v. asks batch.now.net.now batch.now.params.now trace.now v ≡ true) result (rows_state reader.new) }
 {
     if trace.fixes.len() == 1 {
         return match_fix(batch, trace);

@@ -3,11 +3,11 @@ ghost use Rattle.std.specs.Prelude.{◌≡◌, ◌<◌, ◌≤◌, ◌+◌, All,
 ghost use Rattle.std.specs.List.{AllZip};
 ghost use Rattle.trace_match.specs.Match.{match_of};
 ghost use Rattle.match_pool.specs.Drawing.{job_of};
-ghost use Rattle.match_pool.specs.Gathering.{AllDrawn, CoverTraces, Fills, IsPile, PlacesAnswers};
+ghost use Rattle.match_pool.specs.Gathering.{AllDrawn, CoverTraces, Fills, AreTurnsOver, PlacesAnswers};
 ghost use Rattle.match_pool.specs.Working.{matched_at};
 
 use crate::batch::Batch;
-use crate::turn::{Strip, Turn};
+use crate::turn::{Partition, Turn};
 use crate::worker::Done;
 use match_text::MatchedTrace;
 use polyline_geometry::List;
@@ -36,19 +36,19 @@ fn place(slots: &mut Vec<Option<MatchedTrace>>, first: u64, done: List<Done>)
     }
 }
 
-/// Fills the slots of a strip's traces by the turns of all workers at it.
-fn gather_strip(
+/// Fills the slots of a partition's traces by the turns of all workers at it.
+fn gather_partition(
     batch: &Batch,
     slots: &mut Vec<Option<MatchedTrace>>,
-    strip: Strip,
+    partition: Partition,
     turns: List<Turn>,
 ) -> Result<(), AllocError>
     requires slots { length slots.old.items ≡ length batch.now.traces.now }
-    requires turns { IsPile (job_of batch.now) strip turns }
+    requires turns { AreTurnsOver (job_of batch.now) partition turns }
     ensures count { length slots.new.items ≡ length slots.old.items }
     ensures filled { OnOk result
-        (Fills (matched_at (job_of batch.now)) strip.numbers slots.old.items slots.new.items) }
-    ensures drawn { OnOk result (AllDrawn strip turns) }
+        (Fills (matched_at (job_of batch.now)) partition.numbers slots.old.items slots.new.items) }
+    ensures drawn { OnOk result (AllDrawn partition turns) }
 {
     let mut tickets = List::new(batch.alloc);
     for turn in turns.into_vec() {
@@ -56,7 +56,7 @@ fn gather_strip(
         place(slots, batch.first, done);
         tickets.push(ticket)?;
     }
-    strip.claims.gather(tickets);
+    partition.claims.gather(tickets);
     Ok(())
 }
 
@@ -73,25 +73,25 @@ fn filled(alloc: Global, slots: Vec<Option<MatchedTrace>>) -> Result<List<Matche
     Ok(List::from_vec(all))
 }
 
-/// The answers for the traces of the batch, in order, from the results at each strip.
+/// The answers for the traces of the batch, in order, from the results at each partition.
 pub fn gather(
     batch: &Batch,
-    strips: Vec<Strip>,
-    piles: Vec<List<Turn>>,
+    partitions: Vec<Partition>,
+    by_partition: Vec<List<Turn>>,
 ) -> Result<List<MatchedTrace>, AllocError>
-    requires piles { AllZip (IsPile (job_of batch.now)) strips.items piles.items }
-    requires whole { CoverTraces (job_of batch.now) strips.items }
-    ensures drawn { OnOk result (AllZip AllDrawn strips.items piles.items) }
+    requires by_partition { AllZip (AreTurnsOver (job_of batch.now)) partitions.items by_partition.items }
+    requires whole { CoverTraces (job_of batch.now) partitions.items }
+    ensures drawn { OnOk result (AllZip AllDrawn partitions.items by_partition.items) }
     ensures matched { IfOk result
         (λ all. all ≡ map (match_of batch.now.net.now batch.now.params.now) batch.now.traces.now) }
 {
     let mut slots = blank(batch.alloc, batch.traces.len())?;
-    let mut rest = piles.into_iter();
-    for strip in strips {
+    let mut rest = by_partition.into_iter();
+    for partition in partitions {
         let Some(turns) = rest.next() else {
             unreachable!()
         };
-        gather_strip(batch, &mut slots, strip, turns)?;
+        gather_partition(batch, &mut slots, partition, turns)?;
     }
     filled(batch.alloc, slots)
 }

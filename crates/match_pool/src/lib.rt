@@ -2,10 +2,11 @@
 //!
 //! - [`match_one`] matches one trace by the rows of any [`bounded_search::Rows`]: the candidates of its
 //!   positions, their ranks and pieces, and the routes.
-//! - [`match_all`] matches many: it partitions them into strips of the map, one for each worker, each with
+//! - [`match_all`] matches many: it divides them into partitions by area, one for each worker, each with
 //!   a counter from which its traces are drawn. A worker has a [`row_store::Reader`] of one shared store. It
-//!   draws from its own strip until none is left, and then from the others. No call waits.
-//! - [`work`] does the same for one worker and one counter.
+//!   draws from its own partition until none is left, and then from the others. No call waits.
+//! - [`work_on`] is what each worker does with each partition, and [`work`] the same with all traces as
+//!   one partition.
 //! - A [`Gate`] is called for each trace.
 //!
 //! These match a trace of one position to its nearest edge, and a trace far from the whole network to
@@ -19,7 +20,6 @@
 mod all;
 mod answer;
 mod batch;
-mod crew;
 mod dealing;
 mod drawing;
 mod far;
@@ -27,13 +27,16 @@ mod finding;
 mod gate;
 mod gathering;
 mod one_fix;
+mod partitions;
 mod routes;
-mod strips;
 mod tables;
 mod turn;
 mod worker;
+mod worker_set;
 
 pub use all::match_all;
 pub use answer::{Answer, match_one};
+pub use batch::Batch;
+pub use drawing::work_on;
 pub use gate::{Gate, OpenGate};
 pub use worker::{Done, work};

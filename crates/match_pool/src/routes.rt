@@ -17,26 +17,33 @@ use std::alloc::{AllocError, Global};
 use trace_match::routed;
 use trellis::Solved;
 
+/// The match of the layers of a trace, and what it was found on.
+#[derive(Clone, Copy)]
+pub struct Found<'a> {
+    pub net: &'a Network,
+    pub params: &'a Params,
+    pub layers: &'a [Layer],
+    pub solved: &'a Solved,
+}
+
 /// The piece of this number with its route.
 fn routed_piece<R: Rows>(
     alloc: Global,
-    net: &Network,
-    p: &Params,
     rows: &mut R,
-    layers: &[Layer],
-    solved: &Solved,
+    found: &Found,
     number: u32,
 ) -> Result<Routed, AllocError>
-    requires rows { AreRowsOf (R.state rows.old) net.now p.now.bound }
-    requires solved { IsSolved net.now p.now layers.now solved.now }
-    requires number { number < length solved.now.pieces }
-    ensures routed { IfOk result (λ r. r ≡ routed_of net.now p.now layers.now solved.now.ranks
-        (piece_at solved.now.pieces number)) }
-    ensures asks { AsksOnly (R.state rows.old) (R.state rows.new)
-        (AsksTrace net.now p.now layers.now solved.now.pieces) }
+    requires rows { AreRowsOf (R.state rows.old) found.now.net.now found.now.params.now.bound }
+    requires solved { IsSolved found.now.net.now found.now.params.now found.now.layers.now found.now.solved.now }
+    requires number { number < length found.now.solved.now.pieces }
+    ensures routed { IfOk result (λ r. r ≡ routed_of found.now.net.now found.now.params.now
+        found.now.layers.now found.now.solved.now.ranks (piece_at found.now.solved.now.pieces number)) }
+    ensures asks { AsksOnly (R.state rows.old) (R.state rows.new) (AsksTrace found.now.net.now
+        found.now.params.now found.now.layers.now found.now.solved.now.pieces) }
 {
+    let (net, solved) = (found.net, found.solved);
     net.known();
-    let edges = route(alloc, net, p, rows, layers, solved, number)?;
+    let edges = route(alloc, net, found.params, rows, found.layers, solved, number)?;
     let piece = solved.pieces.as_slice()[number as usize];
     routed(alloc, net, piece, edges.as_slice())
 }
@@ -44,22 +51,19 @@ fn routed_piece<R: Rows>(
 /// The pieces of a trace with their routes. Rows that the trace did not ask for stay unknown.
 pub fn pieces<R: Rows>(
     alloc: Global,
-    net: &Network,
-    p: &Params,
     rows: &mut R,
-    layers: &[Layer],
-    solved: &Solved,
+    found: &Found,
 ) -> Result<List<Routed>, AllocError>
-    requires rows { AreRowsOf (R.state rows.old) net.now p.now.bound }
-    requires solved { IsSolved net.now p.now layers.now solved.now }
-    ensures pieces { IfOk result (λ pieces.
-        pieces ≡ map (routed_of net.now p.now layers.now solved.now.ranks) solved.now.pieces) }
-    ensures asks { AsksOnly (R.state rows.old) (R.state rows.new)
-        (AsksTrace net.now p.now layers.now solved.now.pieces) }
+    requires rows { AreRowsOf (R.state rows.old) found.now.net.now found.now.params.now.bound }
+    requires solved { IsSolved found.now.net.now found.now.params.now found.now.layers.now found.now.solved.now }
+    ensures pieces { IfOk result (λ pieces. pieces ≡ map (routed_of found.now.net.now
+        found.now.params.now found.now.layers.now found.now.solved.now.ranks) found.now.solved.now.pieces) }
+    ensures asks { AsksOnly (R.state rows.old) (R.state rows.new) (AsksTrace found.now.net.now
+        found.now.params.now found.now.layers.now found.now.solved.now.pieces) }
 {
-    let mut pieces = Vec::with_capacity(alloc, solved.pieces.len())?;
-    for number in 0..solved.pieces.len() {
-        pieces.push(routed_piece(alloc, net, p, rows, layers, solved, number as u32)?)?;
+    let mut pieces = Vec::with_capacity(alloc, found.solved.pieces.len())?;
+    for number in 0..found.solved.pieces.len() {
+        pieces.push(routed_piece(alloc, rows, found, number as u32)?)?;
     }
     Ok(List::from_vec(pieces))
 }

@@ -1,4 +1,4 @@
-//! Tables of turns, by workers and by strips. Serves `match_all`; decided by `AreColumnsOf`.
+//! Tables of turns, by workers and by partitions. Serves `match_all`; decided by `AreColumnsOf`.
 ghost use Rattle.std.specs.Prelude.{◌≡◌, [], All, IfOk, OnOk, length, replicate};
 ghost use Rattle.match_pool.specs.Tables.{AddsRow, AreColumnsOf};
 

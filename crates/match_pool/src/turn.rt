@@ -1,12 +1,12 @@
-//! One worker's turn at one strip. Serves `match_all`; decided by `IsTaken`.
+//! One worker's turn at one partition. Serves `match_all`; decided by `IsTaken`.
 ghost use Rattle.std.specs.Prelude.{◌≡◌, OnOk};
 ghost use Rattle.tickets.specs.Tickets.{fresh_ticket};
 ghost use Rattle.match_pool.specs.Drawing.{job_of};
-ghost use Rattle.match_pool.specs.Turns.{IsStripOf, IsTaken};
-ghost use Rattle.match_pool.specs.Working.{IsReaderFor, StaysReader};
+ghost use Rattle.match_pool.specs.Turns.{IsPartitionOf, IsTaken};
+ghost use Rattle.match_pool.specs.Working.{IsReaderFor, ReadsWithin};
 
 use crate::batch::Batch;
-use crate::drawing::draw_from;
+use crate::drawing::work_on;
 use crate::gate::Gate;
 use crate::worker::Done;
 use polyline_geometry::List;
@@ -16,12 +16,12 @@ use tickets::{Claims, Ticket};
 
 /// Some traces of a batch, by their numbers in it, and the claims on them.
 #[derive(Drop)]
-pub struct Strip {
+pub struct Partition {
     pub numbers: List<usize>,
     pub claims: Claims,
 }
 
-/// A ticket of a strip, and what was done by the ranks that it drew.
+/// A ticket of a partition, and what was done by the ranks that it drew.
 #[derive(Drop)]
 pub struct Turn {
     pub ticket: Ticket,
@@ -29,25 +29,24 @@ pub struct Turn {
 }
 
 impl Turn {
-    /// Matches traces of the strip, until there is none left.
+    /// Matches traces of the partition, until there is none left.
     pub fn take<'s, G: Gate>(
         &mut self,
         batch: &Batch,
-        strip: &Strip,
+        partition: &Partition,
         reader: &mut Reader<'s>,
         gate: &G,
     ) -> Result<(), AllocError>
-        requires strip { IsStripOf (job_of batch.now) strip.now }
-        requires fresh { self.old.ticket ≡ fresh_ticket strip.now.claims.name }
+        requires partition { IsPartitionOf (job_of batch.now) partition.now }
+        requires fresh { self.old.ticket ≡ fresh_ticket partition.now.claims.name }
         requires reader { IsReaderFor batch.now.net.now batch.now.params.now reader.old }
-        ensures reader { StaysReader reader.old reader.new }
-        ensures taken { OnOk result
-            (IsTaken (job_of batch.now) strip.now self.new reader.old reader.new) }
+        ensures reader { ReadsWithin (job_of batch.now) reader.old reader.new }
+        ensures taken { OnOk result (IsTaken (job_of batch.now) partition.now self.new reader.new) }
     {
-        self.done = draw_from(
+        self.done = work_on(
             batch,
-            strip.numbers.as_slice(),
-            &strip.claims,
+            partition.numbers.as_slice(),
+            &partition.claims,
             &mut self.ticket,
             reader,
             gate,

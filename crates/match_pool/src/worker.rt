@@ -3,9 +3,9 @@ ghost use Rattle.std.specs.Prelude.{◌≡◌, ◌≤◌, IfOk, length};
 ghost use Rattle.match_pool.specs.Working.{CanDraw, CanMatch, IsReaderFor, Stays, Works, job};
 
 use crate::batch::Batch;
-use crate::drawing::draw_from;
+use crate::drawing::work_on;
 use crate::gate::Gate;
-use crate::strips::numbers_below;
+use crate::partitions::numbers_below;
 use cost_model::Params;
 use grid_index::Grid;
 use match_text::MatchedTrace;
@@ -43,7 +43,8 @@ pub fn work<'s, G: Gate>(
     requires can { CanMatch net.now p.now grid.now first traces.now }
     requires ticket { CanDraw (length traces.now) claims.now ticket.old }
     requires reader { IsReaderFor net.now p.now reader.old }
-    ensures stays { Stays reader.old ticket.old reader.new ticket.new }
+    ensures stays { Stays (job net.now p.now first traces.now)
+        reader.old ticket.old reader.new ticket.new }
     ensures works { IfOk result (λ done. Works (job net.now p.now first traces.now)
         reader.old ticket.old done reader.new ticket.new) }
 {
@@ -56,5 +57,5 @@ pub fn work<'s, G: Gate>(
         traces,
     };
     let numbers = numbers_below(alloc, traces.len())?;
-    draw_from(&batch, numbers.as_slice(), claims, ticket, reader, gate)
+    work_on(&batch, numbers.as_slice(), claims, ticket, reader, gate)
 }

@@ -9,7 +9,7 @@ use Rattle.bounded_search.specs.Table.{TableRow}
 use Rattle.cost_model.specs.Options.{IsAccepted}
 use Rattle.cost_model.specs.declared.params.Params.{Params}
 use Rattle.match_pool.specs.Learning.{LearnAsked}
-use Rattle.match_pool.specs.Working.{IsReaderFor, StaysReader}
+use Rattle.match_pool.specs.Working.{IsReaderFor, Job, ReadsWithin, StaysReader}
 use Rattle.match_text.specs.declared.matched.MatchedTrace.{MatchedTrace}
 use Rattle.road_network.specs.Net.{Net}
 use Rattle.row_store.specs.Store.{Reading, Stored, count_known, is_known_to_any}
@@ -98,6 +98,13 @@ rows_counted on traces (r ∷ rs) share asked =
     let here = All-head (IsReaderFor on.network on.params) r rs share.readers_are.each in
     ap (λ net. count_by (is_known_to_any (r ∷ rs)) (range_with_len 0 (length net.nodes))) here.network
     ∙ count_same (is_known_to_any (r ∷ rs)) (is_asked_by on traces) (range_with_len 0 (length on.network.nodes)) (λ v. same_answer (is_known_to_any (r ∷ rs) v) (is_asked_by on traces v) (asked v))
+
+-- readers that learned no more than they were asked for stay
+pub readers_stay : (j : Job) (old new : List Reading) → AllZip (ReadsWithin j) old new → AllZip StaysReader old new
+readers_stay j [] [] all = all
+readers_stay j [] (y ∷ ys) all = absurd all
+readers_stay j (x ∷ xs) [] all = absurd all
+readers_stay j (x ∷ xs) (y ∷ ys) all = (all.0.stays, readers_stay j xs ys all.1)
 
 -- a batch was matched
 pub batch_matched : (on : Setting) (traces : List Trace) (old new : List Reading) (result : Result (List MatchedTrace) AllocError) → IsAccepted on.params → All IsLawfulTrace traces

@@ -1,6 +1,6 @@
 //! The proofs of traces. Serves `prove`; decided by `certificate_of`.
 ghost use Rattle.std.specs.Prelude.{◌≡◌, All, IfOk, OnOk, map, true};
-ghost use Rattle.bounded_search.specs.Rows.{AreRowsOf, AsksAs};
+ghost use Rattle.bounded_search.specs.Rows.{AreRowsOf, AsksFor};
 ghost use Rattle.trace_match.specs.Asked.{AsksTraces};
 ghost use Rattle.trace_match.specs.Ground.{IsGridFor};
 ghost use Rattle.trace_match.specs.Match.{asks};
@@ -79,7 +79,7 @@ fn prove_trace(
     requires rows { AreRowsOf rows.old net.now p.now.bound }
     requires trace { IsLawfulTrace trace.now }
     ensures proof { IfOk result (λ proof. proof ≡ proof_of net.now p.now trace.now) }
-    ensures asks { AsksAs rows.old (λ _ v. asks net.now p.now trace.now v ≡ true)
+    ensures asks { AsksFor rows.old (λ v. asks net.now p.now trace.now v ≡ true)
         result rows.new }
 {
     let answer = match_one(alloc, net, grid, p, rows, trace)?;

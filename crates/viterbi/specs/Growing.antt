@@ -2,7 +2,7 @@
 use Rattle.std.specs.Prelude.{ℕ, ◌<◌, List, Option, Result, OnOk, MatchOption, length}
 use Rattle.cost_model.specs.declared.params.Params.{Params}
 use Rattle.road_network.specs.Net.{Net}
-use Rattle.bounded_search.specs.Rows.{RowsState, AsksAll, Keeps}
+use Rattle.bounded_search.specs.Rows.{RowsState, AsksAll, AsksOnly}
 use Rattle.matching.specs.declared.parts.Cell.{Cell}
 use Rattle.matching.specs.declared.parts.Layer.{Layer}
 use Rattle.matching.specs.declared.parts.Piece.{Piece}
@@ -39,10 +39,12 @@ pub record IsSolvedFurther (n : Net) (p : Params) (layers : List Layer)
   pub so_far : IsSolvedSoFar n p layers s
   pub further : length before.ranks < length s.ranks
 
--- what matching more pieces asks for: if, since some start, exactly the nodes that the earlier pieces
--- ask for became known, then now exactly those that all of them ask for
+-- what matching more pieces asks for: nothing that the trace does not ask for, and if, since some start,
+-- exactly the nodes that the earlier pieces ask for became known, then now exactly those that all of
+-- them ask for
 pub record AsksFurther {A E : Type 0} (old new : RowsState) (result : Result A E)
-    (asked : List Piece → ℕ → Type 0) (earlier all : List Piece) : Type 0 where
-  pub keeps : Keeps old new
+    (whole : ℕ → Type 0) (asked : List Piece → ℕ → Type 0) (earlier all : List Piece)
+    : Type 0 where
+  pub only : AsksOnly old new whole
   pub since : OnOk result ((start : RowsState) → AsksAll start old (asked earlier)
       → AsksAll start new (asked all))

@@ -5,5 +5,6 @@ use Rattle.match_pool.proofs.answer.in_ids.Goals as goal
 
 pub labels-requires : goal.labels-requires
 labels-requires g c =
-    subst (AreRanked c.args.net.now c.args.layers.now) (sym c.as_slice.ensures)
-    (are_ranked c.args.net.now c.args.p.now c.args.layers.now c.args.solved.now c.known.ensures c.requires.solved)
+    let found = c.args.found.now in
+    subst (AreRanked found.net.now found.layers.now) (sym c.as_slice-ranks.ensures)
+    (are_ranked found.net.now found.params.now found.layers.now found.solved.now c.known.ensures c.requires.solved)

@@ -4,8 +4,8 @@ use Rattle.std.specs.Vec.Iter.{into_iter_items}
 use Rattle.std.proofs.lemmas.List.{map-append}
 use Rattle.std.proofs.lemmas.List.Elements.{All-head, All-nil, All-push, All-tail}
 use Rattle.match_pool.specs.Dealing.{HasClaims, numbers_of}
-use Rattle.match_pool.specs.declared.turn.Strip.{Strip}
-use Rattle.match_pool.proofs.Hired.{AreFreshAt, all_wide, fresh_at, hands_fresh}
+use Rattle.match_pool.specs.declared.turn.Partition.{Partition}
+use Rattle.match_pool.proofs.Started.{AreFreshAt, all_wide, fresh_at, by_worker_fresh}
 use Rattle.match_pool.proofs.Lists.{zip_push}
 use Rattle.match_pool.proofs.Yields.{ends, goes_on}
 use Rattle.match_pool.proofs.dealing.deal.Goals as goal
@@ -19,25 +19,25 @@ loop-numbers-preserved c =
     let rest = into_iter_items c.next.new.self in
     let workers = c.args.workers in
     let claims = c.in_ok-claims.claims in
-    let strip : Strip = record { numbers = numbers; claims = claims } in
+    let partition : Partition = record { numbers = numbers; claims = claims } in
     let turns = c.in_ok-turns_with.field-0 in
     let few : List ℕ → Type 0 = λ l. length l ≤ 2 ^ 32 in
-    let strips_then : c.push-in-loop-numbers.new.self.items ≡ at.strips.items ++ strip ∷ [] = c.in_ok-push-2.ensures.items in
+    let partitions_then : c.push-in-loop-numbers.new.self.items ≡ at.partitions.items ++ partition ∷ [] = c.in_ok-push-2.ensures.items in
     let turns_then : c.push.new.self.items ≡ at.turns.items ++ turns ∷ [] = c.in_ok-push.ensures.items in
     let opened = c.in_ok-claims.ensures in
     record {
       whole = goes_on at.yielded _ _ _ numbers i.whole steps.0;
       left = (let was = i.left in let gone = steps.1 in let short = ap (λ (l : List (List ℕ)). length l) steps.0 in omega arith);
       few = All-tail few numbers rest (subst (All few) steps.0 i.few);
-      cuts = ap (map numbers_of) strips_then ∙ map-append numbers_of at.strips.items (strip ∷ []) ∙ ap (λ (l : List (List ℕ)). l ++ numbers ∷ []) i.cuts;
-      claims = subst (All (HasClaims workers)) (sym strips_then) (All-push (HasClaims workers) at.strips.items strip i.claims (record { all = opened.claims.0 ∙ c.len-in-loop-numbers.ensures; tickets_are = opened.claims.1 }));
-      turns = subst (λ (l : List Strip). AllZip (AreFreshAt workers) l c.push.new.self.items) (sym strips_then)
-          (subst (AllZip (AreFreshAt workers) (at.strips.items ++ strip ∷ [])) (sym turns_then)
-          (zip_push (AreFreshAt workers) at.strips.items at.turns.items strip turns i.turns (fresh_at workers strip turns c.in_ok-claims.tickets c.in_ok-turns_with.ensures opened.tickets.0 opened.tickets.1)));
+      cuts = ap (map numbers_of) partitions_then ∙ map-append numbers_of at.partitions.items (partition ∷ []) ∙ ap (λ (l : List (List ℕ)). l ++ numbers ∷ []) i.cuts;
+      claims = subst (All (HasClaims workers)) (sym partitions_then) (All-push (HasClaims workers) at.partitions.items partition i.claims (record { all = opened.claims.0 ∙ c.len-in-loop-numbers.ensures; tickets_are = opened.claims.1 }));
+      turns = subst (λ (l : List Partition). AllZip (AreFreshAt workers) l c.push.new.self.items) (sym partitions_then)
+          (subst (AllZip (AreFreshAt workers) (at.partitions.items ++ partition ∷ [])) (sym turns_then)
+          (zip_push (AreFreshAt workers) at.partitions.items at.turns.items partition turns i.turns (fresh_at workers partition turns c.in_ok-claims.tickets c.in_ok-turns_with.ensures opened.tickets.0 opened.tickets.1)));
     }
 
 pub columns_of-requires : goal.columns_of-requires
-columns_of-requires c = all_wide c.args.workers c.loop-numbers.strips.items c.loop-numbers.turns.items c.loop-numbers.invariant.turns
+columns_of-requires c = all_wide c.args.workers c.loop-numbers.partitions.items c.loop-numbers.turns.items c.loop-numbers.invariant.turns
 
 pub returns : goal.returns
 returns c =
@@ -47,22 +47,22 @@ returns c =
     record {
       cuts_are = i.cuts ∙ all;
       claims = i.claims;
-      count = c.in_ok-hands.ensures.count;
-      fresh = hands_fresh c.args.workers at.strips.items at.turns.items c.in_ok-hands.hands.items i.turns c.in_ok-hands.ensures;
+      count = c.in_ok-by_worker.ensures.count;
+      fresh = by_worker_fresh c.args.workers at.partitions.items at.turns.items c.in_ok-by_worker.by_worker.items i.turns c.in_ok-by_worker.ensures;
     }
 
 pub loop-numbers-init : goal.loop-numbers-init
 loop-numbers-init c =
     let few : List ℕ → Type 0 = λ l. length l ≤ 2 ^ 32 in
-    let no_strips = c.in_ok-strips.ensures.items in
+    let no_partitions = c.in_ok-partitions.ensures.items in
     let no_turns = c.in_ok-turns.ensures.items in
     record {
       whole = refl;
       left = search rules;
       few = subst (All few) (sym c.into_iter-numbers-iterator.ensures.into_iter_gives.0) c.requires.cuts;
-      cuts = ap (map numbers_of) no_strips;
-      claims = subst (All (HasClaims c.args.workers)) (sym no_strips) (All-nil (HasClaims c.args.workers));
-      turns = rw (no_strips, no_turns) tt;
+      cuts = ap (map numbers_of) no_partitions;
+      claims = subst (All (HasClaims c.args.workers)) (sym no_partitions) (All-nil (HasClaims c.args.workers));
+      turns = rw (no_partitions, no_turns) tt;
     }
 
 pub open-requires-clause-count : goal.open-requires-clause-count

@@ -1,7 +1,8 @@
-use Rattle.std.proofs.Common.{sym, ◌∙◌}
+use Rattle.std.proofs.Common.{◌≡◌, true, sym, ◌∙◌}
 use Rattle.std.proofs.lemmas.Result.{IfOk-weaker}
-use Rattle.bounded_search.proofs.Asking.{keeps_itself}
+use Rattle.bounded_search.proofs.Asking.{asks_done, asks_err, asks_nothing, asks_ok}
 use Rattle.row_store.specs.Store.{rows_state}
+use Rattle.trace_match.specs.Match.{asks}
 use Rattle.match_pool.proofs.OneFix.{one_asks}
 use Rattle.match_pool.proofs.Unmatched.{unmatched_asks, unmatched_is}
 use Rattle.match_pool.proofs.finding.find_match.Goals as goal
@@ -10,7 +11,7 @@ pub returns-then-len-eq1-clause-asks : goal.returns-then-len-eq1-clause-asks
 returns-then-len-eq1-clause-asks c =
     let state = rows_state c.args.reader.now in
     let asked = one_asks c.args.batch.now.net.now c.args.batch.now.params.now c.args.trace.now state (sym c.len.ensures ∙ c.if-len-eq1.true) in
-    record { keeps = keeps_itself state; asks = IfOk-weaker c.match_fix.result _ _ (λ matched is. asked) c.match_fix.ensures }
+    asks_done asked
 
 pub returns-then-branch-clause-matched : goal.returns-then-branch-clause-matched
 returns-then-branch-clause-matched c =
@@ -27,4 +28,14 @@ returns-then-branch-clause-asks c =
     let trace = c.args.trace.now in
     let state = rows_state c.args.reader.now in
     let asked = unmatched_asks n p trace state c.args.batch.now.ground.options c.requires.trace (c.in_ok-lies_far.ensures c.if-branch.true) in
-    record { keeps = keeps_itself state; asks = IfOk-weaker c.unmatched.result _ _ (λ matched is. asked) c.unmatched.ensures }
+    asks_done asked
+
+pub returns-in_err-lies_far-clause-asks : goal.returns-in_err-lies_far-clause-asks
+returns-in_err-lies_far-clause-asks c =
+    asks_err (asks_nothing (rows_state c.args.reader.now) (λ v. asks c.args.batch.now.net.now c.args.batch.now.params.now c.args.trace.now v ≡ true)) c.from_residual.ensures.0
+
+pub returns-in_err-answer-clause-asks : goal.returns-in_err-answer-clause-asks
+returns-in_err-answer-clause-asks c = asks_err c.match_one.ensures.asks.only c.from_residual-in_err-answer.ensures.0
+
+pub returns-clause-asks : goal.returns-clause-asks
+returns-clause-asks c = asks_done (asks_ok c.match_one.ensures.asks c.in_ok-answer.was)

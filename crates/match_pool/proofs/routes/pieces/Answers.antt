@@ -9,7 +9,7 @@ use Rattle.match_pool.proofs.routes.pieces.Goals as goal
 
 pub overflow_cast-number : goal.overflow_cast-number
 overflow_cast-number g c =
-    let few = pieces_count (trellis c.args.net.now c.args.p.now) c.args.layers.now 0 c.args.solved.now.pieces c.requires.solved.matched.pieces-are in
+    let few = pieces_count (trellis c.args.found.now.net.now c.args.found.now.params.now) c.args.found.now.layers.now 0 c.args.found.now.solved.now.pieces c.requires.solved.matched.pieces-are in
     omega (arith, few, c.requires.solved.trace.are.few)
 
 pub returns-in_err-routed_piece-clause-asks : goal.returns-in_err-routed_piece-clause-asks
@@ -20,8 +20,8 @@ returns-in_err-push-clause-asks g c = only_then c.loop-number.invariant.asks c.r
 
 pub loop-number-preserved : goal.loop-number-preserved
 loop-number-preserved g c =
-    let f = routed_of c.args.net.now c.args.p.now c.args.layers.now c.args.solved.now.ranks in
-    let all = c.args.solved.now.pieces in
+    let f = routed_of c.args.found.now.net.now c.args.found.now.params.now c.args.found.now.layers.now c.args.found.now.solved.now.ranks in
+    let all = c.args.found.now.solved.now.pieces in
     let i = c.loop-number.number in
     record {
       pieces = c.in_ok-push.ensures.items
@@ -48,8 +48,8 @@ returns-clause-pieces g c =
     let low = c.loop-number-test.false in
     let high = c.loop-number.auto.number-end in
     let end = c.len-number-end.ensures in
-    let f = routed_of c.args.net.now c.args.p.now c.args.layers.now c.args.solved.now.ranks in
-    let all = c.args.solved.now.pieces in
+    let f = routed_of c.args.found.now.net.now c.args.found.now.params.now c.args.found.now.layers.now c.args.found.now.solved.now.ranks in
+    let all = c.args.found.now.solved.now.pieces in
     let count : c.loop-number.number ≡ length all = omega (arith, low, high, end) in
     c.from_vec.ensures ∙ c.loop-number.invariant.pieces ∙ ap (λ (k : ℕ). map f (take k all)) count ∙ ap (map f) (take-length all)
 

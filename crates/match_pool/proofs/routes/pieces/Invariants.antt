@@ -6,6 +6,6 @@ use Rattle.match_pool.proofs.routes.pieces.Given as goal
 
 abbrev pub invariant-loop-number : goal.invariant-loop-number
 invariant-loop-number g l = record {
-  pieces : l.pieces.items ≡ map (routed_of l.net l.p l.layers l.solved.ranks) (take l.number l.solved.pieces);
-  asks : AsksOnly (g.R.Rows.state l.fn.rows) (g.R.Rows.state l.rows) (AsksTrace l.net l.p l.layers l.solved.pieces);
+  pieces : l.pieces.items ≡ map (routed_of l.found.net.now l.found.params.now l.found.layers.now l.found.solved.now.ranks) (take l.number l.found.solved.now.pieces);
+  asks : AsksOnly (g.R.Rows.state l.fn.rows) (g.R.Rows.state l.rows) (AsksTrace l.found.net.now l.found.params.now l.found.layers.now l.found.solved.now.pieces);
 }

@@ -1,5 +1,6 @@
 use Rattle.std.proofs.Common.{◌≡◌, ◌∙◌, map, subst}
 use Rattle.std.proofs.lemmas.List.{take_all}
+use Rattle.bounded_search.proofs.Asking.{asks_ok}
 use Rattle.trace_match.specs.Asked.{AsksTraces}
 use Rattle.trace_match.specs.Setting.{Setting}
 use Rattle.trace_match.proofs.AskedRows.{asks_next, asks_none}
@@ -19,7 +20,7 @@ loop-trace-preserved c =
     let i = c.loop-trace.invariant in
     record {
       proofs = c.in_ok-push.ensures.ok ∙ proved_next on.network on.params c.args.traces.now c.loop-trace.trace-index c.trace-item.result c.in_ok-proof.proof c.loop-trace.proofs c.loop-trace-test.true c.trace-item.is i.proofs c.in_ok-proof.ensures.proof;
-      asks = asks_next on c.args.traces.now c.loop-trace.trace-index c.trace-item.result c.args.rows.now c.loop-trace.rows c.prove_trace.new.rows c.loop-trace-test.true c.trace-item.is i.asks c.in_ok-proof.ensures.asks.asks;
+      asks = asks_next on c.args.traces.now c.loop-trace.trace-index c.trace-item.result c.args.rows.now c.loop-trace.rows c.prove_trace.new.rows c.loop-trace-test.true c.trace-item.is i.asks (asks_ok c.prove_trace.ensures.asks c.in_ok-proof.was);
     }
 
 pub returns-clause-proofs : goal.returns-clause-proofs

@@ -1,5 +1,6 @@
 use Rattle.std.proofs.Common.{◌∙◌, ap}
 use Rattle.std.proofs.lemmas.Result.{IfOk-weaker}
+use Rattle.bounded_search.proofs.Asking.{asks_done, asks_err, asks_ok}
 use Rattle.potential_certificate.specs.declared.proof.TraceProof.{TraceProof}
 use Rattle.prove_work.proofs.TraceProofs.{proof_made}
 use Rattle.prove_work.proofs.certifying.prove_trace.Goals as goal
@@ -12,3 +13,9 @@ returns-clause-proof c =
     made
     ∙ ap (λ pieces. let x : TraceProof = record { id = trace.id; ranks = answer.solved.ranks; tables = answer.solved.tables; pieces = pieces } in x) c.as_slice-pieces.ensures
     ∙ proof_made c.args.net.now c.args.p.now trace answer c.in_ok-answer.ensures.answer) c.certify.ensures
+
+pub returns-in_err-answer-clause-asks : goal.returns-in_err-answer-clause-asks
+returns-in_err-answer-clause-asks c = asks_err c.match_one.ensures.asks.only c.from_residual.ensures.0
+
+pub returns-clause-asks : goal.returns-clause-asks
+returns-clause-asks c = asks_done (asks_ok c.match_one.ensures.asks c.in_ok-answer.was)

@@ -1,15 +1,16 @@
 use Rattle.std.proofs.Common.{◌≡◌, ◌+◌, ◌-◌, [], ◌∷◌, ◌++◌, Some, None, length, map, get_or, sym, ap, ◌∙◌, subst, arith, ◌<◌, ℕ, zero, suc, refl}
-use Rattle.matching.specs.Layers.{trellis}
+use Rattle.matching.specs.Layers.{HasCandidateAt, trellis}
 use Rattle.matching.specs.Match.{IsPieceFrom}
 use Rattle.matching.specs.Places.{IsAt}
-use Rattle.matching.specs.PieceSteps.{AsksTrace}
+use Rattle.matching.specs.PieceSteps.{AsksPiece, AsksTrace}
 use Rattle.matching.specs.SoFar.{IsMatchBefore}
 use Rattle.matching.proofs.Matches.{match_missing, match_piece, match_same, solved_from}
-use Rattle.bounded_search.specs.Rows.{AsksAll}
-use Rattle.viterbi.proofs.Asking.{asked_more}
+use Rattle.bounded_search.specs.Rows.{AsksAll, AsksOnly}
+use Rattle.viterbi.specs.Asking.{AsksFrom, AsksLayers}
+use Rattle.viterbi.proofs.Asking.{asked_found, asked_more, found_asked, further_err, next_asked}
 use Rattle.viterbi.proofs.Reading.{solved_further}
 use Rattle.std.proofs.lemmas.List.{get_or_default}
-use Rattle.bounded_search.proofs.Asking.{keeps_itself}
+use Rattle.bounded_search.proofs.Asking.{all_by, asks_nothing, asks_ok, only_by}
 use Rattle.viterbi.proofs.trace.match_next.Goals as goal
 
 positive : (n : ℕ) → (n ≡ 0 → ⊥) → 0 < n
@@ -58,13 +59,74 @@ returns-clause-asks g c =
     let n = c.args.net.now in
     let p = c.args.p.now in
     let layers = c.args.layers.now in
+    let old = c.args.solved.now in
+    let at = c.len-at.result in
+    let here = c.index-layers-at.result in
+    let inside : at < length layers = (let same = c.len-at.ensures in let left = c.requires.unfinished.left in omega (arith, same, left)) in
+    let candidate : HasCandidateAt layers at = record {
+      below = inside;
+      some = λ l is.
+          let same = is ∙ get_or_default layers at l here inside in
+          subst (λ (k : ℕ). 0 < k) (c.len.ensures ∙ sym (ap (λ x. length x.candidates) same)) (positive c.len.result c.if-len-eq0.false);
+    } in
+    let so_far : IsMatchBefore (trellis n p) layers at old.ranks old.pieces old.tables = subst (λ k. IsMatchBefore (trellis n p) layers k old.ranks old.pieces old.tables) (sym c.len-at.ensures) c.requires.unfinished.so_far in
+    let only : AsksOnly (g.R.Rows.state c.args.rows.now) (g.R.Rows.state c.match_piece.new.rows) (AsksLayers n p layers) =
+    only_by {a = AsksFrom n p layers at} c.match_piece.ensures.asks.only (λ v asked. next_asked n p layers at old.ranks old.pieces old.tables v so_far candidate asked) in
     let one = c.in_ok-one.one in
+    let asked : AsksAll (g.R.Rows.state c.args.rows.now) (g.R.Rows.state c.match_piece.new.rows) (AsksPiece n p layers one.piece) =
+    all_by (asks_ok {asked = AsksFrom n p layers at} c.match_piece.ensures.asks c.in_ok-one.was)
+    (λ v asks. found_asked n p layers at one.piece one.ranks one.tables v c.in_ok-one.ensures.piece asks)
+    (λ v asks. asked_found n p layers at one.piece one.ranks one.tables v c.in_ok-one.ensures.piece asks) in
     record {
-      keeps = c.match_piece.ensures.asks.keeps;
-      since = λ start asked.
+      only = only;
+      since = λ start before.
           subst (λ ps. AsksAll start (g.R.Rows.state c.match_piece.new.rows) (AsksTrace n p layers ps)) (sym c.in_ok-add_piece.ensures.pieces)
-          (asked_more n p layers c.args.solved.now.pieces one.piece asked c.in_ok-one.ensures.asks.asks);
+          (asked_more n p layers old.pieces one.piece before asked);
     }
+
+pub returns-in_err-one-clause-asks : goal.returns-in_err-one-clause-asks
+returns-in_err-one-clause-asks g c =
+    let n = c.args.net.now in
+    let p = c.args.p.now in
+    let layers = c.args.layers.now in
+    let old = c.args.solved.now in
+    let at = c.len-at.result in
+    let here = c.index-layers-at.result in
+    let inside : at < length layers = (let same = c.len-at.ensures in let left = c.requires.unfinished.left in omega (arith, same, left)) in
+    let candidate : HasCandidateAt layers at = record {
+      below = inside;
+      some = λ l is.
+          let same = is ∙ get_or_default layers at l here inside in
+          subst (λ (k : ℕ). 0 < k) (c.len.ensures ∙ sym (ap (λ x. length x.candidates) same)) (positive c.len.result c.if-len-eq0.false);
+    } in
+    let so_far : IsMatchBefore (trellis n p) layers at old.ranks old.pieces old.tables = subst (λ k. IsMatchBefore (trellis n p) layers k old.ranks old.pieces old.tables) (sym c.len-at.ensures) c.requires.unfinished.so_far in
+    let only : AsksOnly (g.R.Rows.state c.args.rows.now) (g.R.Rows.state c.match_piece.new.rows) (AsksLayers n p layers) =
+    only_by {a = AsksFrom n p layers at} c.match_piece.ensures.asks.only (λ v asked. next_asked n p layers at old.ranks old.pieces old.tables v so_far candidate asked) in
+    further_err only c.from_residual-in_err-one.ensures.0
+
+pub returns-in_err-add_piece-clause-asks : goal.returns-in_err-add_piece-clause-asks
+returns-in_err-add_piece-clause-asks g c =
+    let n = c.args.net.now in
+    let p = c.args.p.now in
+    let layers = c.args.layers.now in
+    let old = c.args.solved.now in
+    let at = c.len-at.result in
+    let here = c.index-layers-at.result in
+    let inside : at < length layers = (let same = c.len-at.ensures in let left = c.requires.unfinished.left in omega (arith, same, left)) in
+    let candidate : HasCandidateAt layers at = record {
+      below = inside;
+      some = λ l is.
+          let same = is ∙ get_or_default layers at l here inside in
+          subst (λ (k : ℕ). 0 < k) (c.len.ensures ∙ sym (ap (λ x. length x.candidates) same)) (positive c.len.result c.if-len-eq0.false);
+    } in
+    let so_far : IsMatchBefore (trellis n p) layers at old.ranks old.pieces old.tables = subst (λ k. IsMatchBefore (trellis n p) layers k old.ranks old.pieces old.tables) (sym c.len-at.ensures) c.requires.unfinished.so_far in
+    let only : AsksOnly (g.R.Rows.state c.args.rows.now) (g.R.Rows.state c.match_piece.new.rows) (AsksLayers n p layers) =
+    only_by {a = AsksFrom n p layers at} c.match_piece.ensures.asks.only (λ v asked. next_asked n p layers at old.ranks old.pieces old.tables v so_far candidate asked) in
+    further_err only c.from_residual-in_err-add_piece.ensures.0
+
+pub returns-in_err-add_missing-clause-asks : goal.returns-in_err-add_missing-clause-asks
+returns-in_err-add_missing-clause-asks g c =
+    further_err (asks_nothing (g.R.Rows.state c.args.rows.now) (AsksLayers c.args.net.now c.args.p.now c.args.layers.now)) c.from_residual.ensures.0
 
 pub bounds-layers-at : goal.bounds-layers-at
 bounds-layers-at g c = (let at = c.len-at.ensures in let left = c.requires.unfinished.left in omega (arith, at, left))
@@ -97,7 +159,7 @@ returns-then-len-eq0-clause-asks g c =
     let p = c.args.p.now in
     let layers = c.args.layers.now in
     record {
-      keeps = keeps_itself (g.R.Rows.state c.args.rows.now);
+      only = asks_nothing (g.R.Rows.state c.args.rows.now) (AsksLayers n p layers);
       since = λ start asked.
           subst (λ ps. AsksAll start (g.R.Rows.state c.args.rows.now) (AsksTrace n p layers ps)) (sym c.in_ok-add_missing.ensures.pieces) asked;
     }

@@ -1,6 +1,0 @@
-use Rattle.std.proofs.Common.{ℕ, ◌<◌, IsOk, slice_index_or}
-use Rattle.match_pool.specs.declared.crew.Worker.{Worker}
-use Rattle.match_pool.proofs.crew.outcome_of.Given as goal
-
-abbrev pub invariant-loop-worker : goal.invariant-loop-worker
-invariant-loop-worker l = (k : ℕ) (d : Worker) → k < l.worker-index → IsOk (slice_index_or l.workers k d).outcome

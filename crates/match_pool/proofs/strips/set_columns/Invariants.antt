@@ -1,9 +1,0 @@
-use Rattle.std.proofs.Common.{◌≡◌, ℕ, length}
-use Rattle.match_pool.specs.Strips.{AreSpotsOf}
-use Rattle.match_pool.proofs.strips.set_columns.Given as goal
-
-abbrev pub invariant-loop-rank : goal.invariant-loop-rank
-invariant-loop-rank l = record {
-  long : length l.spots.items ≡ length l.initial.spots.items;
-  spots : (count : ℕ) → AreSpotsOf count l.initial.spots.items → AreSpotsOf count l.spots.items;
-}
