@@ -1,4 +1,4 @@
-//! The rows of a certificate, checked by searchers in parallel. Serves `check_all`; decided by `first_bad_row`.
+//! The rows of a certificate, checked in parallel. Serves `check_all`; decided by `first_bad_row`.
 ghost use Rattle.std.specs.Prelude.{◌≡◌, ◌≤◌, IfOk, map};
 ghost use Rattle.cert_checker.specs.RowParts.{bad_in_part, first_place};
 ghost use Rattle.bounded_search.specs.RightRow.{is_right_row};
@@ -6,39 +6,39 @@ ghost use Rattle.cert_checker.specs.Rows.{first_bad_row, is_next_row};
 
 use crate::row_part::RowPart;
 use crate::row_parts::row_parts;
-use bounded_search::{Row, Searcher};
+use bounded_search::{Row, RowChecker};
 use rayon::prelude::*;
 use road_network::Network;
 use std::alloc::{AllocError, Global};
 use std::thread::Threads;
 
 /// Whether a row is the row of its origin.
-fn is_right(net: &Network, searcher: &mut Searcher, row: &Row) -> bool
-    requires { searcher.old.network ≡ net.now }
-    ensures right { result ≡ is_right_row net.now searcher.old.bound row.now }
-    ensures same { searcher.new ≡ searcher.old }
+fn is_right(net: &Network, checker: &mut RowChecker, row: &Row) -> bool
+    requires { checker.old.network ≡ net.now }
+    ensures right { result ≡ is_right_row net.now checker.old.bound row.now }
+    ensures same { checker.new ≡ checker.old }
 {
     net.known();
-    row.origin().0 < net.node_count() && searcher.check(row.origin(), row)
+    row.origin().0 < net.node_count() && checker.check(row.origin(), row)
 }
 
 /// Whether a row is the row of its origin, which is not below `least`.
-fn is_next(net: &Network, searcher: &mut Searcher, least: u64, row: &Row) -> bool
-    requires { searcher.old.network ≡ net.now }
-    ensures next { result ≡ is_next_row net.now searcher.old.bound least row.now }
-    ensures same { searcher.new ≡ searcher.old }
+fn is_next(net: &Network, checker: &mut RowChecker, least: u64, row: &Row) -> bool
+    requires { checker.old.network ≡ net.now }
+    ensures next { result ≡ is_next_row net.now checker.old.bound least row.now }
+    ensures same { checker.new ≡ checker.old }
 {
-    least <= u64::from(row.origin().0) && is_right(net, searcher, row)
+    least <= u64::from(row.origin().0) && is_right(net, checker, row)
 }
 
-/// The number of the first bad row of a part; the searcher is for this network.
-fn first_bad(net: &Network, searcher: &mut Searcher, part: &RowPart) -> Option<u64>
-    requires { searcher.old.network ≡ net.now }
-    ensures { result ≡ bad_in_part net.now searcher.old.bound part.now }
+/// The number of the first bad row of a part; the checker is for this network.
+fn first_bad(net: &Network, checker: &mut RowChecker, part: &RowPart) -> Option<u64>
+    requires { checker.old.network ≡ net.now }
+    ensures { result ≡ bad_in_part net.now checker.old.bound part.now }
 {
     let mut least = part.least;
     for place in 0..part.rows.len() {
-        if !is_next(net, searcher, least, &part.rows[place]) {
+        if !is_next(net, checker, least, &part.rows[place]) {
             return Some(part.first + place as u64);
         }
         least = u64::from(part.rows[place].origin().0) + 1;
@@ -56,8 +56,8 @@ fn bad_in_part(
     requires { bound ≤ 10_000_000 }
     ensures { IfOk result (λ number. number ≡ bad_in_part net.now bound part.now) }
 {
-    let mut searcher = Searcher::open(alloc, net, bound)?;
-    Ok(first_bad(net, &mut searcher, part))
+    let mut checker = RowChecker::open(alloc, net, bound)?;
+    Ok(first_bad(net, &mut checker, part))
 }
 
 /// The numbers of the first bad rows of parts, in parallel.

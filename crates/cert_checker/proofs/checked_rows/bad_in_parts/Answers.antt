@@ -3,7 +3,7 @@ use Rattle.rayon.specs.Lists.{min_len_base}
 use Rattle.rayon.proofs.ToStd.{slice-AllZip}
 use Rattle.cert_checker.specs.RowParts.{bad_in_part}
 use Rattle.cert_checker.proofs.RowParts.{gathered}
-use Rattle.cert_checker.proofs.searched_rows.bad_in_parts.Goals as goal
+use Rattle.cert_checker.proofs.checked_rows.bad_in_parts.Goals as goal
 
 pub returns : goal.returns
 returns g c =

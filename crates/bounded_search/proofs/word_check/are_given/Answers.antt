@@ -11,7 +11,7 @@ use Rattle.bounded_search.specs.declared.table_row.Entry.{Entry}
 use Rattle.bounded_search.specs.Given.{IsRelaxedAt, LeavesRelaxedOrBack, given_by, gives, none_skipped}
 use Rattle.bounded_search.specs.Table.{label_in}
 use Rattle.bounded_search.proofs.GivenLabels.{given_few}
-use Rattle.bounded_search.proofs.dijkstra.Workspace.are_given.Goals as goal
+use Rattle.bounded_search.proofs.word_check.are_given.Goals as goal
 
 abbrev nothing : Entry
 nothing = record { node = record { 0 = 0 }; distance = 0; last = None }
@@ -33,12 +33,12 @@ back_there n bound words entries x spread at = subst (λ (t : ℕ → Option Lab
 pub overflow_add-given : goal.overflow_add-given
 overflow_add-given c =
     let entries : List Entry = c.args.entries.now in
-    let f : Entry → ℕ = given_by c.args.net.now c.args.self.now.bound none_skipped entries in
+    let f : Entry → ℕ = given_by c.args.net.now c.args.bound none_skipped entries in
     let place : ℕ = c.loop-place.place in
     let lt : place < length entries = omega arith in
     let more : sum_by f (take place entries) + f (get_or entries place nothing) ≤ sum_by f entries = sum_by_more_le f entries place nothing lt in
-    let few : sum_by f entries ≤ length entries = given_few c.args.net.now c.args.self.now.bound none_skipped entries c.requires.rising in
-    let count : c.in-Some.count ≡ f (get_or entries place nothing) = given_there c.args.net.now c.args.self.now.bound c.args.self.now.words.items entries (get_or entries place nothing) c.in-Some.count c.requires.words.1 c.in-Some.ensures.count in
+    let few : sum_by f entries ≤ length entries = given_few c.args.net.now c.args.bound none_skipped entries c.requires.rising in
+    let count : c.in-Some.count ≡ f (get_or entries place nothing) = given_there c.args.net.now c.args.bound c.args.words.now entries (get_or entries place nothing) c.in-Some.count c.requires.words.1 c.in-Some.ensures.count in
     let given : c.loop-place.given ≡ sum_by f (take place entries) = c.loop-place.invariant.counted in
     let inside : c.loop-place.given + c.in-Some.count ≤ length entries = omega (arith, more, few, count, given) in
     search rules
@@ -46,24 +46,24 @@ overflow_add-given c =
 pub loop-place-preserved : goal.loop-place-preserved
 loop-place-preserved c =
     let n = c.args.net.now in
-    let bound = c.args.self.now.bound in
+    let bound = c.args.bound in
     let entries : List Entry = c.args.entries.now in
     let f : Entry → ℕ = given_by n bound none_skipped entries in
     let place : ℕ = c.loop-place.place in
     let lt : place < length entries = omega arith in
     record {
-      each = All-more (IsRelaxedAt n bound none_skipped (label_in entries)) entries place nothing lt c.loop-place.invariant.each (relaxed_there n bound c.args.self.now.words.items entries (get_or entries place nothing) c.requires.words.1 (c.requires.fits place nothing lt) (c.in-Some.ensures.some.0 refl));
+      each = All-more (IsRelaxedAt n bound none_skipped (label_in entries)) entries place nothing lt c.loop-place.invariant.each (relaxed_there n bound c.args.words.now entries (get_or entries place nothing) c.requires.words.1 (c.requires.fits place nothing lt) (c.in-Some.ensures.some.0 refl));
       counted =
-          let count : c.in-Some.count ≡ f (get_or entries place nothing) = given_there c.args.net.now c.args.self.now.bound c.args.self.now.words.items entries (get_or entries place nothing) c.in-Some.count c.requires.words.1 c.in-Some.ensures.count in
+          let count : c.in-Some.count ≡ f (get_or entries place nothing) = given_there c.args.net.now c.args.bound c.args.words.now entries (get_or entries place nothing) c.in-Some.count c.requires.words.1 c.in-Some.ensures.count in
           omega (arith, c.loop-place.invariant.counted, sum_by_more f entries place nothing lt, count);
     }
 
 pub overflow_add-result : goal.overflow_add-result
 overflow_add-result c =
     let entries : List Entry = c.args.entries.now in
-    let f : Entry → ℕ = given_by c.args.net.now c.args.self.now.bound none_skipped entries in
+    let f : Entry → ℕ = given_by c.args.net.now c.args.bound none_skipped entries in
     let part : sum_by f (take c.loop-place.place entries) ≤ sum_by f entries = sum_by-take-le f entries c.loop-place.place in
-    let few : sum_by f entries ≤ length entries = given_few c.args.net.now c.args.self.now.bound none_skipped entries c.requires.rising in
+    let few : sum_by f entries ≤ length entries = given_few c.args.net.now c.args.bound none_skipped entries c.requires.rising in
     let given : c.loop-place.given ≡ sum_by f (take c.loop-place.place entries) = c.loop-place.invariant.counted in
     let inside : c.loop-place.given ≤ length entries = omega (arith, part, few, given) in
     search rules
