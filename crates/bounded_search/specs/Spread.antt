@@ -3,7 +3,6 @@ use Rattle.std.specs.Prelude.{ℕ, ◌≡◌, ◌≤◌, ◌↔◌, Bool, IsTrue
 use Rattle.std.specs.List.{All}
 use Rattle.road_network.specs.Net.{Net, HasEdge, HasNode}
 use Rattle.road_network.specs.declared.EdgeId.{EdgeId}
-use Rattle.bounded_search.specs.declared.dijkstra.Workspace.{Workspace}
 use Rattle.bounded_search.specs.declared.table_row.Entry.{Entry}
 use Rattle.bounded_search.specs.LabelWords.{label_at, no_label, word_at}
 use Rattle.bounded_search.specs.Table.{entry_in, label_in}
@@ -23,16 +22,22 @@ pub record FitsIn (n : Net) (bound : ℕ) (x : Entry) : Type 0 where
 abbrev pub IsSpread : ℕ → List Entry → List ℕ → Type 0
 IsSpread bound entries words = (v : ℕ) → label_at bound words v ≡ label_in entries v
 
--- only nodes of the entries are labelled, and all else is as before
-pub record KeepsOthers (entries : List Entry) (old new : Workspace) : Type 0 where
-  pub none : (v : ℕ) → entry_in entries v ≡ None → word_at old.bound new.words.items v ≡ no_label old.bound
-  pub bound : new.bound ≡ old.bound
-  pub count : length new.words.items ≡ length old.words.items
-  pub marks : new.marks ≡ old.marks
-  pub queue : new.queue ≡ old.queue
+-- no node is labelled
+abbrev pub NoneLabelled : ℕ → List ℕ → Type 0
+NoneLabelled bound words = (v : ℕ) → word_at bound words v ≡ no_label bound
+
+-- a blank array for so many nodes, with a bound that a table may have
+pub record IsBlank (count bound : ℕ) (words : List ℕ) : Type 0 where
+  pub low : bound ≤ 10_000_000
+  pub words_count : length words ≡ count
+  pub none_labelled : NoneLabelled bound words
+
+-- only nodes of the entries are labelled
+abbrev pub LabelsOnly : ℕ → List Entry → List ℕ → Type 0
+LabelsOnly bound entries words = (v : ℕ) → entry_in entries v ≡ None → word_at bound words v ≡ no_label bound
 
 -- the answer tells whether a row may have all entries, and then the words say what they say
-pub record Spreads (n : Net) (entries : List Entry) (fits : Bool) (old new : Workspace) : Type 0 where
-  pub fits_all : IsTrue fits ↔ All (FitsIn n old.bound) entries
-  pub words : IsTrue fits → IsSpread old.bound entries new.words.items
-  pub others : KeepsOthers entries old new
+pub record Spreads (n : Net) (bound : ℕ) (entries : List Entry) (fits : Bool) (new : List ℕ) : Type 0 where
+  pub fits_all : IsTrue fits ↔ All (FitsIn n bound) entries
+  pub words : IsTrue fits → IsSpread bound entries new
+  pub only : LabelsOnly bound entries new

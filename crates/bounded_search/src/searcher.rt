@@ -7,6 +7,7 @@ use crate::dijkstra::Workspace;
 use crate::known_rows::{KnownRows, NoRows};
 use crate::places::place_between;
 use crate::table_row::Row;
+use crate::word_check::is_row;
 use polyline_geometry::List;
 use road_network::{Network, NodeId};
 use std::alloc::{AllocError, Global};
@@ -66,19 +67,16 @@ impl<'n> Searcher<'n> {
         self.network.known();
     }
 
-    /// Whether a row is the row of an origin, as `check_row` decides it.
-    ///
-    /// The labels are spread over an array by node, so it costs one look for each edge out of an entry's node.
-    /// Takes no memory.
+    /// Whether a row is the row of an origin, as [`RowChecker::check`](crate::RowChecker::check) decides it, over the
+    /// array of the searches. Takes no memory.
     pub fn check(&mut self, origin: NodeId, row: &Row) -> bool
         requires { HasNode self.old.network origin.0 }
         ensures same { self.new ≡ self.old }
         ensures row { IsTrue result ↔ IsRow self.old.network self.old.bound origin.0 row.now }
     {
-        let network = self.network;
-        network.known();
-        row.known();
-        row.origin() == origin && self.workspace.gives_all(network, row.entries())
+        let bound = self.workspace.bound;
+        let words = self.workspace.words.as_mut_slice();
+        is_row(self.network, bound, words, origin, row)
     }
 
     /// The network.

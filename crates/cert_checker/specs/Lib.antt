@@ -11,6 +11,7 @@ pub mod Legs
 pub mod RowPlaces
 pub mod Columns
 pub mod GivenInside
+pub mod Lenders
 pub mod PlacedInside
 pub mod Checked
 pub mod Laws

@@ -1,7 +1,12 @@
 //! The rows of a certificate, for a step that asks for rows. Serves `ways_by_step`; decided by `Rows`.
-ghost use Rattle.std.specs.Prelude.{◌≡◌, None, Contains, IfOk, OnOk};
+ghost use Rattle.std.specs.Prelude.{◌≡◌, ◌↔◌, None, Contains, IfOk, IfSome, IsOk, IsSome};
+ghost use Rattle.std.specs.Borrow.{sem};
+ghost use Rattle.std.specs.Io.BufRead.{Rests};
+ghost use Rattle.road_network.specs.Net.{HasNode};
+ghost use Rattle.bounded_search.specs.Rows.{AsksFor};
 ghost use Rattle.bounded_search.specs.Table.{IsRow};
 ghost use Rattle.cert_checker.specs.GivenInside.{rows_given};
+ghost use Rattle.cert_checker.specs.Lenders.{given_rows_type};
 ghost use Rattle.cert_checker.specs.Rows.{first_bad_row};
 
 use crate::placed_rows::PlacedRows;
@@ -39,23 +44,28 @@ impl<'a> GivenRows<'a> {
         GivenRows { net, bound, rows }
     }
 
-    /// The row of a node; an error if it is missing.
-    fn find(&self, n: NodeId) -> Result<&Row, AllocError>
-        ensures row { IfOk result (λ row. IsRow self.now.network self.now.bound n.0 row.now) }
-        ensures known { OnOk result (Contains self.now.known n.0) }
+    /// The row of a node, if it is not missing.
+    fn find(&self, n: NodeId) -> Option<&Row>
+        ensures row { IfSome result (λ row. IsRow self.now.network self.now.bound n.0 row.now) }
+        ensures known { IsSome result ↔ Contains self.now.known n.0 }
     {
         self.net.known();
-        match self.rows.place(n) {
-            Some(place) => Ok(self.rows.at(place)),
-            None => Err(AllocError),
-        }
+        let place = self.rows.place(n)?;
+        Some(self.rows.at(place))
     }
 }
 
 impl<'a> Rows for GivenRows<'a> {
     ghost state = { λ rows. rows };
 
-    fn row(&mut self, n: NodeId) -> Result<&Row, AllocError> {
-        self.find(n)
+    /// Only a missing row is an error: nothing is allocated.
+    fn row(&mut self, n: NodeId) -> Result<&Row, AllocError>
+        requires { HasNode self.old.network n.0 }
+        ensures value { IfOk result (λ row. IsRow self.old.network self.old.bound n.0 row.now) }
+        ensures known { IsOk result ↔ Contains self.old.known n.0 }
+        ensures* after { sem 𝓛 (Rests given_rows_type self.entry
+            (λ new. AsksFor self.old (λ v. v ≡ n.0) result new)) }
+    {
+        self.find(n).ok_or(AllocError)
     }
 }

@@ -8,10 +8,10 @@ ghost use Rattle.cert_checker.specs.Whole.{apart_from, verdict};
 
 use crate::batch_check::{first_refused, verdicts};
 use crate::batches::batches;
+use crate::checked_rows::bad_row;
 use crate::ground::Ground;
 use crate::placed_rows::PlacedRows;
 use crate::plain_layers::plain_layers;
-use crate::searched_rows::bad_row;
 use crate::trace_case::TraceCase;
 use crate::trace_check::trace_verdict;
 use crate::verdict::{Condition, Verdict};

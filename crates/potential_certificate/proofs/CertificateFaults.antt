@@ -1,5 +1,5 @@
 -- The faults of a certificate's text mean what they say.
-use Rattle.std.proofs.Common.{◌≡◌, ◌≢◌, ℕ, ◌+◌, ◌≤◌, ◌⊎◌, inl, inr, Bool, true, false, cond, List, [], ◌∷◌, ◌++◌, length, map, Option, Some, None, Result, Ok, Err, refl, sym, ap, subst, ◌∙◌, append_assoc, arith, rules, length-append}
+use Rattle.std.proofs.Common.{◌≡◌, ◌≢◌, ℕ, ◌+◌, ◌≤◌, ◌⊎◌, inl, inr, Bool, true, false, cond, List, [], ◌∷◌, ◌++◌, length, map, Option, Some, None, Result, Ok, Err, IfErr, refl, sym, ap, subst, ◌∙◌, append_assoc, arith, rules, length-append}
 use Rattle.std.specs.Prelude.{nat_lt}
 use Rattle.std.specs.List.{concat, flat_map}
 use Rattle.std.proofs.lemmas.List.{append-nil}
@@ -17,7 +17,7 @@ use Rattle.potential_certificate.specs.CertificateText.{certificate_lines, certi
 use Rattle.potential_certificate.specs.Faults.{BadLinesAreFirst, CutsLackTheirEnd, IsCertificate, OptionsFit}
 use Rattle.potential_certificate.specs.Reading.{ProofsRead, all_rows_at, behind_first, certificate_of, ended, fault_at, proofs_and_rows, proofs_at}
 use Rattle.potential_certificate.specs.declared.fault.CertFault.{CertFault}
-use Rattle.potential_certificate.specs.declared.fault.CertFault.TheVariants.{BadLine, Cut, TooLong}
+use Rattle.potential_certificate.specs.declared.fault.CertFault.TheVariants.{BadLine, Cut, TooLong, Memory}
 use Rattle.potential_certificate.specs.declared.proof.Certificate.{Certificate}
 use Rattle.potential_certificate.specs.declared.proof.TraceProof.{TraceProof}
 use Rattle.potential_certificate.proofs.Certificates.{certificates_have_one_text, certificates_read_back, proofs_take}
@@ -206,3 +206,22 @@ cuts_lack_their_end p text fit = (to, back)
         λ lines is whole. h.1.missing (record { lines = lines; is = is; rest = []; begins = whole ∙ sym (append-nil (concat lines)) }) in
         let found = no_whole p text fit h.0 not_whole in
         found.1 ∙ ap (λ (f : CertFault). let r : Read = Err f in r) (is_cut (λ k. BadLine k) Cut found.0 found.2 h.1)
+
+-- ---- as a call answers them
+
+answered : (is result : Read) (fault : CertFault) → IfErr result (λ found. (found ≡ Memory) ⊎ (is ≡ Err found)) → result ≡ Err fault → (fault ≡ Memory → ⊥) → is ≡ Err fault
+answered is (Ok c) fault says e other = absurd cc
+answered is (Err found) fault says e other = by_kind says
+  where
+    same : found ≡ fault
+    same = cc
+
+    by_kind : (found ≡ Memory) ⊎ (is ≡ Err found) → is ≡ Err fault
+    by_kind (inl memory) = absurd (other (sym same ∙ memory))
+    by_kind (inr read) = read ∙ ap (λ (f : CertFault). let r : Read = Err f in r) same
+
+pub read_bad_line : (p : Params) (text : List ℕ) (result : Read) (n : ℕ) → OptionsFit p → IfErr result (λ found. (found ≡ Memory) ⊎ (certificate_of p text ≡ Err found)) → result ≡ Err (BadLine n) → IsFirstBadLineOf (IsCertificate p) n text
+read_bad_line p text result n fit says e = ((bad_lines_are_first p text n fit).0 (answered (certificate_of p text) result (BadLine n) says e (λ h. absurd cc))).1
+
+pub read_cut : (p : Params) (text : List ℕ) (result : Read) → OptionsFit p → IfErr result (λ found. (found ≡ Memory) ⊎ (certificate_of p text ≡ Err found)) → result ≡ Err Cut → IsCutOf (IsCertificate p) text
+read_cut p text result fit says e = ((cuts_lack_their_end p text fit).0 (answered (certificate_of p text) result Cut says e (λ h. absurd cc))).1

@@ -1,5 +1,7 @@
 //! Reads a certificate whose text comes in blocks. Serves readers of files; decided by `certificate_of`.
-ghost use Rattle.std.specs.Prelude.{◌≡◌, ◌⊎◌, ◌++◌, [], IfErr, IfOk, Ok, Err};
+ghost use Rattle.std.specs.Prelude.{◌≡◌, ◌⊎◌, ◌++◌, ℕ, [], IfErr, IfOk, IsErrOf, Ok, Err};
+ghost use Rattle.row_text.specs.LineFaults.{IsCutOf, IsFirstBadLineOf};
+ghost use Rattle.potential_certificate.specs.Faults.{IsCertificate};
 ghost use Rattle.potential_certificate.specs.Reading.{certificate_of};
 ghost use Rattle.potential_certificate.specs.declared.fault.CertFault.TheVariants.{Memory};
 
@@ -7,7 +9,7 @@ use crate::TEXT_LIMIT;
 use crate::fault::{CertFault, WriteFault};
 use crate::gathered::Gathered;
 use crate::proof::Certificate;
-use crate::reading::read_certificate;
+use crate::reading::{known_options, read_certificate};
 use cost_model::Params;
 use polyline_geometry::List;
 use std::alloc::{AllocError, Global};
@@ -68,6 +70,20 @@ impl CertificateReader {
 
     /// The certificate whose text for these options was taken, as [`read_certificate`] returns it.
     pub fn finish(self, p: &Params) -> Result<Certificate, CertFault>
+        ensures ok { IfOk result (λ c. certificate_of p.now self ≡ Ok c) }
+        ensures err { IfErr result (λ fault. (fault ≡ Memory)
+            ⊎ (certificate_of p.now self ≡ Err fault)) }
+        // Which line is bad, and what a text that is cut lacks.
+        ensures bad_line { (n : ℕ) → IsErrOf result (CertFault.BadLine n)
+            → IsFirstBadLineOf (IsCertificate p.now) n self }
+        ensures cut { IsErrOf result CertFault.Cut → IsCutOf (IsCertificate p.now) self }
+    {
+        known_options(*p);
+        self.close(p)
+    }
+
+    /// The certificate of the text that was taken, or its fault.
+    fn close(self, p: &Params) -> Result<Certificate, CertFault>
         ensures ok { IfOk result (λ c. certificate_of p.now self ≡ Ok c) }
         ensures err { IfErr result (λ fault. (fault ≡ Memory)
             ⊎ (certificate_of p.now self ≡ Err fault)) }

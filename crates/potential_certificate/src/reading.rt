@@ -1,7 +1,9 @@
 //! The text of a certificate, read line by line. Serves all who take one; decided by `certificate_of`.
-ghost use Rattle.std.specs.Prelude.{◌≡◌, ◌⊎◌, ◌<◌, ◌+◌, ◌^◌, ◌==◌, length, IfErr, IfOk, Ok, Err};
+ghost use Rattle.std.specs.Prelude.{◌≡◌, ◌⊎◌, ◌<◌, ◌+◌, ◌^◌, ◌==◌, ℕ, length, IfErr, IfOk, IsErrOf, Ok, Err};
 ghost use Rattle.std.specs.List.{count_by, list_any};
+ghost use Rattle.row_text.specs.LineFaults.{IsCutOf, IsFirstBadLineOf};
 ghost use Rattle.potential_certificate.specs.CertificateText.{text_limit};
+ghost use Rattle.potential_certificate.specs.Faults.{IsCertificate, OptionsFit};
 ghost use Rattle.potential_certificate.specs.Reading.{all_rows_at, certificate_ended, certificate_of, fault_at, line_count, line_number, proof_at, proofs_at, rows_and_end};
 ghost use Rattle.potential_certificate.specs.declared.fault.CertFault.TheVariants.{Memory};
 
@@ -23,6 +25,27 @@ use trellis::Potentials;
 /// It reads the text once, from its start to its end or to its first bad line. The result has a text
 /// (`HasText`); whether it is right is not checked.
 pub fn read_certificate(alloc: Global, p: &Params, text: &[u8]) -> Result<Certificate, CertFault>
+    ensures ok { IfOk result (λ c. certificate_of p.now text.now ≡ Ok c) }
+    ensures err { IfErr result (λ fault. (fault ≡ Memory)
+        ⊎ (certificate_of p.now text.now ≡ Err fault)) }
+    // Which line is bad, and what a text that is cut lacks.
+    ensures bad_line { (n : ℕ) → IsErrOf result (CertFault.BadLine n)
+        → IsFirstBadLineOf (IsCertificate p.now) n text.now }
+    ensures cut { IsErrOf result CertFault.Cut → IsCutOf (IsCertificate p.now) text.now }
+{
+    known_options(*p);
+    read_text(alloc, p, text)
+}
+
+/// The range of each option of the first line.
+pub fn known_options(p: Params)
+    ensures { OptionsFit p }
+{
+    let _ = p;
+}
+
+// The certificate of the text, or its fault.
+fn read_text(alloc: Global, p: &Params, text: &[u8]) -> Result<Certificate, CertFault>
     ensures ok { IfOk result (λ c. certificate_of p.now text.now ≡ Ok c) }
     ensures err { IfErr result (λ fault. (fault ≡ Memory)
         ⊎ (certificate_of p.now text.now ≡ Err fault)) }

@@ -8,7 +8,7 @@ ghost use Rattle.table_file.specs.TableText.{text_limit};
 ghost use Rattle.table_work.specs.Preload.{row_said, rows_in, rows_said, table_fault_line, table_file_said, wrong_row_line};
 ghost use Rattle.table_work.specs.PreloadDone.{RefusesText};
 
-use bounded_search::{Row, Searcher};
+use bounded_search::{Row, RowChecker};
 use decimal_text::write_unsigned;
 use edge_io::Shelf;
 use polyline_geometry::List;
@@ -81,20 +81,20 @@ fn read_rows(alloc: Global, roads: &Network, bound: u32, text: Vec<u8>) -> Resul
 fn offer_row(
     alloc: Global,
     roads: &Network,
-    searcher: &mut Searcher<'_>,
+    checker: &mut RowChecker<'_>,
     reader: &mut Reader<'_>,
     row: Row,
 ) -> Result<(), Stop>
-    requires networks { (searcher.old.network ≡ roads.now)
+    requires networks { (checker.old.network ≡ roads.now)
         × (reader.old.store.network ≡ roads.now) }
-    requires bounds { reader.old.store.bound ≡ searcher.old.bound }
+    requires bounds { reader.old.store.bound ≡ checker.old.bound }
     requires node { HasNode roads.now row.origin }
-    ensures same { (searcher.new ≡ searcher.old) × (reader.new.store ≡ reader.old.store) }
-    ensures said { Accepts Refusal.Table (row_said roads.now searcher.old.bound row) result }
+    ensures same { (checker.new ≡ checker.old) × (reader.new.store ≡ reader.old.store) }
+    ensures said { Accepts Refusal.Table (row_said roads.now checker.old.bound row) result }
 {
     roads.known();
     let origin = row.origin();
-    if !searcher.check(origin, &row) {
+    if !checker.check(origin, &row) {
         return Err(refuse_row(alloc, roads.node_name(origin)));
     }
     reader.offer_right(origin, row)?;
@@ -105,18 +105,18 @@ fn offer_row(
 fn offer_rows(
     alloc: Global,
     roads: &Network,
-    searcher: &mut Searcher<'_>,
+    checker: &mut RowChecker<'_>,
     reader: &mut Reader<'_>,
     rows: List<Row>,
 ) -> Result<(), Stop>
-    requires networks { (searcher.old.network ≡ roads.now)
+    requires networks { (checker.old.network ≡ roads.now)
         × (reader.old.store.network ≡ roads.now) }
-    requires bounds { reader.old.store.bound ≡ searcher.old.bound }
+    requires bounds { reader.old.store.bound ≡ checker.old.bound }
     requires nodes { All (λ row. HasNode roads.now row.origin) rows }
-    ensures { Accepts Refusal.Table (rows_said roads.now searcher.old.bound rows) result }
+    ensures { Accepts Refusal.Table (rows_said roads.now checker.old.bound rows) result }
 {
     for row in rows.into_vec() {
-        offer_row(alloc, roads, searcher, reader, row)?;
+        offer_row(alloc, roads, checker, reader, row)?;
     }
     Ok(())
 }
@@ -134,9 +134,9 @@ fn accept_table(
     ensures { Accepts Refusal.Table (table_file_said roads.now bound text.items) result }
 {
     let rows = read_rows(alloc, roads, bound, text)?;
-    let mut searcher = Searcher::open(alloc, roads, bound)?;
+    let mut checker = RowChecker::open(alloc, roads, bound)?;
     let mut reader = store.reader()?;
-    offer_rows(alloc, roads, &mut searcher, &mut reader, rows)
+    offer_rows(alloc, roads, &mut checker, &mut reader, rows)
 }
 
 /// Reads a table file, and accepts or refuses it. All rows of an accepted file are offered to the store.

@@ -1,16 +1,10 @@
-use Rattle.std.proofs.Common.{◌≡◌, ◌⊎◌, Result, Ok, Err, IfErr, IfOk, ap, subst, sym, ◌∙◌}
-use Rattle.potential_certificate.specs.Reading.{rows_and_end}
-use Rattle.potential_certificate.specs.declared.fault.CertFault.{CertFault}
-use Rattle.potential_certificate.specs.declared.fault.CertFault.TheVariants.{Memory}
-use Rattle.potential_certificate.specs.declared.proof.Certificate.{Certificate}
+use Rattle.potential_certificate.proofs.CertificateFaults.{read_bad_line, read_cut}
 use Rattle.potential_certificate.proofs.reading.read_certificate.Goals as goal
 
-pub returns-clause-ok : goal.returns-clause-ok
-returns-clause-ok c =
-    subst (λ (r : Result Certificate CertFault). IfOk c.end_certificate.result (λ read. r ≡ Ok read))
-    (sym (c.in_ok-proofs.ensures.ok ∙ ap (rows_and_end c.args.text.now c.in_ok-proofs.proofs) c.in_ok-rows.ensures)) c.end_certificate.ensures.ok
+pub returns-clause-bad_line : goal.returns-clause-bad_line
+returns-clause-bad_line c = λ n e.
+    read_bad_line c.args.p.now c.args.text.now c.read_text.result n c.known_options.ensures c.read_text.ensures.err e
 
-pub returns-clause-err : goal.returns-clause-err
-returns-clause-err c =
-    subst (λ (r : Result Certificate CertFault). IfErr c.end_certificate.result (λ fault. (fault ≡ Memory) ⊎ (r ≡ Err fault)))
-    (sym (c.in_ok-proofs.ensures.ok ∙ ap (rows_and_end c.args.text.now c.in_ok-proofs.proofs) c.in_ok-rows.ensures)) c.end_certificate.ensures.err
+pub returns-clause-cut : goal.returns-clause-cut
+returns-clause-cut c = λ e.
+    read_cut c.args.p.now c.args.text.now c.read_text.result c.known_options.ensures c.read_text.ensures.err e

@@ -18,13 +18,13 @@ loop-row-preserved c =
     let steps = c.in-Some.ensures.steps in
     let left = into_iter_items at.row-iterator in
     let rest = into_iter_items c.next.new.self in
-    let said = subst (λ (t : BoundedTable). row_said c.args.roads.now t.bound row ≡ Ok tt) i.searcher c.in_ok-offer_row.ensures.said in
+    let said = subst (λ (t : BoundedTable). row_said c.args.roads.now t.bound row ≡ Ok tt) i.checker c.in_ok-offer_row.ensures.said in
     record {
       left = (let was = i.left in let gone = steps.1 in let short = ap (λ (l : List TableRow). length l) steps.0 in omega arith);
       nodes = All-rest (λ (r : TableRow). HasNode c.args.roads.now r.origin) row rest left steps.0 i.nodes;
-      searcher = c.offer_row.ensures.same.0 ∙ i.searcher;
+      checker = c.offer_row.ensures.same.0 ∙ i.checker;
       store = c.offer_row.ensures.same.1 ∙ i.store;
-      said = rows_left c.args.roads.now c.args.searcher.now.bound row (into_iter_items c.into_iter-row-iterator.result) left rest steps.0 said i.said;
+      said = rows_left c.args.roads.now c.args.checker.now.bound row (into_iter_items c.into_iter-row-iterator.result) left rest steps.0 said i.said;
     }
 
 pub returns-in_err-offer_row : goal.returns-in_err-offer_row
@@ -34,7 +34,7 @@ returns-in_err-offer_row c =
     let row = c.in-Some.row in
     let stop = c.in_err-offer_row.field-0.0 in
     let whole = c.into_iter-row-iterator.ensures.into_iter_gives.0 ∙ c.into_vec-row-items.ensures in
-    let refuses = subst (λ (t : BoundedTable). Refuses Table (row_said c.args.roads.now t.bound row) stop) i.searcher c.in_err-offer_row.ensures.said in
+    let refuses = subst (λ (t : BoundedTable). Refuses Table (row_said c.args.roads.now t.bound row) stop) i.checker c.in_err-offer_row.ensures.said in
     let p = err_from_is_err_and c.from_residual.result c.from_residual.ensures.1 in
-    rw (p.1, p.2) (rows_refused c.args.roads.now c.args.searcher.now.bound row c.args.rows (into_iter_items at.row-iterator) (into_iter_items c.next.new.self) stop c.in-Some.ensures.steps.0
-    (i.said ∙ ap (rows_said c.args.roads.now c.args.searcher.now.bound) whole) refuses)
+    rw (p.1, p.2) (rows_refused c.args.roads.now c.args.checker.now.bound row c.args.rows (into_iter_items at.row-iterator) (into_iter_items c.next.new.self) stop c.in-Some.ensures.steps.0
+    (i.said ∙ ap (rows_said c.args.roads.now c.args.checker.now.bound) whole) refuses)

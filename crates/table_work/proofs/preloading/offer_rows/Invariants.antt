@@ -10,8 +10,8 @@ abbrev pub invariant-loop-row : goal.invariant-loop-row
 invariant-loop-row l = record {
   left : into_iter_len l.row-iterator ≡ length (into_iter_items l.row-iterator);
   nodes : All (λ (row : TableRow). HasNode l.roads row.origin) (into_iter_items l.row-iterator);
-  searcher : l.searcher ≡ l.initial.searcher;
+  checker : l.checker ≡ l.initial.checker;
   store : l.reader.store ≡ l.initial.reader.store;
-  said : rows_said l.roads l.initial.searcher.bound (into_iter_items l.row-iterator)
-      ≡ rows_said l.roads l.initial.searcher.bound (into_iter_items l.initial.row-iterator);
+  said : rows_said l.roads l.initial.checker.bound (into_iter_items l.row-iterator)
+      ≡ rows_said l.roads l.initial.checker.bound (into_iter_items l.initial.row-iterator);
 }

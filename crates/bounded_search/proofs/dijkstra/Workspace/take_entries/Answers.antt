@@ -1,6 +1,6 @@
 use Rattle.std.proofs.lemmas.Result.{err_from_is_err_and}
-use Rattle.std.proofs.Common.{◌≤◌, ◌*◌, length, refl, arith, ◌∙◌}
-use Rattle.bounded_search.proofs.MarkedNodes.{all_taken, keeps_both, keeps_none, none_taken, sized_here, sized_still}
+use Rattle.std.proofs.Common.{length, refl, arith, ◌∙◌}
+use Rattle.bounded_search.proofs.MarkedNodes.{keeps_both, none_taken, sized_here}
 use Rattle.bounded_search.proofs.dijkstra.Workspace.take_entries.Goals as goal
 
 pub loop-area-init : goal.loop-area-init

@@ -1,4 +1,3 @@
-use Rattle.std.proofs.lemmas.Result.{err_from_is_err_and}
 use Rattle.std.proofs.Common.{◌≡◌, ◌+◌, ◌*◌, ◌++◌, ◌∙◌, ℕ, List, length, length-set, take, drop, refl, sym, ap, subst, arith}
 use Rattle.std.proofs.lemmas.List.{get_or_read, take_at}
 use Rattle.bounded_search.specs.Marked.{TakesNodes}

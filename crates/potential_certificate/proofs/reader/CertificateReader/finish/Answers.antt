@@ -1,8 +1,10 @@
-use Rattle.std.proofs.Common.{rules, sym}
-use Rattle.potential_certificate.proofs.Gatherings.{finished}
+use Rattle.potential_certificate.proofs.CertificateFaults.{read_bad_line, read_cut}
 use Rattle.potential_certificate.proofs.reader.CertificateReader.finish.Goals as goal
 
-pub returns-then-branch-clause-ok : goal.returns-then-branch-clause-ok
-returns-then-branch-clause-ok c =
-    finished c.args.p.now c.args.self c.self.inside.gathered c.settle.new.self c.self.inside.count c.from_vec.result c.from_vec-then-branch.result c.from_vec.ensures c.from_vec-then-branch.ensures
-    (sym c.self.view_is) c.self.invariant.counted (search (rules, c.if-count-le-TEXT_LIMIT.true)) c.in_ok-settle.ensures (c.in_ok-is_closed.ensures (search (rules, c.if-branch.true)))
+pub returns-clause-bad_line : goal.returns-clause-bad_line
+returns-clause-bad_line c = λ n e.
+    read_bad_line c.args.p.now c.args.self c.close.result n c.known_options.ensures c.close.ensures.err e
+
+pub returns-clause-cut : goal.returns-clause-cut
+returns-clause-cut c = λ e.
+    read_cut c.args.p.now c.args.self c.close.result c.known_options.ensures c.close.ensures.err e

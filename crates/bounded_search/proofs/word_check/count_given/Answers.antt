@@ -1,0 +1,76 @@
+use Rattle.std.proofs.Common.{◌≡◌, ◌<◌, ℕ, Bool, List, None, length, map, get_or, subst, sym, ◌∙◌, arith, refl, true≢false}
+use Rattle.std.proofs.lemmas.List.{take_all}
+use Rattle.std.proofs.lemmas.List.Elements.{All-more}
+use Rattle.std.proofs.lemmas.List.Sums.{count_by_more_no, count_by_more_yes}
+use Rattle.std.specs.List.{All}
+use Rattle.road_network.specs.Net.{Net, IsLawful, arc_of, leaving}
+use Rattle.road_network.specs.declared.Arc.{Arc}
+use Rattle.bounded_search.specs.Given.{IsRelaxedOrBack, arc_gives}
+use Rattle.bounded_search.specs.LabelWords.{label_at}
+use Rattle.bounded_search.proofs.Arcs.{IsLeaving, arcs_are, known_arcs, nothing}
+use Rattle.bounded_search.proofs.word_check.count_given.Goals.{then-branch, else-branch}
+use Rattle.bounded_search.proofs.word_check.count_given.Goals as goal
+
+leaves : (n : Net) (u : ℕ) (arcs : List Arc) (i : ℕ) → IsLawful n → arcs ≡ map (arc_of n) (leaving n u) → i < length arcs → IsLeaving n u (get_or arcs i nothing)
+leaves n u arcs i lawful is lt = subst (λ (k : List Arc). i < length k → IsLeaving n u (get_or k i nothing)) (sym is) (λ inside. known_arcs n u lawful i nothing inside) lt
+
+pub try_arc-requires-clause-end : goal.try_arc-requires-clause-end
+try_arc-requires-clause-end c =
+    let n = c.args.net.now in
+    let a = leaves n c.args.x.now.node.0 c.arcs-arc-items.result.now c.loop-arc.arc-index c.known.ensures c.arcs-arc-items.ensures (omega arith) in
+    (omega (arith, a.end, c.requires.words), omega (arith, a.has, c.known.ensures.few_edges))
+
+pub try_arc-requires-clause-fits : goal.try_arc-requires-clause-fits
+try_arc-requires-clause-fits c =
+    let n = c.args.net.now in
+    let a = leaves n c.args.x.now.node.0 c.arcs-arc-items.result.now c.loop-arc.arc-index c.known.ensures c.arcs-arc-items.ensures (omega arith) in
+    (a.not_long, c.requires.within)
+
+pub loop-arc-preserved : goal.loop-arc-preserved
+loop-arc-preserved c =
+    let table = label_at c.args.bound c.args.words.now in
+    let distance = c.args.x.now.distance in
+    let arcs : List Arc = c.arcs-arc-items.result.now in
+    let i : ℕ = c.loop-arc.arc-index in
+    let lt : i < length arcs = omega arith in
+    let p : Arc → Bool = arc_gives c.args.bound table None distance in
+    let is : c.in_ok-try_arc.field-0 ≡ p (get_or arcs i nothing) = c.in_ok-try_arc.ensures.given in
+    record {
+      relaxed = All-more (IsRelaxedOrBack c.args.bound table None distance) arcs i nothing lt c.loop-arc.invariant.relaxed (c.in_ok-try_arc.ensures.some.0 refl);
+      counted = elim c.if-branch.branch [
+        | then-branch w ↦
+            let more = count_by_more_yes p arcs i nothing lt (sym is ∙ w.if-branch.true) in
+            omega (arith, w.count-is, c.loop-arc.invariant.counted, more)
+        | else-branch w ↦
+            let same = count_by_more_no p arcs i nothing lt (sym is ∙ w.if-branch.false) in
+            omega (arith, w.count-is, c.loop-arc.invariant.counted, same)
+      ];
+    }
+
+pub returns-in_err-try_arc-clause-some : goal.returns-in_err-try_arc-clause-some
+returns-in_err-try_arc-clause-some c =
+    let n = c.args.net.now in
+    let table = label_at c.args.bound c.args.words.now in
+    let P : Arc → Type 0 = IsRelaxedOrBack c.args.bound table None c.args.x.now.distance in
+    let are = arcs_are n c.args.x.now.node.0 P in
+    let none : P (get_or c.arcs-arc-items.result.now c.loop-arc.arc-index nothing) → ⊥ = λ at. true≢false (sym (c.in_err-try_arc.ensures.some.1 at)) in (
+      λ some. absurd (true≢false (sym (rw c.from_residual.ensures at some))),
+      λ relaxed.
+          let all : All P c.arcs-arc-items.result.now = rw c.arcs-arc-items.ensures (are.1 relaxed) in
+          absurd (none (all c.loop-arc.arc-index nothing c.loop-arc-test.true)),
+    )
+
+pub returns-clause-some : goal.returns-clause-some
+returns-clause-some c =
+    let n = c.args.net.now in
+    let table = label_at c.args.bound c.args.words.now in
+    let P : Arc → Type 0 = IsRelaxedOrBack c.args.bound table None c.args.x.now.distance in
+    let are = arcs_are n c.args.x.now.node.0 P in
+    let arcs : List Arc = c.arcs-arc-items.result.now in
+    let all : All P arcs = rw (take_all c.loop-arc.arc-index arcs (omega arith)) at c.loop-arc.invariant.relaxed in (
+      λ some. are.0 (rw c.arcs-arc-items.ensures at all),
+      λ relaxed. refl,
+    )
+
+pub returns-in_err-try_arc-clause-count : goal.returns-in_err-try_arc-clause-count
+returns-in_err-try_arc-clause-count c = rw c.from_residual.ensures tt

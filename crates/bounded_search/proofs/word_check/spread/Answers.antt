@@ -1,0 +1,60 @@
+use Rattle.std.proofs.Common.{◌≡◌, ◌<◌, Bool, ℕ, List, Some, None, true, false, true≢false, ap, sym, length, get_or, refl, subst, ◌∙◌, rules, arith}
+use Rattle.std.proofs.lemmas.List.{take_all}
+use Rattle.std.proofs.lemmas.List.Elements.{All-more, All-nil}
+use Rattle.std.specs.List.{All}
+use Rattle.std.specs.Prelude.{IsTrue}
+use Rattle.bounded_search.specs.declared.table_row.Entry.{Entry}
+use Rattle.bounded_search.specs.LabelWords.{label_in_word}
+use Rattle.bounded_search.specs.Spread.{FitsIn, IsSpread}
+use Rattle.bounded_search.specs.Table.{label_of}
+use Rattle.bounded_search.proofs.WordChecks.{label_of_word, none_else, none_spread, spread_next}
+use Rattle.bounded_search.proofs.word_check.spread.Goals as goal
+
+abbrev nothing : Entry
+nothing = record { node = record { 0 = 0 }; distance = 0; last = None }
+
+pub loop-x-init : goal.loop-x-init
+loop-x-init c = record {
+  spread = none_spread c.args.bound c.args.words.now c.requires.blank.none_labelled;
+  fits = All-nil (FitsIn c.args.net.now c.args.bound);
+}
+
+pub returns-then-not-fits : goal.returns-then-not-fits
+returns-then-not-fits c =
+    let inv = c.loop-x.invariant in
+    let entries : List Entry = c.args.entries.now in
+    let i : ℕ = c.loop-x.x-index in
+    let lt : i < length entries = omega arith in
+    let unfit : All (FitsIn c.args.net.now c.args.bound) entries → false ≡ true = λ all. subst (λ (k : Bool). IsTrue k) c.if-not-fits.true (c.fits.ensures.1 (all i nothing lt)) in
+    record {
+      fits_all = (λ t. absurd (true≢false (sym t)), unfit);
+      words = λ t. absurd (true≢false (sym t));
+      only = none_else c.args.bound entries i c.loop-x.words inv.spread;
+    }
+
+pub loop-x-preserved : goal.loop-x-preserved
+loop-x-preserved c =
+    let inv = c.loop-x.invariant in
+    let entries : List Entry = c.args.entries.now in
+    let i : ℕ = c.loop-x.x-index in
+    let lt : i < length entries = omega arith in
+    let x : Entry = get_or entries i nothing in
+    let fits : FitsIn c.args.net.now c.args.bound x = c.fits.ensures.0 (search rules) in
+    let inside : x.node.0 < length c.loop-x.words = omega (arith, fits.node, c.requires.blank.words_count) in
+    let is : label_in_word c.args.bound c.word_of.result ≡ Some (label_of x) = ap (label_in_word c.args.bound) c.word_of.ensures ∙ label_of_word c.args.net.now c.args.bound x.distance x.last c.known.ensures fits.within fits.last in
+    record {
+      spread = spread_next c.args.bound entries i nothing c.loop-x.words c.word_of.result c.requires.rising lt inside is inv.spread;
+      fits = All-more (FitsIn c.args.net.now c.args.bound) entries i nothing lt inv.fits fits;
+    }
+
+pub returns : goal.returns
+returns c =
+    let inv = c.loop-x.invariant in
+    let entries : List Entry = c.args.entries.now in
+    let whole = take_all c.loop-x.x-index entries (omega arith) in
+    let fits : All (FitsIn c.args.net.now c.args.bound) entries = rw whole at inv.fits in
+    record {
+      fits_all = (λ t. fits, λ all. refl);
+      words = λ t. subst (λ (k : List Entry). IsSpread c.args.bound k c.loop-x.words) whole inv.spread;
+      only = none_else c.args.bound entries c.loop-x.x-index c.loop-x.words inv.spread;
+    }
