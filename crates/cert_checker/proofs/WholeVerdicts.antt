@@ -16,12 +16,13 @@ use Rattle.matching.proofs.Lists.{drop-at}
 use Rattle.potential_certificate.specs.declared.proof.TraceProof.{TraceProof}
 use Rattle.trace_match.specs.Match.{layer_of}
 use Rattle.cert_checker.specs.declared.verdict.Condition.{Condition}
+use Rattle.cert_checker.specs.declared.verdict.Finding.TheVariants.{BadRow, Judged}
 use Rattle.cert_checker.specs.declared.verdict.Verdict.{Verdict}
 use Rattle.cert_checker.specs.declared.verdict.Verdict.TheVariants.{Proved, Refused}
 use Rattle.cert_checker.specs.CaseSeen.{IsCheckable}
 use Rattle.cert_checker.specs.Rows.{first_bad_row}
 use Rattle.cert_checker.specs.Verdicts.{case_of, or_else, trace_verdict}
-use Rattle.cert_checker.specs.Whole.{apart_from, refused_whole, verdict, verdict_from}
+use Rattle.cert_checker.specs.Whole.{apart_from, finding, found_of, refused_whole, verdict, verdict_from}
 use Rattle.cert_checker.specs.declared.verdict.Condition.TheVariants.{Row, Trace as TraceIds}
 use Rattle.potential_certificate.specs.declared.proof.Certificate.{Certificate}
 
@@ -106,3 +107,18 @@ unfolding verdict
 by_traces n p traces c right same =
     ap (λ o. or_else (refused_whole TraceIds o) (verdict_from n p c.rows 0 traces c.proofs)) same
     ∙ ap (λ o. or_else (refused_whole Row o) (or_else (refused_whole TraceIds (apart_from 0 traces c.proofs)) (verdict_from n p c.rows 0 traces c.proofs))) right
+
+-- the verdict of what was found
+row_of_found : (bad : Option ℕ) (v : Verdict) (place : ℕ) → BadRow place ≡ found_of bad v → Some place ≡ bad
+row_of_found None v place e = absurd cc
+row_of_found (Some k) v place e = cc
+
+verdict_of_found : (bad : Option ℕ) (v w : Verdict) → Judged w ≡ found_of bad v → w ≡ v
+verdict_of_found None v w e = cc
+verdict_of_found (Some k) v w e = absurd cc
+
+pub bad_row_found : (n : Net) (p : Params) (traces : List Trace) (c : Certificate) (place : ℕ) → BadRow place ≡ finding n p traces c → Refused Row 0 place ≡ verdict n p traces c
+bad_row_found n p traces c place e = refused_by_rows n p traces c place (row_of_found (first_bad_row n p.bound c.rows) (verdict n p traces c) place e)
+
+pub judged : (n : Net) (p : Params) (traces : List Trace) (c : Certificate) (v : Verdict) → Judged v ≡ finding n p traces c → v ≡ verdict n p traces c
+judged n p traces c v e = verdict_of_found (first_bad_row n p.bound c.rows) (verdict n p traces c) v e

@@ -8,6 +8,8 @@ use Rattle.potential_certificate.specs.declared.proof.Certificate.{Certificate}
 use Rattle.potential_certificate.specs.declared.proof.TraceProof.{TraceProof}
 use Rattle.cert_checker.specs.declared.verdict.Condition.{Condition}
 use Rattle.cert_checker.specs.declared.verdict.Condition.TheVariants.{Row, Trace as TraceIds}
+use Rattle.cert_checker.specs.declared.verdict.Finding.{Finding}
+use Rattle.cert_checker.specs.declared.verdict.Finding.TheVariants.{BadRow, Judged}
 use Rattle.cert_checker.specs.declared.verdict.Verdict.{Verdict}
 use Rattle.cert_checker.specs.declared.verdict.Verdict.TheVariants.{Proved, Refused}
 use Rattle.cert_checker.specs.Rows.{first_bad_row}
@@ -41,3 +43,11 @@ verdict n p traces c =
     or_else (refused_whole Row (first_bad_row n p.bound c.rows))
     (or_else (refused_whole TraceIds (apart_from 0 traces c.proofs))
     (verdict_from n p c.rows 0 traces c.proofs))
+
+-- what is found of it: the first bad row, or the verdict where no row is bad
+abbrev pub found_of : Option ℕ → Verdict → Finding
+found_of None v = Judged v
+found_of (Some place) v = BadRow place
+
+abbrev pub finding : Net → Params → List Trace → Certificate → Finding
+finding n p traces c = found_of (first_bad_row n p.bound c.rows) (verdict n p traces c)

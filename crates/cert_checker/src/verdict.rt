@@ -37,3 +37,12 @@ pub enum Verdict {
         place: u64,
     },
 }
+
+/// What is found of a certificate. It says of a refusal by Row whether a row is bad or missing.
+#[derive(Clone, Copy, Debug, PartialEq, Eq)]
+pub enum Finding {
+    /// The index of the first bad row.
+    BadRow(u64),
+    /// All rows are right, and this is the verdict.
+    Judged(Verdict),
+}

@@ -4,7 +4,7 @@ ghost use Rattle.cost_model.specs.Options.{IsAccepted};
 ghost use Rattle.trace_reader.specs.Trace.{IsLawfulTrace};
 ghost use Rattle.cert_checker.specs.Rows.{first_bad_row};
 ghost use Rattle.cert_checker.specs.Verdicts.{case_of, trace_verdict};
-ghost use Rattle.cert_checker.specs.Whole.{apart_from, verdict};
+ghost use Rattle.cert_checker.specs.Whole.{apart_from, finding, verdict};
 
 use crate::batch_check::{first_refused, verdicts};
 use crate::batches::batches;
@@ -12,9 +12,10 @@ use crate::checked_rows::bad_row;
 use crate::ground::Ground;
 use crate::placed_rows::PlacedRows;
 use crate::plain_layers::plain_layers;
+use crate::subject::Subject;
 use crate::trace_case::TraceCase;
 use crate::trace_check::trace_verdict;
-use crate::verdict::{Condition, Verdict};
+use crate::verdict::{Condition, Finding, Verdict};
 use bounded_search::Row;
 use candidate_search::EdgeScan;
 use cost_model::Params;
@@ -121,6 +122,47 @@ fn try_rows<'n, R: Threads + Sync>(
     Ok((bad?, scan?))
 }
 
+/// What is found of a certificate: its first bad row, or the verdict on it.
+pub fn check_certificate<R: Threads + Sync>(
+    rt: &R,
+    alloc: Global,
+    subject: &Subject,
+    c: &Certificate,
+) -> Result<Finding, AllocError>
+    requires options { IsAccepted subject.now.params.now }
+    requires traces { All IsLawfulTrace subject.now.traces.now }
+    ensures { IfOk result (λ found. found
+        ≡ finding subject.now.net.now subject.now.params.now subject.now.traces.now c.now) }
+{
+    let Subject {
+        net,
+        params,
+        traces,
+    } = *subject;
+    let (bad, scan) = try_rows(rt, alloc, net, params.bound, c.rows.as_slice())?;
+    if let Some(place) = bad {
+        return Ok(Finding::BadRow(place));
+    }
+    if let Some(place) = first_apart(traces, c.proofs.as_slice()) {
+        return Ok(Finding::Judged(Verdict::Refused {
+            condition: Condition::Trace,
+            trace: 0,
+            place,
+        }));
+    }
+    let placed = PlacedRows::of(alloc, net, c.rows.as_slice())?;
+    let ground = Ground {
+        net,
+        scan: &scan,
+        params,
+        rows: &placed,
+    };
+    let batches = batches(alloc, traces, c.proofs.as_slice())?;
+    let answers = verdicts(rt, alloc, &ground, batches.as_slice())?;
+    let verdict = first_refused(answers.as_slice())?;
+    Ok(Finding::Judged(verdict))
+}
+
 /// Whether a certificate proves the match of these traces: the first failing condition overall,
 /// of its rows, of the ids of its proofs, and of each trace in order.
 pub fn check_all<R: Threads + Sync>(
@@ -135,29 +177,18 @@ pub fn check_all<R: Threads + Sync>(
     requires traces { All IsLawfulTrace traces.now }
     ensures { IfOk result (λ v. v ≡ verdict net.now p.now traces.now c.now) }
 {
-    let (bad, scan) = try_rows(rt, alloc, net, p.bound, c.rows.as_slice())?;
-    if let Some(place) = bad {
-        return Ok(Verdict::Refused {
+    let subject = Subject {
+        net,
+        params: p,
+        traces,
+    };
+    let found = check_certificate(rt, alloc, &subject, c)?;
+    match found {
+        Finding::BadRow(place) => Ok(Verdict::Refused {
             condition: Condition::Row,
             trace: 0,
             place,
-        });
+        }),
+        Finding::Judged(verdict) => Ok(verdict),
     }
-    if let Some(place) = first_apart(traces, c.proofs.as_slice()) {
-        return Ok(Verdict::Refused {
-            condition: Condition::Trace,
-            trace: 0,
-            place,
-        });
-    }
-    let placed = PlacedRows::of(alloc, net, c.rows.as_slice())?;
-    let ground = Ground {
-        net,
-        scan: &scan,
-        params: p,
-        rows: &placed,
-    };
-    let batches = batches(alloc, traces, c.proofs.as_slice())?;
-    let answers = verdicts(rt, alloc, &ground, batches.as_slice())?;
-    first_refused(answers.as_slice())
 }

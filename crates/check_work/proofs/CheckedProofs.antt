@@ -1,13 +1,14 @@
--- Certificates that were read, and what their verdict speaks of.
+-- Certificates that were read, and what is said of them.
 use Rattle.std.proofs.Common.{◌≡◌, ℕ, ◌+◌, ◌*◌, ◌<◌, ◌≤◌, ◌^◌, List, [], ◌∷◌, ◌++◌, length, Option, Some, None, Ok, refl, sym, subst, arith, length-append}
 use Rattle.std.specs.Prelude.{drop}
 use Rattle.std.specs.List.{AllByRecursion, flat_map}
 use Rattle.std.proofs.lemmas.List.Sums.{sum_by-cons}
 use Rattle.cert_checker.specs.Rows.{first_bad_row}
 use Rattle.cert_checker.specs.Verdicts.{or_else}
-use Rattle.cert_checker.specs.Whole.{refused_whole, verdict}
+use Rattle.cert_checker.specs.Whole.{finding, found_of, refused_whole, verdict}
 use Rattle.cert_checker.specs.declared.verdict.Condition.TheVariants.{Row}
 use Rattle.cert_checker.specs.declared.verdict.Verdict.{Verdict}
+use Rattle.cert_checker.specs.declared.verdict.Verdict.TheVariants.{Proved, Refused}
 use Rattle.cost_model.specs.declared.params.Params.{Params}
 use Rattle.match_text.specs.MatchText.{IsRising, PieceFits}
 use Rattle.match_text.specs.declared.matched.Routed.{Routed}
@@ -20,8 +21,8 @@ use Rattle.potential_certificate.specs.declared.proof.TraceProof.{TraceProof}
 use Rattle.potential_certificate.proofs.Certificates.{certificates_have_one_text}
 use Rattle.road_network.specs.Net.{Net}
 use Rattle.trace_reader.specs.declared.trace.Trace.{Trace}
-use Rattle.check_work.specs.Check.{pieces_in, pieces_proved}
-use Rattle.check_work.specs.CheckDone.{SpeaksFirstOf}
+use Rattle.check_work.specs.Check.{pieces_in, pieces_proved, proofs_said, verdict_said}
+use Rattle.check_work.specs.CheckDone.{finding_said}
 
 -- ---- how many pieces
 
@@ -66,11 +67,12 @@ read_few p text c is =
 
 -- ---- the verdict
 
-first_of : (bad : Option ℕ) (rest : Verdict) → SpeaksFirstOf bad (or_else (refused_whole Row bad) rest)
-first_of None rest = tt
-first_of (Some place) rest = refl
+says : (bad : Option ℕ) (rest : Verdict) → finding_said (found_of bad (or_else (refused_whole Row bad) rest)) ≡ verdict_said bad (or_else (refused_whole Row bad) rest)
+says None Proved = refl
+says None (Refused x trace place) = refl
+says (Some row) rest = refl
 
--- rows come first
-pub speaks_first : (n : Net) (p : Params) (traces : List Trace) (c : Certificate) → SpeaksFirstOf (first_bad_row n p.bound c.rows) (verdict n p traces c)
+-- what is said of the finding is what is said of the verdict
+pub finding_says : (n : Net) (p : Params) (traces : List Trace) (c : Certificate) → finding_said (finding n p traces c) ≡ proofs_said n p traces c
 unfolding verdict
-speaks_first n p traces c = first_of (first_bad_row n p.bound c.rows) _
+finding_says n p traces c = says (first_bad_row n p.bound c.rows) _

@@ -1,8 +1,10 @@
 -- A certificate that is read and checked.
-use Rattle.std.specs.Prelude.{◌≡◌, ◌≢◌, ℕ, List, Option, Some, None, Result}
+use Rattle.std.specs.Prelude.{◌≡◌, ◌≢◌, ℕ, List, Result, Ok, Err, codes}
+use Rattle.cert_checker.specs.declared.subject.Subject.{Subject}
 use Rattle.cert_checker.specs.declared.verdict.Condition.TheVariants.{Row}
-use Rattle.cert_checker.specs.declared.verdict.Verdict.{Verdict}
-use Rattle.cert_checker.specs.declared.verdict.Verdict.TheVariants.{Refused}
+use Rattle.cert_checker.specs.declared.verdict.Finding.{Finding}
+use Rattle.cert_checker.specs.declared.verdict.Finding.TheVariants.{BadRow, Judged}
+use Rattle.cert_checker.specs.declared.verdict.Verdict.TheVariants.{Proved, Refused}
 use Rattle.edge_io.specs.State.{ShelfState}
 use Rattle.potential_certificate.specs.CertificateText.{text_limit}
 use Rattle.potential_certificate.specs.declared.fault.CertFault.{CertFault}
@@ -14,7 +16,7 @@ use Rattle.program_frame.specs.declared.stop.Stop.{Stop}
 use Rattle.program_frame.specs.declared.stop.Stop.TheVariants.{Refused as Stopped, NoMemory, Unread, Unwritten}
 use Rattle.trace_reader.specs.declared.trace.Trace.{Trace}
 use Rattle.trace_match.specs.Setting.{Setting}
-use Rattle.check_work.specs.Check.{certificate_fault_line, check_said}
+use Rattle.check_work.specs.Check.{certificate_fault_line, check_said, refused_trace_line, refused_whole_line}
 
 -- the ending where the text has this fault, or memory ran out
 abbrev pub RefusesCertificate : CertFault → Stop → Type 0
@@ -24,13 +26,18 @@ RefusesCertificate fault NoMemory = Unit {0}
 RefusesCertificate fault (Unread file) = ⊥
 RefusesCertificate fault Unwritten = ⊥
 
+-- the network and the options of what a certificate is about
+abbrev pub setting : Subject → Setting
+setting subject = record { network = subject.net.now; params = subject.params.now }
+
 -- the certificate of these traces was read, and its line is said, or it is refused
 abbrev pub LoadsCertificate : Setting → List Trace → (name : List ℕ) → (shelf shelf' : ShelfState)
     → Result (List ℕ) Stop → Type 0
 LoadsCertificate on traces name shelf shelf' result =
     Loads Certificate OfCertificate name text_limit (check_said on traces) shelf shelf' result
 
--- where some row is not right, the verdict refuses the first of these rows
-abbrev pub SpeaksFirstOf : Option ℕ → Verdict → Type 0
-SpeaksFirstOf None verdict = Unit {0}
-SpeaksFirstOf (Some row) verdict = verdict ≡ Refused Row 0 row
+-- what is said of what was found of a certificate
+abbrev pub finding_said : Finding → Result (Unit {0}) (List ℕ)
+finding_said (BadRow place) = Err (refused_whole_line (codes "row") place Row)
+finding_said (Judged Proved) = Ok tt
+finding_said (Judged (Refused x trace place)) = Err (refused_trace_line x trace place)

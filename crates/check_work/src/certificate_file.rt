@@ -12,7 +12,7 @@ use std::thread;
 use std::thread::Threads;
 
 // The most bytes of one read.
-const PIECE: u64 = 65_536;
+const CHUNK: u64 = 65_536;
 
 // The bytes of a file after a place, up to a limit.
 #[derive(Drop)]
@@ -50,7 +50,7 @@ fn fill<S: Shelf>(shelf: &mut S, name: &str, block: &mut Block) -> Result<bool, 
     let end = (block.from + block.most).min(TEXT_LIMIT + 1);
     while block.from + (block.bytes.len() as u64) < end {
         let at = block.from + block.bytes.len() as u64;
-        let most = (end - at).min(PIECE) as u32;
+        let most = (end - at).min(CHUNK) as u32;
         match shelf.read(name, at, &mut block.bytes, most) {
             Taken::Got(_) => {}
             Taken::End => return Ok(false),

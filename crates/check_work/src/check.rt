@@ -5,12 +5,12 @@ ghost use Rattle.program_frame.specs.Loads.{Accepts};
 ghost use Rattle.program_frame.specs.Performs.{Performs};
 ghost use Rattle.trace_reader.specs.Trace.{IsLawfulTrace};
 ghost use Rattle.check_work.specs.Check.{certificate_fault_line, certificate_in, check_plan, check_said, pieces_in, pieces_proved, proofs_said, proved_line};
-ghost use Rattle.check_work.specs.CheckDone.{LoadsCertificate, RefusesCertificate};
+ghost use Rattle.check_work.specs.CheckDone.{LoadsCertificate, RefusesCertificate, setting};
 
 use crate::certificate_file::read_certificate_file;
-use crate::verdicts::{accept_verdict, row_refused};
+use crate::verdicts::accept_finding;
 use bounded_search::Row;
-use cert_checker::check_all;
+use cert_checker::{Subject, check_certificate};
 use cost_model::Params;
 use decimal_text::write_unsigned;
 use edge_io::{Shelf, Sink};
@@ -18,7 +18,6 @@ use polyline_geometry::List;
 use potential_certificate::{CertFault, Certificate, CertificateReader, TraceProof};
 use program_frame::{File, NetworkFile, Refusal, Stop, load_network, load_traces, put_text};
 use rayon::prelude::*;
-use road_network::Network;
 use std::alloc::{AllocError, Global};
 use std::thread;
 use std::thread::Threads;
@@ -98,21 +97,18 @@ fn append_proved(certificate: &Certificate, line: &mut List<u8>) -> Result<(), A
 fn check_proofs<R: Threads + Sync>(
     rt: &R,
     alloc: Global,
-    roads: &Network,
-    options: &Params,
-    traces: &[Trace],
+    subject: &Subject,
     certificate: &Certificate,
 ) -> Result<(), Stop>
-    requires options { IsAccepted options.now }
-    requires traces { All IsLawfulTrace traces.now }
+    requires options { IsAccepted subject.now.params.now }
+    requires traces { All IsLawfulTrace subject.now.traces.now }
     ensures { Accepts Refusal.Certificate
-        (proofs_said roads.now options.now traces.now certificate.now) result }
+        (proofs_said subject.now.net.now subject.now.params.now subject.now.traces.now certificate.now) result }
 {
-    let Ok(verdict) = check_all(rt, alloc, roads, options, traces, certificate) else {
+    let Ok(found) = check_certificate(rt, alloc, subject, certificate) else {
         return Err(Stop::NoMemory);
     };
-    let bad_row = row_refused(roads, options.bound, certificate.rows.as_slice(), verdict);
-    accept_verdict(alloc, bad_row, verdict)
+    accept_finding(alloc, found)
 }
 
 // Frees the memory of a certificate: proofs and rows in parallel.
@@ -135,18 +131,16 @@ fn let_go<R: Threads + Sync>(rt: &R, certificate: Certificate) {
 fn accept_certificate<R: Threads + Sync>(
     rt: &R,
     alloc: Global,
-    roads: &Network,
-    options: &Params,
-    traces: &[Trace],
+    subject: &Subject,
     text: CertificateReader,
 ) -> Result<List<u8>, Stop>
-    requires options { IsAccepted options.now }
-    requires traces { All IsLawfulTrace traces.now }
+    requires options { IsAccepted subject.now.params.now }
+    requires traces { All IsLawfulTrace subject.now.traces.now }
     ensures { Accepts Refusal.Certificate
-        (check_said (record { network = roads.now; params = options.now }) traces.now text) result }
+        (check_said (setting subject.now) subject.now.traces.now text) result }
 {
-    let certificate = read_proofs(alloc, options, text)?;
-    check_proofs(rt, alloc, roads, options, traces, &certificate)?;
+    let certificate = read_proofs(alloc, subject.params, text)?;
+    check_proofs(rt, alloc, subject, &certificate)?;
     let mut line = List::new(alloc);
     let written = append_proved(&certificate, &mut line);
     let_go(rt, certificate);
@@ -161,17 +155,15 @@ fn load_certificate<R: Threads + Sync, S: Shelf>(
     alloc: Global,
     shelf: &mut S,
     name: &str,
-    roads: &Network,
-    options: &Params,
-    traces: &[Trace],
+    subject: &Subject,
 ) -> Result<List<u8>, Stop>
-    requires options { IsAccepted options.now }
-    requires traces { All IsLawfulTrace traces.now }
-    ensures { LoadsCertificate (record { network = roads.now; params = options.now }) traces.now
+    requires options { IsAccepted subject.now.params.now }
+    requires traces { All IsLawfulTrace subject.now.traces.now }
+    ensures { LoadsCertificate (setting subject.now) subject.now.traces.now
         name.now (S.state shelf.old) (S.state shelf.new) result }
 {
     let text = read_certificate_file(rt, alloc, shelf, name, BLOCK)?;
-    accept_certificate(rt, alloc, roads, options, traces, text)
+    accept_certificate(rt, alloc, subject, text)
 }
 
 /// Reads the network, then all traces and then the certificate, and reports that it is proved. All processors
@@ -193,14 +185,11 @@ pub fn check_traces<R: Threads + Sync, S: Shelf, K: Sink>(
 {
     let roads = load_network(alloc, shelf, network)?;
     let taken = load_traces(alloc, shelf, traces)?;
-    let line = load_certificate(
-        rt,
-        alloc,
-        shelf,
-        certificate,
-        &roads,
-        &options,
-        taken.as_slice(),
-    )?;
+    let subject = Subject {
+        net: &roads,
+        params: &options,
+        traces: taken.as_slice(),
+    };
+    let line = load_certificate(rt, alloc, shelf, certificate, &subject)?;
     put_text(out, line.as_slice())
 }

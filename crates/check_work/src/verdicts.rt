@@ -1,16 +1,14 @@
-//! The lines for the verdict on a certificate. Serves `check`; decided by `verdict_said`.
-ghost use Rattle.std.specs.Prelude.{◌≡◌, ◌++◌, OnOk};
-ghost use Rattle.cert_checker.specs.Rows.{first_bad_row};
+//! The lines for what is found of a certificate. Serves `check`; decided by `finding_said`.
+ghost use Rattle.std.specs.Prelude.{◌≡◌, ◌++◌, codes, OnOk};
 ghost use Rattle.program_frame.specs.Loads.{Accepts};
-ghost use Rattle.check_work.specs.Check.{condition_name, named, refused_line, refused_point_line, refused_whole_line, verdict_said};
-ghost use Rattle.check_work.specs.CheckDone.{SpeaksFirstOf};
+ghost use Rattle.program_frame.specs.Stops.{IsRefusalOr};
+ghost use Rattle.check_work.specs.Check.{condition_name, named, refused_point_line, refused_trace_line, refused_whole_line};
+ghost use Rattle.check_work.specs.CheckDone.{finding_said};
 
-use bounded_search::Row;
-use cert_checker::{Condition, Verdict, check_rows};
+use cert_checker::{Condition, Finding, Verdict};
 use decimal_text::write_unsigned;
 use polyline_geometry::List;
 use program_frame::{Refusal, Stop};
-use road_network::Network;
 use std::alloc::{AllocError, Global};
 
 // The name of a condition.
@@ -73,56 +71,54 @@ fn append_point(
     append_name(condition, line)
 }
 
-// Appends the line of a refusal; `bad_row` is the index of the first wrong row.
+// Appends the line of a refusal where no row is bad.
 fn append_refusal(
-    bad_row: Option<u32>,
     condition: Condition,
     trace: u64,
     place: u64,
     line: &mut List<u8>,
 ) -> Result<(), AllocError>
-    ensures { OnOk result (line.new ≡ line.old ++ refused_line bad_row condition trace place) }
+    ensures { OnOk result (line.new ≡ line.old ++ refused_trace_line condition trace place) }
 {
-    match (bad_row, condition) {
-        (Some(_), _) => append_whole(b"row", place, condition, line),
-        (None, Condition::Trace) => append_whole(b"traces place", place, condition, line),
-        (None, _) => append_point(trace, place, condition, line),
+    match condition {
+        Condition::Trace => append_whole(b"traces place", place, condition, line),
+        _ => append_point(trace, place, condition, line),
     }
 }
 
-/// The index of the first wrong row, if the verdict refuses a row of the certificate.
-///
-/// A refusal by `Row` may also concern a point of the first trace. Only then are the rows checked again.
-pub fn row_refused(roads: &Network, bound: u32, rows: &[Row], verdict: Verdict) -> Option<u32>
-    requires { SpeaksFirstOf (first_bad_row roads.now bound rows.now) verdict }
-    ensures { verdict_said result verdict
-        ≡ verdict_said (first_bad_row roads.now bound rows.now) verdict }
+// The refusal of a certificate for a bad row.
+fn refuse_row(alloc: Global, place: u64) -> Stop
+    ensures { IsRefusalOr Refusal.Certificate (refused_whole_line (codes "row") place Condition.Row) result }
 {
-    match verdict {
-        Verdict::Refused {
-            condition: Condition::Row,
-            trace: 0,
-            ..
-        } => check_rows(roads, bound, rows),
-        _ => None,
+    let mut line = List::new(alloc);
+    match append_whole(b"row", place, Condition::Row, &mut line) {
+        Ok(()) => Stop::Refused(Refusal::Certificate, line),
+        Err(_) => Stop::NoMemory,
+    }
+}
+
+// The refusal of a certificate whose rows are right.
+fn refuse_trace(alloc: Global, condition: Condition, trace: u64, place: u64) -> Stop
+    ensures { IsRefusalOr Refusal.Certificate (refused_trace_line condition trace place) result }
+{
+    let mut line = List::new(alloc);
+    match append_refusal(condition, trace, place, &mut line) {
+        Ok(()) => Stop::Refused(Refusal::Certificate, line),
+        Err(_) => Stop::NoMemory,
     }
 }
 
 /// Accepts a proved certificate, and refuses any other.
-pub fn accept_verdict(alloc: Global, bad_row: Option<u32>, verdict: Verdict) -> Result<(), Stop>
-    ensures { Accepts Refusal.Certificate (verdict_said bad_row verdict) result }
+pub fn accept_finding(alloc: Global, found: Finding) -> Result<(), Stop>
+    ensures { Accepts Refusal.Certificate (finding_said found) result }
 {
-    let Verdict::Refused {
-        condition,
-        trace,
-        place,
-    } = verdict
-    else {
-        return Ok(());
-    };
-    let mut line = List::new(alloc);
-    match append_refusal(bad_row, condition, trace, place, &mut line) {
-        Ok(()) => Err(Stop::Refused(Refusal::Certificate, line)),
-        Err(_) => Err(Stop::NoMemory),
+    match found {
+        Finding::BadRow(place) => Err(refuse_row(alloc, place)),
+        Finding::Judged(Verdict::Proved) => Ok(()),
+        Finding::Judged(Verdict::Refused {
+            condition,
+            trace,
+            place,
+        }) => Err(refuse_trace(alloc, condition, trace, place)),
     }
 }

@@ -1,10 +1,12 @@
-use Rattle.std.proofs.Common.{subst, sym}
-use Rattle.cert_checker.specs.Rows.{first_bad_row}
-use Rattle.check_work.specs.CheckDone.{SpeaksFirstOf}
-use Rattle.check_work.proofs.CheckedProofs.{speaks_first}
+use Rattle.std.proofs.Common.{subst, ap, ◌∙◌}
+use Rattle.check_work.specs.CheckDone.{finding_said}
+use Rattle.check_work.proofs.CheckedProofs.{finding_says}
+use Rattle.program_frame.specs.Loads.{Accepts}
+use Rattle.program_frame.specs.declared.stop.Refusal.TheVariants.{Certificate}
 use Rattle.check_work.proofs.check.check_proofs.Goals as goal
 
-pub row_refused-bad_row-requires : goal.row_refused-bad_row-requires
-row_refused-bad_row-requires g c =
-    subst (λ rows. SpeaksFirstOf (first_bad_row c.args.roads.now c.args.options.now.bound rows) c.in-Ok.verdict) (sym c.as_slice.ensures)
-    (subst (SpeaksFirstOf (first_bad_row c.args.roads.now c.args.options.now.bound c.args.certificate.now.rows)) (sym c.in-Ok.ensures) (speaks_first c.args.roads.now c.args.options.now c.args.traces.now c.args.certificate.now))
+pub returns : goal.returns
+returns g c =
+    let about = c.args.subject.now in
+    let said = ap finding_said c.in-Ok.ensures ∙ finding_says about.net.now about.params.now about.traces.now c.args.certificate.now in
+    subst (λ said. Accepts Certificate said c.accept_finding.result) said c.accept_finding.ensures
