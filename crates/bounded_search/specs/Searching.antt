@@ -6,7 +6,6 @@ use Rattle.bounded_search.specs.declared.marks.Marks.{Marks}
 use Rattle.bounded_search.specs.declared.queue.Waiting.{Waiting}
 use Rattle.bounded_search.specs.declared.table_row.Entry.{Entry}
 use Rattle.bounded_search.specs.declared.table_row.Label.{Label}
-use Rattle.bounded_search.specs.Closed.{IsClosed}
 use Rattle.bounded_search.specs.LabelWords.{distance_at, no_label, word_at}
 use Rattle.bounded_search.specs.Marked.{AllMarked, IsClean, IsMarked, IsSized, KeepsSizes, labels_of}
 use Rattle.bounded_search.specs.Table.{RisesFrom, label_in}
@@ -26,17 +25,6 @@ pub record IsSearching (n : Net) (s : ℕ) (w : Workspace) (taken : List Waiting
 pub record Leaves (n : Net) (nodes : List Waiting) (old new : Workspace) : Type 0 where
   pub searching : (s : ℕ) (taken : List Waiting) → IsSearching n s old (nodes ++ taken) → IsSearching n s new taken
   pub less : effort (state_of new) ≤ effort (state_of old)
-
--- the nodes were left, or nothing has changed
-abbrev pub LeavesIf : Bool → Net → List Waiting → Workspace → Workspace → Type 0
-LeavesIf true n nodes old new = Leaves n nodes old new × KeepsSizes old new
-LeavesIf false n nodes old new = new ≡ old
-
--- every node within the bound has its label and is marked, and none waits
-pub record IsLabelled (n : Net) (s : ℕ) (w : Workspace) : Type 0 where
-  pub closed : IsClosed n w.bound s (labels_of w)
-  pub marked : AllMarked w.bound w.words.items w.marks
-  pub none_waiting : w.queue ≡ []
 
 -- the entries say what the labels say, by rising node number
 pub record ListsLabels (labels : ℕ → Option Label) (entries : List Entry) : Type 0 where

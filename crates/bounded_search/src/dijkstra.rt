@@ -1,7 +1,7 @@
 //! The search for the row of an origin. Serves `Searcher::row`; decided by `IsRow`.
 ghost use Rattle.std.specs.Prelude.{◌≡◌, ◌≤◌, ◌∷◌, [], length, IfOk, OnOk};
 ghost use Rattle.road_network.specs.Net.{HasNode};
-ghost use Rattle.bounded_search.specs.Searching.{EndsClean, IsLabelled, Leaves};
+ghost use Rattle.bounded_search.specs.Searching.{EndsClean, Leaves};
 ghost use Rattle.bounded_search.specs.Marked.{IsClean, IsSized, KeepsSizes};
 ghost use Rattle.bounded_search.specs.Table.{IsRow};
 
@@ -85,49 +85,42 @@ impl Workspace {
         })
     }
 
-    /// Marks a waiting node and tries every edge out of it, unless the node has become nearer since.
-    pub(crate) fn leave(&mut self, net: &Network, next: Waiting) -> Result<(), AllocError>
+    /// Leaves a waiting node, unless it has become nearer since: by its row, if it is near and its row is known, and
+    /// otherwise by every edge out of it.
+    fn leave<K: KnownRows>(
+        &mut self,
+        net: &Network,
+        known: &K,
+        next: Waiting,
+    ) -> Result<(), AllocError>
+        requires known { K.table known.now ≡ record { network = net.now; bound = self.old.bound } }
         requires next { HasNode net.now next.node × (next.distance ≤ 10_000_000) }
         requires sized { IsSized (length net.now.nodes) self.old }
         ensures leaves { OnOk result (Leaves net.now (next ∷ []) self.old self.new) }
         ensures sized { KeepsSizes self.old self.new }
     {
         net.known();
+        let node = NodeId(next.node);
         if distance_in(self.words[next.node as usize]) != next.distance {
             return Ok(());
         }
-        self.marks.mark(NodeId(next.node));
-        let arcs = net.arcs(NodeId(next.node));
+        if next.distance < self.reach
+            && let Some(row) = known.known_row(node)
+        {
+            self.merge(row, next.distance);
+            return Ok(());
+        }
+        self.marks.mark(node);
+        let arcs = net.arcs(node);
         self.queue
             .try_arcs(self.words.as_mut_slice(), next.distance, arcs)
     }
 
-    /// Labels every node within the bound.
-    ///
-    /// A node waits again each time that it becomes nearer. When none waits, every edge within the bound has
-    /// been tried from its node's last distance. Taking near nodes first makes that rare.
-    fn label_all<K: KnownRows>(
-        &mut self,
-        net: &Network,
-        known: &K,
-        origin: NodeId,
-    ) -> Result<(), AllocError>
-        requires known { K.table known.now ≡ record { network = net.now; bound = self.old.bound } }
-        requires origin { HasNode net.now origin.0 }
-        requires clean { IsClean (length net.now.nodes) self.old }
-        ensures labelled { OnOk result (IsLabelled net.now origin.0 self.new) }
-        ensures sized { KeepsSizes self.old self.new }
-    {
-        net.known();
-        self.words[origin.0 as usize] = ORIGIN;
-        self.queue.start(origin.0)?;
-        while let Some(next) = self.queue.take()? {
-            self.leave_or_merge(net, known, next)?;
-        }
-        Ok(())
-    }
-
     /// The entries of the row of an origin. After `Err` the arrays must be cleared.
+    ///
+    /// First every node within the bound is labelled. A node waits again each time that it becomes nearer. When none
+    /// waits, every edge within the bound has been tried from its node's last distance. Taking near nodes first makes
+    /// that rare.
     pub fn entries<K: KnownRows>(
         &mut self,
         alloc: Global,
@@ -143,7 +136,11 @@ impl Workspace {
         ensures clean { EndsClean result self.old self.new }
     {
         net.known();
-        self.label_all(net, known, origin)?;
+        self.words[origin.0 as usize] = ORIGIN;
+        self.queue.start(origin.0)?;
+        while let Some(next) = self.queue.take()? {
+            self.leave(net, known, next)?;
+        }
         self.take_entries(alloc)
     }
 

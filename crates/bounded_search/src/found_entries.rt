@@ -5,11 +5,18 @@ ghost use Rattle.bounded_search.specs.LabelWords.{no_label, word_at};
 ghost use Rattle.bounded_search.specs.Labels.{entry_by};
 ghost use Rattle.bounded_search.specs.Marked.{TakesNodes};
 
+use crate::free_places::make_places;
 use crate::label_words::{entry_by, no_label};
 use crate::table_row::Entry;
 use road_network::NodeId;
 use std::alloc::{AllocError, Global};
 use std::marker::Model;
+
+const FREE: Entry = Entry {
+    node: NodeId(0),
+    distance: 0,
+    last: None,
+};
 
 /// The entries found so far: the first `count` places. The others are free.
 pub struct FoundEntries {
@@ -38,23 +45,6 @@ impl Model for FoundEntries {
     ghost view = { found_in };
 
     ghost invariant = { IsFoundInside };
-}
-
-/// Makes at least so many places.
-fn make_places(places: &mut Vec<Entry>, count: usize) -> Result<(), AllocError>
-    ensures enough { OnOk result (count ≤ length places.new.items) }
-    ensures more { length places.old.items ≤ length places.new.items }
-    ensures same { take (length places.old.items) places.new.items ≡ places.old.items }
-{
-    if count <= places.len() {
-        return Ok(());
-    }
-    let free = Entry {
-        node: NodeId(0),
-        distance: 0,
-        last: None,
-    };
-    places.resize(count.saturating_mul(2), free)
 }
 
 /// Removes the label of a node, and writes its entry to a place. Whether there was a label, and so is an entry.
@@ -121,7 +111,7 @@ impl FoundEntries {
         ensures takes { OnOk result (TakesNodes bound first (first + 8) words.old self.old words.new self.new) }
         ensures count { length words.new ≡ length words.old }
     {
-        make_places(&mut self.places, self.count.saturating_add(8))?;
+        make_places(&mut self.places, self.count.saturating_add(8), FREE)?;
         self.count = take_nodes(words, bound, first, self.places.as_mut_slice(), self.count);
         Ok(())
     }

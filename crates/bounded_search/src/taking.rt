@@ -9,24 +9,7 @@ use crate::table_row::Entry;
 use std::alloc::{AllocError, Global};
 
 impl Workspace {
-    /// Takes the labels of an octet of 8 nodes, if it is marked.
-    fn take_octet(&mut self, octet: usize) -> Result<(), AllocError>
-        requires octet { octet < length self.old.marks.octets.items }
-        requires sized { IsSized (length self.old.words.items) self.old }
-        ensures takes { OnOk result (Takes (octet * 8) ((octet + 1) * 8) self.old self.new) }
-        ensures sized { KeepsSizes self.old self.new }
-    {
-        let mark = self.marks.octets[octet];
-        if mark == 0 {
-            return Ok(());
-        }
-        self.found
-            .take_nodes(self.words.as_mut_slice(), self.bound, octet * 8)?;
-        self.marks.octets[octet] = 0;
-        Ok(())
-    }
-
-    /// Takes the labels of a region of 64 octets, if it is marked.
+    /// Takes the labels of a region of 64 octets of 8 nodes, if it is marked: those of its marked octets.
     fn take_region(&mut self, region: usize) -> Result<(), AllocError>
         requires region { region < length self.old.marks.regions.items }
         requires sized { IsSized (length self.old.words.items) self.old }
@@ -38,7 +21,13 @@ impl Workspace {
             return Ok(());
         }
         for octet in region * 64..(region + 1) * 64 {
-            self.take_octet(octet)?;
+            let octet_mark = self.marks.octets[octet];
+            if octet_mark == 0 {
+                continue;
+            }
+            self.found
+                .take_nodes(self.words.as_mut_slice(), self.bound, octet * 8)?;
+            self.marks.octets[octet] = 0;
         }
         self.marks.regions[region] = 0;
         Ok(())

@@ -3,11 +3,17 @@ ghost use Rattle.std.specs.Prelude.{◌≡◌, ◌≤◌, ◌<◌, ◌+◌, ◌+
 ghost use Rattle.std.specs.List.{All};
 ghost use Rattle.bounded_search.specs.Underway.{IsTriable, RelaxesArc, after_arcs};
 
+use crate::free_places::make_places;
 use crate::label_words::{distance_in, least_word, step_by};
 use crate::queue::Waiting;
 use road_network::Arc;
 use std::alloc::{AllocError, Global};
 use std::marker::Model;
+
+const FREE: Waiting = Waiting {
+    distance: 0,
+    node: 0,
+};
 
 /// A list of nodes that wait: the first `count` places. The others are free.
 pub struct WaitingList {
@@ -36,22 +42,6 @@ impl Model for WaitingList {
     ghost view = { listed };
 
     ghost invariant = { IsCountInside };
-}
-
-/// Makes at least so many places.
-fn make_places(places: &mut Vec<Waiting>, count: usize) -> Result<(), AllocError>
-    ensures enough { OnOk result (count ≤ length places.new.items) }
-    ensures more { length places.old.items ≤ length places.new.items }
-    ensures same { take (length places.old.items) places.new.items ≡ places.old.items }
-{
-    if count <= places.len() {
-        return Ok(());
-    }
-    let free = Waiting {
-        distance: 0,
-        node: 0,
-    };
-    places.resize(count.saturating_mul(2), free)
 }
 
 /// Tries an arc from a distance in cm: where it gives its end a better label, that is written. Whether the end
@@ -129,7 +119,7 @@ impl WaitingList {
     pub fn push(&mut self, item: Waiting) -> Result<(), AllocError>
         ensures { OnOk result (self.new ≡ self.old ++ item ∷ []) }
     {
-        make_places(&mut self.places, self.count.saturating_add(1))?;
+        make_places(&mut self.places, self.count.saturating_add(1), FREE)?;
         self.places[self.count] = item;
         self.count += 1;
         Ok(())
@@ -149,7 +139,7 @@ impl WaitingList {
         ensures count { length words.new ≡ length words.old }
         ensures more { length self.old ≤ length self.new }
     {
-        make_places(&mut self.places, self.count + arcs.len())?;
+        make_places(&mut self.places, self.count + arcs.len(), FREE)?;
         self.count = try_arcs(
             words,
             distance,

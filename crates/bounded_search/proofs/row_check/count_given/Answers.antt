@@ -12,15 +12,15 @@ use Rattle.bounded_search.proofs.row_check.count_given.Goals as goal
 
 pub loop-arc-preserved : goal.loop-arc-preserved
 loop-arc-preserved c =
-    let table = label_in c.args.entries.now in
+    let table = label_in c.args.place.now.entries.now in
     let distance = c.args.x.now.distance in
     let arcs : List Arc = c.arcs-arc-items.result.now in
     let i : ℕ = c.loop-arc.arc-index in
     let lt : i < length arcs = omega arith in
-    let p : Arc → Bool = arc_gives c.args.bound table c.args.before distance in
+    let p : Arc → Bool = arc_gives c.args.place.now.bound table c.args.before distance in
     let is : c.in_ok-try_arc.field-0 ≡ p (get_or arcs i nothing) = c.in_ok-try_arc.ensures.given in
     record {
-      relaxed = All-more (IsRelaxedOrBack c.args.bound table c.args.before distance) arcs i nothing lt c.loop-arc.invariant.relaxed (c.in_ok-try_arc.ensures.some.0 refl);
+      relaxed = All-more (IsRelaxedOrBack c.args.place.now.bound table c.args.before distance) arcs i nothing lt c.loop-arc.invariant.relaxed (c.in_ok-try_arc.ensures.some.0 refl);
       counted = elim c.if-branch.branch [
         | then-branch w ↦
             let more = count_by_more_yes p arcs i nothing lt (sym is ∙ w.if-branch.true) in
@@ -34,8 +34,8 @@ loop-arc-preserved c =
 pub returns-in_err-try_arc-clause-some : goal.returns-in_err-try_arc-clause-some
 returns-in_err-try_arc-clause-some c =
     let n = c.args.net.now in
-    let table = label_in c.args.entries.now in
-    let P : Arc → Type 0 = IsRelaxedOrBack c.args.bound table c.args.before c.args.x.now.distance in
+    let table = label_in c.args.place.now.entries.now in
+    let P : Arc → Type 0 = IsRelaxedOrBack c.args.place.now.bound table c.args.before c.args.x.now.distance in
     let are = arcs_are n c.args.x.now.node.0 P in
     let none : P (get_or c.arcs-arc-items.result.now c.loop-arc.arc-index nothing) → ⊥ = λ at. true≢false (sym (c.in_err-try_arc.ensures.some.1 at)) in (
       λ some. absurd (true≢false (sym (rw c.from_residual.ensures at some))),
@@ -47,8 +47,8 @@ returns-in_err-try_arc-clause-some c =
 pub returns-clause-some : goal.returns-clause-some
 returns-clause-some c =
     let n = c.args.net.now in
-    let table = label_in c.args.entries.now in
-    let P : Arc → Type 0 = IsRelaxedOrBack c.args.bound table c.args.before c.args.x.now.distance in
+    let table = label_in c.args.place.now.entries.now in
+    let P : Arc → Type 0 = IsRelaxedOrBack c.args.place.now.bound table c.args.before c.args.x.now.distance in
     let are = arcs_are n c.args.x.now.node.0 P in
     let arcs : List Arc = c.arcs-arc-items.result.now in
     let all : All P arcs = rw (take_all c.loop-arc.arc-index arcs (omega arith)) at c.loop-arc.invariant.relaxed in (

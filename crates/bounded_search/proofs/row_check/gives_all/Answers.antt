@@ -15,36 +15,36 @@ pub overflow_add-given : goal.overflow_add-given
 overflow_add-given c =
     let entries : List Entry = c.args.entries.now in
     let f : Entry → ℕ = given_by c.args.net.now c.args.bound (start_of c.args.net.now) entries in
-    let place : ℕ = c.loop-place.place in
+    let place : ℕ = c.loop-index.index in
     let lt : place < length entries = omega arith in
     let more : sum_by f (take place entries) + f (get_or entries place nothing) ≤ sum_by f entries = sum_by_more_le f entries place nothing lt in
     let few : sum_by f entries ≤ length entries = given_few c.args.net.now c.args.bound (start_of c.args.net.now) entries c.requires in
     let count : c.in-Some.count ≡ f (get_or entries place nothing) = c.in-Some.ensures.count in
-    let given : c.loop-place.given ≡ sum_by f (take place entries) = c.loop-place.invariant.counted in
-    let inside : c.loop-place.given + c.in-Some.count ≤ length entries = omega (arith, more, few, count, given) in
+    let given : c.loop-index.given ≡ sum_by f (take place entries) = c.loop-index.invariant.counted in
+    let inside : c.loop-index.given + c.in-Some.count ≤ length entries = omega (arith, more, few, count, given) in
     search rules
 
-pub loop-place-preserved : goal.loop-place-preserved
-loop-place-preserved c =
+pub loop-index-preserved : goal.loop-index-preserved
+loop-index-preserved c =
     let n = c.args.net.now in
     let bound = c.args.bound in
     let entries : List Entry = c.args.entries.now in
     let f : Entry → ℕ = given_by n bound (start_of n) entries in
-    let place : ℕ = c.loop-place.place in
+    let place : ℕ = c.loop-index.index in
     let lt : place < length entries = omega arith in
     record {
-      each = All-more (IsRelaxedAt n bound (start_of n) (label_in entries)) entries place nothing lt c.loop-place.invariant.each (c.in-Some.ensures.some.0 refl);
+      each = All-more (IsRelaxedAt n bound (start_of n) (label_in entries)) entries place nothing lt c.loop-index.invariant.each (c.in-Some.ensures.some.0 refl);
       counted =
           let count : c.in-Some.count ≡ f (get_or entries place nothing) = c.in-Some.ensures.count in
-          omega (arith, c.loop-place.invariant.counted, sum_by_more f entries place nothing lt, count);
+          omega (arith, c.loop-index.invariant.counted, sum_by_more f entries place nothing lt, count);
     }
 
 pub overflow_add-result : goal.overflow_add-result
 overflow_add-result c =
     let entries : List Entry = c.args.entries.now in
     let f : Entry → ℕ = given_by c.args.net.now c.args.bound (start_of c.args.net.now) entries in
-    let part : sum_by f (take c.loop-place.place entries) ≤ sum_by f entries = sum_by-take-le f entries c.loop-place.place in
+    let part : sum_by f (take c.loop-index.index entries) ≤ sum_by f entries = sum_by-take-le f entries c.loop-index.index in
     let few : sum_by f entries ≤ length entries = given_few c.args.net.now c.args.bound (start_of c.args.net.now) entries c.requires in
-    let given : c.loop-place.given ≡ sum_by f (take c.loop-place.place entries) = c.loop-place.invariant.counted in
-    let inside : c.loop-place.given ≤ length entries = omega (arith, part, few, given) in
+    let given : c.loop-index.given ≡ sum_by f (take c.loop-index.index entries) = c.loop-index.invariant.counted in
+    let inside : c.loop-index.given ≤ length entries = omega (arith, part, few, given) in
     search rules

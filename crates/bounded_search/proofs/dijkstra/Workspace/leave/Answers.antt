@@ -9,6 +9,9 @@ use Rattle.bounded_search.specs.declared.marks.Marks.{Marks}
 use Rattle.bounded_search.specs.declared.queue.Waiting.{Waiting}
 use Rattle.bounded_search.specs.LabelWords.{distance_at, no_label, word_at}
 use Rattle.bounded_search.specs.Underway.{IsTriable, SearchState, after_arcs, effort, state_of}
+use Rattle.bounded_search.specs.Table.{IsRow, label_in}
+use Rattle.bounded_search.proofs.ClosedTables.{closed_of_table}
+use Rattle.bounded_search.proofs.LeftByMerging.{IsLeft, entries_inside, left_by_merging}
 use Rattle.bounded_search.proofs.AfterArcs.{beside}
 use Rattle.bounded_search.proofs.Arcs.{IsLeaving, known_arcs}
 use Rattle.bounded_search.proofs.Leaving.{arcs_effort, marked_not_taken, node_left}
@@ -16,7 +19,7 @@ use Rattle.bounded_search.proofs.Underway.{all_tried, not_taken}
 use Rattle.bounded_search.proofs.dijkstra.Workspace.leave.Goals as goal
 
 pub returns-then-distance_in-next-clause-leaves : goal.returns-then-distance_in-next-clause-leaves
-returns-then-distance_in-next-clause-leaves c =
+returns-then-distance_in-next-clause-leaves g c =
     let w = c.args.self.now in
     let words : List ℕ = w.words.items in
     let next : Waiting = c.args.next in
@@ -34,17 +37,17 @@ returns-then-distance_in-next-clause-leaves c =
     }
 
 pub mark-requires : goal.mark-requires
-mark-requires c = (length c.args.net.now.nodes, c.requires.sized.marks, c.requires.next.0)
+mark-requires g c = (length c.args.net.now.nodes, c.requires.sized.marks, c.requires.next.0)
 
 pub try_arcs-requires-clause-arcs : goal.try_arcs-requires-clause-arcs
-try_arcs-requires-clause-arcs c =
+try_arcs-requires-clause-arcs g c =
     let n = c.args.net.now in
     let words : List ℕ = c.as_mut_slice.result.now in
     let count : length words ≡ length n.nodes = ap length c.as_mut_slice.ensures.value ∙ c.requires.sized.words_count in
     rw c.arcs-arcs.ensures (All-weaker (IsLeaving n c.args.next.node) (IsTriable (length words)) (λ a leaving. record { end = omega (arith, leaving.end, count); not_long = leaving.not_long }) (map (arc_of n) (leaving n c.args.next.node)) (known_arcs n c.args.next.node c.known.ensures))
 
 pub returns-clause-leaves : goal.returns-clause-leaves
-returns-clause-leaves c =
+returns-clause-leaves g c =
     let n = c.args.net.now in
     let w = c.args.self.now in
     let bound : ℕ = w.bound in
@@ -78,3 +81,32 @@ returns-clause-leaves c =
       less = omega (arith, ap effort there, arcs_effort n bound next.distance u arcs (state_of w) c.known.ensures (known_arcs n u c.known.ensures) c.requires.sized.words_count far);
     })
     c.try_arcs.ensures.tries
+
+pub merge-requires-clause-inside : goal.merge-requires-clause-inside
+merge-requires-clause-inside g c k d lt =
+    let n = c.args.net.now in
+    let w = c.args.self.now in
+    let v : ℕ = c.args.next.node in
+    let row = c.in-Some.row.now in
+    let is : IsRow n w.bound v row = rw c.requires.known at c.in-Some.ensures in
+    let all = entries_inside n w.bound v row.entries c.known.ensures c.requires.next.0 is.rising (closed_of_table n w.bound v (label_in row.entries) c.known.ensures is.table) k d lt in
+    (omega (arith, all.0, c.requires.sized.words_count), omega (arith, all.1, c.requires.sized.low))
+
+pub returns-in-Some-clause-leaves : goal.returns-in-Some-clause-leaves
+returns-in-Some-clause-leaves g c =
+    let n = c.args.net.now in
+    let w = c.args.self.now in
+    let x = c.args.next in
+    let row = c.in-Some.row.now in
+    let is : IsRow n w.bound x.node row = rw c.requires.known at c.in-Some.ensures in
+    let at : c.index.result.now ≡ word_at w.bound w.words.items x.node = get_or_read w.words.items x.node c.index.result.now (omega (arith, c.requires.sized.words_count, c.requires.next.0)) c.index.ensures (no_label w.bound) in
+    let starts : distance_at w.bound w.words.items x.node ≡ x.distance = ap (λ (word : ℕ). word / 2 ^ 32) (sym at) ∙ (sym c.distance_in.ensures ∙ c.if-distance_in-next.false) in
+    let left : IsLeft n x row w c.merge.new.self = record {
+      lawful = c.known.ensures;
+      node = c.requires.next.0;
+      right = is;
+      starts = starts;
+      sized = c.requires.sized;
+      merged = c.merge.ensures;
+    } in
+    left_by_merging n x row w c.merge.new.self left

@@ -1,8 +1,8 @@
 use Rattle.std.proofs.lemmas.Result.{err_from_is_err_and}
-use Rattle.std.proofs.Common.{◌≡◌, ◌+◌, ◌*◌, ℕ, length, length-set, refl, subst, ◌∙◌, arith}
-use Rattle.std.proofs.lemmas.List.{get_or_read}
-use Rattle.bounded_search.specs.Marked.{IsTaken}
-use Rattle.bounded_search.proofs.MarkedNodes.{as_many, keeps_both, keeps_none, region_gone, region_skipped, sized_here}
+use Rattle.std.proofs.Common.{◌≡◌, ◌+◌, ◌*◌, ◌<◌, ◌++◌, ℕ, List, length, length-set, take, drop, refl, sym, ap, subst, ◌∙◌, arith}
+use Rattle.std.proofs.lemmas.List.{get_or_read, take_at}
+use Rattle.bounded_search.specs.Marked.{IsTaken, TakesNodes}
+use Rattle.bounded_search.proofs.MarkedNodes.{as_many, keeps_both, keeps_none, octet_skipped, octet_taken, region_gone, region_skipped}
 use Rattle.bounded_search.proofs.dijkstra.Workspace.take_region.Goals as goal
 
 pub returns-then-mark-eq0-clause-takes : goal.returns-then-mark-eq0-clause-takes
@@ -25,31 +25,63 @@ loop-octet-init c =
       queue = refl;
     }
 
-pub take_octet-requires-clause-octet : goal.take_octet-requires-clause-octet
-take_octet-requires-clause-octet c =
+in_octets : goal.bounds-octets-octet
+in_octets c =
     let old = c.requires.sized.marks in
     let now = c.loop-octet.invariant.sized.marks (length c.args.self.now.words.items) old in
     omega (arith, c.requires.region, c.loop-octet-test.true, old.areas, old.regions, now.areas, now.regions, now.octets)
 
-pub take_octet-requires-clause-sized : goal.take_octet-requires-clause-sized
-take_octet-requires-clause-sized c = sized_here (length c.args.self.now.words.items) c.args.self.now c.loop-octet.self c.requires.sized c.loop-octet.invariant.sized
+pub loop-octet-preserved-then-octet_mark-eq0 : goal.loop-octet-preserved-then-octet_mark-eq0
+loop-octet-preserved-then-octet_mark-eq0 c =
+    let inv = c.loop-octet.invariant in
+    let w = c.loop-octet.self in
+    let octet : ℕ = c.loop-octet.octet in
+    let old = c.requires.sized.marks in
+    let now = inv.sized.marks (length c.args.self.now.words.items) old in
+    let inside : octet < length w.marks.octets.items = omega (arith, c.requires.region, c.loop-octet-test.true, old.areas, old.regions, now.areas, now.regions, now.octets) in
+    let at = get_or_read w.marks.octets.items octet c.index-octet_mark.result.now inside c.index-octet_mark.ensures 0 in
+    let skipped = octet_skipped octet w (omega (arith, at, c.if-octet_mark-eq0.true)) in
+    record {
+      inside = omega (arith, c.loop-octet-test.true);
+      sized = inv.sized;
+      taken = λ before h. skipped.taken before (inv.taken before h);
+      queue = inv.queue;
+    }
 
 pub loop-octet-preserved : goal.loop-octet-preserved
 loop-octet-preserved c =
     let inv = c.loop-octet.invariant in
-    let e = c.in_ok-take_octet.ensures in
+    let w = c.loop-octet.self in
+    let octet : ℕ = c.loop-octet.octet in
+    let tried : List ℕ = c.take_nodes.new.words in
+    let words : List ℕ = take w.words.len (tried ++ drop (length tried) w.words.items) in
+    let back : words ≡ tried = take_at tried (drop (length tried) w.words.items) w.words.len (c.take_nodes.ensures.count ∙ c.as_mut_slice.ensures.len) in
+    let taken = rw c.as_mut_slice.ensures.value at c.in_ok-take_nodes.ensures.takes in
     record {
       inside = omega (arith, c.loop-octet-test.true);
-      sized = keeps_both c.args.self.now c.loop-octet.self c.take_octet.new.self inv.sized e.sized;
-      taken = λ before h. e.takes.taken before (inv.taken before h);
-      queue = e.takes.queue ∙ inv.queue;
+      sized = keeps_both c.args.self.now w _ inv.sized (record {
+        bound = refl;
+        words_count = ap length back ∙ (c.take_nodes.ensures.count ∙ ap length c.as_mut_slice.ensures.value);
+        marks = as_many w.marks _ (length-set w.marks.octets.items octet 0) refl refl;
+      });
+      taken = λ before h. (octet_taken octet w _ refl refl (subst (λ (k : List ℕ). TakesNodes w.bound (octet * 8) (octet * 8 + 8) w.words.items w.found k c.take_nodes.new.self) (sym back) taken) refl refl refl).taken before (inv.taken before h);
+      queue = inv.queue;
     }
 
-pub returns-in_err-take_octet-clause-takes : goal.returns-in_err-take_octet-clause-takes
-returns-in_err-take_octet-clause-takes c = let p = err_from_is_err_and c.from_residual.result c.from_residual.ensures.1 in rw p.1 tt
+pub returns-in_err-take_nodes-clause-takes : goal.returns-in_err-take_nodes-clause-takes
+returns-in_err-take_nodes-clause-takes c = let p = err_from_is_err_and c.from_residual.result c.from_residual.ensures.1 in rw p.1 tt
 
-pub returns-in_err-take_octet-clause-sized : goal.returns-in_err-take_octet-clause-sized
-returns-in_err-take_octet-clause-sized c = keeps_both c.args.self.now c.loop-octet.self c.take_octet.new.self c.loop-octet.invariant.sized c.in_err-take_octet.ensures.sized
+pub returns-in_err-take_nodes-clause-sized : goal.returns-in_err-take_nodes-clause-sized
+returns-in_err-take_nodes-clause-sized c =
+    let w = c.loop-octet.self in
+    let tried : List ℕ = c.take_nodes.new.words in
+    let words : List ℕ = take w.words.len (tried ++ drop (length tried) w.words.items) in
+    let back : words ≡ tried = take_at tried (drop (length tried) w.words.items) w.words.len (c.take_nodes.ensures.count ∙ c.as_mut_slice.ensures.len) in
+    keeps_both c.args.self.now w _ c.loop-octet.invariant.sized (record {
+      bound = refl;
+      words_count = ap length back ∙ (c.take_nodes.ensures.count ∙ ap length c.as_mut_slice.ensures.value);
+      marks = λ count sized. sized;
+    })
 
 pub returns-clause-takes : goal.returns-clause-takes
 returns-clause-takes c =

@@ -2,7 +2,7 @@ use Rattle.std.proofs.Common.{[]}
 use Rattle.bounded_search.specs.Marked.{KeepsSizes}
 use Rattle.bounded_search.specs.Searching.{IsSearching}
 use Rattle.bounded_search.specs.Underway.{effort, state_of}
-use Rattle.bounded_search.proofs.dijkstra.Workspace.label_all.Given as goal
+use Rattle.bounded_search.proofs.dijkstra.Workspace.entries.Given as goal
 
 abbrev pub invariant-loop-next : goal.invariant-loop-next
 invariant-loop-next g l = record {

@@ -1,0 +1,21 @@
+//! Free places at the end of a list, so that code can write there without a branch. Serves `WaitingList` and
+//! `FoundEntries`.
+ghost use Rattle.std.specs.Prelude.{◌≡◌, ◌≤◌, length, take, OnOk};
+
+use std::alloc::AllocError;
+
+/// Makes at least so many places. New ones contain `free`.
+pub fn make_places<T: Copy + Drop>(
+    places: &mut Vec<T>,
+    count: usize,
+    free: T,
+) -> Result<(), AllocError>
+    ensures enough { OnOk result (count ≤ length places.new.items) }
+    ensures more { length places.old.items ≤ length places.new.items }
+    ensures same { take (length places.old.items) places.new.items ≡ places.old.items }
+{
+    if count <= places.len() {
+        return Ok(());
+    }
+    places.resize(count.saturating_mul(2), free)
+}
