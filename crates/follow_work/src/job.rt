@@ -91,9 +91,9 @@ impl<'n> FollowJob<'n> {
     /// A job that has followed no trace yet.
     pub fn open(alloc: Global, roads: &'n Network, options: Params) -> Result<Self, AllocError>
         requires { IsAccepted options }
-        ensures matcher { IfOk result
-            (λ job. job.matcher ≡ record { network = roads.now; params = options }) }
-        ensures begun { IfOk result (λ job. HasFollowed job.matcher job.rows job.tally []) }
+        ensures text { IfOk result (λ job. ⟦<FollowJob<'n> as Job>⟧.text job
+            ≡ follow_job (record { network = roads.now; params = options })) }
+        ensures begun { IfOk result (λ job. ⟦<FollowJob<'n> as Job>⟧.has job []) }
     {
         let matcher = Matcher::open(alloc, roads, options)?;
         let rows = matcher.rows(alloc)?;

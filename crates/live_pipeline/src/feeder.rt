@@ -6,7 +6,6 @@ ghost use Rattle.trace_relay.specs.Pieces.{parts_of};
 ghost use Rattle.live_pipeline.specs.Feeding.{HasFed, IsFaultPart, IsFed, PutsChunk, PutsFile};
 
 use polyline_geometry::List;
-use std::alloc::Global;
 use std::sync::Wait;
 use trace_reader::{Trace, TraceFault, TraceReader};
 use trace_relay::{Part, PutPass, Relay};
@@ -25,7 +24,6 @@ fn put_traces<R: Wait>(rt: &R, relay: &Relay, pass: &mut PutPass, traces: List<T
 /// Feeds a chunk of a file, and puts the traces that it closes; on a fault, those closed before it.
 pub fn put_chunk<R: Wait>(
     rt: &R,
-    alloc: Global,
     relay: &Relay,
     reader: &mut TraceReader,
     chunk: &[u8],
@@ -38,7 +36,7 @@ pub fn put_chunk<R: Wait>(
     ensures puts { (fed : ListOf ℕ) → HasFed fed reader.old pass.old.parts
         → PutsChunk (fed ++ chunk.now) reader.new pass.new.parts result }
 {
-    let mut traces = List::new(alloc);
+    let mut traces = List::new(relay.alloc());
     let fed = reader.feed(chunk, &mut traces);
     put_traces(rt, relay, pass, traces);
     fed
@@ -47,7 +45,6 @@ pub fn put_chunk<R: Wait>(
 /// Takes the end of the file, and puts its last traces.
 pub fn put_end<R: Wait>(
     rt: &R,
-    alloc: Global,
     relay: &Relay,
     reader: &mut TraceReader,
     pass: &mut PutPass,
@@ -58,7 +55,7 @@ pub fn put_end<R: Wait>(
     ensures puts { (fed : ListOf ℕ) → HasFed fed reader.old pass.old.parts
         → PutsFile fed pass.new.parts result }
 {
-    let mut traces = List::new(alloc);
+    let mut traces = List::new(relay.alloc());
     let ended = reader.finish(&mut traces);
     put_traces(rt, relay, pass, traces);
     ended

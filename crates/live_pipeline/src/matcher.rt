@@ -55,7 +55,6 @@ fn write_next<J: Job, K: Sink>(
 /// stopped, it continues to take, and drops what it takes.
 pub fn match_parts<R: Wait, J: Job, K: Sink>(
     rt: &R,
-    alloc: Global,
     relay: &Relay,
     job: &mut J,
     pass: &mut TakePass,
@@ -67,6 +66,7 @@ pub fn match_parts<R: Wait, J: Job, K: Sink>(
     ensures { HasTakenAll (J.text job.old) (J.text job.new) (J.has job.new)
         (K.state out.old) (K.state out.new) pass.old pass.new result.0 result.1 }
 {
+    let alloc = relay.alloc();
     let mut ended = Ok(());
     for _ in rt.forever() {
         match relay.take(rt, pass) {

@@ -27,7 +27,6 @@ const CAPACITY: u32 = 64;
 // Starts the reader in a second thread if one is available, and joins it.
 fn run_both<R: Threads + Wait + Sync, J: Job + Drop, S: Shelf + Send + Drop, K: Sink>(
     rt: &R,
-    alloc: Global,
     relay: &Relay,
     name: &String,
     shelf: S,
@@ -75,14 +74,14 @@ fn run_both<R: Threads + Wait + Sync, J: Job + Drop, S: Shelf + Send + Drop, K: 
                 if flag.load(Ordering::SeqCst) {
                     return ReadDone::Unread { shelf, pass };
                 }
-                read_traces(rt, alloc, relay, name, &mut shelf, &mut pass);
+                read_traces(rt, relay, name, &mut shelf, &mut pass);
                 ReadDone::Read { shelf, pass }
             };
             match scope.spawn_with(promise, reader) {
                 Ok(handle) => {
                     let mut take = take;
                     let mut job = job;
-                    let matched = match_parts(rt, alloc, relay, &mut job, &mut take, &mut *out);
+                    let matched = match_parts(rt, relay, &mut job, &mut take, &mut *out);
                     (handle.join(rt), take, job, Some(matched), out)
                 }
                 Err(refusal) => {
@@ -115,7 +114,7 @@ pub fn live_traces<R: Threads + Wait + Sync, J: Job + Drop, S: Shelf + Send + Dr
         return (Err(Stop::NoMemory), shelf);
     };
     let (done, mut take, mut job, matched) = run_both(
-        rt, alloc, &relay, name, shelf, put, take, job, &mut *out,
+        rt, &relay, name, shelf, put, take, job, &mut *out,
     );
     match (matched, done) {
         (Some((last, ended)), ReadDone::Read { shelf, pass }) => {
@@ -128,7 +127,7 @@ pub fn live_traces<R: Threads + Wait + Sync, J: Job + Drop, S: Shelf + Send + Dr
             unreachable!()
         }
         (None, ReadDone::Read { shelf, pass }) => {
-            let (last, ended) = match_parts(rt, alloc, &relay, &mut job, &mut take, &mut *out);
+            let (last, ended) = match_parts(rt, &relay, &mut job, &mut take, &mut *out);
             close_whole(relay, pass, take);
             (end_traces(alloc, &mut job, last, ended, out), shelf)
         }

@@ -8,7 +8,6 @@ ghost use Rattle.live_pipeline.specs.Reading.{EndsAt, HasPut, HasRead, PutsChunk
 use crate::feeder::{part_of_fault, put_chunk, put_end};
 use edge_io::Shelf;
 use program_frame::{Chunks, Stop};
-use std::alloc::Global;
 use std::sync::Wait;
 use trace_reader::TraceReader;
 use trace_relay::{Part, PutPass, Relay};
@@ -39,7 +38,6 @@ fn next_chunk<S: Shelf>(chunks: &mut Chunks, shelf: &mut S, name: &str) -> Resul
 // that close. `Err` has the last part if reading ends early.
 fn put_chunks<R: Wait, S: Shelf>(
     rt: &R,
-    alloc: Global,
     relay: &Relay,
     name: &str,
     shelf: &mut S,
@@ -52,9 +50,9 @@ fn put_chunks<R: Wait, S: Shelf>(
     ensures puts { PutsChunks name.now (S.state shelf.old) (S.state shelf.new)
         reader.new pass.new.parts result }
 {
-    let mut chunks = Chunks::open(alloc);
+    let mut chunks = Chunks::open(relay.alloc());
     while next_chunk(&mut chunks, shelf, name)? {
-        if let Err(fault) = put_chunk(rt, alloc, relay, reader, &chunks.bytes, pass) {
+        if let Err(fault) = put_chunk(rt, relay, reader, &chunks.bytes, pass) {
             return Err(part_of_fault(fault));
         }
     }
@@ -64,7 +62,6 @@ fn put_chunks<R: Wait, S: Shelf>(
 // Puts the traces of a file as they close, and returns the last part that belongs after them.
 fn put_file<R: Wait, S: Shelf>(
     rt: &R,
-    alloc: Global,
     relay: &Relay,
     name: &str,
     shelf: &mut S,
@@ -75,12 +72,12 @@ fn put_file<R: Wait, S: Shelf>(
     ensures own { pass.new.relay ≡ pass.old.relay }
     ensures put { HasPut name.now (S.state shelf.old) (S.state shelf.new) pass.new.parts result }
 {
-    let mut reader = TraceReader::open(alloc);
-    match put_chunks(rt, alloc, relay, name, shelf, &mut reader, pass) {
+    let mut reader = TraceReader::open(relay.alloc());
+    match put_chunks(rt, relay, name, shelf, &mut reader, pass) {
         Ok(()) => {}
         Err(last) => return last,
     }
-    match put_end(rt, alloc, relay, &mut reader, pass) {
+    match put_end(rt, relay, &mut reader, pass) {
         Ok(()) => Part::End,
         Err(fault) => part_of_fault(fault),
     }
@@ -90,7 +87,6 @@ fn put_file<R: Wait, S: Shelf>(
 /// chunk of the first fault.
 pub fn read_traces<R: Wait, S: Shelf>(
     rt: &R,
-    alloc: Global,
     relay: &Relay,
     name: &str,
     shelf: &mut S,
@@ -100,6 +96,6 @@ pub fn read_traces<R: Wait, S: Shelf>(
     requires first { pass.old.parts ≡ [] }
     ensures { HasRead name.now (S.state shelf.old) (S.state shelf.new) pass.old pass.new }
 {
-    let last = put_file(rt, alloc, relay, name, shelf, pass);
+    let last = put_file(rt, relay, name, shelf, pass);
     relay.put(rt, pass, last);
 }

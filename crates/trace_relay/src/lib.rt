@@ -25,9 +25,10 @@ use std::alloc::{AllocError, Global};
 use std::marker::Model;
 use std::sync::Wait;
 
-/// A queue of parts between two threads. Contracts see its name and its capacity.
+/// A queue of parts between two threads, with its allocator. Contracts see its name and its capacity.
 #[derive(Drop)]
 pub struct Relay {
+    alloc: Global,
     queue: RuledArrayQueue<Part, Log, InOrder>,
 }
 
@@ -97,7 +98,7 @@ impl Relay {
         let (queue, mut writer) = RuledArrayQueue::ruled(alloc, capacity as usize)?;
         let reader = queue.another::<Roles>(&mut writer);
         Ok((
-            Relay { queue },
+            Relay { alloc, queue },
             PutPass {
                 pass: writer,
                 room,
@@ -109,6 +110,11 @@ impl Relay {
                 room: wakes_putter,
             },
         ))
+    }
+
+    /// The allocator.
+    pub fn alloc(&self) -> Global {
+        self.alloc
     }
 
     /// Puts a part, or returns it: then the queue was full at some moment of the call.

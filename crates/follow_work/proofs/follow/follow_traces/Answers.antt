@@ -3,7 +3,6 @@ use Rattle.std.proofs.lemmas.Result.{err_from_is_err_and}
 use Rattle.program_frame.specs.Performs.{Performs}
 use Rattle.program_frame.specs.Stream.{works_traces}
 use Rattle.program_frame.proofs.Stages.{loads_fails, loads_performs, memory_performs}
-use Rattle.follow_work.specs.Follow.{follow_job}
 use Rattle.follow_work.proofs.follow.follow_traces.Goals as goal
 
 pub returns-in_err-roads : goal.returns-in_err-roads
@@ -17,4 +16,4 @@ returns-in_default g c =
 
 pub returns : goal.returns
 returns g c =
-    loads_performs _ _ c.in_ok-roads.ensures (subst (λ on. Performs (Ok (works_traces c.args.traces.now (follow_job on))) (g.S.Shelf.state c.load_network.new.shelf) (g.S.Shelf.state c.work_traces.new.shelf) (g.K.Sink.state c.args.out.now) (g.K.Sink.state c.work_traces.new.out) c.work_traces.result) c.in-Ok.ensures.matcher c.work_traces.ensures)
+    loads_performs _ _ c.in_ok-roads.ensures (subst (λ job. Performs (Ok (works_traces c.args.traces.now job)) (g.S.Shelf.state c.load_network.new.shelf) (g.S.Shelf.state c.work_traces.new.shelf) (g.K.Sink.state c.args.out.now) (g.K.Sink.state c.work_traces.new.out) c.work_traces.result) c.in-Ok.ensures.text c.work_traces.ensures)
