@@ -83,12 +83,8 @@ where
     fn take(&mut self, alloc: Global, traces: &[Trace], into: &mut List<u8>) -> Result<(), Stop> {
         let first = self.tally.traces;
         let call = &self.match_batch;
-        let Ok(matches) = match_by(call, self.matcher, first, traces, &mut self.readers) else {
-            return Err(Stop::NoMemory);
-        };
-        let Ok(pieces) = write_matches(alloc, matches.as_slice(), into) else {
-            return Err(Stop::NoMemory);
-        };
+        let matches = match_by(call, self.matcher, first, traces, &mut self.readers)?;
+        let pieces = write_matches(alloc, matches.as_slice(), into)?;
         self.tally.add(traces, pieces);
         Ok(())
     }
@@ -114,9 +110,7 @@ pub fn match_file<'s, R: Threads + Sync, G: Gate, S: Shelf, K: Sink>(
     ensures { Performs (Ok (works_traces traces.now (match_text matcher.now)))
         (S.state shelf.old) (S.state shelf.new) (K.state out.old) (K.state out.new) result }
 {
-    let Ok(readers) = open_readers(alloc, matcher, store) else {
-        return Err(Stop::NoMemory);
-    };
+    let readers = open_readers(alloc, matcher, store)?;
     let match_batch = |first: u64, batch: &[Trace], readers: &mut List<Reader<'_>>|
         requires { AreJobTraces first batch.now
             × AreReadersFor matcher.now.network matcher.now.params readers.now }
@@ -148,11 +142,7 @@ pub fn match_traces<R: Threads + Sync, G: Gate, S: Shelf, K: Sink>(
         (S.state shelf.old) (S.state shelf.new) (K.state out.old) (K.state out.new) result }
 {
     let roads = load_network(alloc, shelf, network)?;
-    let Ok(matcher) = Matcher::open(alloc, &roads, options) else {
-        return Err(Stop::NoMemory);
-    };
-    let Ok(store) = open_store(alloc, &matcher) else {
-        return Err(Stop::NoMemory);
-    };
+    let matcher = Matcher::open(alloc, &roads, options)?;
+    let store = open_store(alloc, &matcher)?;
     match_file(rt, alloc, &matcher, &store, traces, shelf, out, gate)
 }

@@ -35,12 +35,8 @@ pub fn match_with_table<R: Threads + Sync, G: Gate, S: Shelf, K: Sink>(
         (S.state shelf.old) (S.state shelf.new) (K.state out.old) (K.state out.new) result }
 {
     let roads = load_network(alloc, shelf, network)?;
-    let Ok(matcher) = Matcher::open(alloc, &roads, options) else {
-        return Err(Stop::NoMemory);
-    };
-    let Ok(store) = open_store(alloc, &matcher) else {
-        return Err(Stop::NoMemory);
-    };
+    let matcher = Matcher::open(alloc, &roads, options)?;
+    let store = open_store(alloc, &matcher)?;
     preload(alloc, shelf, table, &roads, options.bound, &store)?;
     match_file(rt, alloc, &matcher, &store, traces, shelf, out, gate)
 }

@@ -5,7 +5,7 @@ ghost use Rattle.command_line.specs.Work.{AreNumbersWithin, plain};
 ghost use Rattle.cost_model.specs.Options.{IsAccepted};
 ghost use Rattle.program_frame.specs.Performs.{Performs};
 ghost use Rattle.program_frame.specs.Promises.{Promises};
-ghost use Rattle.program_run.specs.RunLines.{run_lines};
+ghost use Rattle.program_run.specs.RunLines.{PromisesWithin, run_lines};
 ghost use Rattle.program_run.specs.Words.{asked_plan, asked_plan_within, command_plan, match_files_plan};
 
 use check_work::check_traces;
@@ -138,8 +138,7 @@ pub fn run_within<R: Threads + Sync, G: Gate, S: Shelf, K: Sink, E: Sink>(
     err: &mut E,
     gate: &G,
 ) -> u8
-    ensures { Promises run_lines (asked_plan_within limits words.now)
-        (S.state shelf.old) (S.state shelf.new)
+    ensures { PromisesWithin limits words.now (S.state shelf.old) (S.state shelf.new)
         (K.state out.old) (K.state out.new) (E.state err.old) (E.state err.new) result }
 {
     let ended = perform(rt, alloc, limits, words, shelf, out, gate);

@@ -66,9 +66,7 @@ pub fn prove_traces<S: Shelf, K: Sink>(
 {
     let roads = load_network(alloc, shelf, network)?;
     let taken = load_traces(alloc, shelf, traces)?;
-    let Ok(matcher) = Matcher::open(alloc, &roads, options) else {
-        return Err(Stop::NoMemory);
-    };
+    let matcher = Matcher::open(alloc, &roads, options)?;
     let text = text_of_proofs(alloc, &matcher, taken.as_slice())?;
     put_text(out, text.as_slice())
 }

@@ -160,8 +160,6 @@ pub fn match_town<R: Threads + Sync, G: Gate, K: Sink>(
     ensures { (shelf : ShelfState) → Performs (Ok (town_plan side count seed options))
         shelf shelf (K.state out.old) (K.state out.new) result }
 {
-    let Ok(text) = town_report(rt, alloc, side, count, seed, options, gate) else {
-        return Err(Stop::NoMemory);
-    };
+    let text = town_report(rt, alloc, side, count, seed, options, gate)?;
     put_text(out, text.as_slice())
 }

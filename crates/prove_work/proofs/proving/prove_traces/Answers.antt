@@ -23,9 +23,10 @@ returns-in_err-taken g c =
     let p = err_from_is_err_and c.from_residual-in_err-taken.result c.from_residual-in_err-taken.ensures.1 in
     loads_performs _ _ c.in_ok-roads.ensures (rw (p.1, p.2) (loads_fails _ (λ e. cc) c.in_err-taken.ensures))
 
-pub returns-in_default : goal.returns-in_default
-returns-in_default g c =
-    loads_performs _ _ c.in_ok-roads.ensures (loads_performs _ _ c.in_ok-taken.ensures (memory_performs _ (g.S.Shelf.state c.load_traces.new.shelf) (g.K.Sink.state c.args.out.now)))
+pub returns-in_err-matcher : goal.returns-in_err-matcher
+returns-in_err-matcher g c =
+    let p = err_from_is_err_and c.from_residual-in_err-matcher.result c.from_residual-in_err-matcher.ensures.1 in
+    loads_performs _ _ c.in_ok-roads.ensures (loads_performs _ _ c.in_ok-taken.ensures (rw (p.1, p.2) (memory_performs _ (g.S.Shelf.state c.load_traces.new.shelf) (g.K.Sink.state c.args.out.now))))
 
 pub returns-in_err-text : goal.returns-in_err-text
 returns-in_err-text g c =
@@ -34,11 +35,11 @@ returns-in_err-text g c =
     loads_performs _ _ c.in_ok-roads.ensures
     (loads_performs _ _ c.in_ok-taken.ensures
     (rw (p.1, p.2) (accepts_refuses TooLong (prove_said on c.in_ok-taken.taken) _ (λ e. cc)
-    (taken_refused c.in_err-text.field-0.0 c.in-Ok.matcher on c.as_slice.result.now c.in_ok-taken.taken c.in-Ok.ensures c.as_slice.ensures c.in_err-text.ensures))))
+    (taken_refused c.in_err-text.field-0.0 c.in_ok-matcher.matcher on c.as_slice.result.now c.in_ok-taken.taken c.in_ok-matcher.ensures c.as_slice.ensures c.in_err-text.ensures))))
 
 pub returns : goal.returns
 returns g c =
     let on : Setting = record { network = c.in_ok-roads.roads; params = c.args.options } in
-    let same = said_of_taken c.in-Ok.matcher on c.as_slice.result.now c.in_ok-taken.taken c.in-Ok.ensures c.as_slice.ensures in
+    let same = said_of_taken c.in_ok-matcher.matcher on c.as_slice.result.now c.in_ok-taken.taken c.in_ok-matcher.ensures c.as_slice.ensures in
     loads_performs _ _ c.in_ok-roads.ensures
     (loads_performs _ _ c.in_ok-taken.ensures (accepts_performs _ _ (sym same ∙ c.in_ok-text.ensures) (ends_performs c.as_slice-2.ensures c.put_text.ensures)))

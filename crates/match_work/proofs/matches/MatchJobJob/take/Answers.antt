@@ -20,29 +20,29 @@ match_by-requires g c lifetimes = (
 )
 
 pub write_matches-requires-clause-lawful : goal.write_matches-requires-clause-lawful
-write_matches-requires-clause-lawful g c = rw c.as_slice.ensures c.in-Ok.ensures.matched.lawful
+write_matches-requires-clause-lawful g c = rw c.as_slice.ensures c.in_ok-matches.ensures.matched.lawful
 
 pub write_matches-requires-clause-few : goal.write_matches-requires-clause-few
 write_matches-requires-clause-few g c =
     let bounded = c.requires.2.few_points in
-    let few = c.in-Ok.ensures.matched.few in
+    let few = c.in_ok-matches.ensures.matched.few in
     let pieces = ap pieces_in c.as_slice.ensures in
     omega (arith, bounded, few, pieces, points-append c.requires.0 c.args.traces.now)
 
 pub add-requires : goal.add-requires
 add-requires g c =
     let on = c.args.self.now.matcher.now in
-    fits_more (pieces_of on) c.requires.0 c.args.traces.now c.args.self.now.tally c.in-Ok-write_matches.pieces c.requires.2 c.requires.1.0.counts
-    (pieces_found on c.args.traces.now c.in-Ok.matches c.in-Ok-write_matches.pieces c.in-Ok.ensures.matched (c.in-Ok-write_matches.ensures.pieces ∙ ap pieces_in c.as_slice.ensures))
+    fits_more (pieces_of on) c.requires.0 c.args.traces.now c.args.self.now.tally c.in_ok-pieces.pieces c.requires.2 c.requires.1.0.counts
+    (pieces_found on c.args.traces.now c.in_ok-matches.matches c.in_ok-pieces.pieces c.in_ok-matches.ensures.matched (c.in_ok-pieces.ensures.pieces ∙ ap pieces_in c.as_slice.ensures))
 
 pub returns-clause-takes : goal.returns-clause-takes
 returns-clause-takes g c before has bounded =
     let on = c.args.self.now.matcher.now in
     let traces = c.args.traces.now in
-    let batch = c.in-Ok.ensures in
-    let are = pieces_found on traces c.in-Ok.matches c.in-Ok-write_matches.pieces batch.matched (c.in-Ok-write_matches.ensures.pieces ∙ ap pieces_in c.as_slice.ensures) in
-    let grown = c.in-Ok-write_matches.ensures.text ∙ ap (λ m. c.args.into.now ++ text_of_matches m) c.as_slice.ensures in (
-      (matched_more on before traces c.args.self.now.readers c.match_by.new.readers c.args.self.now.tally c.add.new.self c.in-Ok-write_matches.pieces has.0 are batch.stay batch.learn c.add.ensures, has.1),
+    let batch = c.in_ok-matches.ensures in
+    let are = pieces_found on traces c.in_ok-matches.matches c.in_ok-pieces.pieces batch.matched (c.in_ok-pieces.ensures.pieces ∙ ap pieces_in c.as_slice.ensures) in
+    let grown = c.in_ok-pieces.ensures.text ∙ ap (λ m. c.args.into.now ++ text_of_matches m) c.as_slice.ensures in (
+      (matched_more on before traces c.args.self.now.readers c.match_by.new.readers c.args.self.now.tally c.add.new.self c.in_ok-pieces.pieces has.0 are batch.stay batch.learn c.add.ensures, has.1),
       refl,
-      text_grows on before traces c.args.into.now c.write_matches.new.into (texts_written on traces c.in-Ok.matches c.args.into.now c.write_matches.new.into batch.matched grown),
+      text_grows on before traces c.args.into.now c.write_matches.new.into (texts_written on traces c.in_ok-matches.matches c.args.into.now c.write_matches.new.into batch.matched grown),
     )
