@@ -115,10 +115,12 @@ pub fn accept_finding(alloc: Global, found: Finding) -> Result<(), Stop>
     match found {
         Finding::BadRow(place) => Err(refuse_row(alloc, place)),
         Finding::Judged(Verdict::Proved) => Ok(()),
-        Finding::Judged(Verdict::Refused {
-            condition,
-            trace,
-            place,
-        }) => Err(refuse_trace(alloc, condition, trace, place)),
+        Finding::Judged(
+            Verdict::Refused {
+                condition,
+                trace,
+                place,
+            },
+        ) => Err(refuse_trace(alloc, condition, trace, place)),
     }
 }

@@ -17,8 +17,8 @@ mod blank;
 mod front;
 mod laws_of_numbers;
 mod number;
-mod words;
 mod worded;
+mod words;
 
 pub use blank::{is_blank, trim};
 pub use front::{digits_at_front, signed_at_front};

@@ -46,8 +46,8 @@ try_arcs-requires-clause-arcs g c =
     let count : length words ≡ length n.nodes = ap length c.as_mut_slice.ensures.value ∙ c.requires.sized.words_count in
     rw c.arcs-arcs.ensures (All-weaker (IsLeaving n c.args.next.node) (IsTriable (length words)) (λ a leaving. record { end = omega (arith, leaving.end, count); not_long = leaving.not_long }) (map (arc_of n) (leaving n c.args.next.node)) (known_arcs n c.args.next.node c.known.ensures))
 
-pub returns-clause-leaves : goal.returns-clause-leaves
-returns-clause-leaves g c =
+pub returns-2-clause-leaves : goal.returns-2-clause-leaves
+returns-2-clause-leaves g c =
     let n = c.args.net.now in
     let w = c.args.self.now in
     let bound : ℕ = w.bound in
@@ -92,8 +92,8 @@ merge-requires-clause-inside g c k d lt =
     let all = entries_inside n w.bound v row.entries c.known.ensures c.requires.next.0 is.rising (closed_of_table n w.bound v (label_in row.entries) c.known.ensures is.table) k d lt in
     (omega (arith, all.0, c.requires.sized.words_count), omega (arith, all.1, c.requires.sized.low))
 
-pub returns-in-Some-clause-leaves : goal.returns-in-Some-clause-leaves
-returns-in-Some-clause-leaves g c =
+pub returns-clause-leaves : goal.returns-clause-leaves
+returns-clause-leaves g c =
     let n = c.args.net.now in
     let w = c.args.self.now in
     let x = c.args.next in
