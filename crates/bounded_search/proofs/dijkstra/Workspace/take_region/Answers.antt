@@ -25,12 +25,6 @@ loop-octet-init c =
       queue = refl;
     }
 
-in_octets : goal.bounds-octets-octet
-in_octets c =
-    let old = c.requires.sized.marks in
-    let now = c.loop-octet.invariant.sized.marks (length c.args.self.now.words.items) old in
-    omega (arith, c.requires.region, c.loop-octet-test.true, old.areas, old.regions, now.areas, now.regions, now.octets)
-
 pub loop-octet-preserved-then-octet_mark-eq0 : goal.loop-octet-preserved-then-octet_mark-eq0
 loop-octet-preserved-then-octet_mark-eq0 c =
     let inv = c.loop-octet.invariant in
