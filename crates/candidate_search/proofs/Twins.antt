@@ -9,7 +9,7 @@ use Rattle.polyline_geometry.specs.Plane.{point_at, snap_segment}
 use Rattle.road_network.specs.declared.EdgeId.{EdgeId}
 use Rattle.road_network.specs.Net.{Net, HasEdge, IsLawful, edge_line}
 use Rattle.grid_index.specs.declared.runs.Run.{Run}
-use Rattle.grid_index.specs.Runs.{HasSegment, IsReverse, IsRun, IsTwin}
+use Rattle.grid_index.specs.Runs.{HasSegment, IsReverse, IsRun, IsTwin, twin_of_run}
 use Rattle.candidate_search.specs.declared.best.NearEdge.{NearEdge}
 use Rattle.candidate_search.specs.declared.wanted.Search.{Search}
 use Rattle.candidate_search.specs.Best.{AreNearestIn, HasSeen, HasSeenOwn, HasSeenTwin, IsAccounted, IsNearEdge, IsNearestOfTwin}
@@ -17,7 +17,7 @@ use Rattle.candidate_search.proofs.BestLists.{accounted_later}
 use Rattle.candidate_search.proofs.Turned.{turned_d2}
 
 -- the edge of a run's twin
-pub twin_of : (net : Net) (r : Run) (twin : EdgeId) → IsRun net r → r.twin ≡ Some twin → IsReverse net r.edge.0 twin.0
+pub twin_of : (net : Net) (r : Run) (twin : EdgeId) → IsRun net r → twin_of_run r ≡ Some twin → IsReverse net r.edge.0 twin.0
 twin_of net r twin run is = subst (IsTwin net r.edge.0) is run.twin
 
 -- a point is as far from a segment of the twin as from the same one of the edge
@@ -64,7 +64,7 @@ own_near net search r s h = record {
 }
 
 -- and as one of the twin
-pub twin_near : (net : Net) (search : Search) (r : Run) (twin : EdgeId) (s : NearSegments) (near : NearEdge) → IsLawful net → AreNearestIn net search r s → r.twin ≡ Some twin
+pub twin_near : (net : Net) (search : Search) (r : Run) (twin : EdgeId) (s : NearSegments) (near : NearEdge) → IsLawful net → AreNearestIn net search r s → twin_of_run r ≡ Some twin
     → IsNearestOfTwin net r twin s near → IsNearEdge net search near
 twin_near net search r twin s near lawful h twin_is is =
     let reverse = twin_of net r twin h.run twin_is in
@@ -92,7 +92,7 @@ taken_own net search found r s h taken i le lt =
 
 -- and all of the twin
 pub taken_twin : (net : Net) (search : Search) (found : List NearEdge) (r : Run) (twin : EdgeId) (s : NearSegments) (near : NearEdge) → AreNearestIn net search r s
-    → r.twin ≡ Some twin → IsNearestOfTwin net r twin s near → IsAccounted search.k found near.d2 near.edge.0 near.segment → HasSeenTwin net search found r
+    → twin_of_run r ≡ Some twin → IsNearestOfTwin net r twin s near → IsAccounted search.k found near.d2 near.edge.0 near.segment → HasSeenTwin net search found r
 taken_twin net search found r twin s near h twin_is is taken t t_is i own le lt count =
     let line = edge_line net r.edge.0 in
     let d2 = (segment_snap line search.at own).d2 in
@@ -108,5 +108,5 @@ taken_twin net search found r twin s near h twin_is is taken t t_is i own le lt 
     one
 
 -- where there is no twin, none of its segments is left
-pub no_twin : (net : Net) (search : Search) (found : List NearEdge) (r : Run) → r.twin ≡ None → HasSeenTwin net search found r
+pub no_twin : (net : Net) (search : Search) (found : List NearEdge) (r : Run) → twin_of_run r ≡ None → HasSeenTwin net search found r
 no_twin net search found r none twin is = let e = sym none ∙ is in absurd (cc)

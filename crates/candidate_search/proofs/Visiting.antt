@@ -1,5 +1,5 @@
 -- What is seen where runs are visited.
-use Rattle.std.proofs.Common.{◌≡◌, ℕ, suc, ◌+◌, ◌<◌, ◌≤◌, None, List, length, get_or, sym, ap, ◌∙◌, subst, arith, ⊎_elim, pos}
+use Rattle.std.proofs.Common.{◌≡◌, ℕ, suc, ◌+◌, ◌<◌, ◌≤◌, List, length, get_or, sym, ap, ◌∙◌, subst, arith, ⊎_elim, pos}
 use Rattle.std.specs.List.{Contains}
 use Rattle.std.proofs.lemmas.Bool.{cases_lt}
 use Rattle.std.proofs.lemmas.List.{get_or_default}
@@ -22,7 +22,7 @@ use Rattle.candidate_search.proofs.BestLists.{all_contained, of_contained}
 use Rattle.candidate_search.proofs.Twins.{same_d2}
 
 abbrev pub nothing : Run
-nothing = record { edge = record { 0 = 0 }; first = 0; end = 0; low = record { x = pos 0; y = pos 0 }; high = record { x = pos 0; y = pos 0 }; twin = None }
+nothing = record { edge = record { 0 = 0 }; first = 0; end = 0; low = record { x = pos 0; y = pos 0 }; high = record { x = pos 0; y = pos 0 }; twin = record { 0 = 0 } }
 
 pub stays : (net : Net) (search : Search) (found : List NearEdge) → AreBest net search found → Steps net search found found
 stays net search found best = record { best = best; keeps = λ d2 e i h. h }

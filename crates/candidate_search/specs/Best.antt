@@ -9,7 +9,7 @@ use Rattle.grid_index.specs.declared.cells.Cells.{Cells}
 use Rattle.grid_index.specs.declared.runs.Run.{Run}
 use Rattle.grid_index.specs.GridOf.{GridOf, runs_at}
 use Rattle.grid_index.specs.NearestCell.{IsNearestCell}
-use Rattle.grid_index.specs.Runs.{HasSegment, IsRun}
+use Rattle.grid_index.specs.Runs.{HasSegment, IsRun, twin_of_run}
 use Rattle.candidate_search.specs.declared.best.NearEdge.{NearEdge}
 use Rattle.candidate_search.specs.declared.wanted.Search.{Search}
 
@@ -148,7 +148,7 @@ HasSeenOwn net search found r =
 -- the segments of the twin are, where there is one
 abbrev pub HasSeenTwin : Net → Search → List NearEdge → Run → Type 0
 HasSeenTwin net search found r =
-    (twin : EdgeId) → r.twin ≡ Some twin
+    (twin : EdgeId) → twin_of_run r ≡ Some twin
     → (i own : ℕ) → r.first ≤ own → own < r.end → i + own + 2 ≡ length (edge_line net r.edge.0)
     → IsAccounted search.k found (segment_snap (edge_line net r.edge.0) search.at own).d2 twin.0 i
 

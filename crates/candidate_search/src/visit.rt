@@ -55,7 +55,7 @@ fn take_both(
         segment: near.first as u32,
         d2: near.d2,
     };
-    match run.twin {
+    match run.twin() {
         None => take_near(found, search, own),
         Some(twin) => take_pair(found, search, own, nearest_of_twin(net, run, twin, near)),
     }

@@ -14,7 +14,7 @@ use Rattle.road_network.specs.Net.{Net, HasEdge, edge_line}
 use Rattle.grid_index.specs.declared.cells.Cells.{Cells}
 use Rattle.grid_index.specs.declared.runs.Run.{Run}
 use Rattle.grid_index.specs.Cells.{HasCell, cell}
-use Rattle.grid_index.specs.Runs.{HasSegment, IsNearRun, IsRun, IsTwin, edges_of_run}
+use Rattle.grid_index.specs.Runs.{HasSegment, IsNearRun, IsRun, IsTwin, edges_of_run, twin_of_run}
 use Rattle.grid_index.specs.GridOf.{AreHits, GridOf, IsGrid, runs_at}
 use Rattle.grid_index.specs.Table.{Appends, AppendsOne, Gathers}
 use Rattle.grid_index.proofs.RunBoxes.{box_within}
@@ -161,7 +161,7 @@ edge_among runs r e there one =
 
 -- the edges of one more run
 pub edges_more : (runs : List Run) (i : ℕ) (d : Run) (twin : Option EdgeId) (old one new : List EdgeId) → i < length runs → old ≡ flat_map edges_of_run (take i runs)
-    → one ≡ old ++ (get_or runs i d).edge ∷ [] → (get_or runs i d).twin ≡ twin → new ≡ one ++ option_to_list twin → new ≡ flat_map edges_of_run (take (i + 1) runs)
+    → one ≡ old ++ (get_or runs i d).edge ∷ [] → twin_of_run (get_or runs i d) ≡ twin → new ≡ one ++ option_to_list twin → new ≡ flat_map edges_of_run (take (i + 1) runs)
 edges_more runs i d twin old one new lt front edge twin-is is =
     let r = get_or runs i d in
     let next : new ≡ old ++ edges_of_run r = is ∙ ap (λ v. v ++ option_to_list twin) edge ∙ append_assoc old (r.edge ∷ []) (option_to_list twin) ∙ ap (λ o. old ++ r.edge ∷ option_to_list o) (sym twin-is) in
@@ -182,7 +182,7 @@ twin_has net e (Some t) is = All-cons (λ v. HasEdge net v.0) t [] is.has (All-n
 
 -- the edges for which a run stands are edges of the network
 pub run_has : (net : Net) (r : Run) → IsRun net r → All (λ e. HasEdge net e.0) (edges_of_run r)
-run_has net r is = All-cons (λ e. HasEdge net e.0) r.edge (option_to_list r.twin) is.has (twin_has net r.edge.0 r.twin is.twin)
+run_has net r is = All-cons (λ e. HasEdge net e.0) r.edge (option_to_list (twin_of_run r)) is.has (twin_has net r.edge.0 (twin_of_run r) is.twin)
 
 -- the edge of a segment that the run has
 segment_edge : (net : Net) (r : Run) (e i : ℕ) → HasSegment net r e i → Contains (edges_of_run r) (record { 0 = e })

@@ -1,5 +1,5 @@
 -- Entries laid out by slot are the table of a grid.
-use Rattle.std.proofs.Common.{◌≡◌, ℕ, ◌+◌, ◌-◌, ◌*◌, ◌<◌, ◌≤◌, List, length, get_or, take, drop, map, All, pos, refl, sym, ap, ◌∙◌, subst, inl, inr, None, arith, ⊎_elim, length-drop, length-take}
+use Rattle.std.proofs.Common.{◌≡◌, ℕ, ◌+◌, ◌-◌, ◌*◌, ◌<◌, ◌≤◌, List, length, get_or, take, drop, map, All, pos, refl, sym, ap, ◌∙◌, subst, inl, inr, arith, ⊎_elim, length-drop, length-take}
 use Rattle.std.specs.List.{Contains}
 use Rattle.std.specs.List.Sorted.{IsPermutation}
 use Rattle.std.proofs.lemmas.Bool.{cases_lt}
@@ -69,7 +69,7 @@ pub table_of : (net : Net) (side width : ℕ) (s : Entries) (sorted : List Entry
     → HasSlots width starts members × IsGrid (record { net = net; side = side; width = width; starts = starts; members = members; wide = s.wide.items })
 table_of net side width s sorted starts members some all same h is =
     let here : Point = record { x = pos 0; y = pos 0 } in
-    let none : Entry = record { slot = 0; run = record { edge = record { 0 = 0 }; first = 0; end = 0; low = here; high = here; twin = None } } in
+    let none : Entry = record { slot = 0; run = record { edge = record { 0 = 0 }; first = 0; end = 0; low = here; high = here; twin = record { 0 = 0 } } } in
     let n : length members ≡ length sorted = ap length is ∙ length-map sorted (λ (x : Entry). x.run) in
     let in_members = λ (r : Run) (c w : ℕ) (there : Contains s.at_slots.items (record { slot = slot width c w; run = r })).
     let x : Entry = record { slot = slot width c w; run = r } in

@@ -1,14 +1,16 @@
 -- Boxes of runs.
-use Rattle.std.proofs.Common.{◌≡◌, ℕ, ◌+◌, ◌<◌, ◌≤◌, List, subst, sym, inl, inr, arith, ℤ, pos, negsuc, ◌≤ℤ◌, ⊎_elim}
+use Rattle.std.proofs.Common.{◌≡◌, ℕ, ◌+◌, ◌<◌, ◌≤◌, None, Option, Some, List, refl, ap, unwrap_or, subst, sym, inl, inr, arith, ℤ, pos, negsuc, ◌≤ℤ◌, ⊎_elim}
 use Rattle.std.proofs.lemmas.Int.{ints}
-use Rattle.std.proofs.lemmas.Bool.{cases_lt}
+use Rattle.std.proofs.lemmas.Bool.{cases_lt, eq-eqb, ne_eqb}
+use Rattle.std.specs.Prelude.{◌==◌, if◌then◌else◌}
 use Rattle.polyline_geometry.specs.declared.plane.Point.{Point}
 use Rattle.polyline_geometry.specs.Boxes.{InBox, IsBetween}
 use Rattle.polyline_geometry.specs.Plane.{point_at}
+use Rattle.road_network.specs.declared.EdgeId.{EdgeId}
 use Rattle.road_network.specs.Net.{Net, edge_line}
 use Rattle.grid_index.specs.declared.runs.Run.{Run}
 use Rattle.grid_index.specs.GridOf.{GridOf, StandsFor}
-use Rattle.grid_index.specs.Runs.{HasSegment, IsBelow, IsReverse, IsRun, IsRunOf, IsTwin}
+use Rattle.grid_index.specs.Runs.{HasSegment, IsBelow, IsNumberedAbove, IsReverse, IsRun, IsRunOf, IsTwin}
 
 -- the point that stands for none
 abbrev pub origin : Point
@@ -81,6 +83,13 @@ run_holds net r e i q is s inside =
 pub box_within : (g : GridOf) (e i : ℕ) (s : StandsFor g e i) (q : Point)
     → InBox (point_at (edge_line g.net e) i) (point_at (edge_line g.net e) (i + 1)) q → InBox s.run.low s.run.high q
 box_within g e i s q inside = run_holds g.net s.run e i q s.is_run s.segment inside
+
+-- a run that is made with a twin has it
+pub twin_made : (edge kept : EdgeId) (twin : Option EdgeId) → IsNumberedAbove edge.0 twin → kept ≡ unwrap_or twin edge → (if kept.0 == edge.0 then None else Some kept) ≡ twin
+twin_made edge kept None above is = rw (eq-eqb kept.0 edge.0 (ap (λ (e : EdgeId). e.0) is)) refl
+twin_made edge kept (Some t) above is =
+    let number = ap (λ (e : EdgeId). e.0) is in
+    rw (ne_eqb kept.0 edge.0 (λ e. omega (arith, e, number, above))) (ap (λ e. Some e) is)
 
 -- what holds of both ends of a segment holds of the places from the first to the last
 pub of_both : (P : Point → Type 0) (line : List Point) (first i : ℕ) → P (point_at line first) → P (point_at line (first + 1)) → first ≤ i → i ≤ first + 1 → P (point_at line i)

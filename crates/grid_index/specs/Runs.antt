@@ -1,5 +1,5 @@
 -- Runs of segments.
-use Rattle.std.specs.Prelude.{ℕ, ◌≡◌, ◌+◌, ◌<◌, ◌≤◌, ◌⊎◌, List, ◌∷◌, Option, Some, IfSome, length, option_to_list, ◌≤ℤ◌}
+use Rattle.std.specs.Prelude.{ℕ, ◌≡◌, ◌+◌, ◌<◌, ◌≤◌, ◌==◌, ◌⊎◌, if◌then◌else◌, List, ◌∷◌, Option, Some, None, IfSome, length, option_to_list, ◌≤ℤ◌}
 use Rattle.std.specs.List.{Contains}
 use Rattle.polyline_geometry.specs.declared.plane.Point.{Point}
 use Rattle.polyline_geometry.specs.Plane.{InRange, distance2, point_at}
@@ -26,12 +26,16 @@ pub record IsRunOf (line : List Point) (r : Run) : Type 0 where
   pub above_low : (i : ℕ) → r.first ≤ i → i ≤ r.end → IsBelow r.low (point_at line i)
   pub below_high : (i : ℕ) → r.first ≤ i → i ≤ r.end → IsBelow (point_at line i) r.high
 
+-- the run's twin: none, if its field has the run's own edge
+abbrev pub twin_of_run : Run → Option EdgeId
+twin_of_run r = if r.twin.0 == r.edge.0 then None else Some r.twin
+
 -- the run is one of this edge and its twin, with this first segment
 pub record IsRunFrom (line : List Point) (edge : EdgeId) (twin : Option EdgeId) (first : ℕ)
     (r : Run) : Type 0 where
   pub run : IsRunOf line r
   pub edge_is : r.edge ≡ edge
-  pub twin_is : r.twin ≡ twin
+  pub twin_is : twin_of_run r ≡ twin
   pub first_is : r.first ≡ first
 
 -- the points of one line are those of another from its end to its start
@@ -48,10 +52,14 @@ pub record IsReverse (net : Net) (e t : ℕ) : Type 0 where
 abbrev pub IsTwin : Net → ℕ → Option EdgeId → Type 0
 IsTwin net e twin = IfSome twin (λ t. IsReverse net e t.0)
 
+-- where there is a twin, its number is above that of edge e
+abbrev pub IsNumberedAbove : ℕ → Option EdgeId → Type 0
+IsNumberedAbove e twin = IfSome twin (λ t. e < t.0)
+
 -- the run is one of the network's edges
 pub record IsRun (net : Net) (r : Run) : Type 0 where
   pub has : HasEdge net r.edge.0
-  pub twin : IsTwin net r.edge.0 r.twin
+  pub twin : IsTwin net r.edge.0 (twin_of_run r)
   pub run : IsRunOf (edge_line net r.edge.0) r
 
 -- segment i of edge e is segment `own` of this edge, or is that segment in the twin, from its end to
@@ -66,7 +74,7 @@ pub record HasSegment (net : Net) (r : Run) (e i : ℕ) : Type 0 where
   pub own : ℕ
   pub from_first : r.first ≤ own
   pub before_end : own < r.end
-  pub is : IsSameSegment net r.edge r.twin e i own
+  pub is : IsSameSegment net r.edge (twin_of_run r) e i own
 
 -- some run of the list has segment i of edge e
 abbrev pub HasRunFor : Net → List Run → ℕ → ℕ → Type 0
@@ -74,7 +82,7 @@ HasRunFor net runs e i = (r : Run) × Contains runs r × HasSegment net r e i
 
 -- the edges for which the run stands
 abbrev pub edges_of_run : Run → List EdgeId
-edges_of_run r = r.edge ∷ option_to_list r.twin
+edges_of_run r = r.edge ∷ option_to_list (twin_of_run r)
 
 -- the box of the run has a place whose squared distance from p is at most this
 abbrev pub IsNearRun : Point → ℕ → Run → Type 0

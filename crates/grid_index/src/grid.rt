@@ -74,7 +74,7 @@ fn edges_of(alloc: Global, runs: &[Run]) -> Result<Vec<EdgeId>, AllocError>
     let mut edges = Vec::new(alloc);
     for run in runs {
         edges.push(run.edge)?;
-        if let Some(twin) = run.twin {
+        if let Some(twin) = run.twin() {
             edges.push(twin)?;
         }
     }

@@ -3,7 +3,7 @@
 ghost use Rattle.std.specs.Prelude.{◌≡◌, ◌+◌, ◌<◌, ◌≤◌, length, ◌≤ℤ◌};
 ghost use Rattle.std.specs.Int.RustNames.{unsigned_abs};
 ghost use Rattle.polyline_geometry.specs.Plane.{InRange, IsLine};
-ghost use Rattle.grid_index.specs.Runs.{HasCorners, IsBelow, IsBoxDistance, IsRunFrom, IsRunOf};
+ghost use Rattle.grid_index.specs.Runs.{HasCorners, IsBelow, IsBoxDistance, IsNumberedAbove, IsRunFrom, IsRunOf, twin_of_run};
 
 use polyline_geometry::{Point, distance2, nearest_in_box};
 use road_network::EdgeId;
@@ -23,8 +23,9 @@ pub struct Run {
     pub end: u32,
     pub low: Point,
     pub high: Point,
-    /// The edge with the same line in the opposite direction, which the run also serves.
-    pub twin: Option<EdgeId>,
+    /// The edge with the same line in the opposite direction, which the run also serves, or the run's
+    /// own edge if it has none: an `Option` would take 4 bytes more.
+    pub twin: EdgeId,
 }
 
 /// The lesser of two coordinates.
@@ -78,11 +79,23 @@ pub(crate) fn high_corner(a: Point, b: Point) -> Point
 }
 
 impl Run {
+    /// The edge with the same line in the opposite direction, if there is one.
+    pub fn twin(self) -> Option<EdgeId>
+        ensures { result ≡ twin_of_run self }
+    {
+        if self.twin == self.edge {
+            None
+        } else {
+            Some(self.twin)
+        }
+    }
+
     /// The run of one segment.
     fn of_segment(edge: EdgeId, twin: Option<EdgeId>, line: &[Point], first: usize) -> Run
         requires line { IsLine line.now }
         requires few { length line.now ≤ 1_000_000 }
         requires first { first + 1 < length line.now }
+        requires above { IsNumberedAbove edge.0 twin }
         ensures { IsRunFrom line.now edge twin first result × (result.end ≡ first + 1) }
     {
         let (a, b) = (line[first], line[first + 1]);
@@ -92,7 +105,7 @@ impl Run {
             end: first as u32 + 1,
             low: low_corner(a, b),
             high: high_corner(a, b),
-            twin,
+            twin: twin.unwrap_or(edge),
         }
     }
 
@@ -102,7 +115,7 @@ impl Run {
         requires few { length line.now ≤ 1_000_000 }
         requires run { IsRunOf line.now self }
         requires next { self.end + 1 < length line.now }
-        ensures { IsRunFrom line.now self.edge self.twin self.first result
+        ensures { IsRunFrom line.now self.edge (twin_of_run self) self.first result
             × (result.end ≡ self.end + 1) }
     {
         let next = line[self.end as usize + 1];
@@ -133,6 +146,7 @@ impl Run {
         requires line { IsLine line.now }
         requires few { length line.now ≤ 1_000_000 }
         requires first { first + 1 < length line.now }
+        requires above { IsNumberedAbove edge.0 twin }
         ensures { IsRunFrom line.now edge twin first result }
     {
         let mut run = Run::of_segment(edge, twin, line, first);

@@ -3,7 +3,7 @@
 ghost use Rattle.std.specs.Prelude.{◌≡◌, ℕ, ◌≤◌, ◌⊎◌, ◌↔◌, Some, IsTrue, length};
 ghost use Rattle.road_network.specs.Net.{HasEdge};
 ghost use Rattle.grid_index.specs.Entries.{IsMarked};
-ghost use Rattle.grid_index.specs.Runs.{IsReverse, IsTurned, IsTwin};
+ghost use Rattle.grid_index.specs.Runs.{IsNumberedAbove, IsReverse, IsTurned, IsTwin};
 
 use polyline_geometry::Point;
 use road_network::{EdgeId, Network};
@@ -29,7 +29,7 @@ fn is_turned(line: &[Point], turned: &[Point]) -> bool
 /// The twin of an edge with the least number above its own, among the first arcs out of its end node.
 fn twin_of(net: &Network, edge: EdgeId) -> Option<EdgeId>
     requires { HasEdge net.now edge.0 }
-    ensures { IsTwin net.now edge.0 result }
+    ensures { IsTwin net.now edge.0 result × IsNumberedAbove edge.0 result }
 {
     net.known();
     let (start, line) = (net.from(edge), net.line(edge));
@@ -46,7 +46,7 @@ fn twin_of(net: &Network, edge: EdgeId) -> Option<EdgeId>
 pub(crate) fn take_twin(net: &Network, edge: EdgeId, marks: &mut Vec<bool>) -> Option<EdgeId>
     requires has { HasEdge net.now edge.0 }
     requires marks { length marks.old.items ≡ length net.now.edges }
-    ensures twin { IsTwin net.now edge.0 result }
+    ensures twin { IsTwin net.now edge.0 result × IsNumberedAbove edge.0 result }
     ensures marks { length marks.new.items ≡ length net.now.edges }
     ensures marked { (t : ℕ) → IsMarked marks.new.items t
         → IsMarked marks.old.items t ⊎ (result ≡ Some (record { 0 = t })) }

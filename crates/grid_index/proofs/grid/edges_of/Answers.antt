@@ -10,12 +10,12 @@ loop-run-preserved c =
     let s = c.loop-run in
     let runs = c.args.runs.now in
     let one = c.push.new.self.items in
-    elim c.match-run.branch [
+    elim c.match-twin.branch [
       | in-Some+in_ok-push-2 w ↦
-          edges_more runs s.run-index _ (Some w.in-Some.twin) s.edges.items one c.match-run.edges.items c.loop-run-test.true s.invariant c.in_ok-push.ensures.items w.in-Some.is
+          edges_more runs s.run-index _ (Some w.in-Some.twin) s.edges.items one c.match-twin.edges.items c.loop-run-test.true s.invariant c.in_ok-push.ensures.items (sym c.twin.ensures ∙ w.in-Some.is)
           (ap (λ v. v.items) w.edges-is ∙ w.in_ok-push-2.ensures.items)
       | in_default w ↦
-          edges_more runs s.run-index _ None s.edges.items one c.match-run.edges.items c.loop-run-test.true s.invariant c.in_ok-push.ensures.items w.in_default.is
+          edges_more runs s.run-index _ None s.edges.items one c.match-twin.edges.items c.loop-run-test.true s.invariant c.in_ok-push.ensures.items (sym c.twin.ensures ∙ w.in_default.is)
           (ap (λ v. v.items) w.edges-is ∙ sym (append-nil one))
     ]
 

@@ -1,4 +1,4 @@
-use Rattle.std.proofs.Common.{None, pos, ℕ, ◌<◌, ◌≡◌, get_or, subst, ⊎_elim, arith}
+use Rattle.std.proofs.Common.{pos, ℕ, ◌<◌, ◌≡◌, get_or, subst, ⊎_elim, arith}
 use Rattle.grid_index.specs.declared.entries.Entry.{Entry}
 use Rattle.grid_index.proofs.Starting.{start_at}
 use Rattle.std.proofs.lemmas.Bool.{cases_lt}
@@ -6,7 +6,7 @@ use Rattle.std.proofs.lemmas.List.{get_or_default}
 use Rattle.grid_index.proofs.starts.first_from.Goals as goal
 
 abbrev none : Entry
-none = record { slot = 0; run = record { edge = record { 0 = 0 }; first = 0; end = 0; low = record { x = pos 0; y = pos 0 }; high = record { x = pos 0; y = pos 0 }; twin = None } }
+none = record { slot = 0; run = record { edge = record { 0 = 0 }; first = 0; end = 0; low = record { x = pos 0; y = pos 0 }; high = record { x = pos 0; y = pos 0 }; twin = record { 0 = 0 } } }
 
 pub returns-else-entries-place : goal.returns-else-entries-place
 returns-else-entries-place c =

@@ -1,4 +1,4 @@
-use Rattle.std.proofs.Common.{None, get_or, pos, ◌≡◌, length, subst, arith}
+use Rattle.std.proofs.Common.{get_or, pos, ◌≡◌, length, subst, arith}
 use Rattle.std.proofs.lemmas.List.{get_or_default}
 use Rattle.grid_index.specs.declared.runs.Run.{Run}
 use Rattle.grid_index.proofs.Gathering.{appends_more, appends_none}
@@ -6,7 +6,7 @@ use Rattle.grid_index.specs.Table.{Appends}
 use Rattle.grid_index.proofs.table.append_near.Goals as goal
 
 abbrev none : Run
-none = record { edge = record { 0 = 0 }; first = 0; end = 0; low = record { x = pos 0; y = pos 0 }; high = record { x = pos 0; y = pos 0 }; twin = None }
+none = record { edge = record { 0 = 0 }; first = 0; end = 0; low = record { x = pos 0; y = pos 0 }; high = record { x = pos 0; y = pos 0 }; twin = record { 0 = 0 } }
 
 pub loop-run-preserved : goal.loop-run-preserved
 loop-run-preserved c =

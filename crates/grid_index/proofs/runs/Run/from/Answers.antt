@@ -13,6 +13,9 @@ of_segment-run-requires-clause-few c = c.requires.few
 pub of_segment-run-requires-clause-first : goal.of_segment-run-requires-clause-first
 of_segment-run-requires-clause-first c = c.requires.first
 
+pub of_segment-run-requires-clause-above : goal.of_segment-run-requires-clause-above
+of_segment-run-requires-clause-above c = c.requires.above
+
 pub with-longer-requires-clause-line : goal.with-longer-requires-clause-line
 with-longer-requires-clause-line c = c.requires.line
 

@@ -1,6 +1,6 @@
 use Rattle.std.proofs.Common.{refl, arith, ◌+◌}
 use Rattle.grid_index.specs.Runs.{IsBelow}
-use Rattle.grid_index.proofs.RunBoxes.{of_both, origin}
+use Rattle.grid_index.proofs.RunBoxes.{of_both, origin, twin_made}
 use Rattle.grid_index.proofs.runs.Run.of_segment.Goals as goal
 
 pub returns : goal.returns
@@ -15,7 +15,7 @@ returns c =
           below_high = λ i le lt. of_both (λ q. IsBelow q c.high_corner.result) line c.args.first i c.high_corner.ensures.first c.high_corner.ensures.second le lt;
         };
         edge_is = refl;
-        twin_is = refl;
+        twin_is = twin_made c.args.edge c.unwrap_or.result c.args.twin c.requires.above c.unwrap_or.ensures;
         first_is = refl;
       },
       refl,
