@@ -1,7 +1,7 @@
 """What tools/package reads from the sources: the commands, options and ranges of the programs, and the recipes.
 
-Commands and options come from crates/command_line/src, defaults from crates/cost_model/src, descriptions from docs/fmm.1. If these
-do not agree, `Wrong` says how, so that no option is left out of the completions.
+Commands and options come from crates/command_line/src, the ranges and defaults of options from crates/cost_model/src, descriptions
+from docs/fmm.1. If these do not agree, `Wrong` says how, so that no option is left out of the completions.
 """
 import functools
 import os
@@ -89,17 +89,24 @@ def commands(top):
     source = os.path.join(top, "crates", "command_line", "src")
     values, syntax = read(source, "value.rt"), read(source, "syntax.rt")
     name_of = dict(re.findall(r'ValueName::(\w+) => "(\w+)"', values))
+    model = os.path.join(top, "crates", "cost_model", "src")
+    params = "".join(read(model, name) for name in sorted(os.listdir(model)))
+    written = r"ValueRange \{\s*least: ([\w:]+),\s*most: ([\w:]+),?\s*\}"
+    constants = {name: (number(least), number(most)) for name, least, most
+                 in re.findall(r"const (\w+_RANGE): ValueRange = " + written, params)}
     ranges = {name_of[variant]: (number(least), number(most)) for variant, least, most
-              in re.findall(r"ValueName::(\w+) => \(([\w:]+), ([\w:]+)\)", values)}
+              in re.findall(r"ValueName::(\w+) => " + written, values)}
+    for variant, constant in re.findall(r"ValueName::(\w+) => Params::(\w+_RANGE)", values):
+        if constant not in constants:
+            raise Wrong(f"packaging/facts.py does not find {constant} in {model}")
+        ranges[name_of[variant]] = constants[constant]
     shared = found(r"OPTIONS: \[ValueName; (\d+)\] = \[(.*?)\];", values, "the list of options in value.rt")
     shared_names = [name_of[variant] for variant in names(shared[2])]
     count = int(found(r"FORMS: \[Form; (\d+)\]", syntax, "the number of commands in syntax.rt")[1])
     if len(shared_names) != int(shared[1]):
         raise Wrong("packaging/facts.py does not find all options in value.rt")
 
-    model = os.path.join(top, "crates", "cost_model", "src")
-    default = found(r"pub const DEFAULT: Params = Params \{(.*?)\};",
-                    "".join(read(model, name) for name in sorted(os.listdir(model))), "the default of the options")[1]
+    default = found(r"pub const DEFAULT: Params = Params \{(.*?)\};", params, "the default of the options")[1]
     defaults = {name: number(value) for name, value in re.findall(r"(\w+): ([\w:]+),", default)}
     described, texts = manual(top)
 
