@@ -73,7 +73,7 @@ impl Workspace {
         ensures bound { IfOk result (λ w. w.bound ≡ bound) }
         ensures clean { IfOk result (IsClean (length net.now.nodes)) }
     {
-        net.known();
+        net.invariants();
         let nodes = net.node_count() as usize;
         Ok(Workspace {
             bound,
@@ -99,7 +99,7 @@ impl Workspace {
         ensures leaves { OnOk result (Leaves net.now (next ∷ []) self.old self.new) }
         ensures sized { KeepsSizes self.old self.new }
     {
-        net.known();
+        net.invariants();
         let node = NodeId(next.node);
         if distance_in(self.words[next.node as usize]) != next.distance {
             return Ok(());
@@ -135,7 +135,7 @@ impl Workspace {
             IsRow net.now self.old.bound origin.0 (record { origin = origin.0; entries = entries.items })) }
         ensures clean { EndsClean result self.old self.new }
     {
-        net.known();
+        net.invariants();
         self.words[origin.0 as usize] = ORIGIN;
         self.queue.start(origin.0)?;
         while let Some(next) = self.queue.take()? {

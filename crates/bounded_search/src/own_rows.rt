@@ -45,7 +45,7 @@ impl<'n> OwnRows<'n> {
         requires { bound ≤ 10_000_000 }
         ensures { IfOk result (λ rows. rows ≡ no_rows network.now bound) }
     {
-        network.known();
+        network.invariants();
         let mut rows = Vec::with_capacity(alloc, network.node_count() as usize)?;
         for _ in 0..network.node_count() {
             rows.push(None)?;
@@ -59,7 +59,7 @@ impl<'n> OwnRows<'n> {
     }
 
     /// The invariant of the known nodes.
-    pub fn known(&self)
+    pub fn invariants(&self)
         ensures { IsKnownList self.now.network self.now.known }
     {
         let _ = &self.rows;
@@ -85,7 +85,7 @@ impl<'n> OwnRows<'n> {
         ensures { IfOk result (λ found. found
             ≡ map (row_of self.entry.network self.entry.bound) self.entry.known) }
     {
-        self.searcher.known();
+        self.searcher.invariants();
         rows_in(alloc, self.rows, self.count)
     }
 

@@ -53,7 +53,7 @@ impl<'n> RowChecker<'n> {
         requires { bound ≤ 10_000_000 }
         ensures { IfOk result (λ checker. checker ≡ record { network = network.now; bound = bound }) }
     {
-        network.known();
+        network.invariants();
         let words = vec![in alloc; no_label(bound); network.node_count() as usize]?;
         Ok(RowChecker {
             network,

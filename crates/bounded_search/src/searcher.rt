@@ -61,10 +61,10 @@ impl<'n> Searcher<'n> {
     }
 
     /// What the network always meets.
-    pub(crate) fn known(&self)
+    pub(crate) fn invariants(&self)
         ensures { IsLawful self.now.network }
     {
-        self.network.known();
+        self.network.invariants();
     }
 
     /// Whether a row is the row of an origin, as [`RowChecker::check`](crate::RowChecker::check) decides it, over the
@@ -118,7 +118,7 @@ impl<'n> Searcher<'n> {
     {
         let alloc = self.alloc;
         let network = self.network;
-        network.known();
+        network.invariants();
         match self.workspace.entries(alloc, network, known, origin) {
             Ok(entries) => Ok(Row {
                 origin,

@@ -19,8 +19,8 @@ pub fn is_row(net: &Network, bound: u32, words: &mut [u64], origin: NodeId, row:
     ensures row { IsTrue result ↔ IsRow net.now bound origin.0 row.now }
     ensures blank { IsBlank (length net.now.nodes) bound words.new }
 {
-    net.known();
-    row.known();
+    net.invariants();
+    row.invariants();
     row.origin() == origin && gives_all(net, bound, words, row.entries())
 }
 
@@ -66,7 +66,7 @@ fn spread(net: &Network, bound: u32, words: &mut [u64], entries: &[Entry]) -> bo
     requires blank { IsBlank (length net.now.nodes) bound words.old }
     ensures { Spreads net.now bound entries.now result words.new }
 {
-    net.known();
+    net.invariants();
     for x in entries {
         if !fits(net, bound, x) {
             return false;
@@ -104,7 +104,7 @@ fn count_given(net: &Network, bound: u32, words: &[u64], x: &Entry) -> Option<us
     ensures count { IfSome result (λ count. count ≡ count_by
         (λ e. gives net.now bound (label_at bound words.now) None x.now.distance e.0) (leaving net.now x.now.node.0)) }
 {
-    net.known();
+    net.invariants();
     let mut count = 0;
     for arc in net.arcs(x.node) {
         if try_arc(bound, words, *arc, x.distance)? {

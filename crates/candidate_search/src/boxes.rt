@@ -136,7 +136,7 @@ fn box_of(net: &Network, edge: EdgeId) -> EdgeBox
     ensures extent { IsEdgeBox net.now result }
     ensures edge { result.edge ≡ edge }
 {
-    net.known();
+    net.invariants();
     let line = net.line(edge);
     EdgeBox {
         edge,

@@ -89,7 +89,7 @@ fn boxes_for(
     requires boxes { AreBoxesFor among.net.now among.p.now.radius among.boxes.now group.now }
     ensures { IfOk result (λ near. AreBoxesFor among.entry.net.now among.entry.p.now.radius near.items group.now) }
 {
-    among.net.known();
+    among.net.invariants();
     let near = boxes_near(alloc, among.boxes, grown(extent, among.p.radius))?;
     Ok(near)
 }

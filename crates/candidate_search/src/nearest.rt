@@ -63,7 +63,7 @@ pub(crate) fn take_segment(
         ≡ with_one search.k search.radius found.old.items (candidate_at net.now search.at edge.0)) }
     ensures found { OnOk result (IsFound search.k (edge.0 + 1) found.new.items) }
 {
-    net.known();
+    net.invariants();
     match near {
         None => Ok(()),
         Some(near) => {
@@ -92,7 +92,7 @@ pub(crate) fn consider(
         ≡ with_one search.k search.radius found.old.items (candidate_at net.now search.at edge.0)) }
     ensures found { OnOk result (IsFound search.k (edge.0 + 1) found.new.items) }
 {
-    net.known();
+    net.invariants();
     let line = net.line(edge);
     let limit = limit_of(found.as_slice(), search);
     let near = nearest_segment(line, 0, line.len() - 1, search.at, limit);

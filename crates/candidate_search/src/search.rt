@@ -35,7 +35,7 @@ fn candidate_of(net: &Network, search: Search, near: NearEdge) -> Candidate
     requires { IsNearestOn net.now search near }
     ensures { result ≡ candidate_at net.now search.at near.edge.0 }
 {
-    net.known();
+    net.invariants();
     Candidate {
         edge: near.edge,
         d2: near.d2,
@@ -79,8 +79,8 @@ fn nearest_edges(
     requires reach { reach ≡ search.radius }
     ensures { IfOk result (λ found. AreNearestEdges net.now search found.items) }
 {
-    net.known();
-    grid.known();
+    net.invariants();
+    grid.invariants();
     let mut found = Vec::new(alloc);
     if grid.is_far(search.at, reach) {
         return Ok(found);
@@ -105,7 +105,7 @@ pub fn candidates(
     requires side { p.now.radius ≤ grid.now.side }
     ensures { IfOk result (λ list. list ≡ candidates net.now p.now.k p.now.radius at) }
 {
-    net.known();
+    net.invariants();
     let search = search_for(p, at);
     let found = nearest_edges(alloc, net, grid, search, p.radius)?;
     let list = candidates_of(alloc, net, search, found.as_slice())?;

@@ -28,7 +28,7 @@ fn nearest_of_twin(net: &Network, run: Run, twin: EdgeId, near: NearSegments) ->
     requires last { near.last < run.end }
     ensures { IsNearestOfTwin net.now run twin near result }
 {
-    net.known();
+    net.invariants();
     NearEdge {
         edge: twin,
         segment: (net.line(run.edge).len() - 2 - near.last) as u32,
@@ -49,7 +49,7 @@ fn take_both(
     ensures steps { OnOk result (Steps net.now search found.old.items found.new.items) }
     ensures seen { OnOk result (HasSeen net.now search found.new.items run) }
 {
-    net.known();
+    net.invariants();
     let own = NearEdge {
         edge: run.edge,
         segment: near.first as u32,
@@ -76,7 +76,7 @@ fn look_at_box(
     ensures steps { OnOk result (Steps net.now search found.old.items found.new.items) }
     ensures seen { OnOk result (HasSeen net.now search found.new.items run) }
 {
-    net.known();
+    net.invariants();
     let limit = limit_for(found.as_slice(), search);
     if d2 >= limit {
         return Ok(());
@@ -111,7 +111,7 @@ pub(crate) fn look_at_wide(look: Look<'_, '_>, found: &mut Vec<NearEdge>) -> Res
     ensures steps { OnOk result (Steps look.entry.net.now look.entry.search found.old.items found.new.items) }
     ensures seen { OnOk result (HasSeenWide look.entry.net.now look.entry.grid.now look.entry.search found.new.items) }
 {
-    look.grid.known();
+    look.grid.invariants();
     let runs = look.grid.wide_runs();
     for run in runs {
         look_at_run(look.net, found, look.search, *run)?;
@@ -132,8 +132,8 @@ fn look_at_cell(
     ensures steps { OnOk result (Steps look.entry.net.now look.entry.search found.old.items found.new.items) }
     ensures seen { OnOk result (HasSeenCell look.entry.net.now look.entry.grid.now look.entry.search found.new.items column row) }
 {
-    look.grid.known();
-    look.net.known();
+    look.grid.invariants();
+    look.net.invariants();
     let runs = look.grid.runs_at(column, row);
     if runs.is_empty() {
         return Ok(());

@@ -53,7 +53,7 @@ pub fn failing_end(
     ensures { IfOk result (λ found. found ≡ first_failing (holds (case_seen case.now) i)
         (Condition.Chosen ∷ Condition.Route ∷ [])) }
 {
-    case.net.known();
+    case.net.invariants();
     let Some(piece) = ending(left, i) else {
         return Ok(None);
     };

@@ -18,7 +18,7 @@ fn is_right(net: &Network, checker: &mut RowChecker, row: &Row) -> bool
     ensures right { result ≡ is_right_row net.now checker.old.bound row.now }
     ensures same { checker.new ≡ checker.old }
 {
-    net.known();
+    net.invariants();
     row.origin().0 < net.node_count() && checker.check(row.origin(), row)
 }
 

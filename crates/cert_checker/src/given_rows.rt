@@ -49,7 +49,7 @@ impl<'a> GivenRows<'a> {
         ensures row { IfSome result (λ row. IsRow self.now.network self.now.bound n.0 row.now) }
         ensures known { IsSome result ↔ Contains self.now.known n.0 }
     {
-        self.net.known();
+        self.net.invariants();
         let place = self.rows.place(n)?;
         Some(self.rows.at(place))
     }

@@ -36,7 +36,7 @@ impl<'a> PlacedRows<'a> {
         requires { AreRightRows net.now rows.now }
         ensures { IfOk result (λ placed. placed ≡ rows.now) }
     {
-        net.known();
+        net.invariants();
         let mut places = vec![in alloc; 0u32; net.node_count() as usize]?;
         for place in 0..rows.len() {
             places[rows[place].origin().0 as usize] = place as u32 + 1;

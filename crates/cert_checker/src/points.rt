@@ -41,7 +41,7 @@ fn has_row_of(case: &TraceCase, i: usize, a: usize) -> bool
     requires a { a < width (case_seen case.now) (i - 1) }
     ensures { result ≡ has_row_of (case_seen case.now) i a }
 {
-    case.net.known();
+    case.net.invariants();
     match case.table(i - 1).get(a) {
         Some(cell) if cell.cost.is_some() => {
             let end = case.net.to(case.candidate(i - 1, a).edge);

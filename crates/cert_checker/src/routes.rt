@@ -56,7 +56,7 @@ fn after_leg<'a>(
     ensures { IfOk result (λ left. IsLeftAfter case.now.net.now names.now
         (leg (case_seen case.now) i) (option_copied left)) }
 {
-    case.net.known();
+    case.net.invariants();
     let (a, b) = (chosen(case, i), chosen(case, i + 1));
     if a.edge == b.edge && a.offset <= b.offset + case.params.back {
         return Ok(Some(names));

@@ -10,7 +10,7 @@ use road_network::Network;
 fn is_right(net: &Network, bound: u32, row: &Row) -> bool
     ensures { result ≡ is_right_row net.now bound row.now }
 {
-    net.known();
+    net.invariants();
     row.origin().0 < net.node_count() && check_row(net, bound, row.origin(), row)
 }
 
@@ -26,7 +26,7 @@ fn is_next(net: &Network, bound: u32, least: u32, row: &Row) -> bool
 pub fn check_rows(net: &Network, bound: u32, rows: &[Row]) -> Option<u32>
     ensures { result ≡ first_bad_row net.now bound rows.now }
 {
-    net.known();
+    net.invariants();
     let mut least = 0;
     for place in 0..rows.len() {
         if !is_next(net, bound, least, &rows[place]) {

@@ -59,7 +59,7 @@ pub fn ways_by_step(
     ensures ways { IfSome result (AreWaysOf (case_seen case.now) i (width (case_seen case.now) i)) }
     ensures same { pairs.new ≡ pairs.old }
 {
-    case.net.known();
+    case.net.invariants();
     let costs = case.table(i - 1);
     if !are_small(costs) {
         return None;

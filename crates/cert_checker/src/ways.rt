@@ -23,7 +23,7 @@ fn transition_by_row(case: &TraceCase, i: usize, a: usize, j: usize, row: &Row) 
     ensures { result ≡ (trellis case.now.net.now case.now.params.now).transition
         (layer (case_seen case.now) (i - 1)) a (layer (case_seen case.now) i) j }
 {
-    case.net.known();
+    case.net.invariants();
     let (from, to) = (case.candidate(i - 1, a), case.candidate(i, j));
     let route = link(case.net, case.params, row, &from, &to)?;
     let apart = straight(case.layer(i - 1).point, case.layer(i).point);
@@ -38,7 +38,7 @@ pub fn way(case: &TraceCase, i: usize, a: usize, j: usize) -> Option<u128>
     requires j { j < width (case_seen case.now) i }
     ensures { result ≡ way (case_seen case.now) i a j }
 {
-    case.net.known();
+    case.net.invariants();
     let cost = case.table(i - 1)[a].cost?;
     let end = case.net.to(case.candidate(i - 1, a).edge);
     let place = case.rows.place(end)?;

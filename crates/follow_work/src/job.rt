@@ -121,7 +121,7 @@ impl<'n> Job for FollowJob<'n> {
     }
 
     fn finish(&mut self, _alloc: Global, into: &mut List<u8>) -> Result<(), AllocError> {
-        self.rows.known();
+        self.rows.invariants();
         self.tally.append_line(u64::from(self.rows.count()), into)
     }
 }

@@ -61,7 +61,7 @@ impl Extent {
     pub(crate) fn of(net: &Network) -> Extent
         ensures { IsExtentOf net.now (length net.now.edges) result }
     {
-        net.known();
+        net.invariants();
         let mut extent = Extent {
             low: Point { x: MOST, y: MOST },
             high: Point { x: -MOST, y: -MOST },

@@ -103,7 +103,7 @@ impl<'n> Grid<'n> {
     }
 
     /// Does nothing: its clause states the invariants of every grid.
-    pub fn known(&self)
+    pub fn invariants(&self)
         ensures { IsGrid self.now }
     {
         let _ = &self.table;

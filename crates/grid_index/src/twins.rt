@@ -31,7 +31,7 @@ fn twin_of(net: &Network, edge: EdgeId) -> Option<EdgeId>
     requires { HasEdge net.now edge.0 }
     ensures { IsTwin net.now edge.0 result × IsNumberedAbove edge.0 result }
 {
-    net.known();
+    net.invariants();
     let (start, line) = (net.from(edge), net.line(edge));
     let arcs = net.arcs(net.to(edge));
     for arc in &arcs[..arcs.len().min(MOST_ARCS)] {

@@ -47,7 +47,7 @@ fn in_ids<R: Rows>(
     ensures asks { AsksOnly (R.state rows.old) (R.state rows.new) (AsksTrace found.now.net.now
         found.now.params.now found.now.layers.now found.now.solved.now.pieces) }
 {
-    found.net.known();
+    found.net.invariants();
     let ranks = found.solved.ranks.as_slice();
     let labels = labels(alloc, found.net, found.layers, ranks)?;
     let pieces = pieces(alloc, rows, found)?;
@@ -73,7 +73,7 @@ pub fn match_one<R: Rows>(
     ensures asks { AsksFor (R.state rows.old) (λ v. asks net.now p.now trace.now v ≡ true)
         result (R.state rows.new) }
 {
-    net.known();
+    net.invariants();
     let layers = layers(alloc, net, grid, p, trace.fixes.as_slice())?;
     let solved = match_trace(alloc, net, p, rows, layers.as_slice())?;
     let found = Found {

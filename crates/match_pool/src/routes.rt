@@ -42,7 +42,7 @@ fn routed_piece<R: Rows>(
         found.now.params.now found.now.layers.now found.now.solved.now.pieces) }
 {
     let (net, solved) = (found.net, found.solved);
-    net.known();
+    net.invariants();
     let edges = route(alloc, net, found.params, rows, found.layers, solved, number)?;
     let piece = solved.pieces.as_slice()[number as usize];
     routed(alloc, net, piece, edges.as_slice())

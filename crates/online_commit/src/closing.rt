@@ -70,7 +70,7 @@ pub fn closing_items<R: Rows>(
     if piece.layers.len() == 0 {
         return Ok(List::new(piece.alloc));
     }
-    net.known();
+    net.invariants();
     let alloc = piece.alloc;
     let end = piece.layers.len() - 1;
     let tables = piece.tables.as_slice();

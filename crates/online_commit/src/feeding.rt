@@ -78,7 +78,7 @@ pub fn next_cells<R: Rows>(
     if piece.layers.len() == 0 || layer.candidates.len() == 0 {
         return Ok(None);
     }
-    net.known();
+    net.invariants();
     let (layers, tables) = (piece.layers.as_slice(), piece.tables.as_slice());
     let last = layers.len() - 1;
     let (before, costs) = (&layers[last], &tables[last]);

@@ -104,7 +104,7 @@ impl<'n> Online<'n> {
         ensures err { OnErr result (self.new ≡ self.old) }
         ensures asks { AsksFed self.old layer (R.state rows.old) result (R.state rows.new) }
     {
-        self.net.known();
+        self.net.invariants();
         let next = next_cells(self.net, &self.params, rows, &self.piece, &layer)?;
         match next {
             Some(cells) => extend(&mut self.piece, layer, cells),
@@ -121,7 +121,7 @@ impl<'n> Online<'n> {
         ensures asks { AsksOnly (R.state rows.old) (R.state rows.new)
             (AsksIn self.old.network self.old.params self.old.layers self.old.tables) }
     {
-        self.net.known();
+        self.net.invariants();
         let mut items = closing_items(self.net, &self.params, rows, &self.piece)?;
         let index = self.piece.first + self.piece.layers.len() as u32;
         let (piece, more) = begin(self.piece.alloc, &self.params, index, layer)?;

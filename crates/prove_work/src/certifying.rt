@@ -34,10 +34,10 @@ pub fn certify_traces(
     ensures { IfOk result (λ certificate. certificate
         ≡ certificate_of (record { network = net.now; params = p.now }) traces.now) }
 {
-    net.known();
+    net.invariants();
     let mut rows = OwnRows::open(alloc, net, p.bound)?;
     let proofs = prove_all(alloc, net, grid, p, &mut rows, traces)?;
-    rows.known();
+    rows.invariants();
     let rows = rows.into_rows(alloc)?;
     Ok(Certificate { proofs, rows })
 }

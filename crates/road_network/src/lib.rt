@@ -111,7 +111,7 @@ impl Model for Network {
 
 impl Network {
     /// Does nothing: its clause states the invariants of every network.
-    pub fn known(&self)
+    pub fn invariants(&self)
         ensures { IsLawful self.now }
     {
         let _ = &self.edges;

@@ -42,7 +42,7 @@ pub fn route<R: Rows>(
     ensures asks { AsksOnly (R.state rows.old) (R.state rows.new)
         (IsChosenEnd net.now layers.now solved.now.ranks (piece_at solved.now.pieces piece)) }
 {
-    net.known();
+    net.invariants();
     let piece = solved.pieces.as_slice()[piece as usize];
     route_over(alloc, net, p, rows, layers, solved.ranks.as_slice(), piece)
 }
@@ -105,7 +105,7 @@ fn append_leg<R: Rows>(
     ensures asks { AsksOnly (R.state rows.old) (R.state rows.new)
         (λ v. v ≡ target run.now.net.now (chosen_in run.now i).edge.0) }
 {
-    run.net.known();
+    run.net.invariants();
     let a = chosen(run, i);
     let b = chosen(run, i + 1);
     if a.edge == b.edge && a.offset <= b.offset + run.params.back {
@@ -131,7 +131,7 @@ fn walk_between<R: Rows>(
         (reverse (numbers es)) (source net.now b.0)) }
     ensures asks { AsksOnly (R.state rows.old) (R.state rows.new) (λ v. v ≡ target net.now a.0) }
 {
-    net.known();
+    net.invariants();
     let row = rows.row(net.to(a))?;
     walk(alloc, net, row, net.from(b))
 }

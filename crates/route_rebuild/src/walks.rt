@@ -31,7 +31,7 @@ fn walk_back(alloc: Global, net: &Network, row: &Row, n: NodeId) -> Result<Vec<E
     requires listed { IsSome (entry_in row.now.entries n.0) }
     ensures { IfOk result (λ es. IsLeastWalk net.now row.now.origin (numbers es.items) n.0) }
 {
-    net.known();
+    net.invariants();
     let mut edges = Vec::new(alloc);
     let mut at = row.find(n);
     while let Some(entry) = at

@@ -51,7 +51,7 @@ impl<'n> RowStore<'n> {
         ensures { IfOk result (λ s. (s.network ≡ network.now) × (s.bound ≡ bound)
             × (length s.cells ≡ length network.now.nodes)) }
     {
-        network.known();
+        network.invariants();
         let mut cells = Vec::with_capacity(alloc, network.node_count() as usize)?;
         for _ in 0..network.node_count() {
             cells.push(OnceBox::new(alloc))?;

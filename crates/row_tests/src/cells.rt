@@ -62,7 +62,7 @@ fn distance_in_one_cell(rt: HostRuntime) -> Result<(), Fail> {
     let grid = Grid::build(rt.alloc(), &net, 10_000)?;
     let (start, p) = (Point { x: 0, y: 0 }, Point { x: -300, y: -400 });
     let (column, row) = (grid.column_of(start), grid.row_of(start));
-    grid.known();
+    grid.invariants();
     let runs = grid.runs_at(column, row);
     assert_eq!(rt; runs.len(), 1);
     for run in runs {

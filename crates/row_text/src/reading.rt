@@ -80,6 +80,6 @@ pub fn read_row(alloc: Global, text: &[u8]) -> Result<Option<(Row, &[u8])>, Allo
     let Some(row) = Row::of(NodeId(origin), entries) else {
         return Ok(None);
     };
-    row.known();
+    row.invariants();
     Ok(Some((row, rest)))
 }

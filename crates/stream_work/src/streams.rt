@@ -116,7 +116,7 @@ impl<'m> Job for StreamJob<'m> {
     fn finish(&mut self, _alloc: Global, into: &mut List<u8>) -> Result<(), AllocError> {
         let ids = self.sessions.count();
         let pieces = self.sessions.close_all(&mut self.rows, into)?;
-        self.rows.known();
+        self.rows.invariants();
         let tally = Tally {
             traces: ids,
             points: self.tally.points,

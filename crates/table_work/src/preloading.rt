@@ -92,7 +92,7 @@ fn offer_row(
     ensures same { (checker.new ≡ checker.old) × (reader.new.store ≡ reader.old.store) }
     ensures said { Accepts Refusal.Table (row_said roads.now checker.old.bound row) result }
 {
-    roads.known();
+    roads.invariants();
     let origin = row.origin();
     if !checker.check(origin, &row) {
         return Err(refuse_row(alloc, roads.node_name(origin)));

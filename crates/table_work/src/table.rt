@@ -38,7 +38,7 @@ fn write_rows(alloc: Global, network: &Network, bound: u32) -> Result<List<u8>, 
     requires { bound ≤ 10_000_000 }
     ensures { WritesTable network.now bound result }
 {
-    network.known();
+    network.invariants();
     let nodes = network.node_count();
     let mut searcher = Searcher::open(alloc, network, bound)?;
     let mut writer = TableWriter::open(alloc, bound, nodes, network.edge_count())?;

@@ -65,7 +65,7 @@ fn append_followed<R: Rows>(
     ensures asks { AsksAs (R.state rows.old)
         (λ _ v. asks on.now.net.now on.now.params.now trace.now v ≡ true) result (R.state rows.new) }
 {
-    on.net.known();
+    on.net.invariants();
     write_trace(trace.id, into)?;
     let by = Writer { alloc, net: on.net };
     let mut session = Online::open(alloc, on.net, on.params);

@@ -190,11 +190,11 @@ impl<'n> Sessions<'n> {
     }
 
     // The invariants of sessions.
-    fn known(&self)
+    fn invariants(&self)
         ensures lawful { IsLawful self.now.network }
         ensures accepted { IsAccepted self.now.params }
     {
-        self.net.known();
+        self.net.invariants();
     }
 
     // The number of points of the id, 0 if it has no session.

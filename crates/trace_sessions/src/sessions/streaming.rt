@@ -63,7 +63,7 @@ impl<'n> Sessions<'n> {
         ensures asks { AsksStream self.old ((id, fix) ∷ [])
             (R.state rows.old) result (R.state rows.new) }
     {
-        self.known();
+        self.invariants();
         let point = self.points(id);
         let items = self.feed(id, fix, rows)?;
         self.write_point(id, point, items.as_slice(), into)?;
@@ -88,7 +88,7 @@ impl<'n> Sessions<'n> {
         ensures asks { AsksStream self.old (fragment_points trace.now)
             (R.state rows.old) result (R.state rows.new) }
     {
-        self.known();
+        self.invariants();
         let mut pieces = 0;
         for fix in trace.fixes.as_slice() {
             let count = self.stream_point(trace.id, *fix, rows, into)?;
@@ -113,7 +113,7 @@ impl<'n> Sessions<'n> {
         ensures asks { (pairs : ListOf Pair) → Keeps self.old pairs
             → AsksOnly (R.state rows.old) (R.state rows.new) (AsksSome self.old pairs) }
     {
-        self.known();
+        self.invariants();
         let none = IndexMap::new(self.alloc);
         let sessions = std::mem::replace(&mut self.sessions, none);
         let by = Writer {
@@ -156,7 +156,7 @@ fn end_session<R: Rows>(
         → EndsOne by.now.net.now session.entry.params (id, fixes) into.old into.new result }
     ensures asks { AsksFinished session.entry (R.state rows.old) (R.state rows.new) }
 {
-    by.net.known();
+    by.net.invariants();
     let mut session = session;
     let items = session.finish(rows)?;
     write_rest(by, Some(id), id, items.as_slice(), into)?;

@@ -14,8 +14,8 @@ returns-then-eq c =
     let row = c.args.row.now in
     let same : row.origin ≡ c.args.origin.0 = grind (arith, nat_tests) in
     let has : HasNode n row.origin = subst (HasNode n) (sym same) c.requires in
-    let is = row_is n bound row c.known.ensures c.known-2.ensures in
-    let given = closed_is n bound (start_of n) row (start_tells n) c.known.ensures c.known-2.ensures has in
+    let is = row_is n bound row c.invariants.ensures c.invariants-2.ensures in
+    let given = closed_is n bound (start_of n) row (start_tells n) c.invariants.ensures c.invariants-2.ensures has in
     let test = rw c.entries.ensures at c.gives_all.ensures in (
       λ t. subst (λ (s : ℕ). IsRow n bound s row) same (is.0 (given.0 (test.0 t))),
       λ h. test.1 (given.1 (is.1 (subst (λ (s : ℕ). IsRow n bound s row) (sym same) h))),

@@ -17,13 +17,13 @@ leaves n u arcs i lawful is lt = subst (λ (k : List Arc). i < length k → IsLe
 pub try_arc-requires-clause-end : goal.try_arc-requires-clause-end
 try_arc-requires-clause-end c =
     let n = c.args.net.now in
-    let a = leaves n c.args.x.now.node.0 c.arcs-arc-items.result.now c.loop-arc.arc-index c.known.ensures c.arcs-arc-items.ensures (omega arith) in
-    (omega (arith, a.end, c.requires.words), omega (arith, a.has, c.known.ensures.few_edges))
+    let a = leaves n c.args.x.now.node.0 c.arcs-arc-items.result.now c.loop-arc.arc-index c.invariants.ensures c.arcs-arc-items.ensures (omega arith) in
+    (omega (arith, a.end, c.requires.words), omega (arith, a.has, c.invariants.ensures.few_edges))
 
 pub try_arc-requires-clause-fits : goal.try_arc-requires-clause-fits
 try_arc-requires-clause-fits c =
     let n = c.args.net.now in
-    let a = leaves n c.args.x.now.node.0 c.arcs-arc-items.result.now c.loop-arc.arc-index c.known.ensures c.arcs-arc-items.ensures (omega arith) in
+    let a = leaves n c.args.x.now.node.0 c.arcs-arc-items.result.now c.loop-arc.arc-index c.invariants.ensures c.arcs-arc-items.ensures (omega arith) in
     (a.not_long, c.requires.within)
 
 pub loop-arc-preserved : goal.loop-arc-preserved

@@ -15,12 +15,12 @@ returns-then-eq-clause-row c =
     let row = c.args.row.now in
     let same : row.origin ≡ c.args.origin.0 = grind (arith, nat_tests) in
     let has : HasNode n row.origin = subst (HasNode n) (sym same) c.requires.origin in
-    let is = row_is n bound row c.known.ensures c.known-2.ensures in
-    let given = closed_is n bound none_skipped row (skips_none n) c.known.ensures c.known-2.ensures has in
+    let is = row_is n bound row c.invariants.ensures c.invariants-2.ensures in
+    let given = closed_is n bound none_skipped row (skips_none n) c.invariants.ensures c.invariants-2.ensures has in
     let test = rw c.entries.ensures at c.gives_all.ensures.given in (
       λ t. subst (λ (s : ℕ). IsRow n bound s row) same (is.0 (given.0 (test.0 t).1)),
       λ h.
           let all = is.1 (subst (λ (s : ℕ). IsRow n bound s row) (sym same) h) in
           let g = given.1 all in
-          test.1 (closed_fits n bound row c.known-2.ensures g all, g),
+          test.1 (closed_fits n bound row c.invariants-2.ensures g all, g),
     )

@@ -41,7 +41,7 @@ loop-x-preserved c =
     let x : Entry = get_or entries i nothing in
     let fits : FitsIn c.args.net.now c.args.bound x = c.fits.ensures.0 (search rules) in
     let inside : x.node.0 < length c.loop-x.words = omega (arith, fits.node, c.requires.blank.words_count) in
-    let is : label_in_word c.args.bound c.word_of.result ≡ Some (label_of x) = ap (label_in_word c.args.bound) c.word_of.ensures ∙ label_of_word c.args.net.now c.args.bound x.distance x.last c.known.ensures fits.within fits.last in
+    let is : label_in_word c.args.bound c.word_of.result ≡ Some (label_of x) = ap (label_in_word c.args.bound) c.word_of.ensures ∙ label_of_word c.args.net.now c.args.bound x.distance x.last c.invariants.ensures fits.within fits.last in
     record {
       spread = spread_next c.args.bound entries i nothing c.loop-x.words c.word_of.result c.requires.rising lt inside is inv.spread;
       fits = All-more (FitsIn c.args.net.now c.args.bound) entries i nothing lt inv.fits fits;

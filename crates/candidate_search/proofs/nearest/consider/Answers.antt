@@ -15,4 +15,4 @@ take_segment-requires-clause-near c =
     let r = c.nearest_segment-near.result in
     let near = subst (λ l. MatchOption r (AreFar l at limit 0 (length l - 1)) (λ s. IsNearest l at 0 (length l - 1) s × (s.d2 < limit))) c.line-line.ensures c.nearest_segment-near.ensures in
     let beyond = subst (λ (l : List Candidate). (d2 : ℕ) → limit ≤ d2 → AllAreFar c.args.search l d2) c.as_slice.ensures.value c.limit_of-limit.ensures.far in
-    nearest_taken line c.args.search c.args.found.now.items limit r (c.known.ensures.lines c.args.edge.0 c.requires.edge) c.limit_of-limit.ensures.within beyond near
+    nearest_taken line c.args.search c.args.found.now.items limit r (c.invariants.ensures.lines c.args.edge.0 c.requires.edge) c.limit_of-limit.ensures.within beyond near

@@ -48,7 +48,7 @@ returns-in-Some-clause-list c =
     let near = subst (λ (r : Option NearSegment). IsNearestOf line c.args.search c.args.found.now.items r) c.in-Some.is c.requires.near in
     let t : Snap = c.snap_on-snap.result in
     let here = subst (λ l. t ≡ after (line_length (take (suc c.in-Some.near.segment) l)) (segment_snap l at c.in-Some.near.segment)) c.line.ensures c.snap_on-snap.ensures in
-    let is : t ≡ snap_line line at = here ∙ sym (whole_near line at c.in-Some.near (c.known.ensures.lines c.args.edge.0 c.requires.edge) near.0) in
+    let is : t ≡ snap_line line at = here ∙ sym (whole_near line at c.in-Some.near (c.invariants.ensures.lines c.args.edge.0 c.requires.edge) near.0) in
     let x : Candidate = candidate c.args.edge.0 t in
     let same : x ≡ candidate_at c.args.net.now at c.args.edge.0 = ap (candidate c.args.edge.0) is in
     let d2 : x.d2 < c.args.search.radius * c.args.search.radius + 1 = omega (arith, near.1, near.0.d2_is, ap (λ (v : Snap). v.d2) here) in
@@ -63,10 +63,10 @@ pub line-requires : goal.line-requires
 line-requires c = c.requires.edge
 
 pub snap_on-snap-requires-clause-line : goal.snap_on-snap-requires-clause-line
-snap_on-snap-requires-clause-line c = subst IsLine (sym c.line.ensures) (c.known.ensures.lines c.args.edge.0 c.requires.edge)
+snap_on-snap-requires-clause-line c = subst IsLine (sym c.line.ensures) (c.invariants.ensures.lines c.args.edge.0 c.requires.edge)
 
 pub snap_on-snap-requires-clause-length : goal.snap_on-snap-requires-clause-length
-snap_on-snap-requires-clause-length c = subst (λ l. line_length l ≤ 100000000) (sym c.line.ensures) (c.known.ensures.not_long c.args.edge.0 c.requires.edge)
+snap_on-snap-requires-clause-length c = subst (λ l. line_length l ≤ 100000000) (sym c.line.ensures) (c.invariants.ensures.not_long c.args.edge.0 c.requires.edge)
 
 pub snap_on-snap-requires-clause-p_in : goal.snap_on-snap-requires-clause-p_in
 snap_on-snap-requires-clause-p_in c = c.args.search.at_in

@@ -27,5 +27,5 @@ returns c =
     = ap (λ v. let u : Snap = record { d2 = v; offset = c.offset_on.result } in u) c.requires.1.d2_is
     ∙ ap (λ v. let u : Snap = record { d2 = (segment_snap line at near.segment).d2; offset = v } in u) offset
     in
-    let is : t ≡ snap_line line at = here ∙ sym (whole_near line at s (c.known.ensures.lines near.edge.0 c.requires.0) c.requires.1) in
+    let is : t ≡ snap_line line at = here ∙ sym (whole_near line at s (c.invariants.ensures.lines near.edge.0 c.requires.0) c.requires.1) in
     ap (candidate near.edge.0) is

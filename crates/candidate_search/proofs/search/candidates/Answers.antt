@@ -9,7 +9,7 @@ pub candidates_of-requires : goal.candidates_of-requires
 candidates_of-requires c =
     let net = c.args.net.now in
     let search = c.search_for-search.result in
-    subst (All (IsNearestOn net search)) (sym c.as_slice.ensures.value) (nearest_on net search c.in_ok-found.found.items c.known.ensures c.in_ok-found.ensures)
+    subst (All (IsNearestOn net search)) (sym c.as_slice.ensures.value) (nearest_on net search c.in_ok-found.found.items c.invariants.ensures c.in_ok-found.ensures)
 
 pub returns : goal.returns
 returns c =
@@ -18,7 +18,7 @@ returns c =
     let then = c.search_for-search.ensures in
     let found = c.in_ok-found.found.items in
     let list = c.in_ok-list.ensures ∙ ap (map (made net search.at)) c.as_slice.ensures.value in
-    let near = made_nearest net search found c.known.ensures c.in_ok-found.ensures in
+    let near = made_nearest net search found c.invariants.ensures c.in_ok-found.ensures in
     c.from_vec.ensures ∙ list
     ∙ nearest_are net search.k search.radius search.at (map (made net search.at) found) near
     ∙ ap (λ v. candidates net v search.radius search.at) then.k

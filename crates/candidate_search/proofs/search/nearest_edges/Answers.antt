@@ -12,7 +12,7 @@ pub returns-then-is_far : goal.returns-then-is_far
 returns-then-is_far c =
     let search = c.args.search in
     let far = subst (λ (n : Net). HasNoneWithin n search.at c.args.reach) c.requires.network (c.is_far.ensures c.if-is_far.true) in
-    none_near c.args.net.now search c.new-found.result.items c.known.ensures c.new-found.ensures.items (subst (HasNoneWithin c.args.net.now search.at) c.requires.reach far)
+    none_near c.args.net.now search c.new-found.result.items c.invariants.ensures c.new-found.ensures.items (subst (HasNoneWithin c.args.net.now search.at) c.requires.reach far)
 
 pub returns : goal.returns
 returns c =
@@ -24,5 +24,5 @@ returns c =
     let two = c.look_at_wide.new.found.items in
     let holds = subst (λ v. HoldsSquare g search.at v cells) c.requires.reach c.cells_near.ensures in
     let steps = c.in_ok-look_at_wide.ensures.steps in
-    all_seen net g search two cells c.known.ensures c.requires.network c.known-2.ensures holds steps.best c.in_ok-look_at_wide.ensures.seen
+    all_seen net g search two cells c.invariants.ensures c.requires.network c.invariants-2.ensures holds steps.best c.in_ok-look_at_wide.ensures.seen
     (rows_still net g search one two cells cells.bottom cells.top steps c.in_ok-look_at_cells.ensures.seen)

@@ -12,7 +12,7 @@ returns-then-d2-limit-clause-seen c =
     let limit = c.limit_for-limit.result in
     let search = c.args.search in
     let is = subst (λ l. IsLimit search l limit) c.as_slice.ensures.value c.limit_for-limit.ensures in
-    far_box c.args.net.now search c.args.found.now.items c.args.run limit c.args.d2 c.known.ensures c.requires.run is c.if-d2-limit.true c.requires.d2.least
+    far_box c.args.net.now search c.args.found.now.items c.args.run limit c.args.d2 c.invariants.ensures c.requires.run is c.if-d2-limit.true c.requires.d2.least
 
 pub returns-in-None-clause-seen : goal.returns-in-None-clause-seen
 returns-in-None-clause-seen c =
@@ -21,7 +21,7 @@ returns-in-None-clause-seen c =
     let search = c.args.search in
     let is = subst (λ l. IsLimit search l limit) c.as_slice.ensures.value c.limit_for-limit.ensures in
     let far = subst (λ l. AreFar l search.at limit r.first r.end) c.line.ensures c.in-None.ensures in
-    seen_far c.args.net.now search c.args.found.now.items r limit c.known.ensures c.requires.run is far
+    seen_far c.args.net.now search c.args.found.now.items r limit c.invariants.ensures c.requires.run is far
 
 pub take_both-requires-clause-near : goal.take_both-requires-clause-near
 take_both-requires-clause-near c =

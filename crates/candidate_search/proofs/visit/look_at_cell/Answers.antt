@@ -15,7 +15,7 @@ returns-then-cell_distance2-limit_for-clause-seen c =
     let search = c.args.look.search in
     let limit = c.limit_for.result in
     let is = subst (λ l. IsLimit search l limit) c.as_slice.ensures.value c.limit_for.ensures in
-    far_cell c.args.look.net.now c.args.look.grid.now search c.args.found.now.items c.args.column c.args.row limit c.cell_distance2.result c.known-2.ensures c.requires.network c.known.ensures is
+    far_cell c.args.look.net.now c.args.look.grid.now search c.args.found.now.items c.args.column c.args.row limit c.cell_distance2.result c.invariants-2.ensures c.requires.network c.invariants.ensures is
     c.if-cell_distance2-limit_for.true c.cell_distance2.ensures
 
 pub loop-run-init : goal.loop-run-init

@@ -22,7 +22,7 @@ returns-in-None-clause-seen c =
     let r = c.args.run in
     let new = c.take_near.new.found.items in
     on_ok_weaker c.take_near.result
-    (λ takes. seen_both net search new r c.known.ensures c.requires.near.run (taken_own net search new r c.args.near c.requires.near takes.taken) (no_twin net search new r (sym c.twin.ensures ∙ c.in-None.is)))
+    (λ takes. seen_both net search new r c.invariants.ensures c.requires.near.run (taken_own net search new r c.args.near c.requires.near takes.taken) (no_twin net search new r (sym c.twin.ensures ∙ c.in-None.is)))
     c.take_near.ensures
 
 pub returns-in-Some-clause-steps : goal.returns-in-Some-clause-steps
@@ -35,7 +35,7 @@ returns-in-Some-clause-steps c =
     let twin : NearEdge = c.nearest_of_twin.result in
     on_ok_weaker c.take_pair.result
     (λ takes. pair_steps net search c.args.found.now.items c.take_pair.new.found.items own twin c.requires.best (own_near net search r s c.requires.near)
-    (twin_near net search r c.in-Some.twin s twin c.known.ensures c.requires.near (sym c.twin.ensures ∙ c.in-Some.is) c.nearest_of_twin.ensures) takes)
+    (twin_near net search r c.in-Some.twin s twin c.invariants.ensures c.requires.near (sym c.twin.ensures ∙ c.in-Some.is) c.nearest_of_twin.ensures) takes)
     c.take_pair.ensures
 
 pub returns-in-Some-clause-seen : goal.returns-in-Some-clause-seen
@@ -47,6 +47,6 @@ returns-in-Some-clause-seen c =
     let twin : NearEdge = c.nearest_of_twin.result in
     let new = c.take_pair.new.found.items in
     on_ok_weaker c.take_pair.result
-    (λ takes. seen_both net search new r c.known.ensures c.requires.near.run (taken_own net search new r s c.requires.near takes.first_taken)
+    (λ takes. seen_both net search new r c.invariants.ensures c.requires.near.run (taken_own net search new r s c.requires.near takes.first_taken)
     (taken_twin net search new r c.in-Some.twin s twin c.requires.near (sym c.twin.ensures ∙ c.in-Some.is) c.nearest_of_twin.ensures takes.second_taken))
     c.take_pair.ensures

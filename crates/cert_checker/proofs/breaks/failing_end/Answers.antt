@@ -29,7 +29,7 @@ pub has_route-requires : goal.has_route-requires
 has_route-requires c =
     let k = case_seen c.args.case.now in
     let q : Routed = c.in-Some.piece.now in
-    ending_routable k c.args.i c.args.left.now q c.known.ensures c.requires (c.in-Some.ensures k.proof.pieces c.requires.pieces) (sym c.is_chosen.ensures ∙ c.if-not-is_chosen.false)
+    ending_routable k c.args.i c.args.left.now q c.invariants.ensures c.requires (c.in-Some.ensures k.proof.pieces c.requires.pieces) (sym c.is_chosen.ensures ∙ c.if-not-is_chosen.false)
 
 pub returns-then-not-branch : goal.returns-then-not-branch
 returns-then-not-branch c =

@@ -11,6 +11,6 @@ returns-then-origin-node_count-clause-right c =
     let bound = c.args.checker.now.bound in
     let row = c.args.row.now in
     let t = c.check.result in
-    tried_is net bound row t c.known.ensures (omega (arith, c.if-origin-node_count.true, c.origin.ensures, c.node_count.ensures))
+    tried_is net bound row t c.invariants.ensures (omega (arith, c.if-origin-node_count.true, c.origin.ensures, c.node_count.ensures))
     (subst (λ (v : ℕ). IsTrue t ↔ IsRow net bound v row) c.origin-then-origin-node_count.ensures
     (subst (λ (n : Net). IsTrue t ↔ IsRow n bound c.origin-then-origin-node_count.result.0 row) c.requires c.check.ensures.row))

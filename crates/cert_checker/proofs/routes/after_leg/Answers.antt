@@ -22,13 +22,13 @@ returns-then-a-b c =
     let same : c.chosen-a.result.edge.0 ≡ c.chosen-b.result.edge.0 = grind (arith, nat_tests) in
     let le : c.chosen-a.result.offset ≤ c.chosen-b.result.offset + k.params.back = omega arith in
     let direct : IsDirectLeg k i = rw (← c.chosen-a.ensures, ← c.chosen-b.ensures) (same, le) in
-    stays_direct k i c.args.names.now c.known.ensures direct
+    stays_direct k i c.args.names.now c.invariants.ensures direct
 
 pub walk-requires-clause-row : goal.walk-requires-clause-row
 walk-requires-clause-row c =
     let k = case_seen c.args.case.now in
     let i = c.args.i in
-    let lawful = c.known.ensures in
+    let lawful = c.invariants.ensures in
     let d : TableRow = c.at.result.now in
     let end : c.to.result.0 ≡ target k.net (chosen_in k i).edge.0 = c.to.ensures ∙ ap (λ (x : Candidate). target k.net x.edge.0) c.chosen-a.ensures in
     let row = subst (λ (r : TableRow). IsRow k.net k.params.bound (target k.net (chosen_in k i).edge.0) r) (c.at.ensures d) (leg_row k i c.in-Some.place c.to.result.0 d lawful c.requires end c.in-Some.ensures.at) in
@@ -38,7 +38,7 @@ pub walk-requires-clause-listed : goal.walk-requires-clause-listed
 walk-requires-clause-listed c =
     let k = case_seen c.args.case.now in
     let i = c.args.i in
-    let lawful = c.known.ensures in
+    let lawful = c.invariants.ensures in
     let none : IsDirectLeg k i → ⊥ = λ direct.
     let is : IsRoute k.net k.params.bound k.params.back c.chosen-a.result c.chosen-b.result Direct = rw (c.chosen-a.ensures, c.chosen-b.ensures) direct in
     elim c.else-eq.branch [ else-eq-via-then-eq+else-a-b w ↦ omega (arith, is.1) | else-eq-via-else-eq w ↦ let same = is.0 in grind (arith, nat_tests) ] in
@@ -53,7 +53,7 @@ pub after_edges-requires : goal.after_edges-requires
 after_edges-requires c =
     let k = case_seen c.args.case.now in
     let i = c.args.i in
-    let lawful = c.known.ensures in
+    let lawful = c.invariants.ensures in
     let d : TableRow = c.at.result.now in
     let end : c.to.result.0 ≡ target k.net (chosen_in k i).edge.0 = c.to.ensures ∙ ap (λ (x : Candidate). target k.net x.edge.0) c.chosen-a.ensures in
     let row = subst (λ (r : TableRow). IsRow k.net k.params.bound (target k.net (chosen_in k i).edge.0) r) (c.at.ensures d) (leg_row k i c.in-Some.place c.to.result.0 d lawful c.requires end c.in-Some.ensures.at) in
@@ -68,7 +68,7 @@ pub returns-in_default-after_edges : goal.returns-in_default-after_edges
 returns-in_default-after_edges c =
     let k = case_seen c.args.case.now in
     let i = c.args.i in
-    let lawful = c.known.ensures in
+    let lawful = c.invariants.ensures in
     let none : IsDirectLeg k i → ⊥ = λ direct.
     let is : IsRoute k.net k.params.bound k.params.back c.chosen-a.result c.chosen-b.result Direct = rw (c.chosen-a.ensures, c.chosen-b.ensures) direct in
     elim c.else-eq.branch [ else-eq-via-then-eq+else-a-b w ↦ omega (arith, is.1) | else-eq-via-else-eq w ↦ let same = is.0 in grind (arith, nat_tests) ] in
@@ -86,7 +86,7 @@ pub returns : goal.returns
 returns c =
     let k = case_seen c.args.case.now in
     let i = c.args.i in
-    let lawful = c.known.ensures in
+    let lawful = c.invariants.ensures in
     let none : IsDirectLeg k i → ⊥ = λ direct.
     let is : IsRoute k.net k.params.bound k.params.back c.chosen-a.result c.chosen-b.result Direct = rw (c.chosen-a.ensures, c.chosen-b.ensures) direct in
     elim c.else-eq.branch [ else-eq-via-then-eq+else-a-b w ↦ omega (arith, is.1) | else-eq-via-else-eq w ↦ let same = is.0 in grind (arith, nat_tests) ] in

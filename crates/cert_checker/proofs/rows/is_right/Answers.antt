@@ -9,5 +9,5 @@ returns-then-origin-node_count c =
     let net = c.args.net.now in
     let row = c.args.row.now in
     let t = c.check_row.result in
-    tried_is net c.args.bound row t c.known.ensures (omega (arith, c.if-origin-node_count.true, c.origin.ensures, c.node_count.ensures))
+    tried_is net c.args.bound row t c.invariants.ensures (omega (arith, c.if-origin-node_count.true, c.origin.ensures, c.node_count.ensures))
     (subst (λ (v : ℕ). IsTrue t ↔ IsRow net c.args.bound v row) c.origin-then-origin-node_count.ensures c.check_row.ensures)

@@ -26,4 +26,4 @@ returns-clause-ways c =
     let stepped = stepped_of s c.args.i c.layer-before.result.now c.table-costs.result.now c.layer-layer.result.now c.in-Ok.cells parts same c.in-Ok.ensures.cells in
     let live : c.has_live.result ≡ has_live s c.args.i = c.has_live.ensures ∙ ap (λ (cells : List Cell). list_any (λ (cell : Cell). is_some (cell.cost)) cells) c.table-own.ensures in
     subst (λ (any : Bool). AreWaysOf s c.args.i (width s c.args.i) (record { any = any; relaxed = true; tight = true; least = true })) (sym live)
-    (step_ways s c.args.i c.requires.ready c.known.ensures small stepped)
+    (step_ways s c.args.i c.requires.ready c.invariants.ensures small stepped)

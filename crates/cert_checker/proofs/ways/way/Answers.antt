@@ -24,6 +24,6 @@ pub transition_by_row-requires-clause-row : goal.transition_by_row-requires-clau
 transition_by_row-requires-clause-row c =
     let s = case_seen c.args.case.now in
     let node : c.to-end.result.0 ≡ end_of s.net (layer s (c.args.i - 1)) c.args.a = c.to-end.ensures ∙ ap (λ (x : Candidate). target s.net x.edge.0) c.candidate.ensures in
-    let own = row_at_place s.net s.params.bound s.rows c.to-end.result.0 c.in_ok-place.place no_row c.known.ensures c.requires.ready.checkable.rows c.in_ok-place.ensures.at in
+    let own = row_at_place s.net s.params.bound s.rows c.to-end.result.0 c.in_ok-place.place no_row c.invariants.ensures c.requires.ready.checkable.rows c.in_ok-place.ensures.at in
     subst (λ (row : TableRow). IsRow s.net s.params.bound (end_of s.net (layer s (c.args.i - 1)) c.args.a) row) (c.at.ensures no_row)
     (subst (λ (v : ℕ). IsRow s.net s.params.bound v (slice_index_or s.rows c.in_ok-place.place no_row)) node own)

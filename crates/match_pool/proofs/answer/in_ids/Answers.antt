@@ -7,4 +7,4 @@ pub labels-requires : goal.labels-requires
 labels-requires g c =
     let found = c.args.found.now in
     subst (AreRanked found.net.now found.layers.now) (sym c.as_slice-ranks.ensures)
-    (are_ranked found.net.now found.params.now found.layers.now found.solved.now c.known.ensures c.requires.solved)
+    (are_ranked found.net.now found.params.now found.layers.now found.solved.now c.invariants.ensures c.requires.solved)

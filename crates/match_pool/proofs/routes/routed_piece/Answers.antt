@@ -14,7 +14,7 @@ use Rattle.match_pool.proofs.routes.routed_piece.Goals as goal
 
 pub returns-in_err-edges-clause-asks : goal.returns-in_err-edges-clause-asks
 returns-in_err-edges-clause-asks g c =
-    only_by c.route.ensures.asks (chosen_asked c.args.found.now.net.now c.args.found.now.params.now c.args.found.now.layers.now c.args.found.now.solved.now c.args.number c.known.ensures c.requires.solved c.requires.number)
+    only_by c.route.ensures.asks (chosen_asked c.args.found.now.net.now c.args.found.now.params.now c.args.found.now.layers.now c.args.found.now.solved.now c.args.number c.invariants.ensures c.requires.solved c.requires.number)
 
 pub routed-requires : goal.routed-requires
 routed-requires g c =
@@ -27,7 +27,7 @@ returns-clause-routed g c =
     let n = c.args.found.now.net.now in
     let s = c.args.found.now.solved.now in
     let piece = piece_at s.pieces c.args.number in
-    let route = route_of-is n c.args.found.now.params.now c.args.found.now.layers.now s.ranks piece (numbers c.in_ok-edges.edges) c.known.ensures c.in_ok-edges.ensures.route.route in
+    let route = route_of-is n c.args.found.now.params.now c.args.found.now.layers.now s.ranks piece (numbers c.in_ok-edges.edges) c.invariants.ensures c.in_ok-edges.ensures.route.route in
     IfOk-weaker c.routed.result _ _ (λ r is. is
     ∙ ap (λ (ps : List Piece). routed_over n (piece_at ps c.args.number) (numbers c.as_slice-2.result.now)) c.as_slice.ensures
     ∙ ap (λ (es : List EdgeId). routed_over n piece (numbers es)) c.as_slice-2.ensures
@@ -36,4 +36,4 @@ returns-clause-routed g c =
 
 pub returns-clause-asks : goal.returns-clause-asks
 returns-clause-asks g c =
-    only_by c.route.ensures.asks (chosen_asked c.args.found.now.net.now c.args.found.now.params.now c.args.found.now.layers.now c.args.found.now.solved.now c.args.number c.known.ensures c.requires.solved c.requires.number)
+    only_by c.route.ensures.asks (chosen_asked c.args.found.now.net.now c.args.found.now.params.now c.args.found.now.layers.now c.args.found.now.solved.now c.args.number c.invariants.ensures c.requires.solved c.requires.number)

@@ -28,7 +28,7 @@ labelled-requires-clause-ranks g c =
     let some : 0 < length c.args.piece.now.layers.items = let no = c.if-len-eq0.false in let all = c.len.ensures ∙ c.args.piece.now.layers.ok.0 in omega (arith, no, all) in
     let len : c.len-end.result ≡ length c.args.piece.now.layers.items = c.len-end.ensures ∙ c.args.piece.now.layers.ok.0 in
     let lent : c.as_slice-3.result.now ≡ ranks = c.as_slice-3.ensures in
-    let read = end-read s c.as_slice-tables.result.now c.index-tables-end.result c.as_slice.result.now last (unwrap_or (last.cost) 0) ranks c.known.ensures c.requires.session some c.as_slice-tables.ensures.value
+    let read = end-read s c.as_slice-tables.result.now c.index-tables-end.result c.as_slice.result.now last (unwrap_or (last.cost) 0) ranks c.invariants.ensures c.requires.session some c.as_slice-tables.ensures.value
     (c.index-tables-end.is ∙ ap (λ k. get_or c.as_slice-tables.result.now (k - 1) c.index-tables-end.result) len) c.as_slice.ensures c.least_cell-last.ensures refl c.in_ok-ranks.ensures in
     ap length lent ∙ own-count s last (unwrap_or (last.cost) 0) ranks read ∙ sym (ap length c.deref.ensures.value)
 
@@ -41,7 +41,7 @@ route_over-requires-clause-run g c =
     let len : c.len-end.result ≡ length c.args.piece.now.layers.items = c.len-end.ensures ∙ c.args.piece.now.layers.ok.0 in
     let taken : c.as_slice-2.result.now ≡ ranks = c.as_slice-2.ensures in
     let all : c.deref-3.result.now ≡ as_ranks ranks = c.deref-3.ensures.value ∙ c.in_ok-some.ensures ∙ ap (λ rs. as_ranks rs) taken in
-    let read = end-read s c.as_slice-tables.result.now c.index-tables-end.result c.as_slice.result.now last c.unwrap_or.result ranks c.known.ensures c.requires.session some c.as_slice-tables.ensures.value
+    let read = end-read s c.as_slice-tables.result.now c.index-tables-end.result c.as_slice.result.now last c.unwrap_or.result ranks c.invariants.ensures c.requires.session some c.as_slice-tables.ensures.value
     (c.index-tables-end.is ∙ ap (λ k. get_or c.as_slice-tables.result.now (k - 1) c.index-tables-end.result) len) c.as_slice.ensures c.least_cell-last.ensures c.unwrap_or.ensures c.in_ok-ranks.ensures in
     subst (λ k. IsChosenRun s.network s.params c.deref-2.result.now c.deref-3.result.now (whole_piece k c.unwrap_or.result)) (sym len)
     (run-made s last c.unwrap_or.result ranks c.deref-2.result.now c.deref-3.result.now read c.deref-2.ensures.value all)
@@ -55,7 +55,7 @@ returns-in_err-route-clause-asks g c =
     let len : c.len-end.result ≡ length c.args.piece.now.layers.items = c.len-end.ensures ∙ c.args.piece.now.layers.ok.0 in
     let taken : c.as_slice-2.result.now ≡ ranks = c.as_slice-2.ensures in
     let all : c.deref-3.result.now ≡ as_ranks ranks = c.deref-3.ensures.value ∙ c.in_ok-some.ensures ∙ ap (λ rs. as_ranks rs) taken in
-    let read = end-read s c.as_slice-tables.result.now c.index-tables-end.result c.as_slice.result.now last c.unwrap_or.result ranks c.known.ensures c.requires.session some c.as_slice-tables.ensures.value
+    let read = end-read s c.as_slice-tables.result.now c.index-tables-end.result c.as_slice.result.now last c.unwrap_or.result ranks c.invariants.ensures c.requires.session some c.as_slice-tables.ensures.value
     (c.index-tables-end.is ∙ ap (λ k. get_or c.as_slice-tables.result.now (k - 1) c.index-tables-end.result) len) c.as_slice.ensures c.least_cell-last.ensures c.unwrap_or.ensures c.in_ok-ranks.ensures in
     let asked : AsksOnly (g.R.Rows.state c.args.rows.now) (g.R.Rows.state c.route_over.new.rows) (IsChosenEnd s.network c.deref-2.result.now c.deref-3.result.now (whole_piece (length s.layers) c.unwrap_or.result)) =
     subst (λ k. AsksOnly (g.R.Rows.state c.args.rows.now) (g.R.Rows.state c.route_over.new.rows) (IsChosenEnd s.network c.deref-2.result.now c.deref-3.result.now (whole_piece k c.unwrap_or.result))) len c.route_over.ensures.asks in
@@ -70,7 +70,7 @@ returns-in_err-push-clause-asks g c =
     let len : c.len-end.result ≡ length c.args.piece.now.layers.items = c.len-end.ensures ∙ c.args.piece.now.layers.ok.0 in
     let taken : c.as_slice-2.result.now ≡ ranks = c.as_slice-2.ensures in
     let all : c.deref-3.result.now ≡ as_ranks ranks = c.deref-3.ensures.value ∙ c.in_ok-some.ensures ∙ ap (λ rs. as_ranks rs) taken in
-    let read = end-read s c.as_slice-tables.result.now c.index-tables-end.result c.as_slice.result.now last c.unwrap_or.result ranks c.known.ensures c.requires.session some c.as_slice-tables.ensures.value
+    let read = end-read s c.as_slice-tables.result.now c.index-tables-end.result c.as_slice.result.now last c.unwrap_or.result ranks c.invariants.ensures c.requires.session some c.as_slice-tables.ensures.value
     (c.index-tables-end.is ∙ ap (λ k. get_or c.as_slice-tables.result.now (k - 1) c.index-tables-end.result) len) c.as_slice.ensures c.least_cell-last.ensures c.unwrap_or.ensures c.in_ok-ranks.ensures in
     let asked : AsksOnly (g.R.Rows.state c.args.rows.now) (g.R.Rows.state c.route_over.new.rows) (IsChosenEnd s.network c.deref-2.result.now c.deref-3.result.now (whole_piece (length s.layers) c.unwrap_or.result)) =
     subst (λ k. AsksOnly (g.R.Rows.state c.args.rows.now) (g.R.Rows.state c.route_over.new.rows) (IsChosenEnd s.network c.deref-2.result.now c.deref-3.result.now (whole_piece k c.unwrap_or.result))) len c.route_over.ensures.asks in
@@ -85,7 +85,7 @@ returns-clause-asks g c =
     let len : c.len-end.result ≡ length c.args.piece.now.layers.items = c.len-end.ensures ∙ c.args.piece.now.layers.ok.0 in
     let taken : c.as_slice-2.result.now ≡ ranks = c.as_slice-2.ensures in
     let all : c.deref-3.result.now ≡ as_ranks ranks = c.deref-3.ensures.value ∙ c.in_ok-some.ensures ∙ ap (λ rs. as_ranks rs) taken in
-    let read = end-read s c.as_slice-tables.result.now c.index-tables-end.result c.as_slice.result.now last c.unwrap_or.result ranks c.known.ensures c.requires.session some c.as_slice-tables.ensures.value
+    let read = end-read s c.as_slice-tables.result.now c.index-tables-end.result c.as_slice.result.now last c.unwrap_or.result ranks c.invariants.ensures c.requires.session some c.as_slice-tables.ensures.value
     (c.index-tables-end.is ∙ ap (λ k. get_or c.as_slice-tables.result.now (k - 1) c.index-tables-end.result) len) c.as_slice.ensures c.least_cell-last.ensures c.unwrap_or.ensures c.in_ok-ranks.ensures in
     let asked : AsksOnly (g.R.Rows.state c.args.rows.now) (g.R.Rows.state c.route_over.new.rows) (IsChosenEnd s.network c.deref-2.result.now c.deref-3.result.now (whole_piece (length s.layers) c.unwrap_or.result)) =
     subst (λ k. AsksOnly (g.R.Rows.state c.args.rows.now) (g.R.Rows.state c.route_over.new.rows) (IsChosenEnd s.network c.deref-2.result.now c.deref-3.result.now (whole_piece k c.unwrap_or.result))) len c.route_over.ensures.asks in
@@ -100,7 +100,7 @@ returns-clause-some g c = λ some.
     let taken : c.as_slice-2.result.now ≡ ranks = c.as_slice-2.ensures in
     let all : c.deref-3.result.now ≡ as_ranks ranks = c.deref-3.ensures.value ∙ c.in_ok-some.ensures ∙ ap (λ rs. as_ranks rs) taken in
     let lent : c.as_slice-3.result.now ≡ ranks = c.as_slice-3.ensures in
-    let read = end-read s c.as_slice-tables.result.now c.index-tables-end.result c.as_slice.result.now last c.unwrap_or.result ranks c.known.ensures c.requires.session some c.as_slice-tables.ensures.value
+    let read = end-read s c.as_slice-tables.result.now c.index-tables-end.result c.as_slice.result.now last c.unwrap_or.result ranks c.invariants.ensures c.requires.session some c.as_slice-tables.ensures.value
     (c.index-tables-end.is ∙ ap (λ k. get_or c.as_slice-tables.result.now (k - 1) c.index-tables-end.result) len) c.as_slice.ensures c.least_cell-last.ensures c.unwrap_or.ensures c.in_ok-ranks.ensures in
     let first = c.args.piece.now.first in
     let told = c.args.piece.now.told in

@@ -11,7 +11,7 @@ pub next_layer-requires-clause-costs : goal.next_layer-requires-clause-costs
 next_layer-requires-clause-costs g c =
     let s = session_of c.args.net.now c.args.p.now c.args.piece.now in
     let some : 0 < length c.args.piece.now.layers.items = search rules in
-    next-costs s c.index-layers-last.result c.index-tables-last.result c.requires.session c.known.ensures
+    next-costs s c.index-layers-last.result c.index-tables-last.result c.requires.session c.invariants.ensures
     (last-read s c.index-layers-last.result c.index-tables-last.result c.as_slice-layers.result.now c.as_slice-tables.result.now c.requires.session some c.as_slice-layers.ensures.value c.as_slice-tables.ensures.value
     c.index-layers-last.is c.index-tables-last.is)
 

@@ -11,6 +11,6 @@ pub returns : goal.returns
 returns c =
     let on : Setting = record { network = c.args.net.now; params = c.args.p.now } in
     let traces = c.args.traces.now in
-    let rows = c.in_ok-rows-2.ensures ∙ asked_of on traces c.in_ok-rows.rows c.prove_all.new.rows c.in_ok-rows.ensures c.in_ok-proofs.ensures.asks c.known-2.ensures in
+    let rows = c.in_ok-rows-2.ensures ∙ asked_of on traces c.in_ok-rows.rows c.prove_all.new.rows c.in_ok-rows.ensures c.in_ok-proofs.ensures.asks c.invariants-2.ensures in
     ap (λ (proofs : List TraceProof). let x : Certificate = record { proofs = proofs; rows = c.in_ok-rows-2.rows } in x) c.in_ok-proofs.ensures.proofs
     ∙ ap (λ (found : List TableRow). let x : Certificate = record { proofs = map (proof_of on.network on.params) traces; rows = found } in x) rows

@@ -19,7 +19,7 @@ pub chosen-b-requires : goal.chosen-b-requires
 chosen-b-requires g c = c.args.run.now.is.points (c.args.i + 1) (omega (arith, c.requires.point.0)) (omega (arith, c.requires.point.1))
 
 pub overflow_add-b : goal.overflow_add-b
-overflow_add-b g c = rw c.chosen-b.ensures (omega (arith, offset_fits c.args.run.now c.args.i c.known.ensures c.requires.point.0 c.requires.point.1))
+overflow_add-b g c = rw c.chosen-b.ensures (omega (arith, offset_fits c.args.run.now c.args.i c.invariants.ensures c.requires.point.0 c.requires.point.1))
 
 pub returns-then-a-b-clause-leg : goal.returns-then-a-b-clause-leg
 returns-then-a-b-clause-leg g c =
@@ -39,7 +39,7 @@ walk_between-requires-clause-walk g c =
     let none : IsDirect run c.args.i → ⊥ = λ direct.
     let is : IsRoute run.net.now run.params.now.bound run.params.now.back c.chosen-a.result c.chosen-b.result Direct = rw (c.chosen-a.ensures, c.chosen-b.ensures) direct in
     elim c.else-eq.branch [ else-eq-via-then-eq+else-a-b w ↦ omega (arith, is.1) | else-eq-via-else-eq w ↦ let same = is.0 in grind (arith, nat_tests) ] in
-    rw (c.chosen-a.ensures, c.chosen-b.ensures, c.requires.rows.bound) (leg_walk run c.args.i c.known.ensures c.requires.point.0 c.requires.point.1 none)
+    rw (c.chosen-a.ensures, c.chosen-b.ensures, c.requires.rows.bound) (leg_walk run c.args.i c.invariants.ensures c.requires.point.0 c.requires.point.1 none)
 
 pub returns-in_err-walk-clause-asks : goal.returns-in_err-walk-clause-asks
 returns-in_err-walk-clause-asks g c =
@@ -62,7 +62,7 @@ returns-clause-leg g c =
     let none : IsDirect run i → ⊥ = λ direct.
     let is : IsRoute run.net.now run.params.now.bound run.params.now.back c.chosen-a.result c.chosen-b.result Direct = rw (c.chosen-a.ensures, c.chosen-b.ensures) direct in
     elim c.else-eq.branch [ else-eq-via-then-eq+else-a-b w ↦ omega (arith, is.1) | else-eq-via-else-eq w ↦ let same = is.0 in grind (arith, nat_tests) ] in
-    let found = leg_walk run i c.known.ensures c.requires.point.0 c.requires.point.1 none in
+    let found = leg_walk run i c.invariants.ensures c.requires.point.0 c.requires.point.1 none in
     on_by c.push.result c.push.ensures.ok (λ pushed.
     walk_leg run i edges walk c.push.new.self found none (rw (c.chosen-a.ensures, c.chosen-b.ensures) at c.in_ok-walk.ensures.least)
     (pushed

@@ -25,7 +25,7 @@ loop-at-smaller c =
     let row = c.args.row.now in
     let f = c.loop-at.invariant.found in
     let same : f.entry ≡ c.in-Some.entry = same_Some f.entry c.in-Some.entry (sym f.is ∙ c.in-Some.is) in
-    let step : IsStep n c.loop-at.invariant.bound row.origin row.entries c.in-Some-last.last c.loop-at.invariant.rest c.find-at-in-loop-at.result f.entry.distance = step_back n c.loop-at.invariant.bound row.origin row.entries c.known.ensures c.loop-at.invariant.row c.loop-at.invariant.node f.entry c.loop-at.invariant.rest f.least f.distance f.last f.within c.in-Some-last.last (ap (λ (k : Entry). k.last) same ∙ c.in-Some-last.is) c.find-at-in-loop-at.result (c.find-at-in-loop-at.ensures ∙ ap (entry_in row.entries) c.from.ensures) in
+    let step : IsStep n c.loop-at.invariant.bound row.origin row.entries c.in-Some-last.last c.loop-at.invariant.rest c.find-at-in-loop-at.result f.entry.distance = step_back n c.loop-at.invariant.bound row.origin row.entries c.invariants.ensures c.loop-at.invariant.row c.loop-at.invariant.node f.entry c.loop-at.invariant.rest f.least f.distance f.last f.within c.in-Some-last.last (ap (λ (k : Entry). k.last) same ∙ c.in-Some-last.is) c.find-at-in-loop-at.result (c.find-at-in-loop-at.ensures ∙ ap (entry_in row.entries) c.from.ensures) in
     omega (arith, distance_from c.find-at-in-loop-at.result step.here.entry step.here.is, distance_from c.loop-at.at f.entry f.is, step.nearer)
 
 pub loop-at-preserved : goal.loop-at-preserved
@@ -35,7 +35,7 @@ loop-at-preserved c =
     let f = c.loop-at.invariant.found in
     let last = c.in-Some-last.last in
     let same : f.entry ≡ c.in-Some.entry = same_Some f.entry c.in-Some.entry (sym f.is ∙ c.in-Some.is) in
-    let step : IsStep n c.loop-at.invariant.bound row.origin row.entries last c.loop-at.invariant.rest c.find-at-in-loop-at.result f.entry.distance = step_back n c.loop-at.invariant.bound row.origin row.entries c.known.ensures c.loop-at.invariant.row c.loop-at.invariant.node f.entry c.loop-at.invariant.rest f.least f.distance f.last f.within last (ap (λ (k : Entry). k.last) same ∙ c.in-Some-last.is) c.find-at-in-loop-at.result (c.find-at-in-loop-at.ensures ∙ ap (entry_in row.entries) c.from.ensures) in
+    let step : IsStep n c.loop-at.invariant.bound row.origin row.entries last c.loop-at.invariant.rest c.find-at-in-loop-at.result f.entry.distance = step_back n c.loop-at.invariant.bound row.origin row.entries c.invariants.ensures c.loop-at.invariant.row c.loop-at.invariant.node f.entry c.loop-at.invariant.rest f.least f.distance f.last f.within last (ap (λ (k : Entry). k.last) same ∙ c.in-Some-last.is) c.find-at-in-loop-at.result (c.find-at-in-loop-at.ensures ∙ ap (entry_in row.entries) c.from.ensures) in
     let joined : numbers c.loop-at.edges.items ++ c.loop-at.invariant.rest ≡ numbers c.push.new.self.items ++ step.front =
     ap (λ (k : List ℕ). numbers c.loop-at.edges.items ++ k) step.whole ∙ (sym (numbers_push c.loop-at.edges.items last step.front) ∙ ap (λ (k : List _). numbers k ++ step.front) (sym c.in_ok-push.ensures.items)) in
     record {

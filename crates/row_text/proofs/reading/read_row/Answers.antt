@@ -10,4 +10,4 @@ returns-in_default-of c =
 pub returns : goal.returns
 returns c =
     row_read c.args.text.now c.in-Some.origin c.in-Some.rest.now c.in-Some-2.entries c.in-Some-2.rest.now c.in-Some-of.row (sym c.in-Some.ensures) (sym (rw c.in-Some-2.is at c.in_ok-entries.ensures))
-    c.in-Some-of.ensures c.known.ensures
+    c.in-Some-of.ensures c.invariants.ensures

@@ -67,7 +67,7 @@ returns-in_err-items-clause-asks g c = keeps_err (keeps_then c.loop-fix.invarian
 pub write_step-requires : goal.write_step-requires
 write_step-requires g c =
     let turn = turned c.args.on.now.net.now c.args.on.now.params.now c.args.trace.now c.as_slice-fix-items.result.now c.loop-fix.fix-index _ c.in_ok-layer.layer c.loop-fix.session c.feed.new.self c.loop-fix.pieces c.in_ok-items.items
-    c.known.ensures c.args.on.now.is.options c.requires.trace c.as_slice-fix-items.ensures c.loop-fix-test.true c.in_ok-layer.ensures c.loop-fix.invariant.followed c.in_ok-items.ensures.fed in
+    c.invariants.ensures c.args.on.now.is.options c.requires.trace c.as_slice-fix-items.ensures c.loop-fix-test.true c.in_ok-layer.ensures c.loop-fix.invariant.followed c.in_ok-items.ensures.fed in
     subst (AreItemsOf c.args.on.now.net.now) (sym c.as_slice.ensures) turn.lies
 
 pub returns-in_err-write_step-clause-asks : goal.returns-in_err-write_step-clause-asks
@@ -76,7 +76,7 @@ returns-in_err-write_step-clause-asks g c = keeps_err (keeps_then c.loop-fix.inv
 pub overflow_add-pieces : goal.overflow_add-pieces
 overflow_add-pieces g c =
     let turn = turned c.args.on.now.net.now c.args.on.now.params.now c.args.trace.now c.as_slice-fix-items.result.now c.loop-fix.fix-index _ c.in_ok-layer.layer c.loop-fix.session c.feed.new.self c.loop-fix.pieces c.in_ok-items.items
-    c.known.ensures c.args.on.now.is.options c.requires.trace c.as_slice-fix-items.ensures c.loop-fix-test.true c.in_ok-layer.ensures c.loop-fix.invariant.followed c.in_ok-items.ensures.fed in
+    c.invariants.ensures c.args.on.now.is.options c.requires.trace c.as_slice-fix-items.ensures c.loop-fix-test.true c.in_ok-layer.ensures c.loop-fix.invariant.followed c.in_ok-items.ensures.fed in
     let counted = c.count_pieces-pieces.ensures ∙ ap pieces_among c.as_slice-in-loop-fix.ensures in
     let few = few_followed c.args.on.now.net.now c.args.on.now.params.now c.args.trace.now (c.loop-fix.fix-index + 1) c.feed.new.self (c.loop-fix.pieces + c.count_pieces-pieces.result) c.args.on.now.is.options c.requires.trace
     (turn.followed c.count_pieces-pieces.result counted) in
@@ -92,7 +92,7 @@ loop-fix-preserved g c =
     let inv = c.loop-fix.invariant in
     let layer = c.in_ok-layer.layer in
     let turn = turned n p trace c.as_slice-fix-items.result.now i _ layer c.loop-fix.session c.feed.new.self c.loop-fix.pieces c.in_ok-items.items
-    c.known.ensures c.args.on.now.is.options c.requires.trace c.as_slice-fix-items.ensures c.loop-fix-test.true c.in_ok-layer.ensures inv.followed c.in_ok-items.ensures.fed in
+    c.invariants.ensures c.args.on.now.is.options c.requires.trace c.as_slice-fix-items.ensures c.loop-fix-test.true c.in_ok-layer.ensures inv.followed c.in_ok-items.ensures.fed in
     let low = c.loop-fix-test.true in
     let size = ap length c.as_slice-fix-items.ensures in
     let point = c.count-point.ensures ∙ fed_count n p trace i c.loop-fix.session c.loop-fix.pieces inv.followed (omega (arith, low, size)) in
@@ -112,7 +112,7 @@ write_rest-requires g c =
     let trace = c.args.trace.now in
     let over = subst (λ fs. length fs ≤ c.loop-fix.fix-index) c.as_slice-fix-items.ensures c.loop-fix-test.false in
     let left = last_left n p trace c.loop-fix.fix-index c.loop-fix.session c.finish.new.self c.loop-fix.pieces c.in_ok-items-2.items c.loop-fix.invariant.followed over c.in_ok-items-2.ensures.finished in
-    subst (AreItemsOf n) (sym c.as_slice-2.ensures) (left_lies n p trace c.in_ok-items-2.items c.known.ensures c.args.on.now.is.options c.requires.trace left)
+    subst (AreItemsOf n) (sym c.as_slice-2.ensures) (left_lies n p trace c.in_ok-items-2.items c.invariants.ensures c.args.on.now.is.options c.requires.trace left)
 
 pub overflow_add-result : goal.overflow_add-result
 overflow_add-result g c =

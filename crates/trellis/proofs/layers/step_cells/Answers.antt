@@ -63,7 +63,7 @@ add_emissions-requires-clause-small g c =
     let cells = c.loop-rank.offered in
     let inv = c.loop-rank.invariant in
     let all : c.loop-rank.rank ≡ length step.costs.now = search rules in
-    arrival_le step.net.now step.params.now step.before.now step.layer.now step.costs.now cells _ c.known.ensures step.is.layers step.is.costs.count step.is.costs.small inv.count
+    arrival_le step.net.now step.params.now step.before.now step.layer.now step.costs.now cells _ c.invariants.ensures step.is.layers step.is.costs.count step.is.costs.small inv.count
     (λ j lt. subst (λ n. IsLeastWay (λ a. arrival_by_rank step a j) n (cell_at cells j)) all (inv.each j (subst (λ n. j < n) (sym inv.count) lt)))
 
 pub returns-clause-cells : goal.returns-clause-cells

@@ -86,9 +86,9 @@ returns-clause-row g c =
     let bound : ℕ = w.bound in
     let inv = c.loop-next.invariant in
     let none : (w.queue ≡ []) × (c.take.new.self ≡ []) = rw c.in_default.is at c.in_ok-next.ensures in
-    let closed = closed_at_end n bound s labels w.queue c.known.ensures none.0 inv.searching.underway in
+    let closed = closed_at_end n bound s labels w.queue c.invariants.ensures none.0 inv.searching.underway in
     if_ok (λ x. ListsLabels (label_at bound labels) x.items) (λ x. IsRow n c.args.self.now.bound s (record { origin = s; entries = x.items })) c.take_entries.result c.take_entries.ensures.entries
-    (λ x lists. subst (λ (k : ℕ). IsRow n k s (record { origin = s; entries = x.items })) inv.sized.bound (row_of_labels n bound s labels x.items c.known.ensures closed lists.rising lists.same))
+    (λ x lists. subst (λ (k : ℕ). IsRow n k s (record { origin = s; entries = x.items })) inv.sized.bound (row_of_labels n bound s labels x.items c.invariants.ensures closed lists.rising lists.same))
 
 pub returns-clause-clean : goal.returns-clause-clean
 returns-clause-clean g c =

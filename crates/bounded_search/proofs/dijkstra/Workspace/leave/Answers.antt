@@ -44,7 +44,7 @@ try_arcs-requires-clause-arcs g c =
     let n = c.args.net.now in
     let words : List ℕ = c.as_mut_slice.result.now in
     let count : length words ≡ length n.nodes = ap length c.as_mut_slice.ensures.value ∙ c.requires.sized.words_count in
-    rw c.arcs-arcs.ensures (All-weaker (IsLeaving n c.args.next.node) (IsTriable (length words)) (λ a leaving. record { end = omega (arith, leaving.end, count); not_long = leaving.not_long }) (map (arc_of n) (leaving n c.args.next.node)) (known_arcs n c.args.next.node c.known.ensures))
+    rw c.arcs-arcs.ensures (All-weaker (IsLeaving n c.args.next.node) (IsTriable (length words)) (λ a leaving. record { end = omega (arith, leaving.end, count); not_long = leaving.not_long }) (map (arc_of n) (leaving n c.args.next.node)) (known_arcs n c.args.next.node c.invariants.ensures))
 
 pub returns-2-clause-leaves : goal.returns-2-clause-leaves
 returns-2-clause-leaves g c =
@@ -67,7 +67,7 @@ returns-2-clause-leaves g c =
     let there : new ≡ after_arcs bound next.distance arcs (state_of w) = ap (λ (k : List ℕ). record { words = k; queue = c.try_arcs.new.self }) back ∙ (is bound ∙ (ap (after_arcs bound next.distance c.arcs-arcs.result.now) begun ∙ ap (λ (k : List Arc). after_arcs bound next.distance k (state_of w)) c.arcs-arcs.ensures)) in
     record {
       searching = λ s others h.
-          let t = node_left n s w next others marks new c.known.ensures c.requires.next.0 far m.marks there h in
+          let t = node_left n s w next others marks new c.invariants.ensures c.requires.next.0 far m.marks there h in
           record {
             sized = record {
               low = c.requires.sized.low;
@@ -78,7 +78,7 @@ returns-2-clause-leaves g c =
             underway = all_tried n bound s (beside others new) t.underway;
             marked = t.marked;
           };
-      less = omega (arith, ap effort there, arcs_effort n bound next.distance u arcs (state_of w) c.known.ensures (known_arcs n u c.known.ensures) c.requires.sized.words_count far);
+      less = omega (arith, ap effort there, arcs_effort n bound next.distance u arcs (state_of w) c.invariants.ensures (known_arcs n u c.invariants.ensures) c.requires.sized.words_count far);
     })
     c.try_arcs.ensures.tries
 
@@ -89,7 +89,7 @@ merge-requires-clause-inside g c k d lt =
     let v : ℕ = c.args.next.node in
     let row = c.in-Some.row.now in
     let is : IsRow n w.bound v row = rw c.requires.known at c.in-Some.ensures in
-    let all = entries_inside n w.bound v row.entries c.known.ensures c.requires.next.0 is.rising (closed_of_table n w.bound v (label_in row.entries) c.known.ensures is.table) k d lt in
+    let all = entries_inside n w.bound v row.entries c.invariants.ensures c.requires.next.0 is.rising (closed_of_table n w.bound v (label_in row.entries) c.invariants.ensures is.table) k d lt in
     (omega (arith, all.0, c.requires.sized.words_count), omega (arith, all.1, c.requires.sized.low))
 
 pub returns-clause-leaves : goal.returns-clause-leaves
@@ -102,7 +102,7 @@ returns-clause-leaves g c =
     let at : c.index.result.now ≡ word_at w.bound w.words.items x.node = get_or_read w.words.items x.node c.index.result.now (omega (arith, c.requires.sized.words_count, c.requires.next.0)) c.index.ensures (no_label w.bound) in
     let starts : distance_at w.bound w.words.items x.node ≡ x.distance = ap (λ (word : ℕ). word / 2 ^ 32) (sym at) ∙ (sym c.distance_in.ensures ∙ c.if-distance_in-next.false) in
     let left : IsLeft n x row w c.merge.new.self = record {
-      lawful = c.known.ensures;
+      lawful = c.invariants.ensures;
       node = c.requires.next.0;
       right = is;
       starts = starts;

@@ -7,5 +7,5 @@ use Rattle.bounded_search.proofs.own_rows.OwnRows.into_rows.Goals as goal
 pub returns : goal.returns
 returns c =
     IfOk-weaker c.rows_in.result _ _
-    (λ found held. held c.self.inside.searcher c.known.ensures c.self.invariant.holds ∙ ap (λ (o : RowsState). map (row_of o.network o.bound) o.known) c.self.view_is)
+    (λ found held. held c.self.inside.searcher c.invariants.ensures c.self.invariant.holds ∙ ap (λ (o : RowsState). map (row_of o.network o.bound) o.known) c.self.view_is)
     c.rows_in.ensures

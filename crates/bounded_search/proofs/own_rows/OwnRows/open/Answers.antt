@@ -20,7 +20,7 @@ invariant_of-result c =
     let inv = c.loop.invariant in
     let none : known_nodes c.loop.rows.items ≡ [] = known_none 0 c.loop.rows.items inv.none in
     record {
-      few = omega (arith, c.known.ensures.few_nodes);
+      few = omega (arith, c.invariants.ensures.few_nodes);
       holds = rw c.in_ok-searcher.ensures (record { places_count = omega arith; rows = λ k row e. absurd (inv.none k row e) });
       counted = sym (ap length none);
     }

@@ -9,7 +9,7 @@ use Rattle.cert_checker.proofs.given_rows.GivenRows.find.Goals as goal
 pub returns-clause-row : goal.returns-clause-row
 returns-clause-row c =
     let a = c.self.inside in
-    let own = row_at_place a.net.now a.bound a.rows.now c.args.n.0 c.in_ok-place.place no_row c.known.ensures c.self.invariant.rows c.in_ok-place.ensures.at in
+    let own = row_at_place a.net.now a.bound a.rows.now c.args.n.0 c.in_ok-place.place no_row c.invariants.ensures c.self.invariant.rows c.in_ok-place.ensures.at in
     subst (λ (row : TableRow). IsRow c.args.self.now.network c.args.self.now.bound c.args.n.0 row) (c.at.ensures no_row)
     (subst (λ (state : RowsState). IsRow state.network state.bound c.args.n.0 (slice_index_or a.rows.now c.in_ok-place.place no_row)) c.self.view_is own)
 

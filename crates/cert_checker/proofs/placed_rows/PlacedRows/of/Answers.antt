@@ -10,13 +10,13 @@ pub overflow_cast-place : goal.overflow_cast-place
 overflow_cast-place c =
     let rows = c.args.rows.now in
     let place = c.loop-place.place in
-    omega (arith, place_at_most c.args.net.now rows place no_row c.requires c.loop-place-test.true, right_node c.args.net.now rows place no_row c.requires c.loop-place-test.true, c.known.ensures.few_nodes)
+    omega (arith, place_at_most c.args.net.now rows place no_row c.requires c.loop-place-test.true, right_node c.args.net.now rows place no_row c.requires c.loop-place-test.true, c.invariants.ensures.few_nodes)
 
 pub overflow_add-place : goal.overflow_add-place
 overflow_add-place c =
     let rows = c.args.rows.now in
     let place = c.loop-place.place in
-    omega (arith, place_at_most c.args.net.now rows place no_row c.requires c.loop-place-test.true, right_node c.args.net.now rows place no_row c.requires c.loop-place-test.true, c.known.ensures.few_nodes)
+    omega (arith, place_at_most c.args.net.now rows place no_row c.requires c.loop-place-test.true, right_node c.args.net.now rows place no_row c.requires c.loop-place-test.true, c.invariants.ensures.few_nodes)
 
 pub index_mut-requires : goal.index_mut-requires
 index_mut-requires c =

@@ -8,7 +8,7 @@ use Rattle.online_commit.proofs.online.Online.begin_anew.Goals as goal
 pub invariant_of-self : goal.invariant_of-self
 invariant_of-self g c =
     let s = session_of c.self.inside.net.now c.self.inside.params c.self.inside.piece in
-    let anew = begins-anew s c.args.self.now c.args.layer c.self.view_is c.known.ensures c.self.invariant c.requires.before.room c.requires.before.layer c.requires.before.ends in
+    let anew = begins-anew s c.args.self.now c.args.layer c.self.view_is c.invariants.ensures c.self.invariant c.requires.before.room c.requires.before.layer c.requires.before.ends in
     let len : c.len.result ≡ length c.self.inside.piece.layers.items = search rules in
     let begun : IsBegun s.params (points_of s) c.args.layer (piece_of c.in_ok-piece.piece) c.in_ok-piece.more =
     subst (λ k. IsBegun s.params (c.self.inside.piece.first + k) c.args.layer (piece_of c.in_ok-piece.piece) c.in_ok-piece.more) len c.in_ok-piece.ensures in
@@ -17,7 +17,7 @@ invariant_of-self g c =
 pub returns-clause-fed : goal.returns-clause-fed
 returns-clause-fed g c =
     let s = session_of c.self.inside.net.now c.self.inside.params c.self.inside.piece in
-    let anew = begins-anew s c.args.self.now c.args.layer c.self.view_is c.known.ensures c.self.invariant c.requires.before.room c.requires.before.layer c.requires.before.ends in
+    let anew = begins-anew s c.args.self.now c.args.layer c.self.view_is c.invariants.ensures c.self.invariant c.requires.before.room c.requires.before.layer c.requires.before.ends in
     let len : c.len.result ≡ length c.self.inside.piece.layers.items = search rules in
     let begun : IsBegun s.params (points_of s) c.args.layer (piece_of c.in_ok-piece.piece) c.in_ok-piece.more =
     subst (λ k. IsBegun s.params (c.self.inside.piece.first + k) c.args.layer (piece_of c.in_ok-piece.piece) c.in_ok-piece.more) len c.in_ok-piece.ensures in

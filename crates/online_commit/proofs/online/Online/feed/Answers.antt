@@ -20,21 +20,21 @@ pub extend-requires : goal.extend-requires
 extend-requires g c =
     let s = session_of c.self.inside.net.now c.self.inside.params c.self.inside.piece in
     let tells : TellsCells s c.args.layer (Some c.in-Some.cells) = subst (λ o. TellsCells s c.args.layer o) c.in-Some.is c.in_ok-next.ensures.next in
-    let on = goes-on s c.args.self.now c.args.layer c.in-Some.cells c.self.view_is c.known.ensures c.self.invariant c.requires.layer.1 c.requires.layer.0 tells in
+    let on = goes-on s c.args.self.now c.args.layer c.in-Some.cells c.self.view_is c.invariants.ensures c.self.invariant c.requires.layer.1 c.requires.layer.0 tells in
     may-grow s c.args.layer c.in-Some.cells on
 
 pub invariant_of-self : goal.invariant_of-self
 invariant_of-self g c =
     let s = session_of c.self.inside.net.now c.self.inside.params c.self.inside.piece in
     let tells : TellsCells s c.args.layer (Some c.in-Some.cells) = subst (λ o. TellsCells s c.args.layer o) c.in-Some.is c.in_ok-next.ensures.next in
-    let on = goes-on s c.args.self.now c.args.layer c.in-Some.cells c.self.view_is c.known.ensures c.self.invariant c.requires.layer.1 c.requires.layer.0 tells in
+    let on = goes-on s c.args.self.now c.args.layer c.in-Some.cells c.self.view_is c.invariants.ensures c.self.invariant c.requires.layer.1 c.requires.layer.0 tells in
     still-session c.self.inside.net.now c.self.inside.params (piece_of c.self.inside.piece) (piece_of c.extend.new.piece) c.args.layer c.in-Some.cells c.extend.result on c.extend.ensures.ok c.extend.ensures.err
 
 pub returns-in-Some-clause-fed : goal.returns-in-Some-clause-fed
 returns-in-Some-clause-fed g c =
     let s = session_of c.self.inside.net.now c.self.inside.params c.self.inside.piece in
     let tells : TellsCells s c.args.layer (Some c.in-Some.cells) = subst (λ o. TellsCells s c.args.layer o) c.in-Some.is c.in_ok-next.ensures.next in
-    let on = goes-on s c.args.self.now c.args.layer c.in-Some.cells c.self.view_is c.known.ensures c.self.invariant c.requires.layer.1 c.requires.layer.0 tells in
+    let on = goes-on s c.args.self.now c.args.layer c.in-Some.cells c.self.view_is c.invariants.ensures c.self.invariant c.requires.layer.1 c.requires.layer.0 tells in
     subst (λ x. IfOk c.extend.result (IsFed x c.args.layer (session_of c.self.inside.net.now c.self.inside.params c.extend.new.piece))) c.self.view_is
     (fed-grown c.self.inside.net.now c.self.inside.params (piece_of c.self.inside.piece) (piece_of c.extend.new.piece) c.args.layer c.in-Some.cells c.extend.result on c.extend.ensures.ok)
 

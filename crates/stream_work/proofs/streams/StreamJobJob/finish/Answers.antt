@@ -18,4 +18,4 @@ pub returns : goal.returns
 returns c taken has =
     subst (λ t. OnOk c.append_line.result (c.append_line.new.into ≡ t))
     (ending-is c.args.self.now.matcher.now c.args.self.now.sessions c.args.self.now.rows c.close_all.new.rows c.args.self.now.tally taken c.count-ids.result c.in_ok-pieces.pieces c.from.result c.args.into.now c.close_all.new.into
-    has (c.in_ok-pieces.ensures.ends _ has.stands) (c.close_all.ensures.asks _ has.stands) c.known.ensures (c.from.ensures ∙ c.count.ensures) (c.count-ids.ensures _ has.stands)) c.append_line.ensures
+    has (c.in_ok-pieces.ensures.ends _ has.stands) (c.close_all.ensures.asks _ has.stands) c.invariants.ensures (c.from.ensures ∙ c.count.ensures) (c.count-ids.ensures _ has.stands)) c.append_line.ensures

@@ -14,7 +14,7 @@ end_session-requires-clause-rows g c =
 
 pub end_session-requires-clause-can : goal.end_session-requires-clause-can
 end_session-requires-clause-can g c =
-    ended-can _ c.self.inside.net.now _ _ _ _ _ _ _ _ _ _ (ap (λ s. s.network) c.self.view_is) c.known.ensures.accepted c.requires.can c.in-Some.ensures.steps c.loop-id.invariant
+    ended-can _ c.self.inside.net.now _ _ _ _ _ _ _ _ _ _ (ap (λ s. s.network) c.self.view_is) c.invariants.ensures.accepted c.requires.can c.in-Some.ensures.steps c.loop-id.invariant
 
 pub returns-in_err-count-clause-asks : goal.returns-in_err-count-clause-asks
 returns-in_err-count-clause-asks g c = ended-err _ _ _ _ _ _ _ _ _ _ _ c.in-Some.ensures.steps c.loop-id.invariant c.end_session.ensures.asks
@@ -27,7 +27,7 @@ returns-in_err-count-clause-ends g c pairs keeps =
 pub overflow_add-pieces : goal.overflow_add-pieces
 overflow_add-pieces g c =
     let next = ended-next _ c.self.inside.net.now _ _ _ _ _ _ _ _ _ _ _ c.in_ok-count.count (ap (λ s. s.network) c.self.view_is) c.in-Some.ensures.steps c.loop-id.invariant c.in_ok-count.ensures.ends c.end_session.ensures.asks in
-    let few = ended-few _ _ _ _ _ _ _ _ c.known.ensures.accepted c.requires.can next in
+    let few = ended-few _ _ _ _ _ _ _ _ c.invariants.ensures.accepted c.requires.can next in
     omega (arith, few)
 
 pub loop-id-preserved : goal.loop-id-preserved

@@ -28,7 +28,7 @@ returns-in_err-count-clause-asks g c =
 pub overflow_add-pieces : goal.overflow_add-pieces
 overflow_add-pieces g c =
     let next = streamed-next _ _ _ _ _ _ _ _ _ _ _ _ _ _ _ _ _ c.as_slice-fix-items.ensures c.loop-fix-test.true c.requires.can c.loop-fix.invariant c.stream_point.ensures.streams c.stream_point.ensures.asks c.in_ok-count.was in
-    let few = streamed-few _ _ _ _ _ _ _ _ _ _ c.as_slice-fix-items.ensures c.loop-fix-test.true c.known.ensures.accepted c.requires.trace c.requires.can next in
+    let few = streamed-few _ _ _ _ _ _ _ _ _ _ c.as_slice-fix-items.ensures c.loop-fix-test.true c.invariants.ensures.accepted c.requires.trace c.requires.can next in
     omega (arith, few)
 
 pub loop-fix-preserved : goal.loop-fix-preserved

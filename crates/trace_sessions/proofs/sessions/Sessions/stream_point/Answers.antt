@@ -19,7 +19,7 @@ write_point-requires g c =
     let s = c.args.self.now in
     let can = c.requires.can in
     let fed = c.in_ok-items.ensures.fed in
-    let lies = items-lie s.network s.params can.pairs c.args.id c.args.fix c.in_ok-items.items c.known.ensures.lawful c.known.ensures.accepted can.lawful c.requires.place
+    let lies = items-lie s.network s.params can.pairs c.args.id c.args.fix c.in_ok-items.items c.invariants.ensures.lawful c.invariants.ensures.accepted can.lawful c.requires.place
     (fed.room can.pairs can.keeps) (fed.handed-on can.pairs can.keeps) in
     subst (λ m. AreItemsOf m c.as_slice.result.now) (sym fed.network) (subst (AreItemsOf s.network) (sym c.as_slice.ensures) lies)
 

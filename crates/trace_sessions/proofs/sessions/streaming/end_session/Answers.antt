@@ -19,7 +19,7 @@ write_rest-requires g c =
     let can = c.requires.can in
     let rest = rest-of c.args.by.now.net.now c.args.session c.finish.new.self can.fixes c.in_ok-items.items can.is c.in_ok-items.ensures.finished in
     subst (AreItemsOf c.args.by.now.net.now) (sym c.as_slice.ensures)
-    (rest-lies c.args.by.now.net.now c.args.session.params c.args.id can.fixes c.in_ok-items.items c.known.ensures can.accepted can.lawful rest)
+    (rest-lies c.args.by.now.net.now c.args.session.params c.args.id can.fixes c.in_ok-items.items c.invariants.ensures can.accepted can.lawful rest)
 
 pub returns-clause-ends : goal.returns-clause-ends
 returns-clause-ends g c fixes is =

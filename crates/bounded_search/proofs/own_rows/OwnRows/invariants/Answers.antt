@@ -2,7 +2,7 @@ use Rattle.std.proofs.Common.{◌<◌, length, subst, arith}
 use Rattle.bounded_search.specs.Known.{IsKnownList}
 use Rattle.bounded_search.specs.Rows.{RowsState}
 use Rattle.bounded_search.proofs.KnownNodes.{known_inside, known_rises}
-use Rattle.bounded_search.proofs.own_rows.OwnRows.known.Goals as goal
+use Rattle.bounded_search.proofs.own_rows.OwnRows.invariants.Goals as goal
 
 pub returns : goal.returns
 returns c =
