@@ -10,6 +10,8 @@ mod drawn_numbers;
 #[cfg(test)]
 mod geometry;
 #[cfg(test)]
+mod limits;
+#[cfg(test)]
 mod match_texts;
 #[cfg(test)]
 mod networks;

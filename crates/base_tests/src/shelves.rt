@@ -8,7 +8,7 @@ use std::io::{BufWriter, ErrorKind, Read};
 use std::test::Fail;
 use std::{fs, io};
 
-fn list<T: Copy>(alloc: Global, items: &[T]) -> Result<List<T>, AllocError> {
+pub fn list<T: Copy>(alloc: Global, items: &[T]) -> Result<List<T>, AllocError> {
     let mut list = List::new(alloc);
     list.extend_from_slice(items)?;
     Ok(list)
