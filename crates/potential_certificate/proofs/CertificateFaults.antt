@@ -12,7 +12,8 @@ use Rattle.match_text.proofs.Fields.{after_again, after_takes}
 use Rattle.row_text.specs.LineFaults.{IsCutOf, IsFirstBadLineOf}
 use Rattle.row_text.specs.RowLine.{row_line}
 use Rattle.row_text.proofs.LineEnds.{rows_joined}
-use Rattle.row_text.proofs.LineFaults.{Means, Steps, fails_at, fault_means, is_bad_line, is_cut, same_lines, step}
+use Rattle.row_text.proofs.LineFaults.{Steps, fails_at, same_lines, step}
+use Rattle.row_text.proofs.FaultMeanings.{Means, fault_means, is_bad_line, is_cut}
 use Rattle.potential_certificate.specs.CertificateText.{certificate_lines, certificate_text, first_line, last_line, point_lines, proof_lines, proof_text, text_limit}
 use Rattle.potential_certificate.specs.Faults.{BadLinesAreFirst, CutsLackTheirEnd, IsCertificate, OptionsFit}
 use Rattle.potential_certificate.specs.Reading.{ProofsRead, all_rows_at, behind_first, certificate_of, ended, fault_at, proofs_and_rows, proofs_at}
@@ -22,7 +23,8 @@ use Rattle.potential_certificate.specs.declared.proof.Certificate.{Certificate}
 use Rattle.potential_certificate.specs.declared.proof.TraceProof.{TraceProof}
 use Rattle.potential_certificate.proofs.Certificates.{certificates_have_one_text, certificates_read_back, proofs_take}
 use Rattle.potential_certificate.proofs.EndsOfLines.{first_has_one_end}
-use Rattle.potential_certificate.proofs.ProofFaults.{IsBehind, ItemsFrom, proofs_fault}
+use Rattle.potential_certificate.proofs.ProofFaults.{ItemsFrom}
+use Rattle.potential_certificate.proofs.TraceFaults.{IsBehind, proofs_fault}
 use Rattle.potential_certificate.proofs.RowFaults.{EndsIn, FaultIs, IsCounted, counted_behind, fault_here, rows_fault, same_fault}
 
 abbrev Read : Type 0

@@ -2,8 +2,10 @@ pub mod WrittenLines
 pub mod WordsOfLine
 pub mod CellWords
 pub mod ProofLines
+pub mod NextLines
 pub mod RowsRead
 pub mod ProofsRead
+pub mod ProofLists
 pub mod ProofTexts
 pub mod Certificates
 pub mod Gatherings
@@ -11,4 +13,5 @@ pub mod Drawings
 pub mod EndsOfLines
 pub mod RowFaults
 pub mod ProofFaults
+pub mod TraceFaults
 pub mod CertificateFaults

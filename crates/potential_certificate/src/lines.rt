@@ -1,7 +1,6 @@
 //! The first and the last line of a certificate. Serves the writer and the reader; decided by
 //! `first_line` and `last_line`.
-ghost use Rattle.std.specs.Prelude.{◌≡◌, ◌≤◌, ◌++◌, OnOk, length};
-ghost use Rattle.decimal_text.specs.Number.{decimal};
+ghost use Rattle.std.specs.Prelude.{◌≡◌, ◌++◌, OnOk};
 ghost use Rattle.potential_certificate.specs.CertificateText.{back_words, first_line, form, gap_words, last_line, option_words};
 ghost use Rattle.potential_certificate.specs.Words.{words_text};
 
@@ -15,7 +14,7 @@ pub fn append_first(p: &Params, into: &mut List<u8>) -> Result<(), AllocError>
     ensures { OnOk result (into.new ≡ into.old ++ first_line p.now) }
 {
     into.extend_from_slice(b"fmm-certificate")?;
-    append_number(b" ", form(p), into)?;
+    write_worded(b" ", u64::from(form(p)), into)?;
     append_options(p, into)?;
     append_back(p, into)?;
     append_gap(p, into)?;
@@ -39,11 +38,11 @@ fn form(p: &Params) -> u32
 fn append_options(p: &Params, into: &mut List<u8>) -> Result<(), AllocError>
     ensures { OnOk result (into.new ≡ into.old ++ words_text (option_words p.now)) }
 {
-    append_number(b" k ", p.k, into)?;
-    append_number(b" radius ", p.radius, into)?;
-    append_number(b" sigma ", p.sigma, into)?;
-    append_number(b" beta ", p.beta, into)?;
-    append_number(b" bound ", p.bound, into)
+    write_worded(b" k ", u64::from(p.k), into)?;
+    write_worded(b" radius ", u64::from(p.radius), into)?;
+    write_worded(b" sigma ", u64::from(p.sigma), into)?;
+    write_worded(b" beta ", u64::from(p.beta), into)?;
+    write_worded(b" bound ", u64::from(p.bound), into)
 }
 
 fn append_back(p: &Params, into: &mut List<u8>) -> Result<(), AllocError>
@@ -52,24 +51,16 @@ fn append_back(p: &Params, into: &mut List<u8>) -> Result<(), AllocError>
     if form(p) == 1 {
         return Ok(());
     }
-    append_number(b" back ", p.back, into)
+    write_worded(b" back ", u64::from(p.back), into)
 }
 
 fn append_gap(p: &Params, into: &mut List<u8>) -> Result<(), AllocError>
     ensures { OnOk result (into.new ≡ into.old ++ words_text (gap_words p.now)) }
 {
     if form(p) == 3 {
-        return append_number(b" gap ", p.gap, into);
+        return write_worded(b" gap ", u64::from(p.gap), into);
     }
     Ok(())
-}
-
-// Appends a word and a number after it.
-fn append_number(word: &[u8], number: u32, into: &mut List<u8>) -> Result<(), AllocError>
-    requires { length word.now ≤ 20 }
-    ensures { OnOk result (into.new ≡ into.old ++ (word.now ++ decimal number)) }
-{
-    write_worded(word, u64::from(number), into)
 }
 
 /// Appends the last line. On `Err`, a part of it may remain at the end.

@@ -2,6 +2,7 @@ pub mod FewDigits
 pub mod Entries
 pub mod LineEnds
 pub mod LineFaults
+pub mod FaultMeanings
 pub mod Kept
 pub mod Rules
 pub mod RowLines

@@ -2,4 +2,5 @@ pub mod Drafts
 pub mod FirstLines
 pub mod RowsOfText
 pub mod TableFaults
+pub mod TableFaultLaws
 pub mod Tables

@@ -1,5 +1,5 @@
 -- The faults of a table text mean what they say.
-use Rattle.std.proofs.Common.{◌≡◌, ◌≢◌, ℕ, zero, suc, ◌+◌, ◌^◌, ◌<◌, ◌≤◌, ◌⊎◌, inl, inr, Bool, true, false, cond, List, [], ◌∷◌, ◌++◌, length, map, Option, Some, None, Result, Ok, Err, refl, sym, ap, subst, ◌∙◌, arith, rules, length-append}
+use Rattle.std.proofs.Common.{◌≡◌, ◌≢◌, ℕ, zero, suc, ◌+◌, ◌^◌, ◌<◌, ◌≤◌, Bool, true, false, cond, List, [], ◌∷◌, ◌++◌, length, map, Option, Some, None, Result, Ok, Err, refl, sym, ap, subst, ◌∙◌, arith, rules, length-append}
 use Rattle.std.specs.Prelude.{codes, nat_le, nat_lt}
 use Rattle.std.specs.List.{concat, list_all}
 use Rattle.std.proofs.lemmas.List.{append-nil}
@@ -8,20 +8,20 @@ use Rattle.bounded_search.specs.Table.{TableRow}
 use Rattle.decimal_text.specs.Number.{decimal}
 use Rattle.match_text.specs.Reading.{after_bytes}
 use Rattle.match_text.proofs.Fields.{after_again, after_takes}
-use Rattle.row_text.specs.LineFaults.{IsCutOf, IsFirstBadLineOf}
 use Rattle.row_text.specs.RowLine.{row_line}
 use Rattle.row_text.proofs.LineEnds.{line_has_one_end, number_has_no_end, row_has_one_end, rows_joined}
-use Rattle.row_text.proofs.LineFaults.{HasOneEnd, IsFaultOf, Means, Steps, fails_at, fault_means, is_bad_line, is_cut, past_at, same_lines, step}
-use Rattle.table_file.specs.Faults.{BadLinesAreFirst, CutsLackTheirEnd, IsTable}
+use Rattle.row_text.proofs.LineFaults.{HasOneEnd, IsFaultOf, Steps, fails_at, past_at, same_lines, step}
+use Rattle.row_text.proofs.FaultMeanings.{Means, fault_means}
+use Rattle.table_file.specs.Faults.{IsTable}
 use Rattle.table_file.specs.Laws.{AreRowsFrom, IsTableRow}
-use Rattle.table_file.specs.Reading.{Answers, ReadsTable, behind_first, is_entry_below, row_allowed_at, rows_at, rows_behind, rows_to_end, table_of, with_first}
+use Rattle.table_file.specs.Reading.{behind_first, is_entry_below, row_allowed_at, rows_at, rows_behind, rows_to_end, table_of, with_first}
 use Rattle.table_file.specs.TableText.{end_line, first_line, row_lines, table_lines, table_text, text_limit}
 use Rattle.table_file.specs.declared.fault.TableFault.{TableFault}
-use Rattle.table_file.specs.declared.fault.TableFault.TheVariants.{BadLine, Cut, Memory, TooLong}
+use Rattle.table_file.specs.declared.fault.TableFault.TheVariants.{BadLine, Cut, TooLong}
 use Rattle.table_file.proofs.RowsOfText.{row_goes_down, row_takes}
 use Rattle.table_file.proofs.Tables.{both, counts_of, entries_met, row_again, tables_have_one_text, tables_read_back}
 
-abbrev Rows : Type 0
+abbrev pub Rows : Type 0
 Rows = Result (List TableRow) TableFault
 
 abbrev FaultIs : (number : ℕ) → (List (List ℕ) → Type 0) → List ℕ → TableFault → Type 0
@@ -178,7 +178,7 @@ first_found bound nodes edges text first others rest is begins =
       },
     )
 
-record Bounds (bound nodes edges : ℕ) : Type 0 where
+pub record Bounds (bound nodes edges : ℕ) : Type 0 where
   pub bound_fits : bound < 2 ^ 32
   pub nodes_fit : nodes < 2 ^ 32
   pub edges_fit : edges < 2 ^ 32
@@ -211,11 +211,11 @@ behind_first_fault bound nodes edges text fault fit (Some next) is e =
     step (λ n. BadLine n) Cut 1 fault steps (rows_fault nodes edges (length next + 1) 0 0 next fault (omega arith) e)
 
 -- a fault of a text within the limit means what it says
-record Meant (bound nodes edges : ℕ) (text : List ℕ) (fault : TableFault) : Type 0 where
+pub record Meant (bound nodes edges : ℕ) (text : List ℕ) (fault : TableFault) : Type 0 where
   pub short : length text ≤ text_limit
   pub means : Means (λ n. BadLine n) Cut (IsTable bound nodes edges) text fault
 
-meant : (bound nodes edges : ℕ) (text : List ℕ) (fault : TableFault) → Bounds bound nodes edges → table_of bound nodes edges text ≡ Err fault → (fault ≡ TooLong → ⊥) → Meant bound nodes edges text fault
+pub meant : (bound nodes edges : ℕ) (text : List ℕ) (fault : TableFault) → Bounds bound nodes edges → table_of bound nodes edges text ≡ Err fault → (fault ≡ TooLong → ⊥) → Meant bound nodes edges text fault
 meant bound nodes edges text fault fit e other = by_length (nat_lt text_limit (length text)) refl e
   where
     not_whole : length text ≤ text_limit → (lines : List (List ℕ)) → IsTable bound nodes edges lines → text ≢ concat lines
@@ -229,7 +229,7 @@ meant bound nodes edges text fault fit e other = by_length (nat_lt text_limit (l
         record { short = short; means = fault_means (λ n. BadLine n) Cut fault (not_whole short) (behind_first_fault bound nodes edges text fault fit (after_bytes (first_line bound nodes edges) text) refl h) }
 
 -- a text within the limit that is no table has a fault that means what it says
-no_table : (bound nodes edges : ℕ) (text : List ℕ) → Bounds bound nodes edges → length text ≤ text_limit → ((lines : List (List ℕ)) → IsTable bound nodes edges lines → text ≢ concat lines)
+pub no_table : (bound nodes edges : ℕ) (text : List ℕ) → Bounds bound nodes edges → length text ≤ text_limit → ((lines : List (List ℕ)) → IsTable bound nodes edges lines → text ≢ concat lines)
     → (fault : TableFault) × (table_of bound nodes edges text ≡ Err fault) × Means (λ n. BadLine n) Cut (IsTable bound nodes edges) text fault
 no_table bound nodes edges text fit short not_whole = by_read (behind_first (counts_of nodes edges) text (after_bytes (first_line bound nodes edges) text)) refl
   where
@@ -246,68 +246,3 @@ no_table bound nodes edges text fit short not_whole = by_read (behind_first (cou
         absurd (not_whole (table_lines bound nodes edges rows) (record { rows = rows; rows_are = is.rows_are; lines_are = refl }) (is.text_is ∙ sym (lines_are_text bound nodes edges rows)))
     by_read (Err fault) e =
         (fault, reads (Err fault) e, fault_means (λ n. BadLine n) Cut fault not_whole (behind_first_fault bound nodes edges text fault fit (after_bytes (first_line bound nodes edges) text) refl e))
-
--- ---- the laws
-
-pub bad_lines_are_first : BadLinesAreFirst
-bad_lines_are_first bound nodes edges text n b ns es = (to, back)
-  where
-    fit : Bounds bound nodes edges
-    fit = record { bound_fits = b; nodes_fit = ns; edges_fit = es }
-
-    by_kind : length text ≤ text_limit → ((k : ℕ) × (◌≡◌ {A = TableFault} (BadLine n) (BadLine k)) × IsFirstBadLineOf (IsTable bound nodes edges) k text) ⊎ ((◌≡◌ {A = TableFault} (BadLine n) Cut) × IsCutOf (IsTable bound nodes edges) text)
-        → (length text ≤ text_limit) × IsFirstBadLineOf (IsTable bound nodes edges) n text
-    by_kind short (inl (k, e, first)) = let same : k ≡ n = cc in (short, subst (λ (m : ℕ). IsFirstBadLineOf (IsTable bound nodes edges) m text) same first)
-    by_kind short (inr (e, cut)) = absurd cc
-
-    to : table_of bound nodes edges text ≡ Err (BadLine n) → (length text ≤ text_limit) × IsFirstBadLineOf (IsTable bound nodes edges) n text
-    to e = let m = meant bound nodes edges text (BadLine n) fit e (λ h. absurd cc) in by_kind m.short m.means.says
-
-    back : (length text ≤ text_limit) × IsFirstBadLineOf (IsTable bound nodes edges) n text → table_of bound nodes edges text ≡ Err (BadLine n)
-    back h =
-        let found = no_table bound nodes edges text fit h.0 h.1.not_whole in
-        found.1 ∙ ap (λ (f : TableFault). let r : Rows = Err f in r) (is_bad_line (λ k. BadLine k) Cut found.0 n found.2 h.1)
-
-pub cuts_lack_their_end : CutsLackTheirEnd
-cuts_lack_their_end bound nodes edges text b ns es = (to, back)
-  where
-    fit : Bounds bound nodes edges
-    fit = record { bound_fits = b; nodes_fit = ns; edges_fit = es }
-
-    by_kind : length text ≤ text_limit → ((k : ℕ) × (◌≡◌ {A = TableFault} Cut (BadLine k)) × IsFirstBadLineOf (IsTable bound nodes edges) k text) ⊎ ((◌≡◌ {A = TableFault} Cut Cut) × IsCutOf (IsTable bound nodes edges) text)
-        → (length text ≤ text_limit) × IsCutOf (IsTable bound nodes edges) text
-    by_kind short (inl (k, e, first)) = absurd cc
-    by_kind short (inr (e, cut)) = (short, cut)
-
-    to : table_of bound nodes edges text ≡ Err Cut → (length text ≤ text_limit) × IsCutOf (IsTable bound nodes edges) text
-    to e = let m = meant bound nodes edges text Cut fit e (λ h. absurd cc) in by_kind m.short m.means.says
-
-    back : (length text ≤ text_limit) × IsCutOf (IsTable bound nodes edges) text → table_of bound nodes edges text ≡ Err Cut
-    back h =
-        let not_whole : (lines : List (List ℕ)) → IsTable bound nodes edges lines → text ≢ concat lines =
-        λ lines is whole. h.1.missing (record { lines = lines; is = is; rest = []; begins = whole ∙ sym (append-nil (concat lines)) }) in
-        let found = no_table bound nodes edges text fit h.0 not_whole in
-        found.1 ∙ ap (λ (f : TableFault). let r : Rows = Err f in r) (is_cut (λ k. BadLine k) Cut found.0 found.2 h.1)
-
--- ---- as a call answers them
-
-answered : (is : Rows) (result : Rows) (fault : TableFault) → Answers is result → result ≡ Err fault → (fault ≡ Memory → ⊥) → is ≡ Err fault
-answered is (Ok rows) fault answers e other = absurd cc
-answered is (Err found) fault answers e other = by_kind answers
-  where
-    same : found ≡ fault
-    same = cc
-
-    by_kind : (found ≡ Memory) ⊎ (is ≡ Err found) → is ≡ Err fault
-    by_kind (inl memory) = absurd (other (sym same ∙ memory))
-    by_kind (inr read) = read ∙ ap (λ (f : TableFault). let r : Rows = Err f in r) same
-
-pub read_bad_line : (bound nodes edges : ℕ) (text : List ℕ) (result : Rows) (n : ℕ) → bound < 2 ^ 32 → nodes < 2 ^ 32 → edges < 2 ^ 32
-    → ReadsTable bound nodes edges text result → result ≡ Err (BadLine n) → IsFirstBadLineOf (IsTable bound nodes edges) n text
-read_bad_line bound nodes edges text result n b ns es answers e =
-    ((bad_lines_are_first bound nodes edges text n b ns es).0 (answered (table_of bound nodes edges text) result (BadLine n) answers e (λ h. absurd cc))).1
-
-pub read_cut : (bound nodes edges : ℕ) (text : List ℕ) (result : Rows) → bound < 2 ^ 32 → nodes < 2 ^ 32 → edges < 2 ^ 32
-    → ReadsTable bound nodes edges text result → result ≡ Err Cut → IsCutOf (IsTable bound nodes edges) text
-read_cut bound nodes edges text result b ns es answers e =
-    ((cuts_lack_their_end bound nodes edges text b ns es).0 (answered (table_of bound nodes edges text) result Cut answers e (λ h. absurd cc))).1

@@ -1,4 +1,4 @@
-use Rattle.potential_certificate.proofs.ProofLines.{next_end, next_layer, next_missing, next_piece, no_next}
+use Rattle.potential_certificate.proofs.NextLines.{next_end, next_layer, next_missing, next_piece, no_next}
 use Rattle.potential_certificate.proofs.proof_line.next_line.Goals as goal
 
 pub returns-in-Some : goal.returns-in-Some

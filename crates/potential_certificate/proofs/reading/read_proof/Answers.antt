@@ -1,6 +1,7 @@
 use Rattle.std.proofs.Common.{refl, rules, sym}
 use Rattle.potential_certificate.specs.declared.proof_line.ProofLine.TheVariants.{Missing, Layer, Piece}
-use Rattle.potential_certificate.proofs.ProofLines.{line_goes_down, line_takes}
+use Rattle.potential_certificate.proofs.ProofLines.{line_takes}
+use Rattle.potential_certificate.proofs.NextLines.{line_goes_down}
 use Rattle.potential_certificate.proofs.ProofsRead.{reads_on}
 use Rattle.potential_certificate.proofs.reading.read_proof.Goals as goal
 

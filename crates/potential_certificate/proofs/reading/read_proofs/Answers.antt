@@ -1,5 +1,5 @@
 use Rattle.std.proofs.Common.{sym}
-use Rattle.potential_certificate.proofs.ProofsRead.{proof_goes_down, proofs_go_on}
+use Rattle.potential_certificate.proofs.ProofLists.{proof_goes_down, proofs_go_on}
 use Rattle.potential_certificate.proofs.reading.read_proofs.Goals as goal
 
 pub loop-id-smaller : goal.loop-id-smaller

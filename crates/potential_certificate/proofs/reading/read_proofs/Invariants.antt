@@ -1,5 +1,5 @@
 use Rattle.std.proofs.Common.{length}
-use Rattle.potential_certificate.proofs.ProofsRead.{ProofsGoOn}
+use Rattle.potential_certificate.proofs.ProofLists.{ProofsGoOn}
 use Rattle.potential_certificate.proofs.reading.read_proofs.Given as goal
 
 -- the proofs so far and those of what is left are those of all

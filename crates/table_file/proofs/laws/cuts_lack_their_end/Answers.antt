@@ -1,4 +1,4 @@
-use Rattle.table_file.proofs.TableFaults as faults
+use Rattle.table_file.proofs.TableFaultLaws as faults
 use Rattle.table_file.proofs.laws.cuts_lack_their_end.Goals as goal
 
 pub returns : goal.returns

@@ -1,5 +1,5 @@
 use Rattle.std.proofs.Common.{rules}
-use Rattle.table_file.proofs.TableFaults.{read_bad_line, read_cut}
+use Rattle.table_file.proofs.TableFaultLaws.{read_bad_line, read_cut}
 use Rattle.table_file.proofs.reading.read_table.Goals as goal
 
 pub returns-clause-bad_line : goal.returns-clause-bad_line
