@@ -21,9 +21,33 @@ fn files(alloc: Global) -> Result<List<(List<u8>, List<u8>)>, AllocError> {
     Ok(files)
 }
 
+// What a read gave: the count of bytes, 0 at the end, or one of these.
+const FAILED: i64 = -1;
+
+const NO_MEMORY: i64 = -2;
+
 // Reads as a caller does that knows the trait alone.
-fn read<S: Shelf + Send>(shelf: &mut S, name: &str, at: u32, into: &mut Vec<u8>) -> Taken {
-    shelf.read(name, u64::from(at), into, 2)
+fn read<S: Shelf + Send>(shelf: &mut S, name: &str, at: u32, into: &mut Vec<u8>) -> i64 {
+    match shelf.read(name, u64::from(at), into, 2) {
+        Taken::Got(count) => i64::from(count),
+        Taken::End => 0,
+        Taken::Failed => FAILED,
+        Taken::NoMemory => NO_MEMORY,
+    }
+}
+
+// Whether these reads give this, one after another.
+fn gives<S: Shelf + Send>(
+    shelf: &mut S,
+    into: &mut Vec<u8>,
+    reads: &[(&'static str, u32, i64)],
+) -> bool {
+    for (name, at, given) in reads {
+        if read(shelf, name, *at, into) != *given {
+            return false;
+        }
+    }
+    true
 }
 
 fn put<K: Sink>(sink: &mut K, text: &[u8]) -> Put {
@@ -35,13 +59,16 @@ fn a_shelf_in_memory_brings_a_file_in_parts(rt: HostRuntime) -> Result<(), Fail>
     let alloc = rt.alloc();
     let mut shelf = MemoryShelf::new(alloc, files(alloc)?, list(alloc, &[5])?);
     let mut into = Vec::new(alloc);
-    assert!(rt; matches!(read(&mut shelf, "a", 0, &mut into), Taken::Got(2)));
-    assert!(rt; matches!(read(&mut shelf, "a", 2, &mut into), Taken::Got(1)));
-    assert!(rt; matches!(read(&mut shelf, "a", 3, &mut into), Taken::End));
-    assert!(rt; matches!(read(&mut shelf, "b", 0, &mut into), Taken::Failed));
-    assert!(rt; matches!(read(&mut shelf, "a", 0, &mut into), Taken::Failed));
-    assert!(rt; matches!(read(&mut shelf, "a", 1, &mut into), Taken::Got(2)));
-    assert_eq!(rt; into.as_slice(), b"xyzyz".as_slice());
+    let reads = [
+        ("a", 0, 2),
+        ("a", 2, 1),
+        ("a", 3, 0),
+        ("b", 0, FAILED),
+        ("a", 0, FAILED),
+        ("a", 1, 2),
+    ];
+    assert!(rt; gives(&mut shelf, &mut into, &reads));
+    assert!(rt; into.as_slice() == b"xyzyz".as_slice());
     Ok(())
 }
 
@@ -50,10 +77,9 @@ fn a_dripping_shelf_gives_no_more_than_its_most(rt: HostRuntime) -> Result<(), F
     let alloc = rt.alloc();
     let mut shelf = MemoryShelf::drip(alloc, files(alloc)?, List::new(alloc), 1);
     let mut into = Vec::new(alloc);
-    assert!(rt; matches!(read(&mut shelf, "a", 0, &mut into), Taken::Got(1)));
-    assert!(rt; matches!(read(&mut shelf, "a", 2, &mut into), Taken::Got(1)));
-    assert!(rt; matches!(read(&mut shelf, "a", 3, &mut into), Taken::End));
-    assert_eq!(rt; into.as_slice(), b"xz".as_slice());
+    let reads = [("a", 0, 1), ("a", 2, 1), ("a", 3, 0)];
+    assert!(rt; gives(&mut shelf, &mut into, &reads));
+    assert!(rt; into.as_slice() == b"xz".as_slice());
     Ok(())
 }
 
@@ -76,14 +102,17 @@ fn a_real_file_is_read_on_where_it_is_open(rt: HostRuntime) -> Result<(), Fail> 
     fs::write(&rt, "other", "uvw")?;
     let mut shelf = FileShelf::new(alloc, rt);
     let mut into = Vec::new(alloc);
-    assert!(rt; matches!(read(&mut shelf, "here", 0, &mut into), Taken::Got(2)));
+    assert!(rt; gives(&mut shelf, &mut into, &[("here", 0, 2)]));
     fs::rename(&rt, "other", "here")?;
-    assert!(rt; matches!(read(&mut shelf, "here", 2, &mut into), Taken::Got(1)));
-    assert!(rt; matches!(read(&mut shelf, "here", 3, &mut into), Taken::End));
-    assert!(rt; matches!(read(&mut shelf, "here", 1, &mut into), Taken::Got(2)));
-    assert!(rt; matches!(read(&mut shelf, "gone", 0, &mut into), Taken::Failed));
-    assert!(rt; matches!(read(&mut shelf, "gone", 3, &mut into), Taken::Failed));
-    assert_eq!(rt; into.as_slice(), b"xyzvw".as_slice());
+    let reads = [
+        ("here", 2, 1),
+        ("here", 3, 0),
+        ("here", 1, 2),
+        ("gone", 0, FAILED),
+        ("gone", 3, FAILED),
+    ];
+    assert!(rt; gives(&mut shelf, &mut into, &reads));
+    assert!(rt; into.as_slice() == b"xyzvw".as_slice());
     Ok(())
 }
 

@@ -62,39 +62,48 @@ fn byte_by_byte(rt: HostRuntime) -> Result<(), Fail> {
     Ok(())
 }
 
-#[test]
-fn id_that_returns(rt: HostRuntime) -> Result<(), Fail> {
-    let traces = read_halves(rt.alloc(), b"trace,x,y\n1,0,0\n2,0,0\n1,0,0\n", b"")?;
+fn has_traces_at_origin(traces: &[Trace], ids: &[u32]) -> bool {
     let origin = [Fix {
         x: 0,
         y: 0,
         time: 0,
     }];
-    assert_eq!(rt; traces.len(), 3);
-    assert!(rt; has_fixes(traces.as_slice(), 0, 1, origin.as_slice()));
-    assert!(rt; has_fixes(traces.as_slice(), 1, 2, origin.as_slice()));
-    assert!(rt; has_fixes(traces.as_slice(), 2, 1, origin.as_slice()));
+    for (place, id) in ids.iter().enumerate() {
+        if !has_fixes(traces, place, *id, origin.as_slice()) {
+            return false;
+        }
+    }
+    traces.len() == ids.len()
+}
+
+#[test]
+fn id_that_returns(rt: HostRuntime) -> Result<(), Fail> {
+    let traces = read_halves(rt.alloc(), b"trace,x,y\n1,0,0\n2,0,0\n1,0,0\n", b"")?;
+    assert!(rt; has_traces_at_origin(traces.as_slice(), &[1, 2, 1]));
     Ok(())
+}
+
+// Whether the reader refuses the text for this number, and has given so many traces.
+fn refuses_number(
+    reader: &mut TraceReader,
+    text: &[u8],
+    traces: &mut List<Trace>,
+    place: (u64, u32),
+    count: usize,
+) -> bool {
+    match reader.feed(text, traces) {
+        Err(TraceFault::BadNumber(line, field)) => (line, field) == place && traces.len() == count,
+        _ => false,
+    }
 }
 
 #[test]
 fn fault_for_good(rt: HostRuntime) -> Result<(), Fail> {
     let mut reader = TraceReader::open(rt.alloc());
     let mut traces = List::new(rt.alloc());
-    assert!(rt;
-        matches!(
-            reader.feed(FAULTY, &mut traces),
-            Err(TraceFault::BadNumber(5, 2))
-        )
-    );
-    assert_eq!(rt; traces.len(), 2);
-    assert!(rt;
-        matches!(
-            reader.feed(b"9,0,0\n", &mut traces),
-            Err(TraceFault::BadNumber(5, 2))
-        )
-    );
-    assert_eq!(rt; traces.len(), 2);
+    let first = refuses_number(&mut reader, FAULTY, &mut traces, (5, 2), 2);
+    let again = refuses_number(&mut reader, b"9,0,0\n", &mut traces, (5, 2), 2);
+    assert!(rt; first && again);
     Ok(())
 }
 
@@ -129,23 +138,15 @@ fn times(rt: HostRuntime) -> Result<(), Fail> {
     let text = b"trace,x,y,time\n7,1000,300,0\n7,9000,-300,60\n".as_slice();
     let traces = read_halves(rt.alloc(), text, b"")?;
     assert!(rt; is_spaced(&traces, [0, 60]));
-    let mut reader = TraceReader::open(rt.alloc());
-    let mut none = List::new(rt.alloc());
-    let empty = b"trace,x,y,time\n7,1000,300,\n".as_slice();
-    assert!(rt;
-        matches!(
-            reader.feed(empty, &mut none),
-            Err(TraceFault::BadNumber(2, 4))
-        )
-    );
-    let mut reader = TraceReader::open(rt.alloc());
-    let three = b"trace,x,y,time\n7,1000,300\n".as_slice();
-    assert!(rt;
-        matches!(
-            reader.feed(three, &mut none),
-            Err(TraceFault::FieldCount(2))
-        )
-    );
+    Ok(())
+}
+
+#[test]
+fn missing_times(rt: HostRuntime) -> Result<(), Fail> {
+    let empty = read_halves(rt.alloc(), b"trace,x,y,time\n7,1000,300,\n", b"");
+    assert!(rt; matches!(empty, Err(TraceFault::BadNumber(2, 4))));
+    let three = read_halves(rt.alloc(), b"trace,x,y,time\n7,1000,300\n", b"");
+    assert!(rt; matches!(three, Err(TraceFault::FieldCount(2))));
     Ok(())
 }
 
