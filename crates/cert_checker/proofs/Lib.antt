@@ -22,6 +22,7 @@ pub mod WholeVerdicts
 pub mod PieceTests
 pub mod EachPoint
 pub mod PointConditions
+pub mod PieceConditions
 pub mod BestRanks
 pub mod RunPoints
 pub mod MatchedCases
@@ -29,6 +30,7 @@ pub mod MatchHolds
 pub mod MatchProofs
 pub mod HeldRuns
 pub mod HeldMatch
+pub mod HeldPieces
 pub mod TheMatch
 pub mod RisingRows
 pub mod AskedNodes

@@ -24,7 +24,8 @@ use Rattle.cert_checker.specs.Pieces.{begins, goes_on, is_in_any}
 use Rattle.cert_checker.specs.Verdicts.{piece_of}
 use Rattle.cert_checker.proofs.ListTests.{IsThere}
 use Rattle.cert_checker.proofs.PieceTests.{IsIn, IsLater, begun, gone_on, in_any, no_piece, one_piece, piece_no}
-use Rattle.cert_checker.proofs.PointConditions.{AreCandidates, AreFirstCells, AreLeast, AtBreak, BreaksRight, HasRows, IsChosenFor, IsLookedAt, IsRankOf, PointHolds}
+use Rattle.cert_checker.proofs.PointConditions.{AreCandidates, AreFirstCells, AreLeast, AtBreak, BreaksRight, HasRows, IsLookedAt, IsRankOf, PointHolds}
+use Rattle.cert_checker.proofs.PieceConditions.{IsChosenFor}
 use Rattle.cert_checker.proofs.BestRanks.{LeadsBack, best_is, rank_before}
 use Rattle.cert_checker.proofs.RunPoints.{IsRunOf, ends_of, filled_of, first_of, later_of, layer_at, layer_from, layers_from, linked_of, looked_of, reached_of, table_at, tables_in, trellis_of, width_of}
 use Rattle.cert_checker.proofs.MatchedCases.{IsGroundOf, IsMatchOf, chosen_count, matched_piece, pieces_of, point_in, rank_below, rank_in, rises_from, run_of}

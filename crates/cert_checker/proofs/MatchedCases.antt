@@ -20,7 +20,7 @@ use Rattle.cert_checker.specs.Case.{Case, has_row, layer, rank, width}
 use Rattle.cert_checker.specs.Verdicts.{piece_of}
 use Rattle.cert_checker.proofs.PieceTests.{IsIn, RisesFrom, no_piece, piece_no}
 use Rattle.cert_checker.proofs.RunPoints.{IsRunOf, layers_from, tables_in, trellis_of}
-use Rattle.cert_checker.proofs.PointConditions.{HasItsRoute}
+use Rattle.cert_checker.proofs.PieceConditions.{HasItsRoute}
 
 -- the pieces without their routes
 abbrev pub pieces_of : List Routed → List Piece

@@ -1,28 +1,25 @@
 -- What the conditions say of a point.
-use Rattle.std.proofs.Common.{◌≡◌, ◌<◌, ◌≤◌, ℕ, ◌+◌, ◌-◌, ◌==◌, ◌&&◌, ◌^◌, Bool, true, false, cond, leb, ltb, List, length, map, Option, Some, None, MatchOption, refl, subst, arith, ⊎_elim}
+use Rattle.std.proofs.Common.{◌≡◌, ◌<◌, ◌≤◌, ℕ, ◌+◌, ◌-◌, ◌==◌, ◌&&◌, ◌^◌, Bool, true, false, cond, leb, ltb, length, Option, Some, None, MatchOption, refl, arith, ⊎_elim}
 use Rattle.std.specs.Prelude.{◌||◌, not}
 use Rattle.std.specs.Bool.{Decides}
-use Rattle.std.specs.Option.{is_some, option_eq}
+use Rattle.std.specs.Option.{is_some}
 use Rattle.std.specs.List.{list_all, list_any, range_with_len}
 use Rattle.std.proofs.lemmas.Bool.{and_from, and_parts, both_ways, cases_lt, eq-eqb, eqb-false, eqb-true, false_from_ne_true, false≢true, ne_eqb, not-true, not_from_false, true≢false}
 use Rattle.std.proofs.lemmas.Bool.Decides.{Decides-and, Decides-eqb, Decides-ltb, Decides-not}
-use Rattle.std.proofs.lemmas.Slice.Eq.{slice_eq-Decides}
 use Rattle.cost_model.specs.Costs.{emission}
-use Rattle.road_network.specs.Net.{edge_name}
-use Rattle.matching.specs.declared.parts.Cell.{Cell}
 use Rattle.matching.specs.Cells.{cell_at}
 use Rattle.matching.specs.Layers.{candidate_of_rank, end_of, trellis}
 use Rattle.matching.specs.Local.{IsLeastWay, IsTightCost}
 use Rattle.match_text.specs.declared.matched.Routed.{Routed}
-use Rattle.route_rebuild.specs.Routes.{route_of}
 use Rattle.cert_checker.specs.Case.{Case, has_row, has_way, is_looked_at, layer, rank, table, way, ways, width}
-use Rattle.cert_checker.specs.Cells.{is_first_cell, is_first_pointer, is_least_rank, is_relaxed, is_tight, pointer_of}
+use Rattle.cert_checker.specs.Cells.{is_first_cell, is_first_pointer, is_relaxed, is_tight}
 use Rattle.cert_checker.specs.Pieces.{begins, goes_on, is_in_any, rise_from}
-use Rattle.cert_checker.specs.Verdicts.{breaks_right, follows_pointers, has_breaks, has_candidates, has_first_costs, has_route, has_rows, holds, is_chosen, is_last, is_rank_of, each_ended, each_later, piece_of}
-use Rattle.cert_checker.proofs.ListTests.{IsThere, at_most, each_below_n, each_element, implied, itself, same_options, some_below_n, some_element, some_way, there}
-use Rattle.cert_checker.proofs.CellTests.{IsBound, IsLeastRank, first_cell, is_least, least_rank, pointer, relaxed, tight}
+use Rattle.cert_checker.specs.Verdicts.{breaks_right, has_breaks, has_candidates, has_first_costs, has_route, has_rows, holds, is_chosen, is_last, is_rank_of, each_later}
+use Rattle.cert_checker.proofs.ListTests.{IsThere, at_most, each_below_n, implied, itself, some_below_n, some_element, some_way, there}
+use Rattle.cert_checker.proofs.CellTests.{IsBound, first_cell, pointer, relaxed, tight}
 use Rattle.cert_checker.proofs.PieceTests.{RisesFrom, no_piece, piece_no, rises}
 use Rattle.cert_checker.proofs.EachPoint.{AllPass}
+use Rattle.cert_checker.proofs.PieceConditions.{IsChosenFor, chosen, HasItsRoute, routed, EachEnded, ended}
 
 -- ---- transitions
 
@@ -219,56 +216,6 @@ least_cells c i r t p on j j_in =
       };
       fits = λ a s a_in e. (bound a a_in s e).0;
     }
-
--- ---- the end of a piece
-
--- the chosen rank of the last point is the least rank of least cost, and the others are those of the pointers
-pub record IsChosenFor (c : Case) (q : Routed) : Type 0 where
-  pub chosen : ℕ
-  pub chosen-is : rank c q.last ≡ Some chosen
-  pub least : IsLeastRank (table c q.last) chosen q.cost
-  pub follows : (k : ℕ) → k < q.last - q.first → rank c (q.first + k) ≡ pointer_of (table c (q.first + k + 1)) (rank c (q.first + k + 1))
-
-follows_told : (c : Case) (q : Routed) → Decides (follows_pointers c q)
-    ((k : ℕ) → k < q.last - q.first → rank c (q.first + k) ≡ pointer_of (table c (q.first + k + 1)) (rank c (q.first + k + 1)))
-follows_told c q =
-    let next = λ (k : ℕ). pointer_of (table c (q.first + k + 1)) (rank c (q.first + k + 1)) in
-    each_below_n (λ k. rank c (q.first + k) ≡ next k) (λ k. option_eq (λ (a b : ℕ). a == b) (rank c (q.first + k)) (next k)) (q.last - q.first)
-    (λ k. same_options (rank c (q.first + k)) (next k))
-
--- a rank that is the least
-abbrev IsLeastSome : List Cell → Option ℕ → ℕ → Type 0
-IsLeastSome cells o c = (r : ℕ) × (o ≡ Some r) × IsLeastRank cells r c
-
-least_some : (cells : List Cell) (o : Option ℕ) (c : ℕ) → Decides (is_least_rank cells o c) (IsLeastSome cells o c)
-least_some cells None c = (λ e. absurd (false≢true e), λ h. absurd (let e = h.1 in cc))
-least_some cells (Some r) c =
-    (λ e. (r, refl, least_rank cells r c e), λ h. let e = h.1 in let same : h.0 ≡ r = cc in is_least cells r c (subst (λ v. IsLeastRank cells v c) same h.2))
-
-chosen : (c : Case) (q : Routed) → Decides (is_chosen c q) (IsChosenFor c q)
-chosen c q =
-    let d = Decides-and (is_least_rank (table c q.last) (rank c q.last) q.cost) (follows_pointers c q)
-    (least_some (table c q.last) (rank c q.last) q.cost) (follows_told c q) in (
-      λ e. let h = d.0 e in record { chosen = h.0.0; chosen-is = h.0.1; least = h.0.2; follows = h.1 },
-      λ h. d.1 ((h.chosen, h.chosen-is, h.least), h.follows),
-    )
-
--- the route is that of the piece
-abbrev pub HasItsRoute : Case → Routed → Type 0
-HasItsRoute c q = q.route ≡ map (edge_name c.net) (route_of c.net c.params c.layers c.proof.ranks (piece_of q))
-
-routed : (c : Case) (q : Routed) → Decides (has_route c q) (HasItsRoute c q)
-routed c q =
-    slice_eq-Decides (λ a b. Decides-eqb a b) q.route (map (edge_name c.net) (route_of c.net c.params c.layers c.proof.ranks (piece_of q))) (has_route c q) refl
-
--- a test of each piece that ends with point i
-abbrev pub EachEnded : (Routed → Type 0) → Case → ℕ → Type 0
-EachEnded P c i = (k : ℕ) → k < length c.proof.pieces → (piece_no c.proof.pieces k).last ≡ i → P (piece_no c.proof.pieces k)
-
-ended : (P : Routed → Type 0) (test : Routed → Bool) (c : Case) (i : ℕ) → ((q : Routed) → Decides (test q) (P q)) → Decides (each_ended test c i) (EachEnded P c i)
-ended P test c i each =
-    each_element (λ q. q.last ≡ i → P q) (λ q. not (q.last == i) || test q) no_piece c.proof.pieces
-    (λ q. implied (q.last == i) (test q) (Decides-eqb q.last i) (each q))
 
 -- ---- all of them
 
