@@ -33,25 +33,8 @@ impl Workspace {
         Ok(())
     }
 
-    /// Takes the labels of an area of 512 regions, if it is marked.
-    fn take_area(&mut self, area: usize) -> Result<(), AllocError>
-        requires area { area < length self.old.marks.areas.items }
-        requires sized { IsSized (length self.old.words.items) self.old }
-        ensures takes { OnOk result (Takes (area * 262_144) ((area + 1) * 262_144) self.old self.new) }
-        ensures sized { KeepsSizes self.old self.new }
-    {
-        let mark = self.marks.areas[area];
-        if mark == 0 {
-            return Ok(());
-        }
-        for region in area * 512..(area + 1) * 512 {
-            self.take_region(region)?;
-        }
-        self.marks.areas[area] = 0;
-        Ok(())
-    }
-
-    /// Removes the labels and returns them as entries, by ascending node number.
+    /// Removes the labels and returns them as entries, by ascending node number. An area of 512 regions is looked at
+    /// only if it is marked.
     pub(crate) fn take_entries(&mut self, alloc: Global) -> Result<Vec<Entry>, AllocError>
         requires sized { IsSized (length self.old.words.items) self.old }
         requires marked { AllMarked self.old.bound self.old.words.items self.old.marks }
@@ -60,9 +43,16 @@ impl Workspace {
         ensures clean { EndsClean result self.old self.new }
     {
         self.found.clear();
-        for area in 0..self.marks.areas.len() {
-            self.take_area(area)?;
+        let mut region = 0;
+        while region < self.marks.regions.len() {
+            if region % 512 == 0 && self.marks.areas[region / 512] == 0 {
+                region += 512;
+            } else {
+                self.take_region(region)?;
+                region += 1;
+            }
         }
+        self.marks.areas.fill(0);
         self.found.to_vec(alloc)
     }
 }

@@ -126,6 +126,7 @@ impl WaitingList {
     }
 
     /// Tries arcs from a distance in cm, and appends the nodes that become nearer.
+    #[inline(always)]
     pub fn try_arcs(
         &mut self,
         words: &mut [u64],

@@ -2,7 +2,7 @@
 //! `Takes` and `TakesPair`.
 ghost use Rattle.std.specs.Prelude.{◌≡◌, ◌+◌, ◌*◌, ◌≤◌, ◌<◌, ◌↔◌, IsTrue, length, OnOk};
 ghost use Rattle.std.specs.List.{All, remove};
-ghost use Rattle.candidate_search.specs.Best.{AreApart, ComesBefore, HasNeither, IsBehind, IsLimit, IsNewPair, IsNoLater, IsPlaceFor, IsPlaceOf, IsWanted, Puts, PutsPair, Takes, TakesPair};
+ghost use Rattle.candidate_search.specs.Best.{AreApart, ComesBefore, HasNeither, IsBehind, IsLimit, IsNewPair, IsNoLater, IsPlaceFor, IsPlaceOf, Puts, PutsPair, Takes, TakesPair};
 
 use crate::wanted::Search;
 use road_network::EdgeId;
@@ -123,23 +123,6 @@ fn move_up(
     put(found, k, near)
 }
 
-/// Takes one more segment that is wanted.
-fn take_wanted(found: &mut Vec<NearEdge>, k: usize, near: NearEdge) -> Result<(), AllocError>
-    requires few { length found.old.items ≤ k }
-    requires apart { AreApart found.old.items }
-    requires wanted { IsWanted k found.old.items near }
-    ensures { OnOk result (Takes k found.old.items found.new.items near) }
-{
-    let place = place_of_edge(found.as_slice(), near.edge);
-    if place == found.len() {
-        return put(found, k, near);
-    }
-    if found[place].is_no_later(near) {
-        return Ok(());
-    }
-    move_up(found, k, place, near)
-}
-
 /// Takes one more segment: the nearest segment of each edge is kept, and of the edges the first k.
 pub(crate) fn take_near(
     found: &mut Vec<NearEdge>,
@@ -153,7 +136,14 @@ pub(crate) fn take_near(
     if is_behind(found.as_slice(), search, near.edge, near.d2) {
         return Ok(());
     }
-    take_wanted(found, search.k, near)
+    let place = place_of_edge(found.as_slice(), near.edge);
+    if place == found.len() {
+        return put(found, search.k, near);
+    }
+    if found[place].is_no_later(near) {
+        return Ok(());
+    }
+    move_up(found, search.k, place, near)
 }
 
 /// Whether neither edge is among those found.

@@ -4,7 +4,7 @@ ghost use Rattle.std.specs.Prelude.{◌≡◌, ◌<◌, OnOk};
 ghost use Rattle.polyline_geometry.specs.Plane.{InRange};
 ghost use Rattle.road_network.specs.Net.{Net};
 ghost use Rattle.grid_index.specs.Runs.{IsBoxDistance, IsRun};
-ghost use Rattle.candidate_search.specs.Best.{AreBest, AreNearestIn, HasSeen, HasSeenCell, HasSeenRow, HasSeenRows, HasSeenWide, IsLimit, IsNearestOfTwin, Steps};
+ghost use Rattle.candidate_search.specs.Best.{AreBest, HasSeen, HasSeenCell, HasSeenRow, HasSeenRows, HasSeenWide, IsLimit, IsNearestOfTwin, Steps};
 
 use crate::best::{NearEdge, limit_for, take_near, take_pair};
 use crate::wanted::Search;
@@ -36,31 +36,6 @@ fn nearest_of_twin(net: &Network, run: Run, twin: EdgeId, near: NearSegments) ->
     }
 }
 
-/// Takes the nearest segments of a run, for its own edge and for the twin, if it has one.
-fn take_both(
-    net: &Network,
-    found: &mut Vec<NearEdge>,
-    search: Search,
-    run: Run,
-    near: NearSegments,
-) -> Result<(), AllocError>
-    requires near { AreNearestIn net.now search run near }
-    requires best { AreBest net.now search found.old.items }
-    ensures steps { OnOk result (Steps net.now search found.old.items found.new.items) }
-    ensures seen { OnOk result (HasSeen net.now search found.new.items run) }
-{
-    net.invariants();
-    let own = NearEdge {
-        edge: run.edge,
-        segment: near.first as u32,
-        d2: near.d2,
-    };
-    match run.twin() {
-        None => take_near(found, search, own),
-        Some(twin) => take_pair(found, search, own, nearest_of_twin(net, run, twin, near)),
-    }
-}
-
 /// Visits a run, given the distance to its box: its segments are measured if the box is near enough,
 /// for its own edge and for the twin.
 fn look_at_box(
@@ -82,9 +57,17 @@ fn look_at_box(
         return Ok(());
     }
     let (first, end) = (run.first as usize, run.end as usize);
-    match nearest_segments(net.line(run.edge), first, end, search.at, limit) {
-        None => Ok(()),
-        Some(near) => take_both(net, found, search, run, near),
+    let Some(near) = nearest_segments(net.line(run.edge), first, end, search.at, limit) else {
+        return Ok(());
+    };
+    let own = NearEdge {
+        edge: run.edge,
+        segment: near.first as u32,
+        d2: near.d2,
+    };
+    match run.twin() {
+        None => take_near(found, search, own),
+        Some(twin) => take_pair(found, search, own, nearest_of_twin(net, run, twin, near)),
     }
 }
 

@@ -13,10 +13,11 @@ use Rattle.grid_index.specs.declared.entries.Entries.{Entries}
 use Rattle.grid_index.specs.declared.runs.Run.{Run}
 use Rattle.grid_index.specs.Cells.{cell, slot}
 use Rattle.grid_index.specs.Runs.{IsRun}
-use Rattle.grid_index.specs.GridOf.{IsGrid, members_at}
+use Rattle.grid_index.specs.GridOf.{IsGrid}
 use Rattle.grid_index.specs.Entries.{HasAll}
 use Rattle.grid_index.specs.Starts.{AreStarts}
-use Rattle.grid_index.specs.Table.{HasSlots}
+use Rattle.grid_index.specs.Table.{HasSlots, members_at, rows_of}
+use Rattle.grid_index.proofs.Parts.{runs_are}
 use Rattle.grid_index.proofs.Slots.{slot_within}
 
 abbrev starts_at : List ℕ → ℕ → ℕ
@@ -66,7 +67,7 @@ all_at P starts members s h =
 pub table_of : (net : Net) (side width : ℕ) (s : Entries) (sorted : List Entry) (starts : List ℕ) (members : List Run)
     → 1 ≤ width → HasAll net side width (length net.edges) s → IsPermutation s.at_slots.items sorted
     → AreStarts sorted starts (width * width + 1) → members ≡ map (λ (x : Entry). x.run) sorted
-    → HasSlots width starts members × IsGrid (record { net = net; side = side; width = width; starts = starts; members = members; wide = s.wide.items })
+    → HasSlots width starts members × IsGrid (record { net = net; side = side; rows = rows_of width starts members; wide = s.wide.items })
 table_of net side width s sorted starts members some all same h is =
     let here : Point = record { x = pos 0; y = pos 0 } in
     let none : Entry = record { slot = 0; run = record { edge = record { 0 = 0 }; first = 0; end = 0; low = here; high = here; twin = record { 0 = 0 } } } in
@@ -93,14 +94,14 @@ table_of net side width s sorted starts members some all same h is =
       },
       record {
         wide_runs = all.runs.wide;
-        cell_runs = λ c r. all_at (IsRun net) starts members (slot width c r) runs;
+        cell_runs = λ c r. subst (All (IsRun net)) (sym (runs_are width starts members c r some)) (all_at (IsRun net) starts members (slot width c r) runs);
         complete = λ e i has lt.
             let at = all.entered e i has lt in
             record {
               run = at.run;
               is_run = at.is_run;
               segment = at.segment;
-              stands = ⊎_elim (λ l. inl l) (λ r. inr (λ q inside. in_members at.run (cell side q.x) (cell side q.y) (r q inside))) at.entered;
+              stands = ⊎_elim (λ l. inl l) (λ r. inr (λ q inside. let c = cell side q.x in let w = cell side q.y in subst (λ l. Contains l at.run) (sym (runs_are width starts members c w some)) (in_members at.run c w (r q inside)))) at.entered;
             };
       },
     )

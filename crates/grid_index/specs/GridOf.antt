@@ -1,5 +1,5 @@
 -- What a grid is to every contract: the runs at each cell, and those in the list of wide ones.
-use Rattle.std.specs.Prelude.{ℕ, ◌+◌, ◌<◌, ◌≤◌, ◌⊎◌, List, length, slice_index, slice_range}
+use Rattle.std.specs.Prelude.{ℕ, ◌+◌, ◌%◌, ◌<◌, ◌≤◌, ◌⊎◌, List, [], length, slice_index_or}
 use Rattle.std.specs.List.{All, Contains}
 use Rattle.polyline_geometry.specs.declared.plane.Point.{Point}
 use Rattle.polyline_geometry.specs.Boxes.{InBox, InSquare, LineMeetsSquare}
@@ -7,28 +7,24 @@ use Rattle.polyline_geometry.specs.Plane.{distance2, point_at}
 use Rattle.road_network.specs.declared.EdgeId.{EdgeId}
 use Rattle.road_network.specs.Net.{Net, HasEdge, edge_line}
 use Rattle.grid_index.specs.declared.runs.Run.{Run}
-use Rattle.grid_index.specs.Cells.{cell, slot}
+use Rattle.grid_index.specs.Cells.{cell}
 use Rattle.grid_index.specs.Runs.{HasRunFor, HasSegment, IsRun}
 
--- a grid of this network with cells of this side: a table of `width` by `width` slots, which
--- repeats over the plane, with the runs of all slots and where those of each begin, and the runs
--- that every look includes
+-- a grid of this network with cells of this side: the runs at rows of cells, which repeat over the
+-- plane, and the runs that every look includes
 pub record GridOf : Type 0 where
   pub net : Net
   pub side : ℕ
-  pub width : ℕ
-  pub starts : List ℕ
-  pub members : List Run
+  pub rows : List (List (List Run))
   pub wide : List Run
 
--- the runs at a slot
-abbrev pub members_at : List ℕ → List Run → ℕ → List Run
-members_at starts members s =
-    slice_range members (slice_index starts s) (slice_index starts (s + 1))
+-- the list at a place, where the lists repeat without end
+abbrev pub repeated_at : {A : Type 0} → List (List A) → ℕ → List A
+repeated_at lists place = slice_index_or lists (place % length lists) []
 
 -- the runs at the cell of a column and a row
 abbrev pub runs_at : GridOf → ℕ → ℕ → List Run
-runs_at g column row = members_at g.starts g.members (slot g.width column row)
+runs_at g column row = repeated_at (repeated_at g.rows row) column
 
 -- the run is among the wide ones, or stands at the cell of each place of its box
 abbrev pub Stands : GridOf → Run → Type 0

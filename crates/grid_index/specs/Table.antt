@@ -1,6 +1,6 @@
 -- The table of a grid: which runs stand at which slots.
-use Rattle.std.specs.Prelude.{ℕ, ◌≡◌, ◌+◌, ◌*◌, ◌<◌, ◌≤◌, List, length, slice_index, slice_index_or}
-use Rattle.std.specs.List.{All, Contains}
+use Rattle.std.specs.Prelude.{ℕ, ◌≡◌, ◌+◌, ◌*◌, ◌<◌, ◌≤◌, List, length, map, slice_index, slice_index_or, slice_range}
+use Rattle.std.specs.List.{All, Contains, range_with_len}
 use Rattle.polyline_geometry.specs.declared.plane.Point.{Point}
 use Rattle.road_network.specs.Net.{Net}
 use Rattle.grid_index.specs.declared.runs.Run.{Run}
@@ -15,14 +15,23 @@ pub record HasSlots (width : ℕ) (starts : List ℕ) (members : List Run) : Typ
   pub within : (s : ℕ) → s < width * width → slice_index starts (s + 1) ≤ length members
   pub corners : All HasCorners members
 
+-- the runs at a slot
+abbrev pub members_at : List ℕ → List Run → ℕ → List Run
+members_at starts members s =
+    slice_range members (slice_index starts s) (slice_index starts (s + 1))
+
+-- the rows of slots of a table of this width, each slot with its runs
+abbrev pub rows_of : ℕ → List ℕ → List Run → List (List (List Run))
+rows_of width starts members =
+    map (λ row. map (λ column. members_at starts members (row * width + column)) (range_with_len 0 width))
+    (range_with_len 0 width)
+
 -- the grid of a network that has the runs of a table
 abbrev pub grid_of : Net → Table → GridOf
 grid_of net t = record {
   net = net;
   side = t.layout.side;
-  width = t.layout.width;
-  starts = t.starts.items;
-  members = t.members.items;
+  rows = rows_of t.layout.width t.starts.items t.members.items;
   wide = t.wide.items;
 }
 

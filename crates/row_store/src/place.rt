@@ -72,30 +72,6 @@ impl<'s> Place<'s> {
         !matches!(self.seen, Seen::Nothing)
     }
 
-    /// Puts the node's row into an empty cell, and reads what it then contains.
-    ///
-    /// A row that this call put there is right; any other is checked.
-    fn put(
-        &mut self,
-        store: &'s RowStore<'s>,
-        searcher: &mut Searcher<'s>,
-        n: NodeId,
-        made: Box<Row>,
-    )
-        requires place { IsPlaceOf store.now n.0 searcher.old self.old }
-        requires none { self.old.note.known ≡ None }
-        requires right { IsRow store.now.network store.now.bound n.0 made.value }
-        ensures place { IsPlaceOf store.now n.0 searcher.new self.new }
-        ensures seen { IsSome self.new.note.known }
-    {
-        let cell = &store.cells[n.0 as usize];
-        let first = cell.set_as(made, &mut self.note).is_ok();
-        let Some(row) = cell.get_as(&mut self.note) else {
-            unreachable!()
-        };
-        self.seen = Seen::checked(row, first || searcher.check(n, row));
-    }
-
     /// Reads the cell. False if it is empty; then nothing is known.
     pub fn look(&mut self, store: &'s RowStore<'s>, searcher: &mut Searcher<'s>, n: NodeId) -> bool
         requires { IsPlaceOf store.now n.0 searcher.old self.old }
@@ -137,7 +113,8 @@ impl<'s> Place<'s> {
         Ok(())
     }
 
-    /// Offers the node's row, which is known to be right, to the cell, and reads what it then contains.
+    /// Offers the node's row, which is known to be right, to the cell, and reads what it then contains. A row that
+    /// this call put there is right; any other is checked.
     pub fn offer_right(
         &mut self,
         store: &'s RowStore<'s>,
@@ -154,8 +131,13 @@ impl<'s> Place<'s> {
         if self.is_known() {
             return Ok(());
         }
+        let cell = &store.cells[n.0 as usize];
         let made = Box::new(store.alloc, row)?;
-        self.put(store, searcher, n, made);
+        let first = cell.set_as(made, &mut self.note).is_ok();
+        let Some(held) = cell.get_as(&mut self.note) else {
+            unreachable!()
+        };
+        self.seen = Seen::checked(held, first || searcher.check(n, held));
         Ok(())
     }
 

@@ -1,7 +1,10 @@
-use Rattle.std.proofs.Common.{arith, subst, sym}
+use Rattle.std.proofs.Common.{arith, subst, sym, ◌∙◌}
+use Rattle.std.proofs.lemmas.Result.{on_ok_weaker}
 use Rattle.polyline_geometry.specs.Nearest.{AreFar, AreNearest}
-use Rattle.candidate_search.specs.Best.{AreApart, IsLimit}
-use Rattle.candidate_search.proofs.Visiting.{far_box, seen_far}
+use Rattle.candidate_search.specs.declared.best.NearEdge.{NearEdge}
+use Rattle.candidate_search.specs.Best.{AreApart, AreNearestIn, IsLimit}
+use Rattle.candidate_search.proofs.Twins.{no_twin, own_near, seen_both, taken_own, taken_twin, twin_near}
+use Rattle.candidate_search.proofs.Visiting.{far_box, pair_steps, seen_far, taken_steps}
 use Rattle.candidate_search.proofs.visit.look_at_box.Goals as goal
 
 pub limit_for-limit-requires-clause-apart : goal.limit_for-limit-requires-clause-apart
@@ -14,20 +17,83 @@ returns-then-d2-limit-clause-seen c =
     let is = subst (λ l. IsLimit search l limit) c.as_slice.ensures.value c.limit_for-limit.ensures in
     far_box c.args.net.now search c.args.found.now.items c.args.run limit c.args.d2 c.invariants.ensures c.requires.run is c.if-d2-limit.true c.requires.d2.least
 
-pub returns-in-None-clause-seen : goal.returns-in-None-clause-seen
-returns-in-None-clause-seen c =
+pub returns-in_default-clause-seen : goal.returns-in_default-clause-seen
+returns-in_default-clause-seen c =
     let r = c.args.run in
     let limit = c.limit_for-limit.result in
     let search = c.args.search in
     let is = subst (λ l. IsLimit search l limit) c.as_slice.ensures.value c.limit_for-limit.ensures in
-    let far = subst (λ l. AreFar l search.at limit r.first r.end) c.line.ensures c.in-None.ensures in
+    let far = subst (λ l. AreFar l search.at limit r.first r.end) c.line.ensures c.in_default.ensures in
     seen_far c.args.net.now search c.args.found.now.items r limit c.invariants.ensures c.requires.run is far
 
-pub take_both-requires-clause-near : goal.take_both-requires-clause-near
-take_both-requires-clause-near c =
+pub returns-in-None-clause-steps : goal.returns-in-None-clause-steps
+returns-in-None-clause-steps c =
+    let net = c.args.net.now in
+    let search = c.args.search in
     let r = c.args.run in
-    record {
+    let s = c.in-Some.near in
+    let nearest : AreNearestIn net search r s = record {
       run = c.requires.run;
-      nearest = subst (λ l. AreNearest l c.args.search.at r.first r.end c.in-Some.near) c.line.ensures c.in-Some.ensures.0;
+      nearest = subst (λ l. AreNearest l search.at r.first r.end s) c.line.ensures c.in-Some.ensures.0;
       close = omega (arith, c.in-Some.ensures.1, c.limit_for-limit.ensures.low);
     }
+    in
+    let own : NearEdge = record { edge = r.edge; segment = s.first; d2 = s.d2 } in
+    on_ok_weaker c.take_near.result
+    (λ takes. taken_steps net search c.args.found.now.items c.take_near.new.found.items own c.requires.best (own_near net search r s nearest) takes)
+    c.take_near.ensures
+
+pub returns-in-None-clause-seen : goal.returns-in-None-clause-seen
+returns-in-None-clause-seen c =
+    let net = c.args.net.now in
+    let search = c.args.search in
+    let r = c.args.run in
+    let s = c.in-Some.near in
+    let nearest : AreNearestIn net search r s = record {
+      run = c.requires.run;
+      nearest = subst (λ l. AreNearest l search.at r.first r.end s) c.line.ensures c.in-Some.ensures.0;
+      close = omega (arith, c.in-Some.ensures.1, c.limit_for-limit.ensures.low);
+    }
+    in
+    let new = c.take_near.new.found.items in
+    on_ok_weaker c.take_near.result
+    (λ takes. seen_both net search new r c.invariants.ensures c.requires.run (taken_own net search new r s nearest takes.taken) (no_twin net search new r (sym c.twin.ensures ∙ c.in-None.is)))
+    c.take_near.ensures
+
+pub returns-in-Some-twin-clause-steps : goal.returns-in-Some-twin-clause-steps
+returns-in-Some-twin-clause-steps c =
+    let net = c.args.net.now in
+    let search = c.args.search in
+    let r = c.args.run in
+    let s = c.in-Some.near in
+    let nearest : AreNearestIn net search r s = record {
+      run = c.requires.run;
+      nearest = subst (λ l. AreNearest l search.at r.first r.end s) c.line.ensures c.in-Some.ensures.0;
+      close = omega (arith, c.in-Some.ensures.1, c.limit_for-limit.ensures.low);
+    }
+    in
+    let own : NearEdge = record { edge = r.edge; segment = s.first; d2 = s.d2 } in
+    let twin : NearEdge = c.nearest_of_twin.result in
+    on_ok_weaker c.take_pair.result
+    (λ takes. pair_steps net search c.args.found.now.items c.take_pair.new.found.items own twin c.requires.best (own_near net search r s nearest)
+    (twin_near net search r c.in-Some-twin.twin s twin c.invariants.ensures nearest (sym c.twin.ensures ∙ c.in-Some-twin.is) c.nearest_of_twin.ensures) takes)
+    c.take_pair.ensures
+
+pub returns-in-Some-twin-clause-seen : goal.returns-in-Some-twin-clause-seen
+returns-in-Some-twin-clause-seen c =
+    let net = c.args.net.now in
+    let search = c.args.search in
+    let r = c.args.run in
+    let s = c.in-Some.near in
+    let nearest : AreNearestIn net search r s = record {
+      run = c.requires.run;
+      nearest = subst (λ l. AreNearest l search.at r.first r.end s) c.line.ensures c.in-Some.ensures.0;
+      close = omega (arith, c.in-Some.ensures.1, c.limit_for-limit.ensures.low);
+    }
+    in
+    let twin : NearEdge = c.nearest_of_twin.result in
+    let new = c.take_pair.new.found.items in
+    on_ok_weaker c.take_pair.result
+    (λ takes. seen_both net search new r c.invariants.ensures c.requires.run (taken_own net search new r s nearest takes.first_taken)
+    (taken_twin net search new r c.in-Some-twin.twin s twin nearest (sym c.twin.ensures ∙ c.in-Some-twin.is) c.nearest_of_twin.ensures takes.second_taken))
+    c.take_pair.ensures

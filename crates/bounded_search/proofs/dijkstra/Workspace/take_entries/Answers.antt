@@ -1,39 +1,60 @@
 use Rattle.std.proofs.lemmas.Result.{err_from_is_err_and}
-use Rattle.std.proofs.Common.{length, refl, arith, ◌∙◌}
-use Rattle.bounded_search.proofs.MarkedNodes.{keeps_both, none_taken, sized_here}
+use Rattle.std.proofs.lemmas.List.{get_or_read}
+use Rattle.std.proofs.Common.{◌≡◌, ◌+◌, ◌*◌, ◌/◌, ◌<◌, ℕ, length, refl, subst, arith, ◌∙◌}
+use Rattle.bounded_search.specs.Marked.{IsTaken}
+use Rattle.bounded_search.proofs.MarkedNodes.{area_skipped, keeps_both, none_taken, sized_here}
 use Rattle.bounded_search.proofs.dijkstra.Workspace.take_entries.Goals as goal
 
-pub loop-area-init : goal.loop-area-init
-loop-area-init c = record {
+pub loop-region-init : goal.loop-region-init
+loop-region-init c = record {
   sized = record { bound = refl; words_count = refl; marks = λ count sized. sized };
+  regions = refl;
   taken = none_taken _ c.clear.ensures c.requires.marked;
   queue = c.requires.none_waiting;
 }
 
-pub take_area-requires-clause-area : goal.take_area-requires-clause-area
-take_area-requires-clause-area c =
-    let old = c.requires.sized.marks in
-    let now = c.loop-area.invariant.sized.marks (length c.args.self.now.words.items) old in
-    omega (arith, c.loop-area-test.true, old.areas, now.areas)
+pub take_region-requires-clause-sized : goal.take_region-requires-clause-sized
+take_region-requires-clause-sized c = sized_here (length c.args.self.now.words.items) c.args.self.now c.loop-region.self c.requires.sized c.loop-region.invariant.sized
 
-pub take_area-requires-clause-sized : goal.take_area-requires-clause-sized
-take_area-requires-clause-sized c = sized_here (length c.args.self.now.words.items) c.args.self.now c.loop-area.self c.requires.sized c.loop-area.invariant.sized
-
-pub loop-area-preserved : goal.loop-area-preserved
-loop-area-preserved c =
-    let inv = c.loop-area.invariant in
-    let e = c.in_ok-take_area.ensures in
+pub loop-region-preserved-then-index-eq0 : goal.loop-region-preserved-then-index-eq0
+loop-region-preserved-then-index-eq0 c =
+    let inv = c.loop-region.invariant in
+    let w = c.loop-region.self in
+    let region : ℕ = c.loop-region.region in
+    let area : ℕ = region / 512 in
+    let now = inv.sized.marks (length c.args.self.now.words.items) c.requires.sized.marks in
+    let inside : area < length w.marks.areas.items = omega (arith, c.loop-region-test.true, c.len.ensures, now.regions) in
+    let at = get_or_read w.marks.areas.items area c.index.result.now inside c.index.ensures 0 in
+    let skipped = area_skipped area w (omega (arith, at, c.if-index-eq0.true)) in
+    let from : region * 512 ≡ area * 262_144 = omega (arith, c.if-region-eq0.true) in
+    let to : (area + 1) * 262_144 ≡ (region + 512) * 512 = omega (arith, c.if-region-eq0.true) in
+    let words = c.args.self.now.words.items in
     record {
-      sized = keeps_both c.args.self.now c.loop-area.self c.take_area.new.self inv.sized e.sized;
+      sized = inv.sized;
+      regions = inv.regions;
+      taken = subst (λ (k : ℕ). IsTaken words k w) to (skipped.taken words (subst (λ (k : ℕ). IsTaken words k w) from inv.taken));
+      queue = inv.queue;
+    }
+
+pub loop-region-preserved : goal.loop-region-preserved
+loop-region-preserved c =
+    let inv = c.loop-region.invariant in
+    let e = c.in_ok-take_region.ensures in
+    let sized = keeps_both c.args.self.now c.loop-region.self c.take_region.new.self inv.sized e.sized in
+    let old = c.requires.sized.marks in
+    let new = sized.marks (length c.args.self.now.words.items) old in
+    record {
+      sized = sized;
+      regions = omega (arith, old.areas, old.regions, new.areas, new.regions);
       taken = e.takes.taken c.args.self.now.words.items inv.taken;
       queue = e.takes.queue ∙ inv.queue;
     }
 
-pub returns-in_err-take_area-clause-entries : goal.returns-in_err-take_area-clause-entries
-returns-in_err-take_area-clause-entries c = let p = err_from_is_err_and c.from_residual.result c.from_residual.ensures.1 in rw p.1 tt
+pub returns-in_err-take_region-clause-entries : goal.returns-in_err-take_region-clause-entries
+returns-in_err-take_region-clause-entries c = let p = err_from_is_err_and c.from_residual.result c.from_residual.ensures.1 in rw p.1 tt
 
-pub returns-in_err-take_area-clause-clean : goal.returns-in_err-take_area-clause-clean
-returns-in_err-take_area-clause-clean c = record {
-  sized = keeps_both c.args.self.now c.loop-area.self c.take_area.new.self c.loop-area.invariant.sized c.in_err-take_area.ensures.sized;
+pub returns-in_err-take_region-clause-clean : goal.returns-in_err-take_region-clause-clean
+returns-in_err-take_region-clause-clean c = record {
+  sized = keeps_both c.args.self.now c.loop-region.self c.take_region.new.self c.loop-region.invariant.sized c.in_err-take_region.ensures.sized;
   clean = (let p = err_from_is_err_and c.from_residual.result c.from_residual.ensures.1 in rw p.1 tt);
 }

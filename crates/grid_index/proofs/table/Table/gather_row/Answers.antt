@@ -1,10 +1,11 @@
-use Rattle.std.proofs.Common.{◌+◌, [], All, subst, sym}
+use Rattle.std.proofs.Common.{◌+◌, ◌∙◌, [], All, subst, sym}
 use Rattle.road_network.specs.Net.{Net}
 use Rattle.grid_index.specs.Cells.{slot}
 use Rattle.grid_index.specs.Runs.{HasCorners}
 use Rattle.grid_index.specs.Table.{grid_of}
 use Rattle.grid_index.proofs.Gathering.{gathers_cell, gathers_more}
 use Rattle.grid_index.proofs.LaidOut.{all_at}
+use Rattle.grid_index.proofs.Parts.{runs_are}
 use Rattle.grid_index.proofs.table.Table.gather_row.Goals as goal
 
 abbrev nowhere : Net
@@ -13,7 +14,9 @@ nowhere = record { nodes = []; edges = [] }
 pub append_near-requires-clause-corners : goal.append_near-requires-clause-corners
 append_near-requires-clause-corners c =
     let t = c.args.self.now in
-    subst (All HasCorners) (sym (c.runs_at.ensures nowhere)) (all_at HasCorners t.starts.items t.members.items (slot t.layout.width c.loop-column.column c.args.row) c.requires.parts.corners)
+    let column = c.loop-column.column in
+    let is = c.runs_at.ensures nowhere ∙ runs_are t.layout.width t.starts.items t.members.items column c.args.row t.layout.width_some in
+    subst (All HasCorners) (sym is) (all_at HasCorners t.starts.items t.members.items (slot t.layout.width column c.args.row) c.requires.parts.corners)
 
 pub loop-column-preserved : goal.loop-column-preserved
 loop-column-preserved c = λ net.

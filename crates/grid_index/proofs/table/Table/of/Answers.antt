@@ -2,6 +2,7 @@ use Rattle.std.proofs.Common.{◌+◌, ◌*◌, subst, sym, refl}
 use Rattle.grid_index.specs.declared.entries.Entry.{Entry}
 use Rattle.grid_index.specs.GridOf.{IsGrid}
 use Rattle.grid_index.specs.Starts.{AreStarts}
+use Rattle.grid_index.specs.Table.{rows_of}
 use Rattle.grid_index.proofs.LaidOut.{table_of}
 use Rattle.std.specs.List.Sorted.{IsNonDecreasingBy}
 use Rattle.grid_index.proofs.table.Table.of.Goals as goal
@@ -18,7 +19,7 @@ returns-clause-table c =
     let is = table_of net l.side l.width c.in_ok-entries.entries sorted starts members l.width_some c.in_ok-entries.ensures c.sort_by_slot.ensures.same starts_are members_are in
     record {
       parts = is.0;
-      grid = subst (λ wide. IsGrid (record { net = net; side = l.side; width = l.width; starts = starts; members = members; wide = wide })) (sym c.sort_by_slot.ensures.wide) is.1;
+      grid = subst (λ wide. IsGrid (record { net = net; side = l.side; rows = rows_of l.width starts members; wide = wide })) (sym c.sort_by_slot.ensures.wide) is.1;
     }
 
 pub starts_of-requires : goal.starts_of-requires

@@ -1,6 +1,6 @@
-use Rattle.std.proofs.Common.{◌∙◌, ap, ap₂, take, drop, ◌-◌, length, arith}
-use Rattle.grid_index.specs.GridOf.{members_at}
-use Rattle.grid_index.proofs.Parts.{is_part}
+use Rattle.std.proofs.Common.{◌∙◌, sym, ap, ap₂, take, drop, ◌-◌, length, arith}
+use Rattle.grid_index.specs.Table.{members_at}
+use Rattle.grid_index.proofs.Parts.{is_part, runs_are}
 use Rattle.std.proofs.lemmas.List.{get_or_default}
 use Rattle.grid_index.proofs.table.Table.runs_at.Goals as goal
 
@@ -32,7 +32,8 @@ returns c = λ net.
     let part = is_part t.layout.width t.starts.items t.members.items c.slot-slot.result _ _ c.requires c.slot-slot.ensures.within c.index.ensures c.index-2.ensures in
     ap₂ (λ low high. take (high - low) (drop low c.deref.result.now)) part.low_is part.high_is
     ∙ (ap (λ members. members_at t.starts.items members c.slot-slot.result) c.deref.ensures.value
-    ∙ ap (members_at t.starts.items t.members.items) c.slot-slot.ensures.value)
+    ∙ ap (members_at t.starts.items t.members.items) c.slot-slot.ensures.value
+    ∙ sym (runs_are t.layout.width t.starts.items t.members.items c.args.column c.args.row t.layout.width_some))
 
 pub overflow_cast-slot : goal.overflow_cast-slot
 overflow_cast-slot c = omega (arith, c.slot-slot.type_inv)

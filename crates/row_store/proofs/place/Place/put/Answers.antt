@@ -1,7 +1,0 @@
-use Rattle.std.proofs.Common.{sym, subst}
-use Rattle.bounded_search.specs.Table.{BoundedTable}
-use Rattle.road_network.specs.Net.{HasNode}
-use Rattle.row_store.proofs.place.Place.put.Goals as goal
-
-pub check-requires : goal.check-requires
-check-requires c = subst (λ (t : BoundedTable). HasNode t.network c.args.n.0) (sym c.requires.place.searcher) c.requires.place.node
