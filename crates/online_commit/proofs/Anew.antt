@@ -1,151 +1,47 @@
 -- A session in which a point begins anew. In this file layers and tables stand in the order of the points.
-use Rattle.std.proofs.Common.{◌≡◌, ℕ, ◌+◌, ◌-◌, ◌^◌, ◌<◌, ◌≤◌, List, [], ◌∷◌, ◌++◌, None, refl, sym, ap, ◌∙◌, subst, arith, length, take, drop, reverse, get_or, ⊎_elim}
-use Rattle.std.specs.List.{All}
+use Rattle.std.proofs.Common.{◌≡◌, ℕ, ◌+◌, ◌-◌, ◌<◌, List, [], ◌∷◌, ◌++◌, None, refl, sym, ap, ◌∙◌, subst, arith, length, take, drop, reverse, get_or, ⊎_elim}
 use Rattle.std.proofs.lemmas.Bool.{cases_lt}
 use Rattle.std.proofs.lemmas.List.{drop-append-le, drop_all, get_or-append-add, get_or_append_left, length_push, take-append-le}
 use Rattle.std.proofs.Math.Seq.{drop-append_seam, get_or-append_seam}
 use Rattle.cost_model.specs.declared.params.Params.{Params}
-use Rattle.road_network.specs.Net.{Net, IsLawful}
+use Rattle.road_network.specs.Net.{Net}
 use Rattle.matching.specs.declared.parts.Cell.{Cell}
 use Rattle.matching.specs.declared.parts.Layer.{Layer}
 use Rattle.matching.specs.declared.parts.Piece.{Piece as PointPiece}
-use Rattle.matching.specs.Cells.{IsLive}
 use Rattle.matching.specs.Committed.{IsCommitted}
-use Rattle.matching.specs.Layers.{IsLayer, trellis}
+use Rattle.matching.specs.Layers.{trellis}
 use Rattle.matching.specs.Local.{AreFirst}
 use Rattle.matching.specs.Pieces.{IsPiece}
-use Rattle.matching.specs.PieceSteps.{PieceEndsBefore}
 use Rattle.matching.specs.Sequences.{IsBest}
 use Rattle.matching.specs.Value.{best_of}
 use Rattle.matching.proofs.CommittedValues.{front, front-is, whole}
-use Rattle.matching.proofs.Ends.{can_begin, ends_here}
 use Rattle.matching.proofs.Fronts.{front-none, front-unique}
 use Rattle.matching.proofs.Lists.{all-cons, length-map_some}
-use Rattle.matching.proofs.PieceSoFar.{IsGround, IsPieceSoFar, IsStepAt, so_far_ends, so_far_first}
+use Rattle.matching.proofs.PieceSoFar.{IsStepAt, so_far_ends}
 use Rattle.matching.proofs.Splits.{Splits, ranks_of, split_open}
 use Rattle.online_commit.specs.declared.items.Item.{Item}
 use Rattle.online_commit.specs.declared.items.Item.TheVariants.{Missing}
 use Rattle.online_commit.specs.Items.{closed_at, handed}
-use Rattle.online_commit.specs.Masks.{HasFewRanks}
-use Rattle.online_commit.specs.Pieces.{IsBegun, IsExtended, MayGrow, Piece, empty_piece, session_with}
-use Rattle.online_commit.specs.Session.{IsFed, IsFedLayer, Session, StandsFor, points_of}
-use Rattle.online_commit.specs.Steps.{IsClosing, IsSession, last_cells, last_layer}
+use Rattle.online_commit.specs.Pieces.{IsBegun, MayGrow, Piece, empty_piece, session_with}
+use Rattle.online_commit.specs.Session.{IsFed, IsFedLayer, StandsFor, points_of}
+use Rattle.online_commit.specs.Steps.{IsClosing, IsSession, KeptSession, last_cells, last_layer, seen}
 use Rattle.online_commit.proofs.Beginning.{ended, ended-handed, missing-items, new_items, opened, opened-handed}
 use Rattle.online_commit.proofs.ClosedSession.{closing-best, closing-items}
 use Rattle.online_commit.proofs.Ending.{IsOver, no-length, split_missing}
-use Rattle.online_commit.proofs.Extending.{IsFresh, fresh-committed, fresh-labels, last-ends, so_far-longer}
+use Rattle.online_commit.proofs.Fresh.{fresh-committed, fresh-labels}
+use Rattle.online_commit.proofs.Extending.{last-ends, so_far-longer}
 use Rattle.online_commit.proofs.Growing.{fed-stays}
 use Rattle.online_commit.proofs.Handed.{closed-later, labels_between, no_pieces}
 use Rattle.online_commit.proofs.Labels.{IsSplitAt, best-is, best-length, split-of, stands-by}
-use Rattle.online_commit.proofs.Passing.{IsTabled}
 use Rattle.online_commit.proofs.Ranks.{first-ranks}
-
--- one point with candidates is a piece so far
-
-pub one-piece : (n : Net) (p : Params) (l : Layer) → 0 < length l.candidates → IsPiece (trellis n p) (l ∷ []) 1
-one-piece n p l some =
-    ends_here (trellis n p) (l ∷ []) 1 (omega arith) (can_begin (trellis n p) (l ∷ []) l (record { below = omega arith; is = refl }) some) (λ lt can. omega (arith, lt))
-
--- a point begins a piece
-pub record BeginsPiece (n : Net) (p : Params) (i : ℕ) (l : Layer) (cells : List Cell) (new : Piece) (items : List Item) : Type 0 where
-  pub some : 0 < length l.candidates
-  pub first : AreFirst (trellis n p) l cells
-  pub grown : IsExtended (empty_piece i) l cells new items
-
-pub begun-fresh : (n : Net) (p : Params) (i : ℕ) (l : Layer) (cells : List Cell) (new : Piece) (items : List Item) → BeginsPiece n p i l cells new items → IsFresh (session_with n p new) [] l 0 items
-begun-fresh n p i l cells new items h =
-    let t = trellis n p in
-    let ext = h.grown in
-    let tabled : IsTabled t (l ∷ []) (cells ∷ []) = record { some = omega arith; count = refl; linked = h.first; piece = one-piece n p l h.some } in
-    let first-cell = h.first.each 0 h.some in
-    record {
-      layers = ext.layers;
-      told-is = ext.told;
-      tabled = subst (λ ys. IsTabled t ys new.tables) (sym ext.layers) (subst (λ ts. IsTabled t (l ∷ []) ts) (sym ext.tables) tabled);
-      masks = ext.masks;
-      settled = ext.settled;
-      rank = 0;
-      live = subst (λ ts. IsLive (get_or ts (length ts - 1) []) 0) (sym ext.tables) (t.emission l 0, ap (λ c. c.cost) first-cell);
-      front = front-none t;
-    }
-
--- what a session is made of that begins anew
-
--- a session takes a point with which its piece does not go on
-pub record BeginsAnew (s : Session) (l : Layer) : Type 0 where
-  pub lawful : IsLawful s.network
-  pub session : IsSession s
-  pub room : points_of s < 100_000
-  pub layer : IsFedLayer s.network s.params l
-  pub ends : 0 < length s.layers → PieceEndsBefore (trellis s.network s.params) (last_layer s) (last_cells s) l
-
-begun-session : (s : Session) (l : Layer) (cells : List Cell) (new : Piece) (items : List Item) → BeginsAnew s l → BeginsPiece s.network s.params (points_of s) l cells new items
-    → IsSession (session_with s.network s.params new)
-begun-session s l cells new items h b =
-    let n = s.network in
-    let p = s.params in
-    let is = h.session in
-    let ext = b.grown in
-    let room = h.room in
-    let fresh = begun-fresh n p (points_of s) l cells new items b in
-    let len : length new.layers ≡ 1 = ap length ext.layers in
-    let lent : length new.tables ≡ 1 = ap length ext.tables in
-    let first : new.first ≡ points_of s = ext.first in
-    let few = h.layer.few in
-    let ground : IsGround n p (l ∷ []) = record {
-      lawful = h.lawful;
-      trace = record {
-        options = is.options;
-        are = record {
-          few = omega arith;
-          each = all-cons (IsLayer n p) l [] h.layer.layer (λ k d lt. absurd (omega (arith, lt)));
-          narrow = all-cons (λ (x : Layer). length x.candidates ≤ 2 ^ 32) l [] (omega (arith, few)) (λ k d lt. absurd (omega (arith, lt)));
-        };
-      };
-    } in
-    let so_far = so_far_first n p (l ∷ []) l cells ground (record { below = omega arith; is = refl }) b.some b.first in
-    record {
-      options = is.options;
-      few = omega (arith, room, first, len);
-      layers = subst (All (IsFedLayer n p)) (sym ext.layers) (all-cons (IsFedLayer n p) l [] h.layer (λ k d lt. absurd (omega (arith, lt))));
-      ranks = subst (All HasFewRanks) (sym ext.tables) (all-cons HasFewRanks cells [] (first-ranks (trellis n p) l cells b.first h.layer.few) (λ k d lt. absurd (omega (arith, lt))));
-      tables-count = omega (arith, len, lent);
-      masks-count = ext.masks-count;
-      open-is = λ some. record {
-        so_far = subst (λ ys. IsPieceSoFar n p ys new.tables) (sym ext.layers) (subst (λ ts. IsPieceSoFar n p (l ∷ []) ts) (sym ext.tables) so_far);
-        masks = ext.masks;
-      };
-      front = fresh-committed (session_with n p new) [] l 0 items fresh;
-    }
-
-empty-session : (s : Session) (l : Layer) (new : Piece) → BeginsAnew s l → new ≡ empty_piece (points_of s + 1) → IsSession (session_with s.network s.params new)
-empty-session s l new h e =
-    let room = h.room in
-    subst (λ a. IsSession (session_with s.network s.params a)) (sym e)
-    (record {
-      options = h.session.options;
-      few = omega (arith, room);
-      layers = λ k d lt. absurd (omega (arith, lt));
-      ranks = λ k d lt. absurd (omega (arith, lt));
-      tables-count = refl;
-      masks-count = refl;
-      open-is = λ some. absurd (omega (arith, some));
-      front = front-none (trellis s.network s.params);
-    })
-
-pub anew-session : (s : Session) (l : Layer) (new : Piece) (items : List Item) → BeginsAnew s l → IsBegun s.params (points_of s) l new items → IsSession (session_with s.network s.params new)
-anew-session s l new items h b =
-    ⊎_elim
-    (λ some. let g = b.some some in begun-session s l g.0 new items h (record { some = some; first = g.1 s.network; grown = g.2 }))
-    (λ few. empty-session s l new h (b.none (omega (arith, few))).0)
-    (cases_lt 0 (length l.candidates))
+use Rattle.online_commit.proofs.AnewSession.{BeginsAnew, BeginsPiece, begun-fresh, one-piece}
 
 -- what it stands for, and what was handed out
 
 -- with a piece of one point
 new-some : (n : Net) (p : Params) (all : List Layer) (s : Splits (trellis n p) 0 all) (i j : ℕ) (l : Layer) (cells : List Cell) (new : Piece) (items : List Item) → BeginsPiece n p i l cells new items
     → s.closed ≡ i → drop s.closed all ≡ l ∷ [] → i + 1 ≡ length all
-    → StandsFor (session_with n p new) all × (new_items n p all s j 0 ≡ items)
+    → StandsFor (seen (session_with n p new)) all × (new_items n p all s j 0 ≡ items)
 new-some n p all s i j l cells new items b at rest count =
     let t = trellis n p in
     let ext = b.grown in
@@ -159,34 +55,34 @@ new-some n p all s i j l cells new items b at rest count =
     front-unique t (reverse (drop s.closed all)) (front t (drop s.closed all)) new.told (front-is t (drop s.closed all) s.last) (subst (λ ys. IsCommitted t (reverse ys) new.told) (sym same) committed)
     ∙ ext.told ∙ omega arith in
     let z : s.closed ≡ s.closed + 0 = omega arith in (
-      stands-by made all s first (sym same ∙ ap (λ k. drop k all) first) (omega (arith, first, at, len, count)) committed,
+      stands-by (seen made) all s first (sym same ∙ ap (λ k. drop k all) first) (omega (arith, first, at, len, count)) committed,
       ap (labels_between n p all s.closed) told ∙ ap (λ k. labels_between n p all k (length items)) z ∙ fresh-labels made all s [] l 0 items fresh first same,
     )
 
 -- with no piece
 new-none : (n : Net) (p : Params) (all : List Layer) (s : Splits (trellis n p) 0 all) (i : ℕ) → s.closed ≡ i + 1 → i + 1 ≡ length all → get_or s.ranks i None ≡ None → closed_at n p all s.ranks s.pieces i ≡ []
-    → StandsFor (session_with n p (empty_piece (i + 1))) all × (new_items n p all s i 1 ≡ Missing i ∷ [])
+    → StandsFor (seen (session_with n p (empty_piece (i + 1)))) all × (new_items n p all s i 1 ≡ Missing i ∷ [])
 new-none n p all s i at count rank closed =
     let rest : drop (i + 1) all ≡ [] = drop_all (i + 1) all (omega (arith, count)) in (
-      stands-by (session_with n p (empty_piece (i + 1))) all s at (sym rest) (omega (arith, count)) (front-none (trellis n p)),
+      stands-by (seen (session_with n p (empty_piece (i + 1)))) all s at (sym rest) (omega (arith, count)) (front-none (trellis n p)),
       missing-items n p all s i rank closed (ap (λ k. drop k all) at ∙ rest),
     )
 
 -- the four ways
 
-abbrev Hands : Session → Layer → Piece → List Item → List Layer → Type 0
+abbrev Hands : KeptSession → Layer → Piece → List Item → List Layer → Type 0
 Hands s l new items fed =
-    StandsFor (session_with s.network s.params new) (fed ++ l ∷ []) × (handed s.network s.params (fed ++ l ∷ []) ≡ handed s.network s.params fed ++ items)
+    StandsFor (seen (session_with s.network s.params new)) (fed ++ l ∷ []) × (handed s.network s.params (fed ++ l ∷ []) ≡ handed s.network s.params fed ++ items)
 
 -- no piece was open
-anew-open-some : (s : Session) (l : Layer) (cells : List Cell) (new : Piece) (items : List Item) (fed : List Layer) → length s.layers ≡ 0 → StandsFor s fed
-    → BeginsPiece s.network s.params (points_of s) l cells new items → Hands s l new items fed
+anew-open-some : (s : KeptSession) (l : Layer) (cells : List Cell) (new : Piece) (items : List Item) (fed : List Layer) → length s.layers ≡ 0 → StandsFor (seen s) fed
+    → BeginsPiece s.network s.params (points_of (seen s)) l cells new items → Hands s l new items fed
 anew-open-some s l cells new items fed none st b =
     let n = s.network in
     let p = s.params in
     let t = trellis n p in
     let split = whole t fed in
-    let at = split-of s fed split st in
+    let at = split-of (seen s) fed split st in
     let xs = drop split.closed fed in
     let empty : length xs ≡ 0 = ap length at.layers ∙ none in
     let one : xs ++ l ∷ [] ≡ l ∷ [] = ap (λ ys. ys ++ l ∷ []) (no-length xs empty) in
@@ -194,19 +90,19 @@ anew-open-some s l cells new items fed none st b =
     let all = opened n p fed l split next in
     let first = at.first in
     let count = at.count in
-    let z : split.closed + 0 ≡ points_of s = omega (arith, first, none) in
+    let z : split.closed + 0 ≡ points_of (seen s) = omega (arith, first, none) in
     let rest : drop (split.closed + 0) (fed ++ l ∷ []) ≡ l ∷ [] =
     (let e : split.closed + 0 ≡ split.closed = omega arith in ap (λ k. drop k (fed ++ l ∷ [])) e ∙ drop-append-le split.closed fed (l ∷ []) split.within ∙ one) in
-    let made = new-some n p (fed ++ l ∷ []) all (points_of s) split.closed l cells new items b z rest (omega (arith, z, count, empty, length_push fed l)) in
+    let made = new-some n p (fed ++ l ∷ []) all (points_of (seen s)) split.closed l cells new items b z rest (omega (arith, z, count, empty, length_push fed l)) in
     (made.0, opened-handed n p fed l split next empty refl ∙ ap (λ ys. handed n p fed ++ ys) made.1)
 
-anew-open-none : (s : Session) (l : Layer) (fed : List Layer) → length s.layers ≡ 0 → StandsFor s fed → length l.candidates ≡ 0 → Hands s l (empty_piece (points_of s + 1)) (Missing (points_of s) ∷ []) fed
+anew-open-none : (s : KeptSession) (l : Layer) (fed : List Layer) → length s.layers ≡ 0 → StandsFor (seen s) fed → length l.candidates ≡ 0 → Hands s l (empty_piece (points_of (seen s) + 1)) (Missing (points_of (seen s)) ∷ []) fed
 anew-open-none s l fed none st width =
     let n = s.network in
     let p = s.params in
     let t = trellis n p in
     let split = whole t fed in
-    let at = split-of s fed split st in
+    let at = split-of (seen s) fed split st in
     let xs = drop split.closed fed in
     let empty : length xs ≡ 0 = ap length at.layers ∙ none in
     let one : xs ++ l ∷ [] ≡ l ∷ [] = ap (λ ys. ys ++ l ∷ []) (no-length xs empty) in
@@ -214,7 +110,7 @@ anew-open-none s l fed none st width =
     let all = opened n p fed l split next in
     let first = at.first in
     let count = at.count in
-    let i = points_of s in
+    let i = points_of (seen s) in
     let e : split.closed ≡ i = omega (arith, first, none) in
     let len : length split.ranks ≡ i = split.count ∙ e in
     let rank : get_or all.ranks i None ≡ None = ap (λ k. get_or (split.ranks ++ None ∷ []) k None) (sym len) ∙ get_or-append_seam split.ranks None [] None in
@@ -223,7 +119,7 @@ anew-open-none s l fed none st width =
     (made.0, opened-handed n p fed l split next empty refl ∙ ap (λ k. handed n p fed ++ new_items n p (fed ++ l ∷ []) all k 1) e ∙ ap (λ ys. handed n p fed ++ ys) made.1)
 
 -- the open piece ends before the point
-pub ends-before : (s : Session) (l : Layer) → BeginsAnew s l → 0 < length s.layers → IsPiece (trellis s.network s.params) (s.layers ++ l ∷ []) (length s.layers)
+pub ends-before : (s : KeptSession) (l : Layer) → BeginsAnew s l → 0 < length s.layers → IsPiece (trellis s.network s.params) (s.layers ++ l ∷ []) (length s.layers)
 ends-before s l h some =
     let n = s.network in
     let p = s.params in
@@ -247,7 +143,7 @@ ends-before s l h some =
     } in
     subst (λ k. IsPiece t xs k) count (so_far_ends n p xs s.tables (last_layer s) l (last_cells s) (so_far-longer n p s.layers (l ∷ []) s.tables (is.open-is some).so_far) step (h.ends some))
 
-over-of : (s : Session) (l : Layer) (items : List Item) (fed : List Layer) (split : Splits (trellis s.network s.params) 0 fed) (c : IsClosing s items) → IsSession s → 0 < length s.layers → IsSplitAt s fed split
+over-of : (s : KeptSession) (l : Layer) (items : List Item) (fed : List Layer) (split : Splits (trellis s.network s.params) 0 fed) (c : IsClosing s items) → IsSession s → 0 < length s.layers → IsSplitAt (seen s) fed split
     → IsPiece (trellis s.network s.params) (drop split.closed fed ++ l ∷ []) (length (drop split.closed fed)) → IsOver s.network s.params fed (l ∷ []) split c.cost c.ranks
 over-of s l items fed split c is some at piece =
     let t = trellis s.network s.params in
@@ -262,14 +158,14 @@ over-of s l items fed split c is some at piece =
       };
     }
 
-anew-ended-some : (s : Session) (l : Layer) (cells : List Cell) (new : Piece) (first-items items : List Item) (fed : List Layer) → BeginsAnew s l → 0 < length s.layers → IsClosing s first-items → StandsFor s fed
-    → BeginsPiece s.network s.params (points_of s) l cells new items → Hands s l new (first-items ++ items) fed
+anew-ended-some : (s : KeptSession) (l : Layer) (cells : List Cell) (new : Piece) (first-items items : List Item) (fed : List Layer) → BeginsAnew s l → 0 < length s.layers → IsClosing s first-items → StandsFor (seen s) fed
+    → BeginsPiece s.network s.params (points_of (seen s)) l cells new items → Hands s l new (first-items ++ items) fed
 anew-ended-some s l cells new first-items items fed h some c st b =
     let n = s.network in
     let p = s.params in
     let t = trellis n p in
     let split = whole t fed in
-    let at = split-of s fed split st in
+    let at = split-of (seen s) fed split st in
     let xs = drop split.closed fed in
     let L = length xs in
     let same : L ≡ length s.layers = ap length at.layers in
@@ -280,10 +176,10 @@ anew-ended-some s l cells new first-items items fed h some c st b =
     let all = ended n p fed l split some-xs piece last in
     let first = at.first in
     let count = at.count in
-    let z : split.closed + (L + 0) ≡ points_of s = omega (arith, first, same) in
+    let z : split.closed + (L + 0) ≡ points_of (seen s) = omega (arith, first, same) in
     let rest : drop (split.closed + (L + 0)) (fed ++ l ∷ []) ≡ l ∷ [] =
     (let e : split.closed + (L + 0) ≡ length fed = omega (arith, count) in ap (λ k. drop k (fed ++ l ∷ [])) e ∙ drop-append_seam fed (l ∷ [])) in
-    let made = new-some n p (fed ++ l ∷ []) all (points_of s) (split.closed + L) l cells new items b z rest (omega (arith, z, count, length_push fed l)) in
+    let made = new-some n p (fed ++ l ∷ []) all (points_of (seen s)) (split.closed + L) l cells new items b z rest (omega (arith, z, count, length_push fed l)) in
     let over = over-of s l first-items fed split c h.session some at piece in (
       made.0,
       ended-handed n p fed l split c.cost c.ranks some-xs piece last over (closing-best s first-items xs h.session some c at.layers) refl
@@ -291,14 +187,14 @@ anew-ended-some s l cells new first-items items fed h some c st b =
           ∙ ap (λ ys. handed n p fed ++ (first-items ++ ys)) made.1,
     )
 
-anew-ended-none : (s : Session) (l : Layer) (first-items : List Item) (fed : List Layer) → BeginsAnew s l → 0 < length s.layers → IsClosing s first-items → StandsFor s fed → length l.candidates ≡ 0
-    → Hands s l (empty_piece (points_of s + 1)) (first-items ++ Missing (points_of s) ∷ []) fed
+anew-ended-none : (s : KeptSession) (l : Layer) (first-items : List Item) (fed : List Layer) → BeginsAnew s l → 0 < length s.layers → IsClosing s first-items → StandsFor (seen s) fed → length l.candidates ≡ 0
+    → Hands s l (empty_piece (points_of (seen s) + 1)) (first-items ++ Missing (points_of (seen s)) ∷ []) fed
 anew-ended-none s l first-items fed h some c st width =
     let n = s.network in
     let p = s.params in
     let t = trellis n p in
     let split = whole t fed in
-    let at = split-of s fed split st in
+    let at = split-of (seen s) fed split st in
     let xs = drop split.closed fed in
     let L = length xs in
     let same : L ≡ length s.layers = ap length at.layers in
@@ -309,7 +205,7 @@ anew-ended-none s l first-items fed h some c st width =
     let all = ended n p fed l split some-xs piece last in
     let first = at.first in
     let count = at.count in
-    let i = points_of s in
+    let i = points_of (seen s) in
     let e : split.closed + L ≡ i = omega (arith, first, same) in
     let over = over-of s l first-items fed split c h.session some at piece in
     let b = best_of t (take L (xs ++ l ∷ [])) in
@@ -330,15 +226,15 @@ anew-ended-none s l first-items fed h some c st width =
     )
 
 -- what is left of the open piece
-pub record IsLeft (s : Session) (items : List Item) : Type 0 where
+pub record IsLeft (s : KeptSession) (items : List Item) : Type 0 where
   pub none : length s.layers ≡ 0 → items ≡ []
   pub some : 0 < length s.layers → IsClosing s items
 
-anew-some : (s : Session) (l : Layer) (new : Piece) (first-items items : List Item) (fed : List Layer) → BeginsAnew s l → IsLeft s first-items → StandsFor s fed → IsBegun s.params (points_of s) l new items
+anew-some : (s : KeptSession) (l : Layer) (new : Piece) (first-items items : List Item) (fed : List Layer) → BeginsAnew s l → IsLeft s first-items → StandsFor (seen s) fed → IsBegun s.params (points_of (seen s)) l new items
     → 0 < length l.candidates → Hands s l new (first-items ++ items) fed
 anew-some s l new first-items items fed h left st b width =
     let g = b.some width in
-    let begins : BeginsPiece s.network s.params (points_of s) l g.0 new items = record { some = width; first = g.1 s.network; grown = g.2 } in
+    let begins : BeginsPiece s.network s.params (points_of (seen s)) l g.0 new items = record { some = width; first = g.1 s.network; grown = g.2 } in
     ⊎_elim
     (λ some. anew-ended-some s l g.0 new first-items items fed h some (left.some some) st begins)
     (λ few.
@@ -347,27 +243,27 @@ anew-some s l new first-items items fed h left st b width =
     (open-is.0, open-is.1 ∙ ap (λ ys. handed s.network s.params fed ++ (ys ++ items)) (sym (left.none none))))
     (cases_lt 0 (length s.layers))
 
-anew-none : (s : Session) (l : Layer) (new : Piece) (first-items items : List Item) (fed : List Layer) → BeginsAnew s l → IsLeft s first-items → StandsFor s fed → IsBegun s.params (points_of s) l new items
+anew-none : (s : KeptSession) (l : Layer) (new : Piece) (first-items items : List Item) (fed : List Layer) → BeginsAnew s l → IsLeft s first-items → StandsFor (seen s) fed → IsBegun s.params (points_of (seen s)) l new items
     → length l.candidates ≡ 0 → Hands s l new (first-items ++ items) fed
 anew-none s l new first-items items fed h left st b width =
     let g = b.none width in
-    let both : Hands s l (empty_piece (points_of s + 1)) (first-items ++ Missing (points_of s) ∷ []) fed =
+    let both : Hands s l (empty_piece (points_of (seen s) + 1)) (first-items ++ Missing (points_of (seen s)) ∷ []) fed =
     ⊎_elim
     (λ some. anew-ended-none s l first-items fed h some (left.some some) st width)
     (λ few.
     let none : length s.layers ≡ 0 = omega (arith, few) in
     let open-is = anew-open-none s l fed none st width in
-    (open-is.0, open-is.1 ∙ ap (λ ys. handed s.network s.params fed ++ (ys ++ Missing (points_of s) ∷ [])) (sym (left.none none))))
+    (open-is.0, open-is.1 ∙ ap (λ ys. handed s.network s.params fed ++ (ys ++ Missing (points_of (seen s)) ∷ [])) (sym (left.none none))))
     (cases_lt 0 (length s.layers)) in
-    subst (λ a. Hands s l a (first-items ++ items) fed) (sym g.0) (subst (λ ys. Hands s l (empty_piece (points_of s + 1)) (first-items ++ ys) fed) (sym g.1) both)
+    subst (λ a. Hands s l a (first-items ++ items) fed) (sym g.0) (subst (λ ys. Hands s l (empty_piece (points_of (seen s) + 1)) (first-items ++ ys) fed) (sym g.1) both)
 
-pub anew-hands : (s : Session) (l : Layer) (new : Piece) (first-items items : List Item) (fed : List Layer) → BeginsAnew s l → IsLeft s first-items → StandsFor s fed → IsBegun s.params (points_of s) l new items
+pub anew-hands : (s : KeptSession) (l : Layer) (new : Piece) (first-items items : List Item) (fed : List Layer) → BeginsAnew s l → IsLeft s first-items → StandsFor (seen s) fed → IsBegun s.params (points_of (seen s)) l new items
     → Hands s l new (first-items ++ items) fed
 anew-hands s l new first-items items fed h left st b =
     ⊎_elim (λ some. anew-some s l new first-items items fed h left st b some) (λ few. anew-none s l new first-items items fed h left st b (omega (arith, few))) (cases_lt 0 (length l.candidates))
 
-pub anew-fed : (s : Session) (l : Layer) (new : Piece) (first-items items : List Item) → BeginsAnew s l → IsLeft s first-items → IsBegun s.params (points_of s) l new items
-    → IsFed s l (session_with s.network s.params new) (first-items ++ items)
+pub anew-fed : (s : KeptSession) (l : Layer) (new : Piece) (first-items items : List Item) → BeginsAnew s l → IsLeft s first-items → IsBegun s.params (points_of (seen s)) l new items
+    → IsFed (seen s) l (seen (session_with s.network s.params new)) (first-items ++ items)
 anew-fed s l new first-items items h left b = record {
   network = refl;
   params = refl;

@@ -15,12 +15,11 @@ use Rattle.route_rebuild.proofs.RouteValue.{route_of-is}
 use Rattle.online_commit.specs.declared.items.Item.{Item}
 use Rattle.online_commit.specs.declared.items.Item.TheVariants.{Closed}
 use Rattle.online_commit.specs.Items.{edge_ids}
-use Rattle.online_commit.specs.Session.{Session}
-use Rattle.online_commit.specs.Steps.{IsClosing, IsSession, as_ranks, piece_from, rank_in, ranked_items, whole_piece}
+use Rattle.online_commit.specs.Steps.{IsClosing, IsSession, KeptSession, as_ranks, piece_from, rank_in, ranked_items, whole_piece}
 use Rattle.online_commit.proofs.OwnRun.{IsEndRead, own-asked, own-ranks, own-run}
 
 -- what was read at the last point
-pub end-read : (s : Session) (ts : List (List Cell)) (cells slice : List Cell) (last : Cell) (c : ℕ) (ranks : List ℕ) → IsLawful s.network → IsSession s → 0 < length s.layers → ts ≡ s.tables
+pub end-read : (s : KeptSession) (ts : List (List Cell)) (cells slice : List Cell) (last : Cell) (c : ℕ) (ranks : List ℕ) → IsLawful s.network → IsSession s → 0 < length s.layers → ts ≡ s.tables
     → cells ≡ get_or ts (length s.layers - 1) cells → slice ≡ cells → IsLeastCell slice last → c ≡ unwrap_or (last.cost) 0 → reverse ranks ≡ by_pointers (reverse ts) (last.«from») → IsEndRead s last c ranks
 end-read s ts cells slice last c ranks lawful is some et ec es least cost ranks-are =
     let count = is.tables-count in
@@ -40,13 +39,13 @@ end-read s ts cells slice last c ranks lawful is some et ec es least cost ranks-
     }
 
 -- and the run over its points, as they are lent
-pub run-made : (s : Session) (last : Cell) (c : ℕ) (ranks : List ℕ) (ls : List Layer) (some : List (Option ℕ)) → IsEndRead s last c ranks → ls ≡ s.layers → some ≡ as_ranks ranks
+pub run-made : (s : KeptSession) (last : Cell) (c : ℕ) (ranks : List ℕ) (ls : List Layer) (some : List (Option ℕ)) → IsEndRead s last c ranks → ls ≡ s.layers → some ≡ as_ranks ranks
     → IsChosenRun s.network s.params ls some (whole_piece (length s.layers) c)
 run-made s last c ranks ls some read el es =
     subst (λ xs. IsChosenRun s.network s.params xs some (whole_piece (length s.layers) c)) (sym el)
     (subst (λ rs. IsChosenRun s.network s.params s.layers rs (whole_piece (length s.layers) c)) (sym es) (own-run s last c ranks read))
 
-pub end-asks : {old new : RowsState} (s : Session) (last : Cell) (c : ℕ) (ranks : List ℕ) (ls : List Layer) (some : List (Option ℕ)) → IsEndRead s last c ranks → ls ≡ s.layers → some ≡ as_ranks ranks
+pub end-asks : {old new : RowsState} (s : KeptSession) (last : Cell) (c : ℕ) (ranks : List ℕ) (ls : List Layer) (some : List (Option ℕ)) → IsEndRead s last c ranks → ls ≡ s.layers → some ≡ as_ranks ranks
     → AsksOnly old new (IsChosenEnd s.network ls some (whole_piece (length s.layers) c)) → AsksOnly old new (AsksIn s.network s.params s.layers s.tables)
 end-asks s last c ranks ls some read el es asks =
     only_by asks
@@ -58,7 +57,7 @@ ids-of-numbers : (es : List EdgeId) → edge_ids (numbers es) ≡ es
 ids-of-numbers [] = refl
 ids-of-numbers (e ∷ es) = ap (λ xs. e ∷ xs) (ids-of-numbers es)
 
-pub closing-made : (s : Session) (last : Cell) (c : ℕ) (ranks : List ℕ) (labels items : List Item) (route : List EdgeId) (ls : List Layer) (some : List (Option ℕ)) → IsEndRead s last c ranks
+pub closing-made : (s : KeptSession) (last : Cell) (c : ℕ) (ranks : List ℕ) (labels items : List Item) (route : List EdgeId) (ls : List Layer) (some : List (Option ℕ)) → IsEndRead s last c ranks
     → ls ≡ s.layers → some ≡ as_ranks ranks → labels ≡ ranked_items s.first s.layers (rank_in ranks) s.told (length s.layers - s.told)
     → IsRouteOf s.network s.params ls some (whole_piece (length s.layers) c) (numbers route)
     → items ≡ labels ++ Closed (piece_from s.first (length s.layers) c) route ∷ [] → IsClosing s items

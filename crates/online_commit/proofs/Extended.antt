@@ -10,8 +10,8 @@ use Rattle.online_commit.specs.declared.items.Item.{Item}
 use Rattle.online_commit.specs.Masks.{AreMasks, IsBehind, IsLiveMask, IsNotOne, IsOnly, mask_after, mask_at}
 use Rattle.online_commit.specs.Pieces.{IsAppended, IsExtended, MayGrow, Piece, session_with}
 use Rattle.online_commit.specs.Session.{IsFed, IsFedLayer, Session, points_of}
-use Rattle.online_commit.specs.Steps.{AreSettled, IsSession, TellsCells}
-use Rattle.online_commit.proofs.Anew.{BeginsAnew}
+use Rattle.online_commit.specs.Steps.{AreSettled, EndsBefore, IsSession, KeptSession, TakesAnew, TellsCells, seen}
+use Rattle.online_commit.proofs.AnewSession.{BeginsAnew}
 use Rattle.online_commit.proofs.Extending.{GoesOnTo, grown-fed, grown-session, piece_part}
 
 masks-same : (tables : List (List Cell)) (mask mask' : ℕ → ℕ) (n : ℕ) → 0 < n → ((i : ℕ) → i < n → mask' i ≡ mask i) → AreMasks tables mask n → AreMasks tables mask' n
@@ -59,7 +59,7 @@ extended-made old l cells changed new items may app masks settled told =
 
 -- what is known where a point comes with which the open piece goes on
 
-pub goes-on : (s old : Session) (l : Layer) (cells : List Cell) → s ≡ old → IsLawful s.network → IsSession s → points_of old < 100_000 → IsFedLayer old.network old.params l → TellsCells s l (Some cells) → GoesOnTo s l cells
+pub goes-on : (s : KeptSession) (old : Session) (l : Layer) (cells : List Cell) → seen s ≡ old → IsLawful s.network → IsSession s → points_of old < 100_000 → IsFedLayer old.network old.params l → TellsCells s l (Some cells) → GoesOnTo s l cells
 goes-on s old l cells e lawful is room fed tells = record {
   lawful = lawful;
   session = is;
@@ -69,14 +69,26 @@ goes-on s old l cells e lawful is room fed tells = record {
   goes = tells.1;
 }
 
-pub begins-anew : (s old : Session) (l : Layer) → s ≡ old → IsLawful s.network → IsSession s → points_of old < 100_000 → IsFedLayer old.network old.params l → TellsCells old l None → BeginsAnew s l
-begins-anew s old l e lawful is room fed ends = record {
-  lawful = lawful;
+pub ends-at : (s : KeptSession) (old : Session) (l : Layer) → seen s ≡ old → IsSession s → points_of old < 100_000 → IsFedLayer old.network old.params l → TellsCells s l None → EndsBefore s l
+ends-at s old l e is room fed ends = record {
   session = is;
-  room = subst (λ x. points_of x < 100_000) (sym e) room;
   layer = subst (λ x. IsFedLayer x.network x.params l) (sym e) fed;
-  ends = subst (λ x. TellsCells x l None) (sym e) ends;
+  room = subst (λ x. points_of x < 100_000) (sym e) room;
+  ends = ends;
 }
+
+pub begins-anew : (s : KeptSession) (l : Layer) → IsLawful s.network → EndsBefore s l → BeginsAnew s l
+begins-anew s l lawful h = record { lawful = lawful; session = h.session; room = h.room; layer = h.layer; ends = h.ends }
+
+pub kept-session : {E : Type 0} (n : Net) (p : Params) (old new : Piece) (l : Layer) (r : Result (List Item) E) → IsSession (session_with n p old)
+    → IfOk r (TakesAnew (session_with n p old) l (session_with n p new)) → OnErr r (new ≡ old) → IsSession (session_with n p new)
+kept-session n p old new l (Ok items) is ok err = ok.session
+kept-session n p old new l (Err e) is ok err = subst (λ a. IsSession (session_with n p a)) (sym err) is
+
+pub taken-fed : {E : Type 0} (n : Net) (p : Params) (old new : Piece) (l : Layer) (r : Result (List Item) E) → IfOk r (TakesAnew (session_with n p old) l (session_with n p new))
+    → IfOk r (IsFed (seen (session_with n p old)) l (seen (session_with n p new)))
+taken-fed n p old new l (Ok items) ok = ok.fed
+taken-fed n p old new l (Err e) ok = tt
 
 pub still-session : {E : Type 0} (n : Net) (p : Params) (old new : Piece) (l : Layer) (cells : List Cell) (r : Result (List Item) E) → GoesOnTo (session_with n p old) l cells
     → IfOk r (IsExtended (piece_part (session_with n p old)) l cells new) → OnErr r (new ≡ old) → IsSession (session_with n p new)
@@ -84,6 +96,6 @@ still-session n p old new l cells (Ok items) h ok err = grown-session (session_w
 still-session n p old new l cells (Err e) h ok err = subst (λ a. IsSession (session_with n p a)) (sym err) h.session
 
 pub fed-grown : {E : Type 0} (n : Net) (p : Params) (old new : Piece) (l : Layer) (cells : List Cell) (r : Result (List Item) E) → GoesOnTo (session_with n p old) l cells
-    → IfOk r (IsExtended (piece_part (session_with n p old)) l cells new) → IfOk r (IsFed (session_with n p old) l (session_with n p new))
+    → IfOk r (IsExtended (piece_part (session_with n p old)) l cells new) → IfOk r (IsFed (seen (session_with n p old)) l (seen (session_with n p new)))
 fed-grown n p old new l cells (Ok items) h ok = grown-fed (session_with n p old) l cells new items h ok
 fed-grown n p old new l cells (Err e) h ok = tt

@@ -1,7 +1,7 @@
 -- A session whose open piece goes on. In this file layers and tables stand in the order of the points.
-use Rattle.std.proofs.Common.{◌≡◌, ℕ, ◌+◌, ◌-◌, ◌^◌, ◌<◌, ◌≤◌, List, [], ◌∷◌, ◌++◌, refl, sym, ap, ◌∙◌, subst, arith, length, take, drop, reverse, get_or}
+use Rattle.std.proofs.Common.{◌≡◌, ◌+◌, ◌-◌, ◌^◌, ◌<◌, ◌≤◌, List, [], ◌∷◌, ◌++◌, refl, sym, ap, ◌∙◌, subst, arith, length, take, drop, reverse, get_or}
 use Rattle.std.specs.List.{All}
-use Rattle.std.proofs.lemmas.List.{drop-append-le, get_or_append_left, length-append, length-reverse, length_push, reverse-reverse, take-append-le}
+use Rattle.std.proofs.lemmas.List.{drop-append-le, get_or_append_left, length-append, length-reverse, length_push, take-append-le}
 use Rattle.std.proofs.Math.Seq.{get_or-append_seam, take-length}
 use Rattle.cost_model.specs.declared.params.Params.{Params}
 use Rattle.road_network.specs.Net.{Net, IsLawful}
@@ -14,33 +14,32 @@ use Rattle.matching.specs.Local.{AreLinked}
 use Rattle.matching.specs.Pieces.{AreNear, IsPiece}
 use Rattle.matching.specs.PieceSteps.{PieceGoesOn}
 use Rattle.matching.specs.Places.{IsAt}
-use Rattle.matching.specs.Sequences.{HasSequence, IsBest}
-use Rattle.matching.specs.Value.{best_of}
+use Rattle.matching.specs.Sequences.{HasSequence}
 use Rattle.matching.proofs.CommittedValues.{front, front-is, whole}
 use Rattle.matching.proofs.Fronts.{front-unique}
 use Rattle.matching.proofs.Lists.{all-at, all-push, at-get_or}
 use Rattle.matching.proofs.PieceSoFar.{IsGround, IsPieceSoFar, IsStepAt, so_far_all, so_far_more}
 use Rattle.matching.proofs.Runs.{EndsWith}
-use Rattle.matching.proofs.SolutionMatches.{best_of-is}
-use Rattle.matching.proofs.Splits.{OneOrNone, Splits}
+use Rattle.matching.proofs.Splits.{OneOrNone}
 use Rattle.route_rebuild.specs.Routes.{no_layer}
 use Rattle.online_commit.specs.declared.items.Item.{Item}
 use Rattle.online_commit.specs.Items.{handed}
-use Rattle.online_commit.specs.Masks.{AreMasks, HasFewRanks, IsOnly, mask_at}
+use Rattle.online_commit.specs.Masks.{AreMasks, HasFewRanks, mask_at}
 use Rattle.online_commit.specs.Pieces.{IsExtended, MayGrow, Piece, session_with}
-use Rattle.online_commit.specs.Session.{IsFed, IsFedLayer, Session, StandsFor, points_of}
-use Rattle.online_commit.specs.Steps.{AreSettled, IsSession, last_cells, last_layer, rank_in, ranked_items}
+use Rattle.online_commit.specs.Session.{IsFed, IsFedLayer, StandsFor, points_of}
+use Rattle.online_commit.specs.Steps.{IsSession, KeptSession, last_cells, last_layer, seen}
 use Rattle.online_commit.proofs.Growing.{fed-stays, grown, grown-handed}
 use Rattle.online_commit.proofs.Handed.{labels_between}
-use Rattle.online_commit.proofs.Labels.{IsBestOf, open-labels, split-of, stands-by, tail-rank}
-use Rattle.online_commit.proofs.Passing.{IsBoundary, IsTabled, chosen-single, committed-boundary, last_of}
+use Rattle.online_commit.proofs.Labels.{split-of, stands-by}
+use Rattle.online_commit.proofs.Passing.{IsTabled, last_of}
 use Rattle.online_commit.proofs.Ranks.{next-ranks}
+use Rattle.online_commit.proofs.Fresh.{IsFresh, fresh-committed, fresh-labels}
 
-abbrev pub piece_part : Session → Piece
+abbrev pub piece_part : KeptSession → Piece
 piece_part s = record { first = s.first; told = s.told; layers = s.layers; tables = s.tables; masks = s.masks }
 
 -- what a session stands on
-pub session-ground : (s : Session) → IsSession s → IsLawful s.network → IsGround s.network s.params s.layers
+pub session-ground : (s : KeptSession) → IsSession s → IsLawful s.network → IsGround s.network s.params s.layers
 session-ground s is lawful = record {
   lawful = lawful;
   trace = record {
@@ -53,7 +52,7 @@ session-ground s is lawful = record {
   };
 }
 
-pub tabled-of : (s : Session) → IsSession s → 0 < length s.layers → IsTabled (trellis s.network s.params) s.layers s.tables
+pub tabled-of : (s : KeptSession) → IsSession s → 0 < length s.layers → IsTabled (trellis s.network s.params) s.layers s.tables
 tabled-of s is some =
     let t = trellis s.network s.params in
     let open-is = is.open-is some in
@@ -86,7 +85,7 @@ so_far-longer n p xs more tables h =
     }
 
 -- the last point of the open piece
-pub last-ends : (s : Session) → IsSession s → 0 < length s.layers → EndsWith s.layers s.tables (last_layer s) (last_cells s)
+pub last-ends : (s : KeptSession) → IsSession s → 0 < length s.layers → EndsWith s.layers s.tables (last_layer s) (last_cells s)
 last-ends s is some =
     let count = is.tables-count in
     let e : length s.layers - 1 ≡ length s.tables - 1 = omega (arith, count) in
@@ -96,21 +95,21 @@ last-ends s is some =
     }
 
 -- the session goes on to this point with these cells
-pub record GoesOnTo (s : Session) (l : Layer) (cells : List Cell) : Type 0 where
+pub record GoesOnTo (s : KeptSession) (l : Layer) (cells : List Cell) : Type 0 where
   pub lawful : IsLawful s.network
   pub session : IsSession s
-  pub room : points_of s < 100_000
+  pub room : points_of (seen s) < 100_000
   pub layer : IsFedLayer s.network s.params l
   pub some : 0 < length s.layers
   pub goes : PieceGoesOn (trellis s.network s.params) (last_layer s) (last_cells s) l cells
 
-pub new-ranks : (s : Session) (l : Layer) (cells : List Cell) → GoesOnTo s l cells → HasFewRanks cells
+pub new-ranks : (s : KeptSession) (l : Layer) (cells : List Cell) → GoesOnTo s l cells → HasFewRanks cells
 new-ranks s l cells h =
     let last = last-ends s h.session h.some in
     next-ranks (trellis s.network s.params) (last_layer s) (last_cells s) l cells h.goes.next h.layer.few
     (all-at (IsFedLayer s.network s.params) s.layers (length s.tables - 1) (last_layer s) h.session.layers last.layer).few
 
-pub may-grow : (s : Session) (l : Layer) (cells : List Cell) → GoesOnTo s l cells → MayGrow (piece_part s) cells
+pub may-grow : (s : KeptSession) (l : Layer) (cells : List Cell) → GoesOnTo s l cells → MayGrow (piece_part s) cells
 may-grow s l cells h =
     let is = h.session in
     let count = is.tables-count in
@@ -124,7 +123,7 @@ may-grow s l cells h =
       told = let w = is.front.within in omega (arith, w, length-reverse s.layers);
     }
 
-grown-so_far : (s : Session) (l : Layer) (cells : List Cell) → GoesOnTo s l cells → IsPieceSoFar s.network s.params (s.layers ++ l ∷ []) (s.tables ++ cells ∷ [])
+grown-so_far : (s : KeptSession) (l : Layer) (cells : List Cell) → GoesOnTo s l cells → IsPieceSoFar s.network s.params (s.layers ++ l ∷ []) (s.tables ++ cells ∷ [])
 grown-so_far s l cells h =
     let is = h.session in
     let n = s.network in
@@ -159,70 +158,9 @@ grown-so_far s l cells h =
     } in
     so_far_more n p xs s.tables (last_layer s) l (last_cells s) cells ground (so_far-longer n p s.layers (l ∷ []) s.tables (is.open-is h.some).so_far) step h.goes
 
--- what a piece with a settled front stands on, whether it went on or begins
-pub record IsFresh (t-new : Session) (xs : List Layer) (l : Layer) (told : ℕ) (items : List Item) : Type 0 where
-  pub layers : t-new.layers ≡ xs ++ l ∷ []
-  pub told-is : t-new.told ≡ told + length items
-  pub tabled : IsTabled (trellis t-new.network t-new.params) t-new.layers t-new.tables
-  pub masks : AreMasks t-new.tables (mask_at t-new.masks) (length t-new.layers)
-  pub settled : AreSettled t-new.first t-new.layers (mask_at t-new.masks) told items
-  pub rank : ℕ
-  pub live : IsLive (last_of t-new.tables) rank
-  pub front : IsCommitted (trellis t-new.network t-new.params) (reverse xs) told
-
-pub fresh-committed : (new : Session) (xs : List Layer) (l : Layer) (told : ℕ) (items : List Item) → IsFresh new xs l told items → IsCommitted (trellis new.network new.params) (reverse new.layers) new.told
-fresh-committed new xs l told items h =
-    let t = trellis new.network new.params in
-    let settled = h.settled in
-    let within = settled.within in
-    let boundary : IsBoundary (mask_at new.masks) told (told + length items) (length new.layers) = record { low = omega arith; high = within; single = settled.single; ends = settled.ends } in
-    let same = h.layers in
-    let is = committed-boundary t xs (l ∷ []) new.tables (mask_at new.masks) told (told + length items) h.rank
-    (subst (λ ys. IsTabled t ys new.tables) same h.tabled) (subst (λ ys. AreMasks new.tables (mask_at new.masks) (length ys)) same h.masks)
-    (subst (λ ys. IsBoundary (mask_at new.masks) told (told + length items) (length ys)) same boundary) h.live h.front in
-    subst (λ k. IsCommitted t (reverse new.layers) k) (sym h.told-is) (subst (λ ys. IsCommitted t (reverse ys) (told + length items)) (sym same) is)
-
--- the best sequence of the open piece
-pub own-best : (new : Session) → IsTabled (trellis new.network new.params) new.layers new.tables
-    → (c : ℕ) × (ranks : List ℕ) × IsBestOf (trellis new.network new.params) new.layers (length new.layers) c ranks
-own-best new h =
-    let t = trellis new.network new.params in
-    let m = length new.layers in
-    let b = best_of t (take m new.layers) in
-    let is = best_of-is t (take m new.layers) h.piece.can.sequence in
-    (b.cost, reverse b.ranks, record { some = h.some; piece = h.piece; best = subst (λ rs. IsBest t (reverse (take m new.layers)) b.cost rs) (sym (reverse-reverse b.ranks)) is })
-
--- the items that are settled are the labels of the best sequence
-pub fresh-items : (new : Session) (xs : List Layer) (l : Layer) (told c : ℕ) (ranks : List ℕ) (items : List Item) → IsFresh new xs l told items
-    → IsBestOf (trellis new.network new.params) new.layers (length new.layers) c ranks → items ≡ ranked_items new.first new.layers (rank_in ranks) told (length items)
-fresh-items new xs l told c ranks items h best =
-    let t = trellis new.network new.params in
-    let within = h.settled.within in
-    h.settled.are (rank_in ranks) (λ j ge lt.
-    let only = h.settled.single j ge lt in
-    let same : get_or ranks j 0 ≡ only.0 =
-    chosen-single t new.layers new.tables (mask_at new.masks) j only.0 c ranks h.tabled h.masks (omega (arith, lt, within)) only.1
-    (subst (λ ys. IsBest t (reverse ys) c (reverse ranks)) (take-length new.layers) best.best) in
-    subst (λ r. IsOnly (mask_at new.masks j) r) (sym same) only.1)
-
--- in terms of the labels of the trace
-pub fresh-labels : (new : Session) (all : List Layer) (s : Splits (trellis new.network new.params) 0 all) (xs : List Layer) (l : Layer) (told : ℕ) (items : List Item) → IsFresh new xs l told items
-    → s.closed ≡ new.first → drop s.closed all ≡ new.layers → labels_between new.network new.params all (s.closed + told) (length items) ≡ items
-fresh-labels new all s xs l told items h first layers =
-    let n = new.network in
-    let p = new.params in
-    let t = trellis n p in
-    let best = own-best new h.tabled in
-    let within = h.settled.within in
-    let is : IsBestOf t (drop s.closed all) (length new.layers) best.0 best.1 = subst (λ ys. IsBestOf t ys (length new.layers) best.0 best.1) (sym layers) best.2 in
-    open-labels n p all s (rank_in best.1) told (length items) (λ j ge lt. tail-rank t s.closed (drop s.closed all) (length new.layers) best.0 best.1 j is (omega (arith, lt, within)))
-    ∙ ap (λ k. ranked_items k (drop s.closed all) (rank_in best.1) told (length items)) first
-    ∙ ap (λ ys. ranked_items new.first ys (rank_in best.1) told (length items)) layers
-    ∙ sym (fresh-items new xs l told best.0 best.1 items h best.2)
-
 -- a session whose piece went on
 
-grown-fresh : (s : Session) (l : Layer) (cells : List Cell) (new : Piece) (items : List Item) → GoesOnTo s l cells → IsExtended (piece_part s) l cells new items
+grown-fresh : (s : KeptSession) (l : Layer) (cells : List Cell) (new : Piece) (items : List Item) → GoesOnTo s l cells → IsExtended (piece_part s) l cells new items
     → IsFresh (session_with s.network s.params new) s.layers l s.told items
 grown-fresh s l cells new items h ext =
     let n = s.network in
@@ -256,7 +194,7 @@ grown-fresh s l cells new items h ext =
       front = is.front;
     }
 
-pub grown-session : (s : Session) (l : Layer) (cells : List Cell) (new : Piece) (items : List Item) → GoesOnTo s l cells → IsExtended (piece_part s) l cells new items
+pub grown-session : (s : KeptSession) (l : Layer) (cells : List Cell) (new : Piece) (items : List Item) → GoesOnTo s l cells → IsExtended (piece_part s) l cells new items
     → IsSession (session_with s.network s.params new)
 grown-session s l cells new items h ext =
     let n = s.network in
@@ -283,15 +221,15 @@ grown-session s l cells new items h ext =
       front = fresh-committed (session_with n p new) s.layers l s.told items fresh;
     }
 
-grown-stands : (s : Session) (l : Layer) (cells : List Cell) (new : Piece) (items : List Item) (fed : List Layer) → GoesOnTo s l cells → IsExtended (piece_part s) l cells new items → StandsFor s fed
-    → StandsFor (session_with s.network s.params new) (fed ++ l ∷ []) × (handed s.network s.params (fed ++ l ∷ []) ≡ handed s.network s.params fed ++ items)
+grown-stands : (s : KeptSession) (l : Layer) (cells : List Cell) (new : Piece) (items : List Item) (fed : List Layer) → GoesOnTo s l cells → IsExtended (piece_part s) l cells new items → StandsFor (seen s) fed
+    → StandsFor (seen (session_with s.network s.params new)) (fed ++ l ∷ []) × (handed s.network s.params (fed ++ l ∷ []) ≡ handed s.network s.params fed ++ items)
 grown-stands s l cells new items fed h ext st =
     let n = s.network in
     let p = s.params in
     let t = trellis n p in
     let made = session_with n p new in
     let split = whole t fed in
-    let is = split-of s fed split st in
+    let is = split-of (seen s) fed split st in
     let fresh = grown-fresh s l cells new items h ext in
     let xs = drop split.closed fed in
     let layers : new.layers ≡ xs ++ l ∷ [] = ext.layers ∙ ap (λ ys. ys ++ l ∷ []) (sym is.layers) in
@@ -303,7 +241,7 @@ grown-stands s l cells new items fed h ext st =
     let first : split.closed + 0 ≡ new.first = z ∙ is.first ∙ sym ext.first in
     let committed = fresh-committed made s.layers l s.told items fresh in
     let len = ap length layers ∙ length_push xs l in
-    let stands = stands-by made (fed ++ l ∷ []) next first (layers ∙ sym rest ∙ ap (λ k. drop k (fed ++ l ∷ [])) first) (let c = is.count in omega (arith, first, len, c, length_push fed l)) committed in
+    let stands = stands-by (seen made) (fed ++ l ∷ []) next first (layers ∙ sym rest ∙ ap (λ k. drop k (fed ++ l ∷ [])) first) (let c = is.count in omega (arith, first, len, c, length_push fed l)) committed in
     let front-is-it : front t (drop (split.closed + 0) (fed ++ l ∷ [])) ≡ front t xs + length items =
     front-unique t (reverse (drop (split.closed + 0) (fed ++ l ∷ []))) (front t (drop (split.closed + 0) (fed ++ l ∷ []))) new.told (front-is t (drop (split.closed + 0) (fed ++ l ∷ [])) next.last)
     (subst (λ ys. IsCommitted t (reverse ys) new.told) (layers ∙ sym rest) committed)
@@ -315,8 +253,8 @@ grown-stands s l cells new items fed h ext st =
           ∙ fresh-labels made (fed ++ l ∷ []) next s.layers l s.told items fresh first (rest ∙ sym layers)),
     )
 
-pub grown-fed : (s : Session) (l : Layer) (cells : List Cell) (new : Piece) (items : List Item) → GoesOnTo s l cells → IsExtended (piece_part s) l cells new items
-    → IsFed s l (session_with s.network s.params new) items
+pub grown-fed : (s : KeptSession) (l : Layer) (cells : List Cell) (new : Piece) (items : List Item) → GoesOnTo s l cells → IsExtended (piece_part s) l cells new items
+    → IsFed (seen s) l (seen (session_with s.network s.params new)) items
 grown-fed s l cells new items h ext = record {
   network = refl;
   params = refl;

@@ -7,10 +7,13 @@ pub mod Labels
 pub mod Growing
 pub mod Ending
 pub mod Beginning
+pub mod PieceRows
 pub mod Asking
 pub mod Ranks
+pub mod Fresh
 pub mod Extending
 pub mod ClosedSession
+pub mod AnewSession
 pub mod Anew
 pub mod OwnRun
 pub mod Bits

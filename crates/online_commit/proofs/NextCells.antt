@@ -14,20 +14,20 @@ use Rattle.matching.proofs.Lists.{all-at}
 use Rattle.matching.proofs.PieceSoFar.{so_far_count, so_far_small}
 use Rattle.route_rebuild.specs.Routes.{no_layer}
 use Rattle.trellis.specs.Offers.{AreCosts}
-use Rattle.online_commit.specs.Session.{IsFedLayer, Session}
-use Rattle.online_commit.specs.Steps.{AsksStep, IsSession, last_cells, last_layer}
+use Rattle.online_commit.specs.Session.{IsFedLayer}
+use Rattle.online_commit.specs.Steps.{AsksStep, IsSession, KeptSession, last_cells, last_layer}
 use Rattle.online_commit.proofs.Extending.{last-ends, session-ground}
 
 pub read-at : {X : Type 0} (xs : List X) (i : ℕ) (x d : X) → i < length xs → x ≡ get_or xs i x → x ≡ get_or xs i d
 read-at xs i x d lt e = e ∙ get_or_default xs i x d lt
 
 -- what was read at the last point
-pub record IsLastRead (s : Session) (m : Layer) (costs : List Cell) : Type 0 where
+pub record IsLastRead (s : KeptSession) (m : Layer) (costs : List Cell) : Type 0 where
   pub some : 0 < length s.layers
   pub layer : m ≡ last_layer s
   pub cells : costs ≡ last_cells s
 
-pub last-read : (s : Session) (m : Layer) (costs : List Cell) (ls : List Layer) (ts : List (List Cell)) → IsSession s → 0 < length s.layers → ls ≡ s.layers → ts ≡ s.tables
+pub last-read : (s : KeptSession) (m : Layer) (costs : List Cell) (ls : List Layer) (ts : List (List Cell)) → IsSession s → 0 < length s.layers → ls ≡ s.layers → ts ≡ s.tables
     → m ≡ get_or ls (length ls - 1) m → costs ≡ get_or ts (length ls - 1) costs → IsLastRead s m costs
 last-read s m costs ls ts is some el et em ec =
     let count = is.tables-count in
@@ -38,7 +38,7 @@ last-read s m costs ls ts is some el et em ec =
       cells = read-at s.tables (length s.layers - 1) costs [] (omega (arith, some, count)) (ec ∙ ap (λ xs. get_or xs (length ls - 1) costs) et ∙ ap (λ k. get_or s.tables k costs) e);
     }
 
-pub next-costs : (s : Session) (m : Layer) (costs : List Cell) → IsSession s → IsLawful s.network → IsLastRead s m costs → AreCosts m costs
+pub next-costs : (s : KeptSession) (m : Layer) (costs : List Cell) → IsSession s → IsLawful s.network → IsLastRead s m costs → AreCosts m costs
 next-costs s m costs is lawful read =
     let last = last-ends s is read.some in
     let so_far = (is.open-is read.some).so_far in
@@ -51,13 +51,13 @@ next-costs s m costs is lawful read =
     } in
     subst (λ x. AreCosts x costs) (sym read.layer) (subst (λ c. AreCosts (last_layer s) c) (sym read.cells) are)
 
-pub dead-ends : (s : Session) (l m : Layer) (costs cells : List Cell) → IsLastRead s m costs → AreNext (trellis s.network s.params) m costs l cells → ((j c : ℕ) → (cell_at cells j).cost ≡ Some c → ⊥)
+pub dead-ends : (s : KeptSession) (l m : Layer) (costs cells : List Cell) → IsLastRead s m costs → AreNext (trellis s.network s.params) m costs l cells → ((j c : ℕ) → (cell_at cells j).cost ≡ Some c → ⊥)
     → PieceEndsBefore (trellis s.network s.params) (last_layer s) (last_cells s) l
 dead-ends s l m costs cells read next dead =
     let t = trellis s.network s.params in
     inr (inr (cells, subst (λ x. AreNext t x (last_cells s) l cells) read.layer (subst (λ c. AreNext t m c l cells) read.cells next), dead))
 
-pub asked-step : {A E : Type 0} {old new : RowsState} {result : Result A E} (s : Session) (l m : Layer) (costs : List Cell) → IsLastRead s m costs → 0 < length l.candidates → IsTrue ((trellis s.network s.params).near m l)
+pub asked-step : {A E : Type 0} {old new : RowsState} {result : Result A E} (s : KeptSession) (l m : Layer) (costs : List Cell) → IsLastRead s m costs → 0 < length l.candidates → IsTrue ((trellis s.network s.params).near m l)
     → AsksFor old (AsksAny s.network m costs) result new → AsksFor old (AsksStep s l) result new
 asked-step s l m costs read some near h =
     let n = s.network in

@@ -22,12 +22,11 @@ use Rattle.route_rebuild.specs.Chosen.{IsChosenRun, IsSolved}
 use Rattle.route_rebuild.specs.Routes.{IsChosenEnd}
 use Rattle.route_rebuild.proofs.ChosenEnds.{chosen_asked}
 use Rattle.route_rebuild.proofs.ChosenRun.{chosen_run}
-use Rattle.online_commit.specs.Session.{Session}
-use Rattle.online_commit.specs.Steps.{IsSession, as_ranks, whole_piece}
+use Rattle.online_commit.specs.Steps.{IsSession, KeptSession, as_ranks, whole_piece}
 use Rattle.online_commit.proofs.Extending.{session-ground, tabled-of}
 
 -- what is read at the end of the open piece
-pub record IsEndRead (s : Session) (last : Cell) (c : ℕ) (ranks : List ℕ) : Type 0 where
+pub record IsEndRead (s : KeptSession) (last : Cell) (c : ℕ) (ranks : List ℕ) : Type 0 where
   pub lawful : IsLawful s.network
   pub session : IsSession s
   pub some : 0 < length s.layers
@@ -37,7 +36,7 @@ pub record IsEndRead (s : Session) (last : Cell) (c : ℕ) (ranks : List ℕ) : 
   pub cost-is : c ≡ unwrap_or (last.cost) 0
   pub ranks-are : reverse ranks ≡ by_pointers (reverse s.tables) (last.«from»)
 
-own-from : (s : Session) (last : Cell) (c : ℕ) (ranks : List ℕ) → IsEndRead s last c ranks → IsPieceFrom (trellis s.network s.params) s.layers 0 (whole_piece (length s.layers) c) ranks s.tables
+own-from : (s : KeptSession) (last : Cell) (c : ℕ) (ranks : List ℕ) → IsEndRead s last c ranks → IsPieceFrom (trellis s.network s.params) s.layers 0 (whole_piece (length s.layers) c) ranks s.tables
 own-from s last c ranks h =
     let count = h.session.tables-count in
     let followed : IsFollowed (trellis s.network s.params) (drop 0 s.layers) s.tables last c ranks = record {
@@ -52,14 +51,14 @@ own-from s last c ranks h =
     piece_from (trellis s.network s.params) s.layers 0 s.tables last (whole_piece (length s.layers) c) ranks followed refl (omega (arith, count))
 
 -- its ranks are those of the best sequence
-pub own-ranks : (s : Session) (last : Cell) (c : ℕ) (ranks : List ℕ) → IsEndRead s last c ranks → IsBest (trellis s.network s.params) (reverse s.layers) c (reverse ranks)
+pub own-ranks : (s : KeptSession) (last : Cell) (c : ℕ) (ranks : List ℕ) → IsEndRead s last c ranks → IsBest (trellis s.network s.params) (reverse s.layers) c (reverse ranks)
 own-ranks s last c ranks h =
     let some = h.some in
     let e : length s.layers - 1 + 1 - 0 ≡ length s.layers = omega (arith, some) in
     let best = (own-from s last c ranks h).best in
     subst (λ ys. IsBest (trellis s.network s.params) (reverse ys) c (reverse ranks)) (ap (λ k. take k s.layers) e ∙ take-length s.layers) best
 
-own-solved : (s : Session) (last : Cell) (c : ℕ) (ranks : List ℕ) → IsEndRead s last c ranks
+own-solved : (s : KeptSession) (last : Cell) (c : ℕ) (ranks : List ℕ) → IsEndRead s last c ranks
     → IsSolved s.network s.params s.layers (record { ranks = as_ranks ranks; pieces = whole_piece (length s.layers) c ∷ []; tables = s.tables })
 own-solved s last c ranks h =
     let t = trellis s.network s.params in
@@ -72,7 +71,7 @@ own-solved s last c ranks h =
           (match_piece t s.layers 0 (p.last + 1 - 0) p [] [] [] ranks s.tables (match_none t s.layers) solved) (omega (arith, some));
     }
 
-pub own-run : (s : Session) (last : Cell) (c : ℕ) (ranks : List ℕ) → IsEndRead s last c ranks → IsChosenRun s.network s.params s.layers (as_ranks ranks) (whole_piece (length s.layers) c)
+pub own-run : (s : KeptSession) (last : Cell) (c : ℕ) (ranks : List ℕ) → IsEndRead s last c ranks → IsChosenRun s.network s.params s.layers (as_ranks ranks) (whole_piece (length s.layers) c)
 own-run s last c ranks h =
     let solved : Solved = record { ranks = as_ranks ranks; pieces = whole_piece (length s.layers) c ∷ []; tables = s.tables } in
     chosen_run s.network s.params s.layers solved 0 h.lawful (own-solved s last c ranks h) (omega arith)
@@ -82,7 +81,7 @@ one-of q x (zero, lt, e) = sym e
 one-of q x (suc k, lt, e) = absurd (omega (arith, lt))
 
 -- the points of the open piece ask for the end of each chosen edge but the last
-pub own-asked : (s : Session) (last : Cell) (c : ℕ) (ranks : List ℕ) (v : ℕ) → IsEndRead s last c ranks → IsChosenEnd s.network s.layers (as_ranks ranks) (whole_piece (length s.layers) c) v
+pub own-asked : (s : KeptSession) (last : Cell) (c : ℕ) (ranks : List ℕ) (v : ℕ) → IsEndRead s last c ranks → IsChosenEnd s.network s.layers (as_ranks ranks) (whole_piece (length s.layers) c) v
     → AsksIn s.network s.params s.layers s.tables v
 own-asked s last c ranks v h end =
     let n = s.network in
@@ -95,6 +94,6 @@ own-asked s last c ranks v h end =
     in_asked n p s.layers 0 s.tables q v (h.session.open-is h.some).so_far.run refl (omega (arith, count)) (subst (λ x. IsAskedNodeIn (trellis n p) (end_of n) s.layers x v) only asked.2)
 
 -- it has a rank for each point
-pub own-count : (s : Session) (last : Cell) (c : ℕ) (ranks : List ℕ) → IsEndRead s last c ranks → length ranks ≡ length s.layers
+pub own-count : (s : KeptSession) (last : Cell) (c : ℕ) (ranks : List ℕ) → IsEndRead s last c ranks → length ranks ≡ length s.layers
 own-count s last c ranks h =
     sym (length-reverse ranks) ∙ cost-length (trellis s.network s.params) (reverse s.layers) (reverse ranks) c (own-ranks s last c ranks h).costs ∙ length-reverse s.layers

@@ -11,8 +11,7 @@ use Rattle.online_commit.specs.declared.feeding.OpenPiece.{OpenPiece}
 use Rattle.online_commit.specs.declared.items.Item.{Item}
 use Rattle.online_commit.specs.declared.items.Item.TheVariants.{Missing}
 use Rattle.online_commit.specs.Masks.{AreMasks, HasFewRanks, mask_after, mask_at}
-use Rattle.online_commit.specs.Session.{Session}
-use Rattle.online_commit.specs.Steps.{AreSettled}
+use Rattle.online_commit.specs.Steps.{AreSettled, KeptSession}
 
 -- what is seen of an open piece: not how much room it has
 pub record Piece : Type 0 where
@@ -32,7 +31,7 @@ piece_of a = record {
 }
 
 -- the session with this piece
-abbrev pub session_with : Net → Params → Piece → Session
+abbrev pub session_with : Net → Params → Piece → KeptSession
 session_with n p a = record {
   network = n;
   params = p;
@@ -43,7 +42,7 @@ session_with n p a = record {
   masks = a.masks;
 }
 
-abbrev pub session_of : Net → Params → OpenPiece → Session
+abbrev pub session_of : Net → Params → OpenPiece → KeptSession
 session_of n p a = session_with n p (piece_of a)
 
 pub record HasRoom (a : OpenPiece) : Type 0 where

@@ -3,7 +3,6 @@ use Rattle.std.specs.Prelude.{◌≡◌, ◌⊎◌, ℕ, ◌+◌, ◌<◌, ◌�
 use Rattle.cost_model.specs.declared.params.Params.{Params}
 use Rattle.road_network.specs.Net.{Net}
 use Rattle.bounded_search.specs.Rows.{RowsState, AsksOnly, Keeps}
-use Rattle.matching.specs.declared.parts.Cell.{Cell}
 use Rattle.matching.specs.declared.parts.Layer.{Layer}
 use Rattle.matching.specs.Layers.{IsLayer, trellis}
 use Rattle.matching.specs.PieceSteps.{AsksTrace}
@@ -12,16 +11,13 @@ use Rattle.matching.specs.CommittedValue.{committed_of, open_first}
 use Rattle.online_commit.specs.declared.items.Item.{Item}
 use Rattle.online_commit.specs.Items.{handed, items_of}
 
--- a session: where the open piece begins, how many of its points were handed out, and of each of its
--- points the layer, the cells and the ranks that are still possible
+-- a session: where the open piece begins, how many of its points were handed out, and its points
 pub record Session : Type 0 where
   pub network : Net
   pub params : Params
   pub first : ℕ
   pub told : ℕ
   pub layers : List Layer
-  pub tables : List (List Cell)
-  pub masks : List ℕ
 
 -- how many points were fed
 abbrev pub points_of : Session → ℕ
@@ -36,7 +32,7 @@ pub record StandsFor (s : Session) (fed : List Layer) : Type 0 where
 
 -- a session with no points
 abbrev pub no_points_of : Net → Params → Session
-no_points_of n p = record { network = n; params = p; first = 0; told = 0; layers = []; tables = []; masks = [] }
+no_points_of n p = record { network = n; params = p; first = 0; told = 0; layers = [] }
 
 -- a point of the plane with at most 32 candidates of this network
 pub record IsFedLayer (n : Net) (p : Params) (l : Layer) : Type 0 where

@@ -18,17 +18,32 @@ use Rattle.online_commit.specs.declared.items.Item.{Item}
 use Rattle.online_commit.specs.declared.items.Item.TheVariants.{At, Closed}
 use Rattle.online_commit.specs.Items.{edge_ids}
 use Rattle.online_commit.specs.Masks.{AreMasks, HasFewRanks, IsNotOne, IsOnly, mask_at}
-use Rattle.online_commit.specs.Session.{IsFedLayer, Session, points_of}
+use Rattle.online_commit.specs.Session.{IsFed, IsFedLayer, Session, points_of}
+
+-- a session with what it keeps of each point of the open piece: the layer, the cells and the ranks that
+-- are still possible
+pub record KeptSession : Type 0 where
+  pub network : Net
+  pub params : Params
+  pub first : ℕ
+  pub told : ℕ
+  pub layers : List Layer
+  pub tables : List (List Cell)
+  pub masks : List ℕ
+
+-- what contracts see of it
+abbrev pub seen : KeptSession → Session
+seen s = record { network = s.network; params = s.params; first = s.first; told = s.told; layers = s.layers }
 
 -- the open piece: its tables, its masks and what is committed of it
-pub record IsOpen (s : Session) : Type 0 where
+pub record IsOpen (s : KeptSession) : Type 0 where
   pub so_far : IsPieceSoFar s.network s.params s.layers s.tables
   pub masks : AreMasks s.tables (mask_at s.masks) (length s.layers)
 
 -- what a session always keeps
-pub record IsSession (s : Session) : Type 0 where
+pub record IsSession (s : KeptSession) : Type 0 where
   pub options : IsAccepted s.params
-  pub few : points_of s ≤ 100_000
+  pub few : points_of (seen s) ≤ 100_000
   pub layers : All (IsFedLayer s.network s.params) s.layers
   pub ranks : All HasFewRanks s.tables
   pub tables-count : length s.tables ≡ length s.layers
@@ -37,27 +52,33 @@ pub record IsSession (s : Session) : Type 0 where
   pub front : IsCommitted (trellis s.network s.params) (reverse s.layers) s.told
 
 -- the last point of the open piece, and its cells
-abbrev pub last_layer : Session → Layer
+abbrev pub last_layer : KeptSession → Layer
 last_layer s = slice_index_or s.layers (length s.layers - 1) no_layer
 
-abbrev pub last_cells : Session → List Cell
+abbrev pub last_cells : KeptSession → List Cell
 last_cells s = slice_index_or s.tables (length s.layers - 1) []
 
 -- the cells of a point with which the open piece goes on, or none where it does not or there is none
-abbrev pub TellsCells : Session → Layer → Option (List Cell) → Type 0
+abbrev pub TellsCells : KeptSession → Layer → Option (List Cell) → Type 0
 TellsCells s l next =
     let t = trellis s.network s.params in
     MatchOption next (0 < length s.layers → PieceEndsBefore t (last_layer s) (last_cells s) l)
     (λ cells. (0 < length s.layers) × PieceGoesOn t (last_layer s) (last_cells s) l cells)
 
 -- a point that a session may take, and with which its open piece does not go on
-pub record EndsBefore (s : Session) (l : Layer) : Type 0 where
+pub record EndsBefore (s : KeptSession) (l : Layer) : Type 0 where
+  pub session : IsSession s
   pub layer : IsFedLayer s.network s.params l
-  pub room : points_of s < 100_000
+  pub room : points_of (seen s) < 100_000
   pub ends : TellsCells s l None
 
+-- it took this point, and these are the items that were handed out
+pub record TakesAnew (old : KeptSession) (l : Layer) (new : KeptSession) (items : List Item) : Type 0 where
+  pub session : IsSession new
+  pub fed : IsFed (seen old) l (seen new) items
+
 -- a step to this point asks for the row of node v
-abbrev pub AsksStep : Session → Layer → ℕ → Type 0
+abbrev pub AsksStep : KeptSession → Layer → ℕ → Type 0
 AsksStep s l v =
     (0 < length s.layers) × AsksNext s.network s.params (last_layer s) (last_cells s) l v
 
@@ -100,7 +121,7 @@ closing_of n p first layers c ranks told =
     (edge_ids (route_of n p layers (as_ranks ranks) (whole_piece (length layers) c))) ∷ []
 
 -- these are left of the open piece
-pub record IsClosing (s : Session) (items : List Item) : Type 0 where
+pub record IsClosing (s : KeptSession) (items : List Item) : Type 0 where
   pub cost : ℕ
   pub ranks : List ℕ
   pub best : IsBest (trellis s.network s.params) (reverse s.layers) cost (reverse ranks)

@@ -4,7 +4,8 @@ ghost use Rattle.bounded_search.specs.Rows.{AreRowsOf, AsksOnly};
 ghost use Rattle.cost_model.specs.Options.{IsAccepted};
 ghost use Rattle.matching.specs.PieceSteps.{AsksIn};
 ghost use Rattle.online_commit.specs.Session.{AsksFed, AsksFinished, CanFeed, IsFed, IsFinished, StandsFor, no_points_of, points_of};
-ghost use Rattle.online_commit.specs.Steps.{EndsBefore};
+ghost use Rattle.online_commit.specs.Steps.{EndsBefore, TakesAnew};
+ghost use Rattle.online_commit.specs.Pieces.{piece_of, session_of};
 
 use crate::closing::closing_items;
 use crate::feeding::{OpenPiece, begin, extend, next_cells, no_piece};
@@ -17,7 +18,7 @@ use std::alloc::{AllocError, Global};
 use std::marker::Model;
 use trellis::Layer;
 
-/// A session of one trace. A contract sees the network, the options and what is kept of the points;
+/// A session of one trace. A contract sees the network, the options, and the points of the open piece;
 /// `StandsFor` says which points the session represents.
 pub struct Online<'n> {
     net: &'n Network,
@@ -55,6 +56,31 @@ fn append_items(items: &mut List<Item>, more: List<Item>) -> Result<(), AllocErr
         items.push(item)?;
     }
     Ok(())
+}
+
+/// Closes the open piece, if there is one, before a point that does not continue it, and begins anew
+/// with the point.
+fn begin_anew<R: Rows>(
+    net: &Network,
+    p: &Params,
+    rows: &mut R,
+    piece: &mut OpenPiece,
+    layer: Layer,
+) -> Result<List<Item>, AllocError>
+    requires rows { AreRowsOf (R.state rows.old) net.now p.now.bound }
+    requires before { EndsBefore (session_of net.now p.now piece.old) layer }
+    ensures taken { IfOk result (TakesAnew (session_of net.now p.now piece.old) layer (session_of net.now p.now piece.new)) }
+    ensures err { OnErr result (piece_of piece.new ≡ piece_of piece.old) }
+    ensures asks { AsksOnly (R.state rows.old) (R.state rows.new)
+        (AsksIn net.now p.now piece.old.layers.items piece.old.tables.items) }
+{
+    net.invariants();
+    let mut items = closing_items(net, p, rows, piece)?;
+    let index = piece.first + piece.layers.len() as u32;
+    let (begun, more) = begin(piece.alloc, p, index, layer)?;
+    append_items(&mut items, more)?;
+    *piece = begun;
+    Ok(items)
 }
 
 impl<'n> Online<'n> {
@@ -108,26 +134,8 @@ impl<'n> Online<'n> {
         let next = next_cells(self.net, &self.params, rows, &self.piece, &layer)?;
         match next {
             Some(cells) => extend(&mut self.piece, layer, cells),
-            None => self.begin_anew(layer, rows),
+            None => begin_anew(self.net, &self.params, rows, &mut self.piece, layer),
         }
-    }
-
-    /// Closes the open piece, if there is one, before a point that does not continue it.
-    fn begin_anew<R: Rows>(&mut self, layer: Layer, rows: &mut R) -> Result<List<Item>, AllocError>
-        requires rows { AreRowsOf (R.state rows.old) self.old.network self.old.params.bound }
-        requires before { EndsBefore self.old layer }
-        ensures fed { IfOk result (IsFed self.old layer self.new) }
-        ensures err { OnErr result (self.new ≡ self.old) }
-        ensures asks { AsksOnly (R.state rows.old) (R.state rows.new)
-            (AsksIn self.old.network self.old.params self.old.layers self.old.tables) }
-    {
-        self.net.invariants();
-        let mut items = closing_items(self.net, &self.params, rows, &self.piece)?;
-        let index = self.piece.first + self.piece.layers.len() as u32;
-        let (piece, more) = begin(self.piece.alloc, &self.params, index, layer)?;
-        append_items(&mut items, more)?;
-        self.piece = piece;
-        Ok(items)
     }
 
     /// Ends the trace, and returns the remaining items. Then the session is as newly opened. `Err` means

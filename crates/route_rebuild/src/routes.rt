@@ -1,13 +1,12 @@
 //! The route of a piece. Serves `route`; decided by `IsRouteOf`.
-ghost use Rattle.std.specs.Prelude.{◌≡◌, ◌<◌, ◌≤◌, IfOk, OnOk, length, reverse};
+ghost use Rattle.std.specs.Prelude.{◌≡◌, ◌<◌, ◌≤◌, IfOk, OnOk, length};
 ghost use Rattle.bounded_search.specs.Rows.{AreRowsOf, AsksOnly};
-ghost use Rattle.road_network.specs.Net.{source, target, HasEdge};
-ghost use Rattle.road_network.specs.Walk.{IsLeastWalk};
+ghost use Rattle.road_network.specs.Net.{target};
 ghost use Rattle.route_rebuild.specs.Chosen.{IsChosenRun, IsSolved};
 ghost use Rattle.route_rebuild.specs.Laws.{IsJoinedRoute};
 ghost use Rattle.route_rebuild.specs.Numbers.{numbers};
 ghost use Rattle.route_rebuild.specs.Routes.{IsChosenEnd, IsRouteOf, piece_at};
-ghost use Rattle.route_rebuild.specs.Runs.{AreRowsForRun, EndsLeg, HasWalk, IsLegAdded, IsRouteOfRun, chosen_in};
+ghost use Rattle.route_rebuild.specs.Runs.{AreRowsForRun, EndsLeg, IsLegAdded, IsRouteOfRun, chosen_in};
 
 use crate::run::{Run, chosen};
 use crate::walks::walk;
@@ -91,7 +90,8 @@ fn follow<R: Rows>(alloc: Global, rows: &mut R, run: &Run) -> Result<List<EdgeId
     Ok(edges)
 }
 
-/// Appends the edges from a point of the run to the next.
+/// Appends the edges from a point of the run to the next: none if the route is direct, and otherwise the
+/// least walk from the end of one edge to the start of the other, and this edge.
 fn append_leg<R: Rows>(
     alloc: Global,
     rows: &mut R,
@@ -111,27 +111,8 @@ fn append_leg<R: Rows>(
     if a.edge == b.edge && a.offset <= b.offset + run.params.back {
         return Ok(());
     }
-    let walk = walk_between(alloc, run.net, rows, a.edge, b.edge)?;
-    edges.extend_from_slice(walk.as_slice())?;
+    let row = rows.row(run.net.to(a.edge))?;
+    let between = walk(alloc, run.net, row, run.net.from(b.edge))?;
+    edges.extend_from_slice(between.as_slice())?;
     edges.push(b.edge)
-}
-
-/// The least walk from the end of one edge to the start of another.
-fn walk_between<R: Rows>(
-    alloc: Global,
-    net: &Network,
-    rows: &mut R,
-    a: EdgeId,
-    b: EdgeId,
-) -> Result<List<EdgeId>, AllocError>
-    requires rows { (R.state rows.old).network ≡ net.now }
-    requires edges { HasEdge net.now a.0 × HasEdge net.now b.0 }
-    requires walk { HasWalk net.now (R.state rows.old).bound a.0 b.0 }
-    ensures least { IfOk result (λ es. IsLeastWalk net.now (target net.now a.0)
-        (reverse (numbers es)) (source net.now b.0)) }
-    ensures asks { AsksOnly (R.state rows.old) (R.state rows.new) (λ v. v ≡ target net.now a.0) }
-{
-    net.invariants();
-    let row = rows.row(net.to(a))?;
-    walk(alloc, net, row, net.from(b))
 }

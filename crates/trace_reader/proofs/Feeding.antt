@@ -62,30 +62,30 @@ feeds_ok before after fed bytes old new stands reached sound =
       record { more = closed_of (brought p bytes); grown = parts.0; due = closed-fed_on before fed bytes stands },
     )
 
-pub feeds_err : (before : TraceReader) (fed piece : List ℕ) (most : Option ℕ) (old new : List Trace) (fault : TraceFault) → StandsFor before fed → FailsLines before piece most old fault new
-    → Fails fed piece old new fault
+pub feeds_err : (before : TraceReader) (fed chunk : List ℕ) (most : Option ℕ) (old new : List Trace) (fault : TraceFault) → StandsFor before fed → FailsLines before chunk most old fault new
+    → Fails fed chunk old new fault
 unfolding fault_in
-feeds_err before fed piece most old new fault stands fails =
+feeds_err before fed chunk most old new fault stands fails =
     let p = progress_of before [] in
-    let all : old ++ closed_of (brought p piece) ≡ new ++ fails.rest = sym (closed_of-read_bytes p old piece) ∙ fails.due in
-    let parts : closed_of (brought p piece) ≡ fails.more ++ fails.rest =
+    let all : old ++ closed_of (brought p chunk) ≡ new ++ fails.rest = sym (closed_of-read_bytes p old chunk) ∙ fails.due in
+    let parts : closed_of (brought p chunk) ≡ fails.more ++ fails.rest =
     append_cancel old _ _ (all ∙ ap (λ xs. xs ++ fails.rest) fails.grown ∙ append_assoc old fails.more fails.rest) in
     record {
       more = fails.more;
       rest = fails.rest;
       grown = fails.grown;
-      due = closed-fed_on before fed piece stands ∙ ap (λ xs. closed fed ++ xs) parts;
+      due = closed-fed_on before fed chunk stands ∙ ap (λ xs. closed fed ++ xs) parts;
       known = λ known.
-          let is = given_refused (brought p piece) old new stands.given fault (sym (read_bytes-with_closed p old piece) ∙ fails.known known) in (
+          let is = given_refused (brought p chunk) old new stands.given fault (sym (read_bytes-with_closed p old chunk) ∙ fails.known known) in (
             append_cancel new _ _ (sym all ∙ sym is.0 ∙ sym (append-nil new)),
-            ap fault_of (fed_on before fed piece stands ∙ is.1),
+            ap fault_of (fed_on before fed chunk stands ∙ is.1),
           );
     }
 
-pub feeds_some_ok : (before after : TraceReader) (fed piece : List ℕ) (most n : ℕ) (old new : List Trace) → StandsFor before fed → TakesLines before piece (Some most) old n after new → after.fault ≡ None
-    → Takes fed piece most after old new n
-feeds_some_ok before after fed piece most n old new stands takes sound =
-    let ok = feeds_ok before after fed (take n piece) old new stands takes.reached sound in
+pub feeds_some_ok : (before after : TraceReader) (fed chunk : List ℕ) (most n : ℕ) (old new : List Trace) → StandsFor before fed → TakesLines before chunk (Some most) old n after new → after.fault ≡ None
+    → Takes fed chunk most after old new n
+feeds_some_ok before after fed chunk most n old new stands takes sound =
+    let ok = feeds_ok before after fed (take n chunk) old new stands takes.reached sound in
     record {
       within = takes.within;
       stands = ok.0;
@@ -94,16 +94,16 @@ feeds_some_ok before after fed piece most n old new stands takes sound =
       whole = λ below. let grew = ap length ok.1.grown in takes.whole (lt-leb most (length new - length old) (omega (arith, grew, length-append old ok.1.more, below)));
       before = λ k h.
           let p = progress_of before [] in
-          let brings = closed_of (brought p (take k piece)) in
-          let below = few (Some most) most (length (closed_of (read_bytes (start_of before old) (take k piece))) - length old) refl (takes.fewer k h) in
-          let from_old = ap length (closed_of-read_bytes p old (take k piece)) in
-          let from_fed = ap length (closed-fed_on before fed (take k piece) stands) in
+          let brings = closed_of (brought p (take k chunk)) in
+          let below = few (Some most) most (length (closed_of (read_bytes (start_of before old) (take k chunk))) - length old) refl (takes.fewer k h) in
+          let from_old = ap length (closed_of-read_bytes p old (take k chunk)) in
+          let from_fed = ap length (closed-fed_on before fed (take k chunk) stands) in
           omega (arith, length-append old brings, length-append (closed fed) brings, from_old, from_fed, below);
     }
 
-pub feeds_some_fewer : (before : TraceReader) (piece : List ℕ) (most : ℕ) (old new : List Trace) (fault : TraceFault) → FailsLines before piece (Some most) old fault new
+pub feeds_some_fewer : (before : TraceReader) (chunk : List ℕ) (most : ℕ) (old new : List Trace) (fault : TraceFault) → FailsLines before chunk (Some most) old fault new
     → length new < length old + most
-feeds_some_fewer before piece most old new fault fails =
+feeds_some_fewer before chunk most old new fault fails =
     let below = few (Some most) most (length new - length old) refl fails.fewer in
     let lengths = ap length fails.grown in
     omega (arith, length-append old fails.more, lengths, below)

@@ -1,18 +1,13 @@
 -- A file read line by line: its lines are its parts between one LF and the next.
-use Rattle.std.specs.Prelude.{◌≡◌, ℕ, ◌+◌, ◌≤◌, ◌==◌, All, List, [], ◌∷◌, ◌++◌, length, Result, Ok, Err, Some, if◌then◌else◌}
+use Rattle.std.specs.Prelude.{◌≡◌, ℕ, ◌+◌, ◌≤◌, ◌==◌, All, List, [], ◌∷◌, length, Result, Ok, Err, Some}
+use Rattle.std.specs.List.{slice_split}
 use Rattle.trace_reader.specs.Content.{Content, no_content, read_line}
 use Rattle.trace_reader.specs.Reading.{Outcome, end_content, file_fault, file_limit, file_traces, line_limit}
 use Rattle.trace_reader.specs.declared.fault.TraceFault.{TraceFault}
 
--- the lines of a text that follows the beginning of a line
-abbrev pub lines_after : List ℕ → List ℕ → List (List ℕ)
-lines_after line [] = line ∷ []
-lines_after line (byte ∷ text) =
-    if byte == 10 then line ∷ lines_after [] text else lines_after (line ++ byte ∷ []) text
-
--- the parts of a text between one LF and the next, without the LFs
-abbrev pub lines_of : List ℕ → List (List ℕ)
-lines_of text = lines_after [] text
+-- the lines of a text without their LF, and what follows the last LF
+abbrev pub lines_in : List ℕ → List (List ℕ)
+lines_in text = slice_split (λ byte. byte == 10) text
 
 -- what follows a line; a line with a fault is the last that is read
 abbrev pub after_line : Content → Result Content TraceFault → (Content → Outcome) → Outcome
@@ -32,10 +27,10 @@ AreLinesShort lines = All (λ line. length line ≤ line_limit) lines
 -- no limit of the file or of a line is passed
 pub record IsWithinLimits (text : List ℕ) : Type 0 where
   pub file : length text ≤ file_limit
-  pub lines : AreLinesShort (lines_of text)
+  pub lines : AreLinesShort (lines_in text)
 
 -- the traces and the fault of the file are those of its lines
 abbrev pub IsReadByLine : List ℕ → Type 0
 IsReadByLine text =
-    read_lines 1 no_content (lines_of text)
+    read_lines 1 no_content (lines_in text)
     ≡ record { traces = file_traces text; fault = file_fault text }

@@ -33,39 +33,39 @@ pub record Closes (fed taken : List ℕ) (old new : List Trace) : Type 0 where
   pub grown : new ≡ old ++ more
   pub due : closed (fed ++ taken) ≡ closed fed ++ more
 
--- a list grew by the traces closed before the fault that is known within this piece; if memory ran
--- out, by the first of the traces that the piece closes
-pub record Fails (fed piece : List ℕ) (old new : List Trace) (fault : TraceFault) : Type 0 where
+-- a list grew by the traces closed before the fault that is known within this chunk; if memory ran
+-- out, by the first of the traces that the chunk closes
+pub record Fails (fed chunk : List ℕ) (old new : List Trace) (fault : TraceFault) : Type 0 where
   pub more : List Trace
   pub rest : List Trace
   pub grown : new ≡ old ++ more
-  pub due : closed (fed ++ piece) ≡ closed fed ++ (more ++ rest)
-  pub known : fault ≢ Memory → (rest ≡ []) × (fault_in (fed ++ piece) ≡ Some fault)
+  pub due : closed (fed ++ chunk) ≡ closed fed ++ (more ++ rest)
+  pub known : fault ≢ Memory → (rest ≡ []) × (fault_in (fed ++ chunk) ≡ Some fault)
 
 -- what `feed` leaves of a reader that stands for these bytes
 abbrev pub Feeds : List ℕ → List ℕ → TraceReader → List Trace → List Trace
     → Result (Unit {0}) TraceFault → Type 0
-Feeds fed piece reader old new (Ok done) =
-    StandsFor reader (fed ++ piece) × Closes fed piece old new
-Feeds fed piece reader old new (Err fault) = Fails fed piece old new fault
+Feeds fed chunk reader old new (Ok done) =
+    StandsFor reader (fed ++ chunk) × Closes fed chunk old new
+Feeds fed chunk reader old new (Err fault) = Fails fed chunk old new fault
 
--- the first n bytes of the piece were taken: the whole piece, or up to the byte that closes the
+-- the first n bytes of the chunk were taken: the whole chunk, or up to the byte that closes the
 -- `most`-th trace of the call
-pub record Takes (fed piece : List ℕ) (most : ℕ) (reader : TraceReader) (old new : List Trace)
+pub record Takes (fed chunk : List ℕ) (most : ℕ) (reader : TraceReader) (old new : List Trace)
     (n : ℕ) : Type 0 where
-  pub within : n ≤ length piece
-  pub stands : StandsFor reader (fed ++ take n piece)
-  pub closes : Closes fed (take n piece) old new
+  pub within : n ≤ length chunk
+  pub stands : StandsFor reader (fed ++ take n chunk)
+  pub closes : Closes fed (take n chunk) old new
   pub no_more : length new ≤ length old + most
-  pub whole : length new < length old + most → n ≡ length piece
-  pub before : (k : ℕ) → k < n → length (closed (fed ++ take k piece)) < length (closed fed) + most
+  pub whole : length new < length old + most → n ≡ length chunk
+  pub before : (k : ℕ) → k < n → length (closed (fed ++ take k chunk)) < length (closed fed) + most
 
 -- what `feed_some` leaves of a reader that stands for these bytes
 abbrev pub FeedsSome : List ℕ → List ℕ → ℕ → TraceReader → List Trace → List Trace
     → Result ℕ TraceFault → Type 0
-FeedsSome fed piece most reader old new (Ok n) = Takes fed piece most reader old new n
-FeedsSome fed piece most reader old new (Err fault) =
-    Fails fed piece old new fault × (length new < length old + most)
+FeedsSome fed chunk most reader old new (Ok n) = Takes fed chunk most reader old new n
+FeedsSome fed chunk most reader old new (Err fault) =
+    Fails fed chunk old new fault × (length new < length old + most)
 
 -- what `finish` leaves of a reader that stands for the bytes of a whole file: its other traces were
 -- appended, and the reader stands for no bytes

@@ -1,9 +1,8 @@
 -- What the parts of a call leave, seen from where it began.
-use Rattle.std.specs.Prelude.{◌≡◌, ◌≢◌, ℕ, ◌+◌, ◌-◌, ◌<◌, ◌≤◌, false, List, [], ◌∷◌, ◌++◌, length, take, ◌⊎◌, Option, Some, None, Ok, Err}
-use Rattle.trace_reader.specs.Content.{read_line}
+use Rattle.std.specs.Prelude.{◌≡◌, ◌≢◌, ℕ, ◌+◌, ◌-◌, ◌<◌, ◌≤◌, false, List, [], ◌∷◌, ◌++◌, length, take, ◌⊎◌, Option, Some, None}
 use Rattle.trace_reader.specs.Reading.{Reading, reads, refused, read_bytes, closed_of, file_limit, line_limit, end_reading, nothing_read}
 use Rattle.trace_reader.specs.Parts.{is_reached}
-use Rattle.trace_reader.specs.Reader.{content_of, progress_of}
+use Rattle.trace_reader.specs.Reader.{progress_of}
 use Rattle.trace_reader.specs.declared.reader.TraceReader.{TraceReader}
 use Rattle.trace_reader.specs.declared.trace.Trace.{Trace}
 use Rattle.trace_reader.specs.declared.fault.TraceFault.{TraceFault}
@@ -38,26 +37,6 @@ abbrev pub Refuses : TraceReader → List ℕ → List Trace → TraceFault → 
 Refuses before bytes old fault =
     fault ≢ Memory → read_bytes (start_of before old) bytes ≡ refused old fault
 
--- the line that has begun was read with its last bytes
-pub record ReadsLine (before : TraceReader) (part : List ℕ) (old : List Trace) (after : TraceReader)
-    (new : List Trace) : Type 0 where
-  pub read : read_line (before.lines + 1) (content_of before.content old) (before.line ++ part)
-      ≡ Ok (content_of after.content new)
-  pub line : after.line ≡ []
-  pub one : length new ≤ length old + 1
-
--- it has this fault, unless memory ran out
-abbrev pub RefusesLine : TraceReader → List ℕ → List Trace → TraceFault → Type 0
-RefusesLine before part old fault =
-    fault ≢ Memory
-    → read_line (before.lines + 1) (content_of before.content old) (before.line ++ part) ≡ Err fault
-
--- the counts of bytes and lines stay, and what is known of a fault
-pub record KeepsCounts (before after : TraceReader) : Type 0 where
-  pub bytes : after.bytes ≡ before.bytes
-  pub lines : after.lines ≡ before.lines
-  pub fault : after.fault ≡ before.fault
-
 -- the last bytes of a line and its LF were taken
 pub record EndsLine (before : TraceReader) (part : List ℕ) (old : List Trace) (after : TraceReader)
     (new : List Trace) : Type 0 where
@@ -73,38 +52,38 @@ pub record TakesLine (before : TraceReader) (bytes : List ℕ) (old : List Trace
   pub quiet : (k : ℕ) → k < n → closed_of (read_bytes (start_of before old) (take k bytes)) ≡ old
   pub one : length new ≤ length old + 1
 
--- the first n bytes of a piece were taken
-pub record TakesLines (before : TraceReader) (piece : List ℕ) (most : Option ℕ) (old : List Trace)
+-- the first n bytes of a chunk were taken
+pub record TakesLines (before : TraceReader) (chunk : List ℕ) (most : Option ℕ) (old : List Trace)
     (n : ℕ) (after : TraceReader) (new : List Trace) : Type 0 where
-  pub within : n ≤ length piece
-  pub reached : Reaches before (take n piece) old after new
-  pub whole : is_reached most (length new - length old) ≡ false → n ≡ length piece
+  pub within : n ≤ length chunk
+  pub reached : Reaches before (take n chunk) old after new
+  pub whole : is_reached most (length new - length old) ≡ false → n ≡ length chunk
   pub no_more : (m : ℕ) → most ≡ Some m → length new ≤ length old + m
   pub fewer : (k : ℕ) → k < n
       → is_reached most
-      (length (closed_of (read_bytes (start_of before old) (take k piece))) - length old)
+      (length (closed_of (read_bytes (start_of before old) (take k chunk))) - length old)
       ≡ false
 
--- a piece has a fault, or memory ran out; what was appended is closed before
-pub record FailsLines (before : TraceReader) (piece : List ℕ) (most : Option ℕ) (old : List Trace)
+-- a chunk has a fault, or memory ran out; what was appended is closed before
+pub record FailsLines (before : TraceReader) (chunk : List ℕ) (most : Option ℕ) (old : List Trace)
     (fault : TraceFault) (new : List Trace) : Type 0 where
-  pub known : fault ≢ Memory → read_bytes (start_of before old) piece ≡ refused new fault
+  pub known : fault ≢ Memory → read_bytes (start_of before old) chunk ≡ refused new fault
   pub more : List Trace
   pub grown : new ≡ old ++ more
   pub rest : List Trace
-  pub due : closed_of (read_bytes (start_of before old) piece) ≡ new ++ rest
+  pub due : closed_of (read_bytes (start_of before old) chunk) ≡ new ++ rest
   pub fewer : is_reached most (length new - length old) ≡ false
 
--- the first bytes of a piece were taken, and more may follow
-pub record IsUnderway (before : TraceReader) (piece : List ℕ) (most : Option ℕ) (old : List Trace)
+-- the first bytes of a chunk were taken, and more may follow
+pub record IsUnderway (before : TraceReader) (chunk : List ℕ) (most : Option ℕ) (old : List Trace)
     (taken : ℕ) (reader : TraceReader) (into : List Trace) : Type 0 where
-  pub within : taken ≤ length piece
-  pub reached : Reaches before (take taken piece) old reader into
+  pub within : taken ≤ length chunk
+  pub reached : Reaches before (take taken chunk) old reader into
   pub longer : length old ≤ length into
   pub no_more : (m : ℕ) → most ≡ Some m → length into ≤ length old + m
   pub fewer : (k : ℕ) → k < taken
       → is_reached most
-      (length (closed_of (read_bytes (start_of before old) (take k piece))) - length old)
+      (length (closed_of (read_bytes (start_of before old) (take k chunk))) - length old)
       ≡ false
 
 -- the reader was at the end of the file: the other traces were appended, and it begins anew

@@ -42,9 +42,8 @@ impl Drop for TraceReader {
 }
 
 impl TraceReader {
-    ghost use Rattle.trace_reader.specs.Content.{read_line};
-    ghost use Rattle.trace_reader.specs.Reader.{StandsFor, HasFailed, Feeds, FeedsSome, Finishes, content_of};
-    ghost use Rattle.trace_reader.specs.Steps.{Exceeds, HasRoom, KeepsCounts, Reaches, Refuses, EndsLine, ReadsLine, RefusesLine, TakesLine, TakesLines, FailsLines, EndsFile, FailsEnd};
+    ghost use Rattle.trace_reader.specs.Reader.{StandsFor, HasFailed, Feeds, FeedsSome, Finishes};
+    ghost use Rattle.trace_reader.specs.Steps.{Exceeds, HasRoom, Reaches, Refuses, EndsLine, TakesLine, TakesLines, FailsLines, EndsFile, FailsEnd};
 
     /// A reader that was fed nothing. Allocates nothing.
     pub fn open(alloc: Global) -> Self
@@ -60,14 +59,14 @@ impl TraceReader {
     }
 
     /// Appends the traces that this chunk closes. On a fault, the traces closed before it are appended.
-    pub fn feed(&mut self, piece: &[u8], into: &mut List<Trace>) -> Result<(), TraceFault>
+    pub fn feed(&mut self, chunk: &[u8], into: &mut List<Trace>) -> Result<(), TraceFault>
         ensures fed { (fed : ListOf ℕ) → StandsFor self.old fed
-            → Feeds fed piece.now self.new into.old into.new result }
+            → Feeds fed chunk.now self.new into.old into.new result }
         ensures fails { IfErr result (HasFailed self.new) }
         ensures again { (fault : TraceFault) → HasFailed self.old fault
             → (result ≡ Err fault) × (into.new ≡ into.old) }
     {
-        match self.take(piece, None, into) {
+        match self.take(chunk, None, into) {
             Ok(_) => Ok(()),
             Err(fault) => Err(fault),
         }
@@ -77,19 +76,19 @@ impl TraceReader {
     /// call, and returns how many bytes it took.
     pub fn feed_some(
         &mut self,
-        piece: &[u8],
+        chunk: &[u8],
         most: u32,
         into: &mut List<Trace>,
     ) -> Result<u32, TraceFault>
         requires some { 1 ≤ most }
-        requires short { length piece.now < 2 ^ 32 }
+        requires short { length chunk.now < 2 ^ 32 }
         ensures fed { (fed : ListOf ℕ) → StandsFor self.old fed
-            → FeedsSome fed piece.now most self.new into.old into.new result }
+            → FeedsSome fed chunk.now most self.new into.old into.new result }
         ensures fails { IfErr result (HasFailed self.new) }
         ensures again { (fault : TraceFault) → HasFailed self.old fault
             → (result ≡ Err fault) × (into.new ≡ into.old) }
     {
-        match self.take(piece, Some(most), into) {
+        match self.take(chunk, Some(most), into) {
             Ok(taken) => Ok(taken as u32),
             Err(fault) => Err(fault),
         }
@@ -115,17 +114,18 @@ impl TraceReader {
         }
     }
 
-    // Takes bytes unless the reader has failed, and records a fault.
+    // Takes lines, and the beginning of a line, until this many traces are closed. Records a fault,
+    // after which it takes nothing.
     fn take(
         &mut self,
-        piece: &[u8],
+        chunk: &[u8],
         most: Option<u32>,
         into: &mut List<Trace>,
     ) -> Result<usize, TraceFault>
         ensures ok { IfOk result (λ n. (self.old.fault ≡ None) × (self.new.fault ≡ None)
-            × TakesLines self.old piece.now most into.old n self.new into.new) }
+            × TakesLines self.old chunk.now most into.old n self.new into.new) }
         ensures err { IfErr result (λ fault. self.old.fault ≡ None
-            → FailsLines self.old piece.now most into.old fault into.new) }
+            → FailsLines self.old chunk.now most into.old fault into.new) }
         ensures fails { IfErr result (HasFailed self.new) }
         ensures again { (fault : TraceFault) → HasFailed self.old fault
             → (result ≡ Err fault) × (into.new ≡ into.old) }
@@ -133,32 +133,16 @@ impl TraceReader {
         if let Some(known) = self.fault {
             return Err(known);
         }
-        match self.take_lines(piece, most, into) {
-            Ok(taken) => Ok(taken),
-            Err(found) => {
-                self.fault = Some(found);
-                Err(found)
-            }
-        }
-    }
-
-    // Takes lines, and the beginning of a line, until this many traces are closed.
-    fn take_lines(
-        &mut self,
-        piece: &[u8],
-        most: Option<u32>,
-        into: &mut List<Trace>,
-    ) -> Result<usize, TraceFault>
-        ensures ok { IfOk result
-            (λ n. TakesLines self.old piece.now most into.old n self.new into.new) }
-        ensures err { IfErr result
-            (λ fault. FailsLines self.old piece.now most into.old fault into.new) }
-        ensures fault { self.new.fault ≡ self.old.fault }
-    {
         let before = into.len();
         let mut taken = 0;
-        while taken < piece.len() && !is_reached(most, into.len() - before) {
-            taken += self.take_line(&piece[taken..], into)?;
+        while taken < chunk.len() && !is_reached(most, into.len() - before) {
+            match self.take_line(&chunk[taken..], into) {
+                Ok(bytes) => taken += bytes,
+                Err(found) => {
+                    self.fault = Some(found);
+                    return Err(found);
+                }
+            }
         }
         Ok(taken)
     }
@@ -183,7 +167,7 @@ impl TraceReader {
         }
     }
 
-    // Takes the last bytes of a line and its LF.
+    // Takes the last bytes of a line and its LF. A line that is entirely in the chunk is not copied.
     fn end_line(&mut self, part: &[u8], into: &mut List<Trace>) -> Result<(), TraceFault>
         requires { HasNoEnd part.now }
         ensures ok { OnOk result (EndsLine self.old part.now into.old self.new into.new) }
@@ -196,28 +180,16 @@ impl TraceReader {
         if bytes == FILE_LIMIT {
             return Err(TraceFault::FileTooLong);
         }
-        self.read_line(part, into)?;
-        self.bytes = bytes + 1;
-        self.lines += 1;
-        Ok(())
-    }
-
-    // Reads the unfinished line, with its last bytes. A line that is entirely in the chunk is
-    // not copied.
-    fn read_line(&mut self, part: &[u8], into: &mut List<Trace>) -> Result<(), TraceFault>
-        requires { HasRoom self.old (length part.now) }
-        ensures ok { OnOk result (ReadsLine self.old part.now into.old self.new into.new) }
-        ensures err { IfErr result (RefusesLine self.old part.now into.old) }
-        ensures same { OnErr result (into.new ≡ into.old) }
-        ensures kept { KeepsCounts self.old self.new }
-    {
         let number = self.lines + 1;
         if self.line.as_slice().is_empty() {
-            return self.content.read_line(number, part, into);
+            self.content.read_line(number, part, into)?;
+        } else {
+            self.line.extend_from_slice(part)?;
+            self.content.read_line(number, self.line.as_slice(), into)?;
+            self.line.truncate(0);
         }
-        self.line.extend_from_slice(part)?;
-        self.content.read_line(number, self.line.as_slice(), into)?;
-        self.line.truncate(0);
+        self.bytes = bytes + 1;
+        self.lines = number;
         Ok(())
     }
 

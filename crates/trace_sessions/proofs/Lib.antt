@@ -12,8 +12,11 @@ pub mod SessionFixes
 pub mod StreamPoints
 pub mod StreamAlone
 pub mod CallsAlone
+pub mod OnePointTaken
 pub mod StreamTakes
+pub mod FragmentTakes
 pub mod StreamLines
 pub mod StreamEnds
 pub mod ByteLines
+pub mod BestEnds
 pub mod CommonLabels

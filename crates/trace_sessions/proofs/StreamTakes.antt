@@ -1,178 +1,30 @@
 -- What taking points of a stream leaves: one point, and more behind others.
-use Rattle.std.proofs.Common.{◌≡◌, ◌⊎◌, inl, inr, ⊎_elim, ℕ, ◌+◌, ◌<◌, ◌≤◌, ◌^◌, Bool, true, false, cond, List, [], ◌∷◌, ◌++◌, Some, None, Result, Ok, Err, OnOk, IsErr, get_or, refl, sym, ap, ◌∙◌, subst, arith, length, map, take, drop, nat_eq, nat_lt}
+use Rattle.std.proofs.Common.{◌≡◌, ◌⊎◌, inl, inr, ⊎_elim, ℕ, ◌+◌, ◌<◌, Bool, true, false, cond, List, [], ◌∷◌, ◌++◌, Some, None, Result, Ok, Err, OnOk, IsErr, refl, sym, ap, ◌∙◌, subst, arith, length, map, nat_eq}
 use Rattle.std.specs.Prelude.{Contains}
 use Rattle.std.specs.List.{All, concat}
 use Rattle.std.proofs.lemmas.Bool.Decides.{nat_tests}
-use Rattle.std.proofs.lemmas.List.{append_assoc, append-nil, get_or_default, length-append, length-map, length-take-le, map-append, take-append-drop, take_all, take_more}
-use Rattle.std.proofs.lemmas.List.Elements.{All-append, All-cons, All-head, All-map, All-tail, All-take}
+use Rattle.std.proofs.lemmas.List.{append_assoc, append-nil, map-append}
+use Rattle.std.proofs.lemmas.List.Elements.{All-head, All-tail}
 use Rattle.std.proofs.lemmas.List.Folds.{concat-append}
 use Rattle.polyline_geometry.specs.Plane.{InRange}
-use Rattle.cost_model.specs.declared.params.Params.{Params}
-use Rattle.cost_model.specs.Options.{IsAccepted}
-use Rattle.road_network.specs.Net.{Net, IsLawful}
-use Rattle.bounded_search.specs.Rows.{RowsState, AreRowsOf, AsksOnly}
-use Rattle.bounded_search.proofs.Asking.{asks_nothing, keeps_itself, keeps_then, only_by, only_then, still_of}
+use Rattle.bounded_search.specs.Rows.{RowsState, AsksOnly}
+use Rattle.bounded_search.proofs.Asking.{asks_nothing, keeps_itself, keeps_then, only_by, only_then}
 use Rattle.trace_match.specs.Match.{layer_of, place_of}
-use Rattle.trace_match.proofs.TraceLayers.{matchable}
 use Rattle.trace_reader.specs.declared.trace.Fix.{Fix}
-use Rattle.trace_reader.specs.Trace.{IsLawfulTrace}
-use Rattle.trace_reader.specs.declared.trace.Trace.{Trace}
-use Rattle.matching.specs.declared.parts.Layer.{Layer}
 use Rattle.matching.specs.Layers.{trellis}
 use Rattle.matching.proofs.CommittedValues.{whole}
-use Rattle.online_commit.specs.declared.items.Item.{Item}
-use Rattle.online_commit.specs.Items.{handed}
 use Rattle.online_commit.specs.Session.{AsksPoints, no_points_of, points_of}
 use Rattle.online_commit.proofs.Asking.{asks-more}
 use Rattle.trace_sessions.specs.declared.sessions.SessionFault.{SessionFault}
 use Rattle.trace_sessions.specs.declared.sessions.SessionFault.TheVariants.{Memory, NotOpen, TooLong}
-use Rattle.trace_sessions.specs.FollowText.{fix_line, handed_at}
-use Rattle.trace_sessions.specs.Following.{pieces_among}
-use Rattle.trace_sessions.specs.ItemText.{AddsPrefix, AreItemsOf, item_lines}
-use Rattle.trace_sessions.specs.Sessions.{AsksFedTo, AsksFixes, IsFeedFault, Keeps, Pair, SessionsState, TakesFix, fixes_and, fixes_of, with_fix}
+use Rattle.trace_sessions.specs.ItemText.{AddsPrefix}
+use Rattle.trace_sessions.specs.Sessions.{AsksFedTo, AsksFixes, Keeps, Pair, SessionsState, fixes_and, fixes_of, with_fix}
 use Rattle.trace_sessions.specs.SessionsInside.{session_at, session_in}
-use Rattle.trace_sessions.specs.StreamText.{Point, first_line, fixes_among, fragment_points, full_id, has_room, led_by, lines_of_fix, stream_lines, trace_of, with_points, with_taken}
-use Rattle.trace_sessions.specs.Streaming.{AreLawful, AsksSome, AsksStream, CanStream, Streams, TakesPoints, pieces_told}
-use Rattle.trace_sessions.specs.StreamingInside.{heading, lines_of_items}
-use Rattle.trace_sessions.proofs.FollowLines.{none_handed}
-use Rattle.trace_sessions.proofs.ItemEdges.{handed_edges}
-use Rattle.trace_sessions.proofs.FollowedPoints.{lies_behind}
-use Rattle.trace_sessions.proofs.PieceCounts.{among-append}
+use Rattle.trace_sessions.specs.StreamText.{Point, fixes_among, full_id, has_room, stream_lines, with_points}
+use Rattle.trace_sessions.specs.Streaming.{AreLawful, AsksSome, AsksStream, Streams, TakesPoints, pieces_told}
 use Rattle.trace_sessions.proofs.SessionFixes.{count_of, no-ok, opened-is, stands-in}
-use Rattle.trace_sessions.proofs.StreamLines.{told-few}
-use Rattle.trace_sessions.proofs.Written.{adds-none}
-use Rattle.trace_sessions.proofs.StreamPoints.{fixes-behind, fixes-with, fixes_in-behind, full-append, full-stays, lawful-insert, lines-append, none-more, not-full, one-full, sound-at, sum-insert, taken-append, taken-stays, with-append}
-
-abbrev layers : Net → Params → List Fix → List Layer
-layers n p fixes = map (layer_of n p) fixes
-
--- what holds of the network and the options of a state
-of_state : (P : Net → Params → Type 0) {m n : Net} {q p : Params} → m ≡ n → q ≡ p → P m q → P n p
-of_state P {m} {n} {q} {p} net par h = subst (λ x. P x p) net (subst (λ y. P m y) par h)
-
-add_assoc : (a b c : ℕ) → a + b + c ≡ a + (b + c)
-add_assoc a b c = omega arith
-
--- ---- one point
-
-room-is : (pairs : List Pair) (id : ℕ) → length (fixes_of pairs id) < 100_000 → has_room pairs id ≡ true
-room-is pairs id low = let e : nat_lt (length (fixes_of pairs id)) 100_000 ≡ true = grind (arith, nat_tests) in e
-
-room-not : (pairs : List Pair) (id : ℕ) → 100_000 ≤ length (fixes_of pairs id) → has_room pairs id ≡ false
-room-not pairs id full = let e : nat_lt (length (fixes_of pairs id)) 100_000 ≡ false = grind (arith, nat_tests) in e
-
-heading-is : (id : ℕ) (fixes : List Fix) → heading id (length fixes) ≡ first_line id fixes
-heading-is id [] = refl
-heading-is id (fix ∷ fixes) = refl
-
--- the lines of the items of a point are its lines
-pub point-lines : (n : Net) (p : Params) (pairs : List Pair) (id : ℕ) (fix : Fix) (point : ℕ) (items : List Item) → has_room pairs id ≡ true → point ≡ length (fixes_of pairs id)
-    → items ≡ handed_at n p (layers n p (fixes_and pairs id fix)) (length (fixes_of pairs id))
-    → lines_of_items n id point items ≡ stream_lines n p pairs ((id, fix) ∷ [])
-point-lines n p pairs id fix point items room count are =
-    let fixes = fixes_of pairs id in
-    ap (λ k. led_by id (heading id k ++ fix_line k ∷ item_lines n None items)) count
-    ∙ ap (λ ls. led_by id (ls ++ fix_line (length fixes) ∷ item_lines n None items)) (heading-is id fixes)
-    ∙ ap (λ xs. led_by id (first_line id fixes ++ fix_line (length fixes) ∷ item_lines n None xs)) are
-    ∙ sym (append-nil (led_by id (lines_of_fix n p id fixes fix)))
-    ∙ sym (ap (λ b. cond b (led_by id (lines_of_fix n p id fixes fix) ++ []) []) room)
-
-told-with : (n : Net) (p : Params) (pairs : List Pair) (id : ℕ) (fix : Fix) (items : List Item)
-    → handed n p (layers n p (fixes_and pairs id fix)) ≡ handed n p (layers n p (fixes_of pairs id)) ++ items
-    → pieces_told n p (with_fix pairs id fix) ≡ pieces_told n p pairs + pieces_among items
-told-with n p pairs id fix items grown =
-    let f : List Fix → ℕ = λ fixes. pieces_among (handed n p (layers n p fixes)) in
-    let sum = sum-insert f id (fixes_and pairs id fix) pairs (ap pieces_among (none_handed n p)) in
-    let new : f (fixes_and pairs id fix) ≡ f (fixes_of pairs id) + pieces_among items = ap pieces_among grown ∙ among-append (handed n p (layers n p (fixes_of pairs id))) items in
-    omega (arith, sum, new)
-
-pub point-taken : (old new : SessionsState) (pairs : List Pair) (id : ℕ) (fix : Fix) (items : List Item) (point count : ℕ) (text text' : List ℕ) → Keeps old pairs → TakesFix old id fix new items
-    → point ≡ length (fixes_of pairs id) → count ≡ pieces_among items → text' ≡ text ++ concat (lines_of_items old.network id point items)
-    → TakesPoints old pairs ((id, fix) ∷ []) new text text' count
-point-taken old new pairs id fix items point count text text' keeps fed at counted written =
-    let n = old.network in
-    let p = old.params in
-    let room = room-is pairs id (fed.room pairs keeps) in
-    let grown = fed.handed-on pairs keeps in
-    record {
-      network = fed.network;
-      params = fed.params;
-      room = one-full pairs (id, fix) room;
-      stands = fed.stands pairs keeps;
-      written = written ∙ ap (λ ls. text ++ concat ls) (point-lines n p pairs id fix point items room at (fed.are pairs keeps));
-      counted = told-with n p pairs id fix items grown ∙ ap (λ k. pieces_told n p pairs + k) (sym counted);
-    }
-
--- where its lines were written in part
-pub point-cut : (old new : SessionsState) (pairs : List Pair) (id : ℕ) (fix : Fix) (items : List Item) (point : ℕ) (text text' : List ℕ) → Keeps old pairs → TakesFix old id fix new items
-    → point ≡ length (fixes_of pairs id) → AddsPrefix text (concat (lines_of_items old.network id point items)) text' → Streams old pairs ((id, fix) ∷ []) new text text' (Err Memory)
-point-cut old new pairs id fix items point text text' keeps fed at cut =
-    let room = room-is pairs id (fed.room pairs keeps) in
-    let lines = stream_lines old.network old.params pairs ((id, fix) ∷ []) in
-    let own : AddsPrefix text (concat lines) text' =
-    subst (λ ls. AddsPrefix text (concat ls) text') (point-lines old.network old.params pairs id fix point items room at (fed.are pairs keeps)) cut in
-    record {
-      whole = [];
-      last = (id, fix) ∷ [];
-      left = [];
-      parts = refl;
-      one = omega arith;
-      network = fed.network;
-      params = fed.params;
-      room = one-full pairs (id, fix) room;
-      stands = fed.stands pairs keeps;
-      written = subst (λ t. AddsPrefix t (concat lines) text') (sym (append-nil text)) own;
-    }
-
-pub point-refused : (old new : SessionsState) (pairs : List Pair) (id : ℕ) (fix : Fix) (fault : SessionFault) (text : List ℕ) → Keeps old pairs → IsFeedFault old id fault → new ≡ old
-    → Streams old pairs ((id, fix) ∷ []) new text text (Err fault)
-point-refused old new pairs id fix fault text keeps (inl memory) same =
-    subst (λ f. Streams old pairs ((id, fix) ∷ []) new text text (Err f)) (sym memory)
-    (record {
-      whole = [];
-      last = [];
-      left = (id, fix) ∷ [];
-      parts = refl;
-      one = omega arith;
-      network = ap (λ (s : SessionsState). s.network) same;
-      params = ap (λ (s : SessionsState). s.params) same;
-      room = refl;
-      stands = subst (λ s. Keeps s pairs) (sym same) keeps;
-      written = adds-none (text ++ []) [] text (sym (append-nil text));
-    })
-point-refused old new pairs id fix fault text keeps (inr full) same =
-    let none = room-not pairs id (full.1 pairs keeps) in
-    let no_lines : stream_lines old.network old.params pairs ((id, fix) ∷ []) ≡ [] =
-    ap (λ b. cond b (led_by id (lines_of_fix old.network old.params id (fixes_of pairs id) fix) ++ []) []) none in
-    subst (λ f. Streams old pairs ((id, fix) ∷ []) new text text (Err f)) (sym full.0)
-    (record {
-      network = ap (λ (s : SessionsState). s.network) same;
-      params = ap (λ (s : SessionsState). s.params) same;
-      full = not-full pairs (id, fix) none;
-      stands = subst (λ s. Keeps s (with_taken pairs ((id, fix) ∷ []))) (sym same) (subst (Keeps old) (sym (none-more pairs (id, fix) none)) keeps);
-      written = sym (ap (λ ls. text ++ concat ls) no_lines ∙ append-nil text);
-    })
-
--- ---- lawful pairs stay lawful
-
-pub lawful-with : (pairs : List Pair) (id : ℕ) (fix : Fix) → AreLawful pairs → InRange (place_of fix) → length (fixes_of pairs id) < 100_000 → IsLawfulTrace (trace_of (id, fixes_and pairs id fix))
-lawful-with pairs id fix are place low =
-    let sound = sound-at id pairs are in
-    let count = length-append (fixes_of pairs id) (fix ∷ []) in
-    record {
-      some = omega (arith, count);
-      few = omega (arith, count, low);
-      in_range = All-append (λ (f : Fix). InRange (place_of f)) (fixes_of pairs id) (fix ∷ []) sound.in-range (All-cons (λ (f : Fix). InRange (place_of f)) fix [] place (λ i d lt. absurd (omega (arith, lt))));
-    }
-
--- the items of a point are items of the network
-pub items-lie : (n : Net) (p : Params) (pairs : List Pair) (id : ℕ) (fix : Fix) (items : List Item) → IsLawful n → IsAccepted p → AreLawful pairs → InRange (place_of fix)
-    → length (fixes_of pairs id) < 100_000 → handed n p (layers n p (fixes_and pairs id fix)) ≡ handed n p (layers n p (fixes_of pairs id)) ++ items → AreItemsOf n items
-items-lie n p pairs id fix items lawful accepted are place low grown =
-    let trace = trace_of (id, fixes_and pairs id fix) in
-    let is = lawful-with pairs id fix are place low in
-    let all = handed_edges n p (layers n p (fixes_and pairs id fix)) lawful (matchable n p trace (layers n p (fixes_and pairs id fix)) accepted is refl) in
-    lies_behind n (handed n p (layers n p (fixes_of pairs id))) items (subst (AreItemsOf n) grown all)
+use Rattle.trace_sessions.proofs.StreamPoints.{fixes-behind, fixes-with, full-append, full-stays, lawful-insert, lines-append, taken-append, taken-stays, with-append}
+use Rattle.trace_sessions.proofs.OnePointTaken.{add_assoc, lawful-with, layers, of_state}
 
 -- ---- more points
 
@@ -364,46 +216,6 @@ asks-no-points s rows result = record {
     on_any (Ok x) h = h
     on_any (Err e) h = tt
 
--- ---- the loop over the points of a fragment
-
--- its first i points
-abbrev pub first_points : Trace → ℕ → List Point
-first_points trace i = map (λ fix. (trace.id, fix)) (take i trace.fixes)
-
--- they were taken
-pub record HasStreamed (s0 s : SessionsState) (trace : Trace) (i : ℕ) (t0 t : List ℕ) (rows0 rows : RowsState) (pieces : ℕ) : Type 0 where
-  pub takes : (pairs : List Pair) → Keeps s0 pairs → TakesPoints s0 pairs (first_points trace i) s t0 t pieces
-  pub asks : AsksStream {A = ℕ} {E = SessionFault} s0 (first_points trace i) rows0 (Ok pieces) rows
-
-pub none-streamed : (s : SessionsState) (trace : Trace) (t : List ℕ) (rows : RowsState) → HasStreamed s s trace 0 t t rows rows 0
-none-streamed s trace t rows = record {
-  takes = λ pairs h. none-taken s pairs t h;
-  asks = asks-no-points {A = ℕ} {E = SessionFault} s rows (Ok 0);
-}
-
-pub next-points : (trace : Trace) (fixes : List Fix) (i : ℕ) (d : Fix) → fixes ≡ trace.fixes → i < length fixes
-    → first_points trace (i + 1) ≡ first_points trace i ++ (trace.id, get_or fixes i d) ∷ []
-next-points trace fixes i d all low =
-    let fix = get_or fixes i d in
-    let within : i < length trace.fixes = subst (λ (fs : List Fix). i < length fs) all low in
-    let here : fix ≡ get_or trace.fixes i fix = get_or_default fixes i d fix low ∙ ap (λ (fs : List Fix). get_or fs i fix) all in
-    let mark : Fix → Point = λ f. (trace.id, f) in
-    ap (map mark) (take_more trace.fixes i fix within ∙ ap (λ f. take i trace.fixes ++ f ∷ []) (sym here)) ∙ map-append mark (take i trace.fixes) (fix ∷ [])
-
--- and those behind it
-pub points-parts : (trace : Trace) (fixes : List Fix) (i : ℕ) (d : Fix) → fixes ≡ trace.fixes → i < length fixes
-    → first_points trace i ++ ((trace.id, get_or fixes i d) ∷ [] ++ map (λ fix. (trace.id, fix)) (drop (i + 1) trace.fixes)) ≡ fragment_points trace
-points-parts trace fixes i d all low =
-    let mark : Fix → Point = λ f. (trace.id, f) in
-    let rest = map mark (drop (i + 1) trace.fixes) in
-    sym (append_assoc (first_points trace i) ((trace.id, get_or fixes i d) ∷ []) rest)
-    ∙ ap (λ ps. ps ++ rest) (sym (next-points trace fixes i d all low))
-    ∙ sym (map-append mark (take (i + 1) trace.fixes) (drop (i + 1) trace.fixes))
-    ∙ ap (map mark) (take-append-drop (i + 1) trace.fixes)
-
-pub all-points : (trace : Trace) (fixes : List Fix) (i : ℕ) → fixes ≡ trace.fixes → length fixes ≤ i → first_points trace i ≡ fragment_points trace
-all-points trace fixes i all over = ap (map (λ fix. (trace.id, fix))) (take_all i trace.fixes (subst (λ (fs : List Fix). length fs ≤ i) all over))
-
 -- pairs stay lawful
 pub lawful-behind : (pairs : List Pair) (points : List Point) → AreLawful pairs → All (λ (x : Point). InRange (place_of x.1)) points → full_id pairs points ≡ None → AreLawful (with_points pairs points)
 lawful-behind pairs [] are places room = are
@@ -416,93 +228,6 @@ lawful-behind pairs (x ∷ more) are places room =
         → (length (fixes_of pairs x.0) < 100_000 → full_id (with_fix pairs x.0 x.1) more ≡ None → AreLawful (with_points (with_fix pairs x.0 x.1) more)) → AreLawful (with_points (with_fix pairs x.0 x.1) more)
     step true is room more = more (let low : length (fixes_of pairs x.0) < 100_000 = grind (arith, nat_tests) in low) room
     step false is room more = absurd cc
-
-pub places-of : (trace : Trace) (i : ℕ) → IsLawfulTrace trace → All (λ (x : Point). InRange (place_of x.1)) (first_points trace i)
-places-of trace i lawful =
-    All-map (λ (x : Point). InRange (place_of x.1)) (λ (fix : Fix). (trace.id, fix)) (take i trace.fixes) (All-take (λ (fix : Fix). InRange (place_of fix)) i trace.fixes lawful.in_range)
-
-pub streamed-can : (s0 s : SessionsState) (trace : Trace) (fixes : List Fix) (i : ℕ) (t0 t : List ℕ) (rows0 rows : RowsState) (pieces : ℕ) → fixes ≡ trace.fixes → i < length fixes → IsLawfulTrace trace
-    → CanStream s0 (length trace.fixes) → HasStreamed s0 s trace i t0 t rows0 rows pieces → CanStream s 1
-streamed-can s0 s trace fixes i t0 t rows0 rows pieces all low lawful can has =
-    let takes = has.takes can.pairs can.keeps in
-    let within : i < length trace.fixes = subst (λ (fs : List Fix). i < length fs) all low in
-    let count = length-map {B = Point} (take i trace.fixes) (λ (fix : Fix). (trace.id, fix)) in
-    let short = length-take-le i trace.fixes (omega (arith, within)) in
-    let sum = fixes_in-behind can.pairs (first_points trace i) in
-    let few = can.few in
-    record {
-      pairs = with_points can.pairs (first_points trace i);
-      keeps = takes.stands;
-      lawful = lawful-behind can.pairs (first_points trace i) can.lawful (places-of trace i lawful) takes.room;
-      few = omega (arith, few, sum, count, short, within);
-    }
-
-pub streamed-rows : (s0 s : SessionsState) (trace : Trace) (i more : ℕ) (t0 t : List ℕ) (rows0 rows : RowsState) (pieces : ℕ) → CanStream s0 more → AreRowsOf rows0 s0.network s0.params.bound
-    → HasStreamed s0 s trace i t0 t rows0 rows pieces → AreRowsOf rows s.network s.params.bound
-streamed-rows s0 s trace i more t0 t rows0 rows pieces can are has =
-    let takes = has.takes can.pairs can.keeps in
-    let still = still_of has.asks.keeps are in
-    record { network = still.network ∙ sym takes.network; bound = still.bound ∙ sym (ap (λ (q : Params). q.bound) takes.params) }
-
--- one point more
-pub streamed-next : (s0 s1 s2 : SessionsState) (trace : Trace) (fixes : List Fix) (i : ℕ) (d : Fix) (more : ℕ) (t0 t1 t2 : List ℕ) (r0 r1 r2 : RowsState) (pieces count : ℕ) (result : Result ℕ SessionFault)
-    → fixes ≡ trace.fixes → i < length fixes → CanStream s0 more → HasStreamed s0 s1 trace i t0 t1 r0 r1 pieces
-    → ((pairs : List Pair) → Keeps s1 pairs → Streams s1 pairs ((trace.id, get_or fixes i d) ∷ []) s2 t1 t2 result)
-    → AsksStream s1 ((trace.id, get_or fixes i d) ∷ []) r1 result r2 → result ≡ Ok count
-    → HasStreamed s0 s2 trace (i + 1) t0 t2 r0 r2 (pieces + count)
-streamed-next s0 s1 s2 trace fixes i d more t0 t1 t2 r0 r1 r2 pieces count result all low can has streams asks is =
-    let point = (trace.id, get_or fixes i d) ∷ [] in
-    let next = next-points trace fixes i d all low in
-    let begun = has.takes can.pairs can.keeps in
-    record {
-      takes = λ pairs h.
-          let one = has.takes pairs h in
-          let two = subst (Streams s1 (with_points pairs (first_points trace i)) point s2 t1 t2) is (streams (with_points pairs (first_points trace i)) one.stands) in
-          subst (λ ps. TakesPoints s0 pairs ps s2 t0 t2 (pieces + count)) (sym next) (takes-then s0 s1 s2 pairs (first_points trace i) point t0 t1 t2 pieces count one two);
-      asks = subst (λ ps. AsksStream {A = ℕ} {E = SessionFault} s0 ps r0 (Ok (pieces + count)) r2) (sym next)
-          (told-ok (asks-then {B = ℕ} {F = SessionFault} {x = pieces} s0 s1 (first_points trace i) point r0 r1 r2 (Ok count) begun.network begun.params (λ pairs h. (has.takes pairs h).stands) has.asks
-          (subst (λ r. AsksStream s1 point r1 r r2) is asks)));
-    }
-  where
-    told-ok : AsksStream {A = ℕ} {E = SessionFault} s0 (first_points trace i ++ (trace.id, get_or fixes i d) ∷ []) r0 (Ok count) r2
-        → AsksStream {A = ℕ} {E = SessionFault} s0 (first_points trace i ++ (trace.id, get_or fixes i d) ∷ []) r0 (Ok (pieces + count)) r2
-    told-ok asks = record { keeps = asks.keeps; only = asks.only; all = asks.all }
-
--- the number of pieces stays in its range
-pub streamed-few : (s0 s2 : SessionsState) (trace : Trace) (fixes : List Fix) (i : ℕ) (t0 t2 : List ℕ) (r0 r2 : RowsState) (pieces : ℕ) → fixes ≡ trace.fixes → i < length fixes
-    → IsAccepted s0.params → IsLawfulTrace trace → CanStream s0 (length trace.fixes) → HasStreamed s0 s2 trace (i + 1) t0 t2 r0 r2 pieces → pieces < 2 ^ 62
-streamed-few s0 s2 trace fixes i t0 t2 r0 r2 pieces all low accepted lawful can has =
-    let takes = has.takes can.pairs can.keeps in
-    let points = first_points trace (i + 1) in
-    let within : i < length trace.fixes = subst (λ (fs : List Fix). i < length fs) all low in
-    let most = told-few s0.network s0.params (with_points can.pairs points) accepted (lawful-behind can.pairs points can.lawful (places-of trace (i + 1) lawful) takes.room) in
-    let count = length-map {B = Point} (take (i + 1) trace.fixes) (λ (fix : Fix). (trace.id, fix)) in
-    let short = length-take-le (i + 1) trace.fixes (omega (arith, within)) in
-    let sum = fixes_in-behind can.pairs points in
-    let few = can.few in
-    let counted = takes.counted in
-    omega (arith, few, sum, count, short, within, most, counted)
-
--- where a point was refused
-pub streamed-refused : (s0 s1 s2 : SessionsState) (trace : Trace) (fixes : List Fix) (i : ℕ) (d : Fix) (t0 t1 t2 : List ℕ) (r0 r1 : RowsState) (pieces : ℕ) (fault : SessionFault) → fixes ≡ trace.fixes → i < length fixes
-    → HasStreamed s0 s1 trace i t0 t1 r0 r1 pieces → ((pairs : List Pair) → Keeps s1 pairs → Streams s1 pairs ((trace.id, get_or fixes i d) ∷ []) s2 t1 t2 (Err fault))
-    → (pairs : List Pair) → Keeps s0 pairs → Streams s0 pairs (fragment_points trace) s2 t0 t2 (Err fault)
-streamed-refused s0 s1 s2 trace fixes i d t0 t1 t2 r0 r1 pieces fault all low has streams pairs h =
-    let one = has.takes pairs h in
-    subst (λ ps. Streams s0 pairs ps s2 t0 t2 (Err fault)) (points-parts trace fixes i d all low)
-    (refused-then s0 s1 s2 pairs (first_points trace i) ((trace.id, get_or fixes i d) ∷ []) (map (λ fix. (trace.id, fix)) (drop (i + 1) trace.fixes)) t0 t1 t2 pieces fault one
-    (streams (with_points pairs (first_points trace i)) one.stands))
-
-pub refused-asks : (s0 s1 : SessionsState) (trace : Trace) (fixes : List Fix) (i : ℕ) (d : Fix) (more : ℕ) (t0 t1 : List ℕ) (r0 r1 r2 : RowsState) (pieces : ℕ) (result told : Result ℕ SessionFault)
-    → fixes ≡ trace.fixes → i < length fixes → CanStream s0 more → HasStreamed s0 s1 trace i t0 t1 r0 r1 pieces → AsksStream s1 ((trace.id, get_or fixes i d) ∷ []) r1 result r2 → IsErr told
-    → AsksStream s0 (fragment_points trace) r0 told r2
-refused-asks s0 s1 trace fixes i d more t0 t1 r0 r1 r2 pieces result told all low can has asks failed =
-    let begun = has.takes can.pairs can.keeps in
-    let point = (trace.id, get_or fixes i d) ∷ [] in
-    let rest = map (λ fix. (trace.id, fix)) (drop (i + 1) trace.fixes) in
-    subst (λ ps. AsksStream s0 ps r0 told r2) (append_assoc (first_points trace i) point rest ∙ points-parts trace fixes i d all low)
-    (asks-wider s0 (first_points trace i ++ point) rest r0 r2 result told
-    (asks-then {B = ℕ} {F = SessionFault} {x = pieces} s0 s1 (first_points trace i) point r0 r1 r2 result begun.network begun.params (λ pairs h. (has.takes pairs h).stands) has.asks asks) failed)
 
 -- how many points the session of an id has
 pub points-in : (s : SessionsState) (pairs : List Pair) (id : ℕ) → Keeps s pairs → points_of (session_in s id) ≡ length (fixes_of pairs id)

@@ -1,11 +1,12 @@
 -- Interleaved traces: what is written of a stream of points, each with the id of its trace. Each id is
 -- followed as if it were alone.
 use Rattle.std.specs.Prelude.{◌≡◌, ℕ, ◌<◌, ◌^◌, Bool, List, [], ◌∷◌, ◌++◌, Option, Some, None, if◌then◌else◌, All, length, map, drop, nat_eq, nat_lt}
-use Rattle.std.specs.List.{concat, filter, flat_map, slice_split, starts_with}
+use Rattle.std.specs.List.{concat, filter, flat_map, starts_with}
 use Rattle.cost_model.specs.declared.params.Params.{Params}
 use Rattle.road_network.specs.Net.{Net}
 use Rattle.trace_reader.specs.declared.trace.Fix.{Fix}
 use Rattle.trace_reader.specs.declared.trace.Trace.{Trace}
+use Rattle.trace_reader.specs.LineByLine.{lines_in}
 use Rattle.match_text.specs.MatchText.{end_line, trace_line}
 use Rattle.trace_match.specs.Match.{layer_of}
 use Rattle.trace_sessions.specs.FollowText.{follow_lines, follow_text, last_lines, point_lines}
@@ -108,10 +109,6 @@ IdsAreFollowedAlone =
     → full_id [] points ≡ None → 0 < length (fixes_among id points)
     → lines_led_by id (all_lines n p points)
     ≡ follow_lines n p (record { id = id; fixes = fixes_among id points })
-
--- the lines of a text without their LF, and what follows the last LF
-abbrev pub lines_in : List ℕ → List (List ℕ)
-lines_in text = slice_split (λ b. nat_eq b 10) text
 
 -- of the lines that begin with the id and a space the rest, as a text
 abbrev pub text_led_by : ℕ → List ℕ → List ℕ

@@ -1,14 +1,17 @@
-use Rattle.std.proofs.Common.{◌≡◌, ◌+◌, ◌++◌, ◌∷◌, [], List, Result, Ok, Err, OnOk, ap, sym, ◌∙◌, arith}
+use Rattle.std.proofs.Common.{◌≡◌, ◌≤◌, ◌+◌, ◌++◌, ◌∷◌, [], List, Result, Ok, Err, OnOk, ap, reverse, sym, subst, ◌∙◌, arith}
 use Rattle.std.proofs.lemmas.Bool.{eqb-true}
 use Rattle.std.proofs.lemmas.Bool.Decides.{nat_tests}
+use Rattle.bounded_search.specs.Table.{entry_in, label_of}
 use Rattle.bounded_search.proofs.Asking.{asks_nothing, only_by}
 use Rattle.matching.specs.Routes.{Direct, IsRoute}
-use Rattle.road_network.specs.Net.{target}
+use Rattle.road_network.specs.Net.{HasEdge, source, target}
+use Rattle.road_network.specs.Walk.{IsLeastWalk, IsWalk, walk_length}
 use Rattle.road_network.specs.declared.Candidate.{Candidate}
 use Rattle.road_network.specs.declared.EdgeId.{EdgeId}
 use Rattle.route_rebuild.specs.Numbers.{numbers}
-use Rattle.route_rebuild.specs.Runs.{chosen_in}
+use Rattle.route_rebuild.specs.Runs.{HasWalk, chosen_in}
 use Rattle.route_rebuild.proofs.RouteSoFar.{IsDirect, direct_leg, leg_edges, leg_walk, offset_fits, walk_leg}
+use Rattle.route_rebuild.proofs.StepsBack.{is_there}
 use Rattle.route_rebuild.proofs.routes.append_leg.Goals as goal
 use Rattle.route_rebuild.proofs.routes.append_leg.Goals.{else-eq-via-then-eq+else-a-b, else-eq-via-else-eq}
 
@@ -30,24 +33,45 @@ returns-then-a-b-clause-leg g c =
 pub returns-then-a-b-clause-asks : goal.returns-then-a-b-clause-asks
 returns-then-a-b-clause-asks g c = asks_nothing (g.R.Rows.state c.args.rows.now) (λ v. v ≡ target c.args.run.now.net.now (chosen_in c.args.run.now c.args.i).edge.0)
 
-pub walk_between-requires-clause-edges : goal.walk_between-requires-clause-edges
-walk_between-requires-clause-edges g c = rw (c.chosen-a.ensures, c.chosen-b.ensures) (leg_edges c.args.run.now c.args.i c.requires.point.0 c.requires.point.1)
+pub to-requires : goal.to-requires
+to-requires g c = rw c.chosen-a.ensures (leg_edges c.args.run.now c.args.i c.requires.point.0 c.requires.point.1).0
 
-pub walk_between-requires-clause-walk : goal.walk_between-requires-clause-walk
-walk_between-requires-clause-walk g c =
+pub from-requires : goal.from-requires
+from-requires g c = rw c.chosen-b.ensures (leg_edges c.args.run.now c.args.i c.requires.point.0 c.requires.point.1).1
+
+pub row-requires : goal.row-requires
+row-requires g c =
+    let has : HasEdge c.args.run.now.net.now c.chosen-a.result.edge.0 = rw c.chosen-a.ensures (leg_edges c.args.run.now c.args.i c.requires.point.0 c.requires.point.1).0 in
+    rw (c.requires.rows.network, c.to.ensures) (c.invariants.ensures.targets c.chosen-a.result.edge.0 has)
+
+pub walk-requires-clause-listed : goal.walk-requires-clause-listed
+walk-requires-clause-listed g c =
     let run = c.args.run.now in
     let none : IsDirect run c.args.i → ⊥ = λ direct.
     let is : IsRoute run.net.now run.params.now.bound run.params.now.back c.chosen-a.result c.chosen-b.result Direct = rw (c.chosen-a.ensures, c.chosen-b.ensures) direct in
     elim c.else-eq.branch [ else-eq-via-then-eq+else-a-b w ↦ omega (arith, is.1) | else-eq-via-else-eq w ↦ let same = is.0 in grind (arith, nat_tests) ] in
-    rw (c.chosen-a.ensures, c.chosen-b.ensures, c.requires.rows.bound) (leg_walk run c.args.i c.invariants.ensures c.requires.point.0 c.requires.point.1 none)
+    let found : HasWalk run.net.now (g.R.Rows.state c.args.rows.now).bound c.chosen-a.result.edge.0 c.chosen-b.result.edge.0 =
+    rw (c.chosen-a.ensures, c.chosen-b.ensures, c.requires.rows.bound) (leg_walk run c.args.i c.invariants.ensures c.requires.point.0 c.requires.point.1 none) in
+    let n = run.net.now in
+    let rows = g.R.Rows.state c.args.rows.now in
+    let w = found.0 in
+    let walk : IsWalk rows.network c.to.result.0 w c.from.result.0 =
+    subst (λ m. IsWalk m c.to.result.0 w c.from.result.0) (sym c.requires.rows.network)
+    (subst (λ v. IsWalk n v w c.from.result.0) (sym c.to.ensures) (subst (λ v. IsWalk n (target n c.chosen-a.result.edge.0) w v) (sym c.from.ensures) found.1)) in
+    let within : walk_length rows.network w ≤ rows.bound = subst (λ m. walk_length m w ≤ rows.bound) (sym c.requires.rows.network) found.2 in
+    is_there label_of (entry_in c.in_ok-row.row.now.entries c.from.result.0) (c.in_ok-row.ensures.value.table.reached c.from.result.0 w walk within)
 
-pub returns-in_err-walk-clause-asks : goal.returns-in_err-walk-clause-asks
-returns-in_err-walk-clause-asks g c =
-    only_by c.walk_between.ensures.asks (λ v same. same ∙ ap (λ (x : Candidate). target c.args.run.now.net.now x.edge.0) c.chosen-a.ensures)
+pub returns-in_err-row-clause-asks : goal.returns-in_err-row-clause-asks
+returns-in_err-row-clause-asks g c =
+    only_by c.row.follows.holds-at-none.only (λ v same. same ∙ c.to.ensures ∙ ap (λ (x : Candidate). target c.args.run.now.net.now x.edge.0) c.chosen-a.ensures)
+
+pub returns-in_err-between-clause-asks : goal.returns-in_err-between-clause-asks
+returns-in_err-between-clause-asks g c =
+    only_by c.row.follows.holds-at-none.only (λ v same. same ∙ c.to.ensures ∙ ap (λ (x : Candidate). target c.args.run.now.net.now x.edge.0) c.chosen-a.ensures)
 
 pub returns-in_err-extend_from_slice-clause-asks : goal.returns-in_err-extend_from_slice-clause-asks
 returns-in_err-extend_from_slice-clause-asks g c =
-    only_by c.walk_between.ensures.asks (λ v same. same ∙ ap (λ (x : Candidate). target c.args.run.now.net.now x.edge.0) c.chosen-a.ensures)
+    only_by c.row.follows.holds-at-none.only (λ v same. same ∙ c.to.ensures ∙ ap (λ (x : Candidate). target c.args.run.now.net.now x.edge.0) c.chosen-a.ensures)
 
 on_by : {A E P Q : Type 0} (r : Result A E) → OnOk r P → (P → Q) → OnOk r Q
 on_by (Ok x) p f = f p
@@ -58,17 +82,21 @@ returns-clause-leg g c =
     let run = c.args.run.now in
     let i = c.args.i in
     let edges = c.args.edges.now in
-    let walk : List EdgeId = c.in_ok-walk.walk in
+    let walk : List EdgeId = c.in_ok-between.between in
     let none : IsDirect run i → ⊥ = λ direct.
     let is : IsRoute run.net.now run.params.now.bound run.params.now.back c.chosen-a.result c.chosen-b.result Direct = rw (c.chosen-a.ensures, c.chosen-b.ensures) direct in
     elim c.else-eq.branch [ else-eq-via-then-eq+else-a-b w ↦ omega (arith, is.1) | else-eq-via-else-eq w ↦ let same = is.0 in grind (arith, nat_tests) ] in
+    let n = run.net.now in
+    let least : IsLeastWalk n (target n c.chosen-a.result.edge.0) (reverse (numbers walk)) (source n c.chosen-b.result.edge.0) =
+    subst (λ v. IsLeastWalk n v (reverse (numbers walk)) (source n c.chosen-b.result.edge.0)) (c.in_ok-row.ensures.value.origin ∙ c.to.ensures)
+    (subst (λ v. IsLeastWalk n c.in_ok-row.row.now.origin (reverse (numbers walk)) v) c.from.ensures c.in_ok-between.ensures) in
     let found = leg_walk run i c.invariants.ensures c.requires.point.0 c.requires.point.1 none in
     on_by c.push.result c.push.ensures.ok (λ pushed.
-    walk_leg run i edges walk c.push.new.self found none (rw (c.chosen-a.ensures, c.chosen-b.ensures) at c.in_ok-walk.ensures.least)
+    walk_leg run i edges walk c.push.new.self found none (rw (c.chosen-a.ensures, c.chosen-b.ensures) at least)
     (pushed
     ∙ ap (λ (k : List EdgeId). k ++ c.chosen-b.result.edge ∷ []) (c.in_ok-extend_from_slice.ensures.ok ∙ ap (λ (k : List EdgeId). edges ++ k) c.as_slice.ensures)
     ∙ ap (λ (x : Candidate). (edges ++ walk) ++ x.edge ∷ []) c.chosen-b.ensures))
 
 pub returns-clause-asks : goal.returns-clause-asks
 returns-clause-asks g c =
-    only_by c.walk_between.ensures.asks (λ v same. same ∙ ap (λ (x : Candidate). target c.args.run.now.net.now x.edge.0) c.chosen-a.ensures)
+    only_by c.row.follows.holds-at-none.only (λ v same. same ∙ c.to.ensures ∙ ap (λ (x : Candidate). target c.args.run.now.net.now x.edge.0) c.chosen-a.ensures)

@@ -1,10 +1,9 @@
 use Rattle.std.proofs.Common.{Some, IfOk, sym, subst}
-use Rattle.bounded_search.specs.Rows.{AsksOnly}
 use Rattle.bounded_search.proofs.Asking.{asks_nothing, asks_ok}
 use Rattle.matching.specs.PieceSteps.{AsksIn}
 use Rattle.online_commit.specs.Pieces.{piece_of, session_of}
 use Rattle.online_commit.specs.Session.{AsksFed, IsFed}
-use Rattle.online_commit.specs.Steps.{TellsCells}
+use Rattle.online_commit.specs.Steps.{TellsCells, seen}
 use Rattle.online_commit.proofs.Extended.{fed-grown, goes-on, still-session}
 use Rattle.online_commit.proofs.Extending.{may-grow}
 use Rattle.online_commit.proofs.FedAsking.{done-asks, failed-asks}
@@ -35,7 +34,7 @@ returns-in-Some-clause-fed g c =
     let s = session_of c.self.inside.net.now c.self.inside.params c.self.inside.piece in
     let tells : TellsCells s c.args.layer (Some c.in-Some.cells) = subst (λ o. TellsCells s c.args.layer o) c.in-Some.is c.in_ok-next.ensures.next in
     let on = goes-on s c.args.self.now c.args.layer c.in-Some.cells c.self.view_is c.invariants.ensures c.self.invariant c.requires.layer.1 c.requires.layer.0 tells in
-    subst (λ x. IfOk c.extend.result (IsFed x c.args.layer (session_of c.self.inside.net.now c.self.inside.params c.extend.new.piece))) c.self.view_is
+    subst (λ x. IfOk c.extend.result (IsFed x c.args.layer (seen (session_of c.self.inside.net.now c.self.inside.params c.extend.new.piece)))) c.self.view_is
     (fed-grown c.self.inside.net.now c.self.inside.params (piece_of c.self.inside.piece) (piece_of c.extend.new.piece) c.args.layer c.in-Some.cells c.extend.result on c.extend.ensures.ok)
 
 pub returns-in-Some-clause-asks : goal.returns-in-Some-clause-asks
@@ -49,6 +48,5 @@ pub returns-in-None-clause-asks : goal.returns-in-None-clause-asks
 returns-in-None-clause-asks g c =
     let s = session_of c.self.inside.net.now c.self.inside.params c.self.inside.piece in
     let mid = g.R.Rows.state c.next_cells.new.rows in
-    let closed = subst (λ x. AsksOnly mid (g.R.Rows.state c.begin_anew.new.rows) (AsksIn x.network x.params x.layers x.tables)) (sym c.self.view_is) c.begin_anew.ensures.asks in
     subst (λ x. AsksFed x c.args.layer (g.R.Rows.state c.args.rows.now) c.begin_anew.result (g.R.Rows.state c.begin_anew.new.rows)) c.self.view_is
-    (done-asks {result = c.begin_anew.result} s c.args.layer c.self.invariant (asks_ok c.next_cells.ensures.asks c.in_ok-next.was) closed)
+    (done-asks {result = c.begin_anew.result} s c.args.layer c.self.invariant (asks_ok c.next_cells.ensures.asks c.in_ok-next.was) c.begin_anew.ensures.asks)

@@ -1,6 +1,7 @@
 use Rattle.std.proofs.Common.{subst, ap}
 use Rattle.online_commit.specs.Pieces.{session_of, session_with}
 use Rattle.online_commit.specs.Session.{AsksFinished, IsFinished}
+use Rattle.online_commit.specs.Steps.{seen}
 use Rattle.online_commit.proofs.ClosedSession.{finished-made}
 use Rattle.online_commit.proofs.FedAsking.{finished-asks}
 use Rattle.online_commit.proofs.online.Online.finish.Goals as goal
@@ -13,9 +14,9 @@ returns-in_err-items-clause-asks g c =
 pub returns-clause-finished : goal.returns-clause-finished
 returns-clause-finished g c =
     let s = session_of c.self.inside.net.now c.self.inside.params c.self.inside.piece in
-    subst (λ old. IsFinished old (session_of c.self.inside.net.now c.self.inside.params c.no_piece.result) c.in_ok-items.items) c.self.view_is
-    (finished-made s (session_of c.self.inside.net.now c.self.inside.params c.no_piece.result) c.in_ok-items.items c.self.invariant c.in_ok-items.ensures.none c.in_ok-items.ensures.some
-    (ap (session_with c.self.inside.net.now c.self.inside.params) c.no_piece.ensures))
+    subst (λ old. IsFinished old (seen (session_of c.self.inside.net.now c.self.inside.params c.no_piece.result)) c.in_ok-items.items) c.self.view_is
+    (finished-made s (seen (session_of c.self.inside.net.now c.self.inside.params c.no_piece.result)) c.in_ok-items.items c.self.invariant c.in_ok-items.ensures.none c.in_ok-items.ensures.some
+    (ap (λ a. seen (session_with c.self.inside.net.now c.self.inside.params a)) c.no_piece.ensures))
 
 pub returns-clause-asks : goal.returns-clause-asks
 returns-clause-asks g c =

@@ -2,7 +2,7 @@ use Rattle.std.proofs.Common.{ℕ, Ok, subst, arith}
 use Rattle.std.proofs.lemmas.Result.{err_from_is_err_and}
 use Rattle.trace_sessions.specs.declared.sessions.SessionFault.{SessionFault}
 use Rattle.trace_sessions.specs.Streaming.{AsksStream, TakesPoints}
-use Rattle.trace_sessions.proofs.StreamTakes.{all-points, none-streamed, refused-asks, streamed-can, streamed-few, streamed-next, streamed-refused, streamed-rows}
+use Rattle.trace_sessions.proofs.FragmentTakes.{all-points, none-streamed, refused-asks, streamed-can, streamed-few, streamed-next, streamed-refused, streamed-rows}
 use Rattle.trace_sessions.proofs.sessions.Sessions.stream.Goals as goal
 
 pub loop-fix-init : goal.loop-fix-init

@@ -1,4 +1,4 @@
-use Rattle.trace_sessions.proofs.StreamTakes.{HasStreamed}
+use Rattle.trace_sessions.proofs.FragmentTakes.{HasStreamed}
 use Rattle.trace_sessions.proofs.sessions.Sessions.stream.Given as goal
 
 abbrev pub invariant-loop-fix : goal.invariant-loop-fix

@@ -6,7 +6,8 @@ use Rattle.trace_sessions.specs.Following.{pieces_among}
 use Rattle.trace_sessions.specs.ItemText.{AddsPrefix, AreItemsOf}
 use Rattle.trace_sessions.specs.StreamingInside.{lines_of_items}
 use Rattle.trace_sessions.proofs.SessionFixes.{no-ok}
-use Rattle.trace_sessions.proofs.StreamTakes.{items-lie, point-asks, point-cut, point-refused, point-taken, points-in}
+use Rattle.trace_sessions.proofs.OnePointTaken.{items-lie, point-cut, point-refused, point-taken}
+use Rattle.trace_sessions.proofs.StreamTakes.{point-asks, points-in}
 use Rattle.trace_sessions.proofs.sessions.Sessions.stream_point.Goals as goal
 
 pub returns-in_err-items-clause-asks : goal.returns-in_err-items-clause-asks
