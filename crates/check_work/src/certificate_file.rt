@@ -61,21 +61,6 @@ fn fill<S: Shelf>(shelf: &mut S, name: &str, block: &mut Block) -> Result<bool, 
     Ok(end <= TEXT_LIMIT)
 }
 
-// Processes a block.
-fn take<R: Threads + Sync>(
-    rt: &R,
-    reader: CertificateReader,
-    full: &[u8],
-) -> Result<CertificateReader, Stop>
-    ensures ok { IfOk result (λ more. more ≡ reader ++ full.now) }
-    ensures err { IfErr result (λ stop. stop ≡ Stop.NoMemory) }
-{
-    match reader.push(rt, full) {
-        Ok(more) => Ok(more),
-        Err(_) => Err(Stop::NoMemory),
-    }
-}
-
 // Processes a block while the next one is read.
 fn take_and_fill<R: Threads + Sync, S: Shelf>(
     rt: &R,
@@ -111,10 +96,7 @@ fn take_and_fill<R: Threads + Sync, S: Shelf>(
         },
     );
     let goes_on = filled?;
-    match taken {
-        Ok(more) => Ok((more, block, goes_on)),
-        Err(_) => Err(Stop::NoMemory),
-    }
+    Ok((taken?, block, goes_on))
 }
 
 /// Reads a certificate file from its start to its end or to the first byte above the limit, in blocks of at most
@@ -149,5 +131,5 @@ pub fn read_certificate_file<R: Threads + Sync, S: Shelf>(
         block = filled;
         goes_on = on;
     }
-    take(rt, reader, &block.bytes)
+    Ok(reader.push(rt, &block.bytes)?)
 }

@@ -4,19 +4,21 @@ ghost use Rattle.cost_model.specs.Options.{IsAccepted};
 ghost use Rattle.program_frame.specs.Loads.{Accepts};
 ghost use Rattle.program_frame.specs.Performs.{Performs};
 ghost use Rattle.trace_reader.specs.Trace.{IsLawfulTrace};
-ghost use Rattle.check_work.specs.Check.{certificate_fault_line, certificate_in, check_plan, check_said, pieces_in, pieces_proved, proofs_said, proved_line};
-ghost use Rattle.check_work.specs.CheckDone.{LoadsCertificate, RefusesCertificate, setting};
+ghost use Rattle.check_work.specs.Check.{certificate_in, check_plan, check_said, pieces_in, pieces_proved, proofs_said, proved_line};
+ghost use Rattle.check_work.specs.CheckDone.{LoadsCertificate, setting};
 
 use crate::certificate_file::read_certificate_file;
-use crate::verdicts::accept_finding;
+use crate::verdicts::{CertificateFault, accept_finding};
 use bounded_search::Row;
 use cert_checker::{Subject, check_certificate};
 use cost_model::Params;
 use decimal_text::write_unsigned;
 use edge_io::{Shelf, Sink};
 use polyline_geometry::List;
-use potential_certificate::{CertFault, Certificate, CertificateReader, TraceProof};
-use program_frame::{File, NetworkFile, Refusal, Stop, load_network, load_traces, put_text};
+use potential_certificate::{Certificate, CertificateReader, TraceProof};
+use program_frame::{
+    NetworkFile, Refusal, Stop, load_network, load_traces, put_text, refuse_fault,
+};
 use rayon::prelude::*;
 use std::alloc::{AllocError, Global};
 use std::thread;
@@ -26,35 +28,6 @@ use trace_reader::Trace;
 // The bytes of a certificate that are read at once: enough to keep all processors busy, few enough to be
 // read soon.
 const BLOCK: u64 = 16_777_216;
-
-// Appends the error line of a fault of the text.
-fn append_fault(fault: CertFault, line: &mut List<u8>) -> Result<(), AllocError>
-    ensures { OnOk result (line.new ≡ line.old ++ certificate_fault_line fault) }
-{
-    match fault {
-        CertFault::BadLine(number) => {
-            line.extend_from_slice(b"certificate line ")?;
-            write_unsigned(number, line)?;
-            line.extend_from_slice(b": bad line\n")
-        }
-        CertFault::Cut => line.extend_from_slice(b"certificate: cut\n"),
-        CertFault::TooLong => line.extend_from_slice(b"certificate: too long\n"),
-        CertFault::Memory => Ok(()),
-    }
-}
-
-fn refuse_text(alloc: Global, fault: CertFault) -> Stop
-    ensures { RefusesCertificate fault result }
-{
-    if let CertFault::Memory = fault {
-        return Stop::NoMemory;
-    }
-    let mut line = List::new(alloc);
-    match append_fault(fault, &mut line) {
-        Ok(()) => Stop::Refused(Refusal::Certificate, line),
-        Err(_) => Stop::NoMemory,
-    }
-}
 
 // The certificate of a text.
 fn read_proofs(
@@ -67,7 +40,11 @@ fn read_proofs(
 {
     match text.finish(options) {
         Ok(certificate) => Ok(certificate),
-        Err(fault) => Err(refuse_text(alloc, fault)),
+        Err(fault) => Err(refuse_fault(
+            alloc,
+            Refusal::Certificate,
+            &CertificateFault::Text(fault),
+        )),
     }
 }
 
@@ -105,9 +82,7 @@ fn check_proofs<R: Threads + Sync>(
     ensures { Accepts Refusal.Certificate
         (proofs_said subject.now.net.now subject.now.params.now subject.now.traces.now certificate.now) result }
 {
-    let Ok(found) = check_certificate(rt, alloc, subject, certificate) else {
-        return Err(Stop::NoMemory);
-    };
+    let found = check_certificate(rt, alloc, subject, certificate)?;
     accept_finding(alloc, found)
 }
 
@@ -144,10 +119,8 @@ fn accept_certificate<R: Threads + Sync>(
     let mut line = List::new(alloc);
     let written = append_proved(&certificate, &mut line);
     let_go(rt, certificate);
-    match written {
-        Ok(()) => Ok(line),
-        Err(_) => Err(Stop::NoMemory),
-    }
+    written?;
+    Ok(line)
 }
 
 fn load_certificate<R: Threads + Sync, S: Shelf>(

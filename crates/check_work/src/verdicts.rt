@@ -1,14 +1,14 @@
-//! The lines for what is found of a certificate. Serves `check`; decided by `finding_said`.
-ghost use Rattle.std.specs.Prelude.{◌≡◌, ◌++◌, codes, OnOk};
+//! The lines with which a certificate is refused. Serves `check`; decided by `finding_said`.
+ghost use Rattle.std.specs.Prelude.{◌≡◌, ◌≢◌, ◌++◌, OnOk};
 ghost use Rattle.program_frame.specs.Loads.{Accepts};
-ghost use Rattle.program_frame.specs.Stops.{IsRefusalOr};
-ghost use Rattle.check_work.specs.Check.{condition_name, named, refused_point_line, refused_trace_line, refused_whole_line};
+ghost use Rattle.check_work.specs.Check.{certificate_fault_line, condition_name, named, refused_point_line, refused_trace_line, refused_whole_line};
 ghost use Rattle.check_work.specs.CheckDone.{finding_said};
 
 use cert_checker::{Condition, Finding, Verdict};
 use decimal_text::write_unsigned;
 use polyline_geometry::List;
-use program_frame::{Refusal, Stop};
+use potential_certificate::CertFault;
+use program_frame::{FaultLine, Refusal, Stop, refuse_fault};
 use std::alloc::{AllocError, Global};
 
 // The name of a condition.
@@ -86,25 +86,55 @@ fn append_refusal(
     }
 }
 
-// The refusal of a certificate for a bad row.
-fn refuse_row(alloc: Global, place: u64) -> Stop
-    ensures { IsRefusalOr Refusal.Certificate (refused_whole_line (codes "row") place Condition.Row) result }
+// Appends the error line of a fault of the text.
+fn append_fault(fault: CertFault, line: &mut List<u8>) -> Result<(), AllocError>
+    ensures some { OnOk result (fault ≢ CertFault.Memory) }
+    ensures line { OnOk result (line.new ≡ line.old ++ certificate_fault_line fault) }
 {
-    let mut line = List::new(alloc);
-    match append_whole(b"row", place, Condition::Row, &mut line) {
-        Ok(()) => Stop::Refused(Refusal::Certificate, line),
-        Err(_) => Stop::NoMemory,
+    match fault {
+        CertFault::BadLine(number) => {
+            line.extend_from_slice(b"certificate line ")?;
+            write_unsigned(number, line)?;
+            line.extend_from_slice(b": bad line\n")
+        }
+        CertFault::Cut => line.extend_from_slice(b"certificate: cut\n"),
+        CertFault::TooLong => line.extend_from_slice(b"certificate: too long\n"),
+        CertFault::Memory => Err(AllocError),
     }
 }
 
-// The refusal of a certificate whose rows are right.
-fn refuse_trace(alloc: Global, condition: Condition, trace: u64, place: u64) -> Stop
-    ensures { IsRefusalOr Refusal.Certificate (refused_trace_line condition trace place) result }
-{
-    let mut line = List::new(alloc);
-    match append_refusal(condition, trace, place, &mut line) {
-        Ok(()) => Stop::Refused(Refusal::Certificate, line),
-        Err(_) => Stop::NoMemory,
+/// Why a certificate is refused.
+#[derive(Clone, Copy)]
+pub enum CertificateFault {
+    /// The text has this fault.
+    Text(CertFault),
+    /// The row at this index is bad.
+    BadRow(u64),
+    /// A condition fails at this place of a trace, or of all traces.
+    Failed {
+        condition: Condition,
+        trace: u64,
+        place: u64,
+    },
+}
+
+impl FaultLine for CertificateFault {
+    ghost use Rattle.check_work.specs.CheckDone.{fault_line, has_fault_line};
+
+    ghost has_line = { λ fault. has_fault_line fault };
+
+    ghost line = { λ fault. fault_line fault };
+
+    fn append_line(&self, _alloc: Global, into: &mut List<u8>) -> Result<(), AllocError> {
+        match *self {
+            CertificateFault::Text(fault) => append_fault(fault, into),
+            CertificateFault::BadRow(place) => append_whole(b"row", place, Condition::Row, into),
+            CertificateFault::Failed {
+                condition,
+                trace,
+                place,
+            } => append_refusal(condition, trace, place, into),
+        }
     }
 }
 
@@ -113,7 +143,10 @@ pub fn accept_finding(alloc: Global, found: Finding) -> Result<(), Stop>
     ensures { Accepts Refusal.Certificate (finding_said found) result }
 {
     match found {
-        Finding::BadRow(place) => Err(refuse_row(alloc, place)),
+        Finding::BadRow(place) => {
+            let fault = CertificateFault::BadRow(place);
+            Err(refuse_fault(alloc, Refusal::Certificate, &fault))
+        }
         Finding::Judged(Verdict::Proved) => Ok(()),
         Finding::Judged(
             Verdict::Refused {
@@ -121,6 +154,13 @@ pub fn accept_finding(alloc: Global, found: Finding) -> Result<(), Stop>
                 trace,
                 place,
             },
-        ) => Err(refuse_trace(alloc, condition, trace, place)),
+        ) => {
+            let fault = CertificateFault::Failed {
+                condition,
+                trace,
+                place,
+            };
+            Err(refuse_fault(alloc, Refusal::Certificate, &fault))
+        }
     }
 }

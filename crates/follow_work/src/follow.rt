@@ -24,8 +24,6 @@ pub fn follow_traces<S: Shelf, K: Sink>(
         (S.state shelf.old) (S.state shelf.new) (K.state out.old) (K.state out.new) result }
 {
     let roads = load_network(alloc, shelf, network)?;
-    let Ok(job) = FollowJob::open(alloc, &roads, options) else {
-        return Err(Stop::NoMemory);
-    };
+    let job = FollowJob::open(alloc, &roads, options)?;
     work_traces(alloc, job, shelf, traces, out)
 }

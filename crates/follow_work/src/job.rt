@@ -111,13 +111,9 @@ impl<'n> Job for FollowJob<'n> {
     ghost has = { λ job traces. HasFollowed job.matcher job.rows job.tally traces };
 
     fn take(&mut self, alloc: Global, traces: &[Trace], into: &mut List<u8>) -> Result<(), Stop> {
-        match write_followed(alloc, &self.matcher, &mut self.rows, traces, into) {
-            Ok(pieces) => {
-                self.tally.add(traces, pieces);
-                Ok(())
-            }
-            Err(_) => Err(Stop::NoMemory),
-        }
+        let pieces = write_followed(alloc, &self.matcher, &mut self.rows, traces, into)?;
+        self.tally.add(traces, pieces);
+        Ok(())
     }
 
     fn finish(&mut self, _alloc: Global, into: &mut List<u8>) -> Result<(), AllocError> {

@@ -5,7 +5,7 @@ ghost use Rattle.live_pipeline.specs.Matching.{EndsWithPart, MayEnd, NeverRefuse
 
 use edge_io::Sink;
 use polyline_geometry::List;
-use program_frame::{File, Job, Stop, put_text, refuse_traces};
+use program_frame::{File, Job, Refusal, Stop, put_text, refuse_fault};
 use std::alloc::Global;
 use trace_relay::Part;
 
@@ -23,12 +23,10 @@ fn end_with<J: Job, K: Sink>(
     match last {
         Part::End => {
             let mut text = List::new(alloc);
-            match job.finish(alloc, &mut text) {
-                Ok(()) => put_text(out, text.as_slice()),
-                Err(_) => Err(Stop::NoMemory),
-            }
+            job.finish(alloc, &mut text)?;
+            put_text(out, text.as_slice())
         }
-        Part::Fault(fault) => Err(refuse_traces(alloc, fault)),
+        Part::Fault(fault) => Err(refuse_fault(alloc, Refusal::Traces, &fault)),
         Part::ReadFailed => Err(Stop::Unread(File::Traces)),
         Part::NoMemory => Err(Stop::NoMemory),
         Part::Trace(_) => unreachable!(),

@@ -13,7 +13,7 @@ use command_line::{WordsFault, Work, read_command};
 use cost_model::Params;
 use edge_io::{Shelf, Sink};
 use follow_work::FollowJob;
-use program_frame::{NetworkFile, Stop, load_network, refuse_words, say, status_after};
+use program_frame::{NetworkFile, Refusal, Stop, load_network, refuse_fault, report};
 use road_network::NetworkLimits;
 use std::alloc::Global;
 use std::sync::Wait;
@@ -63,7 +63,7 @@ fn perform<R: Threads + Wait + Sync, S: Shelf + Send + Drop, K: Sink>(
     };
     let command = match read_command(alloc, words.as_slice()) {
         Ok(command) => command,
-        Err(fault) => return (Err(refuse_words(alloc, fault)), shelf),
+        Err(fault) => return (Err(refuse_fault(alloc, Refusal::Words, &fault)), shelf),
     };
     match command.work {
         Work::Follow { network, traces } => {
@@ -73,7 +73,10 @@ fn perform<R: Threads + Wait + Sync, S: Shelf + Send + Drop, K: Sink>(
             };
             follow_live(rt, alloc, file, traces, command.options, shelf, out)
         }
-        _ => (Err(refuse_words(alloc, WordsFault::Usage)), shelf),
+        _ => {
+            let refused = refuse_fault(alloc, Refusal::Words, &WordsFault::Usage);
+            (Err(refused), shelf)
+        }
     }
 }
 
@@ -92,6 +95,5 @@ pub fn live<R: Threads + Wait + Sync, S: Shelf + Send + Drop, K: Sink, E: Sink>(
         (K.state out.old) (K.state out.new) (E.state err.old) (E.state err.new) result.0 }
 {
     let (ended, shelf) = perform(rt, alloc, words, shelf, out);
-    let put = say(&ended, err);
-    (status_after(&ended, put), shelf)
+    (report(&ended, err), shelf)
 }

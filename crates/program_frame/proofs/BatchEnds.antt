@@ -6,7 +6,7 @@ use Rattle.edge_io.specs.State.{SinkState}
 use Rattle.edge_io.proofs.KnownBytes.{appends_more, prefix_whole, prefix_longer, prefix_after}
 use Rattle.trace_reader.specs.declared.trace.Trace.{Trace}
 use Rattle.trace_reader.specs.declared.fault.TraceFault.{TraceFault}
-use Rattle.program_frame.specs.Batches.{Holds, Later, PutsBefore, WritesBatch, WritesFull, with_later}
+use Rattle.program_frame.specs.Batches.{Holds, Later, PutsBefore, with_later}
 use Rattle.program_frame.specs.Jobs.{CanTake, Grows, IsBounded, JobText, TakesTraces, given_by, refused_behind, traces_give}
 use Rattle.program_frame.specs.Outcome.{Outcome}
 use Rattle.program_frame.specs.Performs.{FailsToPut}
@@ -118,9 +118,9 @@ pub refused_all : {job : JobText} {has : Has} {base out : SinkState} {traces wai
 refused_all {job} {has} {base} {out} {traces} fault (Refused refusal line) holds none refuses =
     let all = all_taken holds none in
     let allowed : job.refusal traces ≡ None = ap job.refusal all ∙ holds.allowed in
-    same_kind (Unit {0}) (λ _. traces_give job traces (Some fault)) base out refusal line refuses.0 (record {
+    same_kind (Unit {0}) (λ _. traces_give job traces (Some fault)) base out refusal line refuses.1 (record {
       text = job.texts traces;
-      is = λ _. ap (λ r. given_by r (Some fault) (job.texts traces) (job.ending traces)) allowed ∙ ap (refused_behind (job.texts traces)) (sym refuses.1);
+      is = λ _. ap (λ r. given_by r (Some fault) (job.texts traces) (job.ending traces)) allowed ∙ ap (refused_behind (job.texts traces)) (sym refuses.2);
       written = subst (λ t. Appends base.written out.written (job.texts t)) (sym all) holds.written;
       faults_are = holds.faults_are;
       is_traces = refl;
@@ -129,13 +129,6 @@ refused_all {job} {has} {base} {out} {traces} fault NoMemory holds none refuses 
     (λ _. subst (λ t. AppendsPrefix base.written out.written (traces_give job t (Some fault)).out) (append-nil traces) (held_front holds (record { more = []; fault = Some fault })), holds.faults_are)
 refused_all fault (Unread file) holds none refuses = absurd refuses
 refused_all fault Unwritten holds none refuses = absurd refuses
-
--- where none waits fewer wait than make a batch
-pub full_written : (job : JobText) (has : Has) (base out : SinkState) (traces waiting : List Trace) (ended : Result (Unit {0}) Stop) → WritesBatch job has base out traces waiting ended → WritesFull job has base out traces waiting ended
-full_written job has base out traces waiting (Ok done) writes =
-    let none : length waiting ≡ 0 = ap length writes.1 in
-    (writes.0, omega (arith, none))
-full_written job has base out traces waiting (Err stop) writes = writes
 
 -- the job was handed the traces that waited, and this is its text
 pub record Handed (job : JobText) (has has' : List Trace → Type 0) (waiting : List Trace) (given : List ℕ) (ended : Result (Unit {0}) Stop) : Type 0 where

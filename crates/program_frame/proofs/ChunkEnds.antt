@@ -14,7 +14,7 @@ use Rattle.trace_reader.specs.declared.fault.TraceFault.{TraceFault}
 use Rattle.trace_reader.specs.declared.fault.TraceFault.TheVariants as faults
 use Rattle.trace_reader.proofs.Laws.{closed-none, file_fault_known, file_traces_known, fault_in_long, fault_in-StandsFor}
 use Rattle.edge_io.proofs.KnownBytes.{appends_nothing}
-use Rattle.program_frame.specs.Batches.{Holds, IsBetween, Later, RefusesAt, TakesChunk, WritesBatch, WritesFull, with_later}
+use Rattle.program_frame.specs.Batches.{Holds, IsBetween, Later, RefusesAt, TakesChunk, WritesBatch, with_later}
 use Rattle.program_frame.specs.Jobs.{IsBatch, IsBounded, JobText, bytes_give, traces_give}
 use Rattle.program_frame.specs.Streams.{HasFront, StopsAs, StopsAt}
 use Rattle.program_frame.specs.declared.stop.Stop.{Stop}
@@ -126,9 +126,11 @@ stops_in job base out fed chunk n stop stops =
           ∙ later.1,
     )) stops
 
--- some bytes of a chunk were taken, and what waited was written where it made a batch
-pub some_taken : (job : JobText) (has : Has) (base out : SinkState) (fed chunk : List ℕ) (n : ℕ) (reader : TraceReader) (waiting : List Trace) → StandsFor reader (fed ++ take n chunk) → WritesFull job has base out (closed (fed ++ take n chunk)) waiting (Ok tt) → IsBetween job has base out (fed ++ take n chunk) reader waiting
-some_taken job has base out fed chunk n reader waiting stands writes = record { stands = stands; holds = writes.0; room = writes.1 }
+-- some bytes of a chunk were taken, and what waited was written
+pub batch_taken : (job : JobText) (has : Has) (base out : SinkState) (fed chunk : List ℕ) (n : ℕ) (reader : TraceReader) (waiting : List Trace) → StandsFor reader (fed ++ take n chunk) → WritesBatch job has base out (closed (fed ++ take n chunk)) waiting (Ok tt) → IsBetween job has base out (fed ++ take n chunk) reader waiting
+batch_taken job has base out fed chunk n reader waiting stands writes =
+    let none : length waiting ≡ 0 = ap length writes.1 in
+    record { stands = stands; holds = writes.0; room = omega (arith, none) }
 
 -- the traces that waited between two chunks were written
 pub between_written : (job : JobText) (has has' : Has) (base out out' : SinkState) (fed : List ℕ) (reader after : TraceReader) (waiting left : List Trace) (ended : Result (Unit {0}) Stop) → IsBetween job has base out fed reader waiting → after ≡ reader → WritesBatch job has' base out' (closed fed) left ended → TakesChunk job has' base out' fed after left ended

@@ -12,7 +12,7 @@ use Rattle.program_frame.specs.Jobs.{JobText, bytes_give}
 use Rattle.program_frame.specs.Performs.{Performs}
 use Rattle.program_frame.specs.Refusals.{trace_limit}
 use Rattle.program_frame.specs.Read.{FailsToRead, ReadsWhole}
-use Rattle.program_frame.specs.Stream.{IsReading, IsTaken, works_traces}
+use Rattle.program_frame.specs.Stream.{IsReading, works_traces}
 use Rattle.program_frame.specs.Streams.{EndsWith, IsStreaming, StopsAt}
 use Rattle.program_frame.specs.declared.stop.File.TheVariants.{Traces}
 use Rattle.program_frame.specs.declared.stop.Stop.{Stop}
@@ -50,10 +50,6 @@ streaming shelf' reading same within = record {
 pub are_read : {job : JobText} {has : Has} {name : List ℕ} {shelf : ShelfState} {base out : SinkState} {at : ℕ} {reader : TraceReader} {waiting : List Trace} → (reading : IsReading job has name shelf base out at reader waiting) → at ≤ trace_limit + 1 → AreRead name shelf at reading.fed
 are_read reading within = record { place = reading.place; front = reading.front; within = within }
 
--- the file was read whole
-pub all_read : {job : JobText} {has : Has} {name : List ℕ} {shelf : ShelfState} {base out : SinkState} {at : ℕ} {reader : TraceReader} {waiting : List Trace} (shelf' : ShelfState) → (reading : IsReading job has name shelf base out at reader waiting) → ReadsWhole name trace_limit shelf shelf' reading.fed → IsTaken job has name shelf shelf' base out reader waiting
-all_read shelf' reading whole = record { bytes = reading.fed; whole = whole; between = reading.between }
-
 -- one more chunk was taken
 pub reading_more : {job : JobText} {has : Has} {name : List ℕ} {shelf : ShelfState} {base out : SinkState} {at : ℕ} {reader : TraceReader} {waiting : List Trace} (has' : Has) (out' : SinkState) (at' : ℕ) (chunk : List ℕ) (reader' : TraceReader) (waiting' : List Trace) → (reading : IsReading job has name shelf base out at reader waiting) → AreRead name shelf at' (reading.fed ++ chunk) → IsBetween job has' base out' (reading.fed ++ chunk) reader' waiting' → IsReading job has' name shelf base out' at' reader' waiting'
 reading_more has' out' at' chunk reader' waiting' reading read between =
@@ -78,6 +74,6 @@ reading_fails {job} {has} {name} {shelf} {base} {out} shelf' shelf'' (Unread fil
     subst (λ f. Performs (Ok (works_traces name job)) shelf shelf'' base out (Err (Unread f))) (sym fails.0) (stream_unread (streaming shelf' reading same within) fails.1)
 reading_fails shelf' shelf'' Unwritten reading same within fails = absurd fails
 
--- the end of the file was taken
-pub work_ends : {job : JobText} {has : Has} {name : List ℕ} {shelf shelf' : ShelfState} {base out : SinkState} {reader : TraceReader} {waiting : List Trace} (out' : SinkState) (ended : Result (Unit {0}) Stop) → (taken : IsTaken job has name shelf shelf' base out reader waiting) → EndsWith (bytes_give job taken.bytes) base out' ended → Performs (Ok (works_traces name job)) shelf shelf' base out' ended
-work_ends {job} {has} {name} out' ended taken is = stream_ends Traces name trace_limit (bytes_give job) taken.bytes taken.whole is
+-- the file was read whole, and its end was taken
+pub work_ends : {job : JobText} {has : Has} {name : List ℕ} {shelf : ShelfState} {base out : SinkState} {at : ℕ} {reader : TraceReader} {waiting : List Trace} (shelf' : ShelfState) (out' : SinkState) (ended : Result (Unit {0}) Stop) → (reading : IsReading job has name shelf base out at reader waiting) → ReadsWhole name trace_limit shelf shelf' reading.fed → EndsWith (bytes_give job reading.fed) base out' ended → Performs (Ok (works_traces name job)) shelf shelf' base out' ended
+work_ends {job} {has} {name} shelf' out' ended reading whole is = stream_ends Traces name trace_limit (bytes_give job) reading.fed whole is

@@ -1,5 +1,5 @@
 -- The traces of a file that is fed whole to a reader.
-use Rattle.std.proofs.Common.{◌≡◌, ◌≢◌, ℕ, ◌+◌, ◌≤◌, List, [], ◌++◌, length, take, drop, Some, None, Result, Ok, Err, refl, sym, ◌∙◌, ap, subst, arith, length-append}
+use Rattle.std.proofs.Common.{◌≡◌, ◌≢◌, ℕ, ◌+◌, ◌≤◌, List, [], ◌++◌, length, take, drop, Some, None, Result, Ok, Err, sym, ◌∙◌, ap, arith, refl, length-append}
 use Rattle.std.proofs.lemmas.List.{take-append-drop, take-take}
 use Rattle.std.specs.declared.option.Option.{Option}
 use Rattle.edge_io.specs.State.{ShelfState}
@@ -68,39 +68,29 @@ some_bytes fed chunk some none =
     let long : length (fed ++ chunk) ≡ 0 = ap length none in
     omega (arith, length-append fed chunk, long, some)
 
--- the end of the work at a fault, which may be want of memory
-pub record StopsReading (fault : TraceFault) (stop : Stop) : Type 0 where
-  pub memory : fault ≡ Memory → stop ≡ NoMemory
-  pub refused : fault ≢ Memory → RefusesTraces fault stop
-
 abbrev FailsTraces : List ℕ → ShelfState → ShelfState → Stop → Type 0
 FailsTraces name shelf shelf' stop = FailsToLoad OfTraces Traces name trace_limit traces_said shelf shelf' stop
 
--- bytes that are read whole have this fault
-refused_at : (name : List ℕ) (shelf shelf' : ShelfState) (bytes : List ℕ) (fault : TraceFault) (stop : Stop) → IsReadWhole shelf.holds name trace_limit bytes → shelf' ≡ shelf → file_fault bytes ≡ Some fault → RefusesTraces fault stop → FailsTraces name shelf shelf' stop
+-- bytes that are read whole have this fault, unless it is want of memory
+refused_at : (name : List ℕ) (shelf shelf' : ShelfState) (bytes : List ℕ) (fault : TraceFault) (stop : Stop) → IsReadWhole shelf.holds name trace_limit bytes → shelf' ≡ shelf → (fault ≢ Memory → file_fault bytes ≡ Some fault) → RefusesTraces fault stop → FailsTraces name shelf shelf' stop
 refused_at name shelf shelf' bytes fault (Refused refusal line) whole same known refuses =
-    record { fault = (bytes, (whole, same), (refuses.0, ap (traces_or_line (file_traces bytes)) known ∙ ap (λ (t : List ℕ). let y : Result (List Trace) (List ℕ) = Err t in y) (sym refuses.1))) }
+    record { fault = (bytes, (whole, same), (refuses.1, ap (traces_or_line (file_traces bytes)) (known refuses.0) ∙ ap (λ (t : List ℕ). let y : Result (List Trace) (List ℕ) = Err t in y) (sym refuses.2))) }
 refused_at name shelf shelf' bytes fault NoMemory whole same known refuses = record { fault = same }
 refused_at name shelf shelf' bytes fault (Unread file) whole same known refuses = absurd refuses
 refused_at name shelf shelf' bytes fault Unwritten whole same known refuses = absurd refuses
 
-by_memory : (name : List ℕ) (shelf shelf' : ShelfState) (fault : TraceFault) (stop : Stop) → shelf' ≡ shelf → StopsReading fault stop → (fault ≢ Memory → FailsTraces name shelf shelf' stop) → FailsTraces name shelf shelf' stop
-by_memory name shelf shelf' Memory stop same stops refused = subst (λ (s : Stop). FailsTraces name shelf shelf' s) (sym (stops.memory refl)) (record { fault = same })
-by_memory name shelf shelf' fault stop same stops refused = refused (λ h. absurd cc)
-
 pub chunk_refused : (name : List ℕ) (shelf shelf' : ShelfState) (at at' : ℕ) (reader : TraceReader) (traces traces' : List Trace) (chunk : List ℕ) (fault : TraceFault) (stop : Stop) → (holds : IsHolding name shelf at reader traces)
-    → shelf' ≡ shelf → IsChunk at at' chunk → AreRead name shelf at' (holds.fed ++ chunk) → Fails holds.fed chunk traces traces' fault → StopsReading fault stop → FailsTraces name shelf shelf' stop
-chunk_refused name shelf shelf' at at' reader traces traces' chunk fault stop holds same is read fails stops =
-    by_memory name shelf shelf' fault stop same stops (λ other.
+    → shelf' ≡ shelf → IsChunk at at' chunk → AreRead name shelf at' (holds.fed ++ chunk) → Fails holds.fed chunk traces traces' fault → RefusesTraces fault stop → FailsTraces name shelf shelf' stop
+chunk_refused name shelf shelf' at at' reader traces traces' chunk fault stop holds same is read fails refuses =
     let fed = holds.fed ++ chunk in
     let whole = whole_of_front trace_limit shelf.holds name fed read.front (some_bytes holds.fed chunk is.some) (omega (arith, read.place, read.within)) in
-    refused_at name shelf shelf' (fed ++ whole.0) fault stop whole.1 same (file_fault_known fed whole.0 fault (fails.known other).1) (stops.refused other))
+    refused_at name shelf shelf' (fed ++ whole.0) fault stop whole.1 same (λ other. file_fault_known fed whole.0 fault (fails.known other).1) refuses
 
 -- ---- the end of the file
 
-pub end_refused : (name : List ℕ) (shelf shelf' : ShelfState) (reader : TraceReader) (traces traces' : List Trace) (fault : TraceFault) (stop : Stop) → (fed : IsFed name shelf shelf' reader traces) → EndsFaulty fed.bytes traces traces' fault → StopsReading fault stop → FailsTraces name shelf shelf' stop
-end_refused name shelf shelf' reader traces traces' fault stop fed ends stops =
-    by_memory name shelf shelf' fault stop fed.whole.1 stops (λ other. refused_at name shelf shelf' fed.bytes fault stop fed.whole.0 fed.whole.1 (ends.known other).1 (stops.refused other))
+pub end_refused : (name : List ℕ) (shelf shelf' : ShelfState) (reader : TraceReader) (traces traces' : List Trace) (fault : TraceFault) (stop : Stop) → (fed : IsFed name shelf shelf' reader traces) → EndsFaulty fed.bytes traces traces' fault → RefusesTraces fault stop → FailsTraces name shelf shelf' stop
+end_refused name shelf shelf' reader traces traces' fault stop fed ends refuses =
+    refused_at name shelf shelf' fed.bytes fault stop fed.whole.0 fed.whole.1 (λ other. (ends.known other).1) refuses
 
 pub end_accepted : (name : List ℕ) (shelf shelf' : ShelfState) (reader reader' : TraceReader) (traces traces' : List Trace) → (fed : IsFed name shelf shelf' reader traces) → Ends fed.bytes reader' traces traces' → Loads OfTraces Traces name trace_limit traces_said shelf shelf' (Ok traces')
 end_accepted name shelf shelf' reader reader' traces traces' fed ends =

@@ -75,14 +75,6 @@ WritesBatch job has base out traces waiting (Ok done) =
 WritesBatch job has base out traces waiting (Err stop) =
     StopsAs Later (with_later job traces) base out stop
 
--- fewer traces wait than make a batch, or the work stops
-abbrev pub WritesFull : JobText → (List Trace → Type 0) → SinkState → SinkState
-    → List Trace → List Trace → Result (Unit {0}) Stop → Type 0
-WritesFull job has base out traces waiting (Ok done) =
-    Holds job has base out traces waiting × (length waiting < 256)
-WritesFull job has base out traces waiting (Err stop) =
-    StopsAs Later (with_later job traces) base out stop
-
 -- so many bytes of a chunk were taken, or the work stops
 abbrev pub TakesSome : JobText → (List Trace → Type 0) → SinkState → SinkState
     → List ℕ → List ℕ → TraceReader → List Trace → Result ℕ Stop → Type 0
@@ -121,14 +113,6 @@ abbrev pub Writes : {J : Type 0} → (J → JobText) → (J → List Trace → T
     → (out out' : SinkState) → Result (Unit {0}) Stop → Type 0
 Writes text has old new out out' result =
     WritesWaiting (text old.job) (has old.job) (has new.job) out out' old.waiting new.waiting result
-
--- a batch that is full is written
-abbrev pub WritesIfFull : {J : Type 0} → (J → JobText) → (J → List Trace → Type 0) → (old new : Batches J)
-    → (out out' : SinkState) → Result (Unit {0}) Stop → Type 0
-WritesIfFull text has old new out out' result =
-    (base : SinkState) (traces : List Trace)
-    → Holds (text old.job) (has old.job) base out traces old.waiting
-    → WritesFull (text old.job) (has new.job) base out' traces new.waiting result
 
 -- what waited is written, and the file is refused for this fault
 abbrev pub Refuses : {J : Type 0} → (J → JobText) → (J → List Trace → Type 0) → (old : Batches J)

@@ -14,9 +14,10 @@ use Rattle.road_network.specs.declared.limits.NetworkLimits.{NetworkLimits}
 use Rattle.trace_reader.specs.Fault.{fault_line as trace_fault_line}
 use Rattle.trace_reader.specs.Reading.{file_fault}
 use Rattle.trace_reader.specs.declared.fault.TraceFault.{TraceFault}
+use Rattle.trace_reader.specs.declared.fault.TraceFault.TheVariants as trace_faults
+use Rattle.program_frame.specs.Stops.{RefusesFault}
 use Rattle.program_frame.specs.declared.stop.Refusal.TheVariants as refusals
 use Rattle.program_frame.specs.declared.stop.Stop.{Stop}
-use Rattle.program_frame.specs.declared.stop.Stop.TheVariants.{Refused, NoMemory, Unread, Unwritten}
 
 -- the line of a fault in place of the fault
 abbrev pub said : Result Net NetworkFault → Result Net (List ℕ)
@@ -42,28 +43,14 @@ refusal_lines status line =
     × ((limits : NetworkLimits) × (bytes : List ℕ) × (network_said limits bytes ≡ Err line)))
     ⊎ ((status ≡ 6) × ((bytes : List ℕ) × (traces_line bytes ≡ Some line)))
 
--- the ending where the words have this fault, or memory ran out
+-- the ending where the words, the network or the traces have this fault, or memory ran out
 abbrev pub RefusesWords : WordsFault → Stop → Type 0
-RefusesWords fault (Refused refusal line) =
-    (fault ≢ words_faults.Memory) × (refusal ≡ refusals.Words) × (line ≡ words_fault_line fault)
-RefusesWords fault NoMemory = Unit {0}
-RefusesWords fault (Unread file) = ⊥
-RefusesWords fault Unwritten = ⊥
+RefusesWords fault = RefusesFault refusals.Words (fault ≢ words_faults.Memory) (words_fault_line fault)
 
--- the ending where the network has this fault, or memory ran out
 abbrev pub RefusesNetwork : NetworkFault → Stop → Type 0
-RefusesNetwork fault (Refused refusal line) =
-    (fault ≢ network_faults.Memory)
-    × (refusal ≡ refusals.Network)
-    × (line ≡ network_fault_line fault)
-RefusesNetwork fault NoMemory = Unit {0}
-RefusesNetwork fault (Unread file) = ⊥
-RefusesNetwork fault Unwritten = ⊥
+RefusesNetwork fault =
+    RefusesFault refusals.Network (fault ≢ network_faults.Memory) (network_fault_line fault)
 
--- the ending where the traces have this fault, or memory ran out
 abbrev pub RefusesTraces : TraceFault → Stop → Type 0
-RefusesTraces fault (Refused refusal line) =
-    (refusal ≡ refusals.Traces) × (line ≡ trace_fault_line fault)
-RefusesTraces fault NoMemory = Unit {0}
-RefusesTraces fault (Unread file) = ⊥
-RefusesTraces fault Unwritten = ⊥
+RefusesTraces fault =
+    RefusesFault refusals.Traces (fault ≢ trace_faults.Memory) (trace_fault_line fault)

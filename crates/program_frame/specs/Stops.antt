@@ -1,5 +1,7 @@
 -- The line and status of each ending.
-use Rattle.std.specs.Prelude.{◌≡◌, ℕ, List, [], Result, Ok, Err}
+use Rattle.std.specs.Prelude.{◌≡◌, ℕ, List, [], Result, Ok, Err, IsOk}
+use Rattle.edge_io.specs.Sink.{Puts}
+use Rattle.edge_io.specs.State.{SinkState}
 use Rattle.edge_io.specs.declared.sink.Put.{Put}
 use Rattle.edge_io.specs.declared.sink.Put.TheVariants.{All, Failed, NoMemory as no_room}
 use Rattle.program_frame.specs.Lines.{memory_line, network_unread_line, table_unread_line, traces_unread_line, certificate_unread_line, write_line}
@@ -54,9 +56,23 @@ abbrev pub status_after : Result (Unit {0}) Stop → Put → ℕ
 status_after (Ok done) put = 0
 status_after (Err stop) put = stop_status_after stop put
 
+-- the line of an ending was put on err, and this is the status
+pub record Reports (err err' : SinkState) (ended : Result (Unit {0}) Stop) (status : ℕ) : Type 0 where
+  pub put : Put
+  pub puts : Puts err err' (line_of ended) put
+  pub quiet : IsOk ended → put ≡ All
+  pub is : status ≡ status_after ended put
+
 -- this refusal with this line, or want of memory
 abbrev pub IsRefusalOr : Refusal → List ℕ → Stop → Type 0
 IsRefusalOr refusal line (Refused r l) = (r ≡ refusal) × (l ≡ line)
 IsRefusalOr refusal line NoMemory = Unit {0}
 IsRefusalOr refusal line (Unread file) = ⊥
 IsRefusalOr refusal line Unwritten = ⊥
+
+-- this refusal with this line of a fault that has one, or want of memory
+abbrev pub RefusesFault : Refusal → (has_line : Type 0) → List ℕ → Stop → Type 0
+RefusesFault refusal has_line line (Refused r l) = has_line × (r ≡ refusal) × (l ≡ line)
+RefusesFault refusal has_line line NoMemory = Unit {0}
+RefusesFault refusal has_line line (Unread file) = ⊥
+RefusesFault refusal has_line line Unwritten = ⊥

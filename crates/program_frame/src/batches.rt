@@ -5,9 +5,9 @@ ghost use Rattle.trace_reader.specs.Reader.{StandsFor};
 ghost use Rattle.program_frame.specs.Batches.{PutsBefore};
 ghost use Rattle.program_frame.specs.Jobs.{HasTaken, JobText};
 
+use crate::fault_line::refuse_fault;
 use crate::jobs::Job;
-use crate::load::refuse_traces;
-use crate::stop::Stop;
+use crate::stop::{Refusal, Stop};
 use crate::texts::put_text;
 use edge_io::Sink;
 use polyline_geometry::List;
@@ -56,7 +56,7 @@ fn behind(chunk: &[u8], taken: usize) -> &[u8]
 }
 
 impl<J: Job + Drop> Batches<J> {
-    ghost use Rattle.program_frame.specs.Batches.{Finishes, IsHeld, IsReady, PutsEnding, Refuses, Takes, TakesFront, Writes, WritesIfFull, WritesRead};
+    ghost use Rattle.program_frame.specs.Batches.{Finishes, IsHeld, IsReady, PutsEnding, Refuses, Takes, TakesFront, Writes, WritesRead};
 
     /// The state before the first read.
     pub fn open(alloc: Global, job: J) -> Batches<J>
@@ -102,23 +102,9 @@ impl<J: Job + Drop> Batches<J> {
             return Stop::NoMemory;
         }
         match self.write(alloc, out) {
-            Ok(()) => refuse_traces(alloc, fault),
+            Ok(()) => refuse_fault(alloc, Refusal::Traces, &fault),
             Err(stop) => stop,
         }
-    }
-
-    // Writes the waiting traces if they fill a batch.
-    fn write_full<K: Sink>(&mut self, alloc: Global, out: &mut K) -> Result<(), Stop>
-        requires { IsHeld J.text J.has self.old (K.state out.old) }
-        ensures text { J.text self.new.job ≡ J.text self.old.job }
-        ensures reader { self.new.reader ≡ self.old.reader }
-        ensures writes { WritesIfFull J.text J.has self.old self.new
-            (K.state out.old) (K.state out.new) result }
-    {
-        if self.waiting.len() < BATCH {
-            return Ok(());
-        }
-        self.write(alloc, out)
     }
 
     // Takes bytes of a chunk until a batch of traces waits, writes the batch, and returns how many bytes
@@ -138,28 +124,13 @@ impl<J: Job + Drop> Batches<J> {
     {
         let room = (BATCH - self.waiting.len()) as u32;
         match self.reader.feed_some(chunk, room, &mut self.waiting) {
+            Ok(taken) if self.waiting.len() < BATCH => Ok(taken as usize),
             Ok(taken) => {
-                self.write_full(alloc, out)?;
+                self.write(alloc, out)?;
                 Ok(taken as usize)
             }
             Err(fault) => Err(self.refuse(alloc, fault, out)),
         }
-    }
-
-    // Takes the next chunk of the file, and writes each batch of traces that it fills.
-    fn take_bytes<K: Sink>(&mut self, alloc: Global, chunk: &[u8], out: &mut K) -> Result<(), Stop>
-        requires ready { IsReady J.text J.has self.old (K.state out.old) }
-        requires short { length chunk.now < 2 ^ 32 }
-        ensures text { J.text self.new.job ≡ J.text self.old.job }
-        ensures takes { Takes J.text J.has self.old self.new
-            (K.state out.old) (K.state out.new) chunk.now result }
-    {
-        let mut rest = chunk;
-        while !rest.is_empty() {
-            let taken = self.take_some(alloc, rest, out)?;
-            rest = behind(rest, taken);
-        }
-        Ok(())
     }
 
     // Writes the waiting traces if the job wants its text after each read.
@@ -189,7 +160,11 @@ impl<J: Job + Drop> Batches<J> {
         ensures takes { Takes J.text J.has self.old self.new
             (K.state out.old) (K.state out.new) chunk.now result }
     {
-        self.take_bytes(alloc, chunk, out)?;
+        let mut rest = chunk;
+        while !rest.is_empty() {
+            let taken = self.take_some(alloc, rest, out)?;
+            rest = behind(rest, taken);
+        }
         self.write_read(alloc, out)
     }
 

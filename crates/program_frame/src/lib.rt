@@ -3,7 +3,8 @@
 //!
 //! - `stop` has why work ends early, the error line, and the status.
 //! - `files` reads a file whole, `chunks` a trace file chunk by chunk, `texts` writes a text, `load` reads
-//!   the network and has the refusals of words and files, and `words` has the words of a program.
+//!   the network, and `words` has the words of a program. `fault_line` has the trait for faults with a
+//!   line, and the refusal for one.
 //! - `jobs` has the trait for what is done with traces, `stream` reads their file in chunks, and
 //!   `batches` holds the waiting traces; `total` counts them. `whole_traces` reads all traces of a
 //!   file into memory.
@@ -16,6 +17,7 @@
 
 mod batches;
 mod chunks;
+mod fault_line;
 mod files;
 mod jobs;
 pub mod laws;
@@ -28,10 +30,11 @@ mod whole_traces;
 mod words;
 
 pub use chunks::{CHUNK, Chunks};
+pub use fault_line::{FaultLine, refuse_fault};
 pub use files::read_file;
 pub use jobs::Job;
-pub use load::{NetworkFile, load_network, refuse_traces, refuse_words};
-pub use stop::{File, Refusal, Stop, end_without_memory, refuse, say, status_after};
+pub use load::{NetworkFile, load_network};
+pub use stop::{File, Refusal, Stop, end_without_memory, refuse, report};
 pub use stream::work_traces;
 pub use texts::put_text;
 pub use total::Tally;

@@ -1,18 +1,15 @@
-//! The network, and the refusals of words and files. Serves the commands; decided by
-//! `network_said` and `refusal_lines`.
-ghost use Rattle.std.specs.Prelude.{◌≡◌, ◌≢◌};
+//! The network, accepted or refused. Serves the commands; decided by `network_said`.
+ghost use Rattle.std.specs.Prelude.{◌≡◌};
 ghost use Rattle.program_frame.specs.Loads.{Accepts, Loads};
-ghost use Rattle.program_frame.specs.Refusals.{RefusesNetwork, RefusesTraces, RefusesWords, network_said};
+ghost use Rattle.program_frame.specs.Refusals.{network_said};
 ghost use Rattle.road_network.specs.Limits.{file_limit};
 
+use crate::fault_line::refuse_fault;
 use crate::files::read_file;
-use crate::stop::{File, Refusal, Stop, refuse};
-use command_line::WordsFault;
+use crate::stop::{File, Refusal, Stop};
 use edge_io::Shelf;
-use polyline_geometry::List;
-use road_network::{Network, NetworkFault, NetworkLimits, read_network_text};
+use road_network::{Network, NetworkLimits, read_network_text};
 use std::alloc::Global;
-use trace_reader::TraceFault;
 
 /// The file of a network: its name, and the limits that hold for its bytes.
 #[derive(Clone, Copy)]
@@ -31,48 +28,13 @@ impl<'a> NetworkFile<'a> {
     }
 }
 
-/// The early end for a fault of the words.
-pub fn refuse_words(alloc: Global, fault: WordsFault) -> Stop
-    ensures { RefusesWords fault result }
-{
-    if let WordsFault::Memory = fault {
-        return Stop::NoMemory;
-    }
-    refuse(alloc, Refusal::Words, fault.line().as_bytes())
-}
-
-/// The early end for a fault of the traces.
-pub fn refuse_traces(alloc: Global, fault: TraceFault) -> Stop
-    requires { fault ≢ TraceFault.Memory }
-    ensures { RefusesTraces fault result }
-{
-    let mut line = List::new(alloc);
-    match fault.write_line(alloc, &mut line) {
-        Ok(()) => Stop::Refused(Refusal::Traces, line),
-        Err(_) => Stop::NoMemory,
-    }
-}
-
-fn refuse_network(alloc: Global, fault: NetworkFault) -> Stop
-    ensures { RefusesNetwork fault result }
-{
-    if let NetworkFault::Memory = fault {
-        return Stop::NoMemory;
-    }
-    let mut line = List::new(alloc);
-    match fault.write_line(alloc, &mut line) {
-        Ok(()) => Stop::Refused(Refusal::Network, line),
-        Err(_) => Stop::NoMemory,
-    }
-}
-
 // The network of a text, or its refusal.
 fn accept_network(alloc: Global, limits: NetworkLimits, text: Vec<u8>) -> Result<Network, Stop>
     ensures { Accepts Refusal.Network (network_said limits text.items) result }
 {
     match read_network_text(alloc, limits, text) {
         Ok(network) => Ok(network),
-        Err(fault) => Err(refuse_network(alloc, fault)),
+        Err(fault) => Err(refuse_fault(alloc, Refusal::Network, &fault)),
     }
 }
 

@@ -2,7 +2,7 @@
 ghost use Rattle.std.specs.Prelude.{◌≡◌, IsOk};
 ghost use Rattle.edge_io.specs.Sink.{Puts};
 ghost use Rattle.program_frame.specs.Promises.{IsStarved};
-ghost use Rattle.program_frame.specs.Stops.{IsRefusalOr, line_of, refusal_status, status_after, stop_line, stop_status, stop_status_after};
+ghost use Rattle.program_frame.specs.Stops.{IsRefusalOr, Reports, line_of, refusal_status, status_after, stop_line, stop_status, stop_status_after};
 
 use edge_io::{Put, Sink};
 use polyline_geometry::List;
@@ -92,8 +92,8 @@ impl Stop {
     }
 }
 
-/// Writes the line of an early end to the error output.
-pub fn say<E: Sink>(ended: &Result<(), Stop>, err: &mut E) -> Put
+// Writes the line of an early end to the error output.
+fn say<E: Sink>(ended: &Result<(), Stop>, err: &mut E) -> Put
     ensures put { Puts (E.state err.old) (E.state err.new) (line_of ended.now) result }
     ensures quiet { IsOk ended.now → result ≡ Put.All }
 {
@@ -103,8 +103,8 @@ pub fn say<E: Sink>(ended: &Result<(), Stop>, err: &mut E) -> Put
     }
 }
 
-/// The status of a run that ended this way, after this put of its line.
-pub fn status_after(ended: &Result<(), Stop>, put: Put) -> u8
+// The status of a run that ended this way, after this put of its line.
+fn status_after(ended: &Result<(), Stop>, put: Put) -> u8
     ensures { result ≡ status_after ended.now put }
 {
     match ended {
@@ -123,13 +123,20 @@ fn stop_status_after(stop: &Stop, put: Put) -> u8
     }
 }
 
+/// Writes the line of an early end to the error output, and returns the status of the run.
+pub fn report<E: Sink>(ended: &Result<(), Stop>, err: &mut E) -> u8
+    ensures { Reports (E.state err.old) (E.state err.new) ended.now result }
+{
+    let put = say(ended, err);
+    status_after(ended, put)
+}
+
 /// Reports on the error output that the run was out of memory before it began, and returns the status.
 pub fn end_without_memory<E: Sink>(err: &mut E) -> u8
     ensures { IsStarved (E.state err.old) (E.state err.new) result }
 {
     let ended = Err(Stop::NoMemory);
-    let put = say(&ended, err);
-    status_after(&ended, put)
+    report(&ended, err)
 }
 
 /// The early end for a refusal with this line.

@@ -1,18 +1,18 @@
 //! All traces of a file in memory. Serves the commands that prove and check; decided by `traces_said`.
-ghost use Rattle.std.specs.Prelude.{◌≡◌, ◌≢◌, []};
+ghost use Rattle.std.specs.Prelude.{◌≡◌, []};
 ghost use Rattle.trace_reader.specs.Reader.{StandsFor};
 ghost use Rattle.program_frame.specs.Loads.{Loads};
-ghost use Rattle.program_frame.specs.Refusals.{RefusesTraces, trace_limit};
+ghost use Rattle.program_frame.specs.Refusals.{trace_limit};
 ghost use Rattle.program_frame.specs.declared.stop.File.{File};
 ghost use Rattle.program_frame.specs.WholeTraces.{FeedsFile, traces_said};
 
 use crate::chunks::Chunks;
-use crate::load::refuse_traces;
+use crate::fault_line::refuse_fault;
 use crate::stop::{Refusal, Stop};
 use edge_io::Shelf;
 use polyline_geometry::List;
 use std::alloc::Global;
-use trace_reader::{Trace, TraceFault, TraceReader};
+use trace_reader::{Trace, TraceReader};
 
 /// Reads the traces of a file, and accepts or refuses them. Memory holds the traces and one chunk of
 /// the file, and nothing is read after the chunk of the first fault.
@@ -25,7 +25,7 @@ pub fn load_traces<S: Shelf>(alloc: Global, shelf: &mut S, name: &str) -> Result
     feed_file(alloc, shelf, name, &mut reader, &mut traces)?;
     match reader.finish(&mut traces) {
         Ok(()) => Ok(traces),
-        Err(fault) => Err(stop_reading(alloc, fault)),
+        Err(fault) => Err(refuse_fault(alloc, Refusal::Traces, &fault)),
     }
 }
 
@@ -45,19 +45,8 @@ fn feed_file<S: Shelf>(
     let mut chunks = Chunks::open(alloc);
     while chunks.next(shelf, name)? {
         if let Err(fault) = reader.feed(&chunks.bytes, traces) {
-            return Err(stop_reading(alloc, fault));
+            return Err(refuse_fault(alloc, Refusal::Traces, &fault));
         }
     }
     Ok(())
-}
-
-// The early end for a fault of the traces, or for out of memory.
-fn stop_reading(alloc: Global, fault: TraceFault) -> Stop
-    ensures memory { fault ≡ TraceFault.Memory → result ≡ Stop.NoMemory }
-    ensures refused { fault ≢ TraceFault.Memory → RefusesTraces fault result }
-{
-    if let TraceFault::Memory = fault {
-        return Stop::NoMemory;
-    }
-    refuse_traces(alloc, fault)
 }

@@ -6,7 +6,7 @@ ghost use Rattle.cost_model.specs.Options.{IsAccepted};
 ghost use Rattle.program_frame.specs.Performs.{Performs};
 ghost use Rattle.program_frame.specs.Promises.{Promises};
 ghost use Rattle.program_run.specs.RunLines.{PromisesWithin, run_lines};
-ghost use Rattle.program_run.specs.Words.{asked_plan, asked_plan_within, command_plan, match_files_plan};
+ghost use Rattle.program_run.specs.Words.{asked_plan, command_plan, match_files_plan};
 
 use check_work::check_traces;
 use command_line::{Command, Work, read_command};
@@ -15,7 +15,7 @@ use edge_io::{Shelf, Sink};
 use follow_work::follow_traces;
 use match_pool::Gate;
 use match_work::{match_traces, match_with_table};
-use program_frame::{NetworkFile, Stop, refuse_words, say, status_after};
+use program_frame::{NetworkFile, Refusal, Stop, refuse_fault, report};
 use prove_work::prove_traces;
 use road_network::NetworkLimits;
 use std::alloc::Global;
@@ -49,8 +49,8 @@ fn match_files<R: Threads + Sync, G: Gate, S: Shelf, K: Sink>(
     }
 }
 
-// The work of a command.
-fn perform_command<R: Threads + Sync, G: Gate, S: Shelf, K: Sink>(
+// The work of a command; leaves the error output alone.
+fn perform<R: Threads + Sync, G: Gate, S: Shelf, K: Sink>(
     rt: &R,
     alloc: Global,
     limits: NetworkLimits,
@@ -104,25 +104,6 @@ fn perform_command<R: Threads + Sync, G: Gate, S: Shelf, K: Sink>(
     }
 }
 
-// The work of the words; leaves the error output alone.
-fn perform<R: Threads + Sync, G: Gate, S: Shelf, K: Sink>(
-    rt: &R,
-    alloc: Global,
-    limits: NetworkLimits,
-    words: &[String],
-    shelf: &mut S,
-    out: &mut K,
-    gate: &G,
-) -> Result<(), Stop>
-    ensures { Performs (asked_plan_within limits words.now)
-        (S.state shelf.old) (S.state shelf.new) (K.state out.old) (K.state out.new) result }
-{
-    match read_command(alloc, words) {
-        Ok(command) => perform_command(rt, alloc, limits, command, shelf, out, gate),
-        Err(fault) => Err(refuse_words(alloc, fault)),
-    }
-}
-
 /// Runs the command that the words ask for, for a network file within these limits, and writes the reason
 /// of an early end to the error output. The status is 0 if the run is done, 1 when out of memory, 2 if the
 /// words are refused, 3 if a file was not read, 4 if a write failed, 5 if the network is refused, 6 the
@@ -141,9 +122,16 @@ pub fn run_within<R: Threads + Sync, G: Gate, S: Shelf, K: Sink, E: Sink>(
     ensures { PromisesWithin limits words.now (S.state shelf.old) (S.state shelf.new)
         (K.state out.old) (K.state out.new) (E.state err.old) (E.state err.new) result }
 {
-    let ended = perform(rt, alloc, limits, words, shelf, out, gate);
-    let put = say(&ended, err);
-    status_after(&ended, put)
+    match read_command(alloc, words) {
+        Ok(command) => {
+            let ended = perform(rt, alloc, limits, command, shelf, out, gate);
+            report(&ended, err)
+        }
+        Err(fault) => {
+            let refused = Err(refuse_fault(alloc, Refusal::Words, &fault));
+            report(&refused, err)
+        }
+    }
 }
 
 /// [`run_within`] the standard limits of a network: the whole program `fmm`.

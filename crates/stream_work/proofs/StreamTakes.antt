@@ -195,18 +195,12 @@ pub stopped : (on : Setting) (s s' : SessionsState) (rows : RowsState) (tally : 
     → HasStreamed on s rows tally before → Streams s (pairs_of before) (points_in more) s' old new (Err fault) → StopsAtFault fault stop
     → TakesTraces (streams_job on) after before more old new (Err stop)
 stopped on s s' rows tally after before more old new (TooLong id) (Refused refusal line) has streams stops = (
-  stops.0,
-  ap (option_map too_long_line) (room-append before more has.room ∙ streams.full) ∙ ap (λ l. Some l) (sym stops.1),
+  stops.1,
+  ap (option_map too_long_line) (room-append before more has.room ∙ streams.full) ∙ ap (λ l. Some l) (sym stops.2),
   streamed-grows on s rows tally before more old new has streams.written,
 )
-stopped on s s' rows tally after before more old new (NotOpen id) (Refused refusal line) has streams stops = absurd stops
-stopped on s s' rows tally after before more old new Memory (Refused refusal line) has streams stops = absurd stops
-stopped on s s' rows tally after before more old new (TooLong id) NoMemory has streams stops = tt
-stopped on s s' rows tally after before more old new (NotOpen id) NoMemory has streams stops = tt
-stopped on s s' rows tally after before more old new Memory NoMemory has streams stops = tt
-stopped on s s' rows tally after before more old new (TooLong id) (Unread file) has streams stops = absurd stops
-stopped on s s' rows tally after before more old new (NotOpen id) (Unread file) has streams stops = absurd stops
-stopped on s s' rows tally after before more old new Memory (Unread file) has streams stops = absurd stops
-stopped on s s' rows tally after before more old new (TooLong id) Unwritten has streams stops = absurd stops
-stopped on s s' rows tally after before more old new (NotOpen id) Unwritten has streams stops = absurd stops
-stopped on s s' rows tally after before more old new Memory Unwritten has streams stops = absurd stops
+stopped on s s' rows tally after before more old new (NotOpen id) (Refused refusal line) has streams stops = absurd stops.0
+stopped on s s' rows tally after before more old new Memory (Refused refusal line) has streams stops = absurd stops.0
+stopped on s s' rows tally after before more old new fault NoMemory has streams stops = tt
+stopped on s s' rows tally after before more old new fault (Unread file) has streams stops = absurd stops
+stopped on s s' rows tally after before more old new fault Unwritten has streams stops = absurd stops

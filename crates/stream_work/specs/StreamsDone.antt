@@ -3,10 +3,10 @@ use Rattle.std.specs.Prelude.{◌≡◌, ◌↔◌, ℕ, ◌<◌, ◌^◌, List,
 use Rattle.bounded_search.specs.Rows.{AreRowsOf, RowsState}
 use Rattle.cost_model.specs.Options.{IsAccepted}
 use Rattle.program_frame.specs.Jobs.{IsBounded, points_of}
+use Rattle.program_frame.specs.Stops.{RefusesFault}
 use Rattle.program_frame.specs.declared.total.Tally.{Tally}
 use Rattle.program_frame.specs.declared.stop.Refusal.TheVariants.{Traces}
 use Rattle.program_frame.specs.declared.stop.Stop.{Stop}
-use Rattle.program_frame.specs.declared.stop.Stop.TheVariants.{Refused, NoMemory, Unread, Unwritten}
 use Rattle.trace_sessions.specs.declared.sessions.SessionFault.{SessionFault}
 use Rattle.trace_sessions.specs.declared.sessions.SessionFault.TheVariants.{Memory, NotOpen, TooLong}
 use Rattle.trace_reader.specs.declared.trace.Trace.{Trace}
@@ -41,11 +41,17 @@ pub record HasStreamed (on : Setting) (s : SessionsState) (rows : RowsState) (ta
   pub points_are : tally.points ≡ points_of traces
   pub pieces_are : tally.pieces ≡ pieces_told on.network on.params (pairs_of traces)
 
--- the work ends with the line of an id that is too long, or memory ran out
+-- a fault of the sessions has a line where the trace of an id is too long
+abbrev pub has_fault_line : SessionFault → Type 0
+has_fault_line (TooLong id) = Unit {0}
+has_fault_line (NotOpen id) = ⊥
+has_fault_line Memory = ⊥
+
+abbrev pub fault_line : SessionFault → List ℕ
+fault_line (TooLong id) = too_long_line id
+fault_line (NotOpen id) = []
+fault_line Memory = []
+
+-- the work ends with that line, or memory ran out
 abbrev pub StopsAtFault : SessionFault → Stop → Type 0
-StopsAtFault (TooLong id) (Refused refusal line) = (refusal ≡ Traces) × (line ≡ too_long_line id)
-StopsAtFault (NotOpen id) (Refused refusal line) = ⊥
-StopsAtFault Memory (Refused refusal line) = ⊥
-StopsAtFault fault NoMemory = Unit {0}
-StopsAtFault fault (Unread file) = ⊥
-StopsAtFault fault Unwritten = ⊥
+StopsAtFault fault = RefusesFault Traces (has_fault_line fault) (fault_line fault)

@@ -7,14 +7,16 @@ ghost use Rattle.trace_sessions.specs.Sessions.{Keeps, Pair};
 ghost use Rattle.trace_sessions.specs.StreamText.{points_in};
 ghost use Rattle.trace_sessions.specs.Streaming.{AsksStream, Streams};
 ghost use Rattle.stream_work.specs.Streams.{streams_job, streams_plan, too_long_line};
-ghost use Rattle.stream_work.specs.StreamsDone.{CanTakeFragments, HasStreamed, StopsAtFault};
+ghost use Rattle.stream_work.specs.StreamsDone.{CanTakeFragments, HasStreamed};
 
 use bounded_search::OwnRows;
 use cost_model::Params;
 use decimal_text::write_unsigned;
 use edge_io::{Shelf, Sink};
 use polyline_geometry::List;
-use program_frame::{Job, NetworkFile, Refusal, Stop, Tally, load_network, work_traces};
+use program_frame::{
+    FaultLine, Job, NetworkFile, Refusal, Stop, Tally, load_network, refuse_fault, work_traces,
+};
 use std::alloc::{AllocError, Global};
 use trace_match::Matcher;
 use trace_reader::Trace;
@@ -61,17 +63,22 @@ fn append_too_long(id: u32, into: &mut List<u8>) -> Result<(), AllocError>
     into.extend_from_slice(b": trace too long\n")
 }
 
-// The early end for a fault of the sessions.
-fn stop_at(alloc: Global, fault: SessionFault) -> Stop
-    ensures { StopsAtFault fault result }
-{
-    let SessionFault::TooLong(id) = fault else {
-        return Stop::NoMemory;
-    };
-    let mut line = List::new(alloc);
-    match append_too_long(id, &mut line) {
-        Ok(()) => Stop::Refused(Refusal::Traces, line),
-        Err(_) => Stop::NoMemory,
+// A fault of the sessions. It has a line if a trace is too long.
+#[derive(Clone, Copy)]
+struct StreamFault(SessionFault);
+
+impl FaultLine for StreamFault {
+    ghost use Rattle.stream_work.specs.StreamsDone.{fault_line, has_fault_line};
+
+    ghost has_line = { λ fault. has_fault_line fault.0 };
+
+    ghost line = { λ fault. fault_line fault.0 };
+
+    fn append_line(&self, _alloc: Global, into: &mut List<u8>) -> Result<(), AllocError> {
+        match self.0 {
+            SessionFault::TooLong(id) => append_too_long(id, into),
+            SessionFault::NotOpen(_) | SessionFault::Memory => Err(AllocError),
+        }
     }
 }
 
@@ -109,7 +116,7 @@ impl<'m> Job for StreamJob<'m> {
                 self.tally.add(traces, pieces);
                 Ok(())
             }
-            Err(fault) => Err(stop_at(alloc, fault)),
+            Err(fault) => Err(refuse_fault(alloc, Refusal::Traces, &StreamFault(fault))),
         }
     }
 
@@ -140,11 +147,7 @@ pub fn stream_traces<S: Shelf, K: Sink>(
         (S.state shelf.old) (S.state shelf.new) (K.state out.old) (K.state out.new) result }
 {
     let roads = load_network(alloc, shelf, network)?;
-    let Ok(matcher) = Matcher::open(alloc, &roads, options) else {
-        return Err(Stop::NoMemory);
-    };
-    let Ok(job) = StreamJob::open(alloc, &matcher) else {
-        return Err(Stop::NoMemory);
-    };
+    let matcher = Matcher::open(alloc, &roads, options)?;
+    let job = StreamJob::open(alloc, &matcher)?;
     work_traces(alloc, job, shelf, traces, out)
 }

@@ -14,7 +14,7 @@ use Rattle.table_file.proofs.Tables.{tables_have_one_text}
 use Rattle.table_file.specs.Laws.{AreRowsFrom, IsEntryBelow}
 use Rattle.table_file.specs.Reading.{table_of}
 use Rattle.program_frame.specs.Loads.{Refuses}
-use Rattle.program_frame.specs.Stops.{IsRefusalOr}
+use Rattle.program_frame.specs.Stops.{RefusesFault}
 use Rattle.program_frame.specs.declared.stop.Refusal.{Refusal}
 use Rattle.program_frame.specs.declared.stop.Refusal.TheVariants.{Table}
 use Rattle.program_frame.specs.declared.stop.Stop.{Stop}
@@ -43,13 +43,13 @@ pub right_said : (net : Net) (table : BoundedTable) (row : TableRow) (origin : �
 right_said net table row origin tried = said_by net table.bound row true (answer_is net table row origin true tried)
 
 -- a refusal with the line that is said
-refused_said : {A : Type 0} (refusal : Refusal) (said : Result A (List ℕ)) (line : List ℕ) (stop : Stop) → said ≡ Err line → IsRefusalOr refusal line stop → Refuses refusal said stop
-refused_said refusal said line (Refused r l) is stops = (stops.0, is ∙ ap (λ t. Err t) (sym stops.1))
+refused_said : {A : Type 0} (refusal : Refusal) (said : Result A (List ℕ)) (line : List ℕ) (stop : Stop) → said ≡ Err line → RefusesFault refusal (Unit {0}) line stop → Refuses refusal said stop
+refused_said refusal said line (Refused r l) is stops = (stops.1, is ∙ ap (λ t. Err t) (sym stops.2))
 refused_said refusal said line NoMemory is stops = tt
 refused_said refusal said line (Unread file) is stops = absurd stops
 refused_said refusal said line Unwritten is stops = absurd stops
 
-pub wrong_said : (net : Net) (table : BoundedTable) (row : TableRow) (origin id : ℕ) (stop : Stop) → IsTried net table row origin false → id ≡ node_name net origin → IsRefusalOr Table (wrong_row_line id) stop → Refuses Table (row_said net table.bound row) stop
+pub wrong_said : (net : Net) (table : BoundedTable) (row : TableRow) (origin id : ℕ) (stop : Stop) → IsTried net table row origin false → id ≡ node_name net origin → RefusesFault Table (Unit {0}) (wrong_row_line id) stop → Refuses Table (row_said net table.bound row) stop
 wrong_said net table row origin id stop tried named stops =
     let own : id ≡ node_name net row.origin = named ∙ ap (node_name net) tried.of_origin in
     refused_said Table (row_said net table.bound row) (wrong_row_line id) stop

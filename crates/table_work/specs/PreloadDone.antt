@@ -1,16 +1,15 @@
--- How the text of a table file is refused.
-use Rattle.std.specs.Prelude.{◌≡◌, ◌≢◌}
-use Rattle.program_frame.specs.declared.stop.Refusal.TheVariants as refusals
-use Rattle.program_frame.specs.declared.stop.Stop.{Stop}
-use Rattle.program_frame.specs.declared.stop.Stop.TheVariants.{Refused, NoMemory, Unread, Unwritten}
-use Rattle.table_file.specs.declared.fault.TableFault.{TableFault}
+-- The lines with which a table file is refused.
+use Rattle.std.specs.Prelude.{◌≢◌, ℕ, List}
 use Rattle.table_file.specs.declared.fault.TableFault.TheVariants.{Memory}
-use Rattle.table_work.specs.Preload.{table_fault_line}
+use Rattle.table_work.specs.Preload.{table_fault_line, wrong_row_line}
+use Rattle.table_work.specs.declared.preloading.TableFileFault.{TableFileFault}
+use Rattle.table_work.specs.declared.preloading.TableFileFault.TheVariants.{Text, WrongRow}
 
--- the ending where the text has this fault, or memory ran out
-abbrev pub RefusesText : TableFault → Stop → Type 0
-RefusesText fault (Refused refusal line) =
-    (fault ≢ Memory) × (refusal ≡ refusals.Table) × (line ≡ table_fault_line fault)
-RefusesText fault NoMemory = Unit {0}
-RefusesText fault (Unread file) = ⊥
-RefusesText fault Unwritten = ⊥
+-- want of memory has no line
+abbrev pub has_fault_line : TableFileFault → Type 0
+has_fault_line (Text fault) = fault ≢ Memory
+has_fault_line (WrongRow id) = Unit {0}
+
+abbrev pub fault_line : TableFileFault → List ℕ
+fault_line (Text fault) = table_fault_line fault
+fault_line (WrongRow id) = wrong_row_line id

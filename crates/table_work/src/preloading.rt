@@ -1,18 +1,16 @@
 //! `--table FILE` of `match`: a table computed beforehand, whose rows are checked one by one
 //! and offered to a store. Serves the program; decided by `table_file_said`.
-ghost use Rattle.std.specs.Prelude.{◌≡◌, ◌≤◌, ◌++◌, All, IfOk, OnOk};
+ghost use Rattle.std.specs.Prelude.{◌≡◌, ◌≢◌, ◌≤◌, ◌++◌, All, IfOk, OnOk};
 ghost use Rattle.program_frame.specs.Loads.{Accepts, Loads};
-ghost use Rattle.program_frame.specs.Stops.{IsRefusalOr};
 ghost use Rattle.road_network.specs.Net.{HasNode};
 ghost use Rattle.table_file.specs.TableText.{text_limit};
 ghost use Rattle.table_work.specs.Preload.{row_said, rows_in, rows_said, table_fault_line, table_file_said, wrong_row_line};
-ghost use Rattle.table_work.specs.PreloadDone.{RefusesText};
 
 use bounded_search::{Row, RowChecker};
 use decimal_text::write_unsigned;
 use edge_io::Shelf;
 use polyline_geometry::List;
-use program_frame::{File, Refusal, Stop, read_file};
+use program_frame::{FaultLine, File, Refusal, Stop, read_file, refuse_fault};
 use road_network::Network;
 use row_store::{Reader, RowStore};
 use std::alloc::{AllocError, Global};
@@ -20,7 +18,8 @@ use table_file::{TEXT_LIMIT, TableFault, read_table};
 
 // Appends the error line of a fault of the text.
 fn append_fault(fault: TableFault, line: &mut List<u8>) -> Result<(), AllocError>
-    ensures { OnOk result (line.new ≡ line.old ++ table_fault_line fault) }
+    ensures some { OnOk result (fault ≢ TableFault.Memory) }
+    ensures line { OnOk result (line.new ≡ line.old ++ table_fault_line fault) }
 {
     match fault {
         TableFault::BadLine(number) => {
@@ -30,7 +29,7 @@ fn append_fault(fault: TableFault, line: &mut List<u8>) -> Result<(), AllocError
         }
         TableFault::Cut => line.extend_from_slice(b"table: cut\n"),
         TableFault::TooLong => line.extend_from_slice(b"table: too long\n"),
-        TableFault::Memory => Ok(()),
+        TableFault::Memory => Err(AllocError),
     }
 }
 
@@ -43,26 +42,27 @@ fn append_wrong_row(id: u64, line: &mut List<u8>) -> Result<(), AllocError>
     line.extend_from_slice(b": Row\n")
 }
 
-fn refuse_text(alloc: Global, fault: TableFault) -> Stop
-    ensures { RefusesText fault result }
-{
-    if let TableFault::Memory = fault {
-        return Stop::NoMemory;
-    }
-    let mut line = List::new(alloc);
-    match append_fault(fault, &mut line) {
-        Ok(()) => Stop::Refused(Refusal::Table, line),
-        Err(_) => Stop::NoMemory,
-    }
+// Why a table file is refused.
+#[derive(Clone, Copy)]
+enum TableFileFault {
+    // The text has this fault.
+    Text(TableFault),
+    // The row of the node of this id is wrong.
+    WrongRow(u64),
 }
 
-fn refuse_row(alloc: Global, id: u64) -> Stop
-    ensures { IsRefusalOr Refusal.Table (wrong_row_line id) result }
-{
-    let mut line = List::new(alloc);
-    match append_wrong_row(id, &mut line) {
-        Ok(()) => Stop::Refused(Refusal::Table, line),
-        Err(_) => Stop::NoMemory,
+impl FaultLine for TableFileFault {
+    ghost use Rattle.table_work.specs.PreloadDone.{fault_line, has_fault_line};
+
+    ghost has_line = { λ fault. has_fault_line fault };
+
+    ghost line = { λ fault. fault_line fault };
+
+    fn append_line(&self, _alloc: Global, into: &mut List<u8>) -> Result<(), AllocError> {
+        match self {
+            TableFileFault::Text(fault) => append_fault(*fault, into),
+            TableFileFault::WrongRow(id) => append_wrong_row(*id, into),
+        }
     }
 }
 
@@ -73,7 +73,7 @@ fn read_rows(alloc: Global, roads: &Network, bound: u32, text: Vec<u8>) -> Resul
 {
     match read_table(alloc, bound, roads.node_count(), roads.edge_count(), &text) {
         Ok(rows) => Ok(rows),
-        Err(fault) => Err(refuse_text(alloc, fault)),
+        Err(fault) => Err(refuse_fault(alloc, Refusal::Table, &TableFileFault::Text(fault))),
     }
 }
 
@@ -95,7 +95,8 @@ fn offer_row(
     roads.invariants();
     let origin = row.origin();
     if !checker.check(origin, &row) {
-        return Err(refuse_row(alloc, roads.node_name(origin)));
+        let fault = TableFileFault::WrongRow(roads.node_name(origin));
+        return Err(refuse_fault(alloc, Refusal::Table, &fault));
     }
     reader.offer_right(origin, row)?;
     Ok(())

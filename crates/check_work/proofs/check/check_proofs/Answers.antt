@@ -8,5 +8,5 @@ use Rattle.check_work.proofs.check.check_proofs.Goals as goal
 pub returns : goal.returns
 returns g c =
     let about = c.args.subject.now in
-    let said = ap finding_said c.in-Ok.ensures ∙ finding_says about.net.now about.params.now about.traces.now c.args.certificate.now in
+    let said = ap finding_said c.in_ok-found.ensures ∙ finding_says about.net.now about.params.now about.traces.now c.args.certificate.now in
     subst (λ said. Accepts Certificate said c.accept_finding.result) said c.accept_finding.ensures

@@ -5,4 +5,4 @@ use Rattle.live_pipeline.proofs.top.live.Goals as goal
 
 pub returns : goal.returns
 returns g c =
-    rw c.status_after.ensures (live_promises _ _ _ _ _ _ _ _ _ (lines_covered (map string_bytes c.args.words.now)) c.perform-ended.ensures c.say-put.ensures.put c.say-put.ensures.quiet)
+    rw c.report.ensures.is (live_promises _ _ _ _ _ _ _ _ _ (lines_covered (map string_bytes c.args.words.now)) c.perform-ended.ensures c.report.ensures.puts c.report.ensures.quiet)

@@ -14,7 +14,7 @@ returns-in_default g c =
 pub returns-in-Err : goal.returns-in-Err
 returns-in-Err g c =
     let same = ap (map string_bytes) c.as_slice.ensures.value ∙ c.in-Ok.ensures in
-    words_refuse (map string_bytes c.args.words.now) c.in-Err.fault (g.S.Shelf.state c.args.shelf) (g.K.Sink.state c.args.out.now) c.refuse_words.result (subst (λ ws. (c.in-Err.fault ≡ Memory) ⊎ (command_of ws ≡ Err c.in-Err.fault)) same c.in-Err.ensures.err) c.refuse_words.ensures
+    words_refuse (map string_bytes c.args.words.now) c.in-Err.fault (g.S.Shelf.state c.args.shelf) (g.K.Sink.state c.args.out.now) c.refuse_fault.result (subst (λ ws. (c.in-Err.fault ≡ Memory) ⊎ (command_of ws ≡ Err c.in-Err.fault)) same c.in-Err.ensures.err) c.refuse_fault.ensures
 
 pub returns-in-Follow : goal.returns-in-Follow
 returns-in-Follow g c =

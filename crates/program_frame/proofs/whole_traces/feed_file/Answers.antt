@@ -30,8 +30,8 @@ returns-in-Err g c =
     let inv = c.loop-chunks.invariant in
     let next = next_read c.args.name.now (g.S.Shelf.state c.args.shelf.now) (g.S.Shelf.state c.loop-chunks.shelf) (g.S.Shelf.state c.next.new.shelf) c.loop-chunks.chunks.at c.next.new.self.at c.next.new.self.bytes.items c.deref.result.now c.in_ok-next.field-0 c.loop-chunks.invariant.same c.deref.ensures.value c.if-branch.true c.in_ok-next.ensures in
     chunk_refused c.args.name.now (g.S.Shelf.state c.args.shelf.now) (g.S.Shelf.state c.next.new.shelf) c.loop-chunks.chunks.at c.next.new.self.at c.loop-chunks.reader c.loop-chunks.traces c.feed.new.into c.deref.result.now c.in-Err.fault
-    c.stop_reading.result inv.holding next.1 next.0 (next.2 inv.holding.fed (has_read inv.holding inv.within)) (c.in-Err.ensures.fed inv.holding.fed inv.holding.stands)
-    (record { memory = c.stop_reading.ensures.memory; refused = c.stop_reading.ensures.refused })
+    c.refuse_fault.result inv.holding next.1 next.0 (next.2 inv.holding.fed (has_read inv.holding inv.within)) (c.in-Err.ensures.fed inv.holding.fed inv.holding.stands)
+    c.refuse_fault.ensures
 
 pub loop-chunks-smaller : goal.loop-chunks-smaller
 loop-chunks-smaller g c =

@@ -9,5 +9,5 @@ returns-in-Ok g c =
 pub returns : goal.returns
 returns g c =
     let fed = c.in_ok-feed_file.ensures in
-    end_refused c.args.name.now (g.S.Shelf.state c.args.shelf.now) (g.S.Shelf.state c.feed_file.new.shelf) c.feed_file.new.reader c.feed_file.new.traces c.finish.new.into c.in-Err.fault c.stop_reading.result fed (c.in-Err.ensures.fed fed.bytes fed.stands)
-    (record { memory = c.stop_reading.ensures.memory; refused = c.stop_reading.ensures.refused })
+    end_refused c.args.name.now (g.S.Shelf.state c.args.shelf.now) (g.S.Shelf.state c.feed_file.new.shelf) c.feed_file.new.reader c.feed_file.new.traces c.finish.new.into c.in-Err.fault c.refuse_fault.result fed (c.in-Err.ensures.fed fed.bytes fed.stands)
+    c.refuse_fault.ensures

@@ -11,16 +11,18 @@ returns-in_err-roads g c =
     let p = err_from_is_err_and c.from_residual.result c.from_residual.ensures.1 in
     rw (p.1, p.2) (loads_fails _ (λ e. cc) c.in_err-roads.ensures)
 
-pub returns-in_default : goal.returns-in_default
-returns-in_default g c =
-    loads_performs _ _ c.in_ok-roads.ensures (memory_performs _ (g.S.Shelf.state c.load_network.new.shelf) (g.K.Sink.state c.args.out.now))
+pub returns-in_err-matcher : goal.returns-in_err-matcher
+returns-in_err-matcher g c =
+    let p = err_from_is_err_and c.from_residual-in_err-matcher.result c.from_residual-in_err-matcher.ensures.1 in
+    loads_performs _ _ c.in_ok-roads.ensures (rw (p.1, p.2) (memory_performs _ (g.S.Shelf.state c.load_network.new.shelf) (g.K.Sink.state c.args.out.now)))
 
-pub returns-in_default-open : goal.returns-in_default-open
-returns-in_default-open g c =
-    loads_performs _ _ c.in_ok-roads.ensures (memory_performs _ (g.S.Shelf.state c.load_network.new.shelf) (g.K.Sink.state c.args.out.now))
+pub returns-in_err-job : goal.returns-in_err-job
+returns-in_err-job g c =
+    let p = err_from_is_err_and c.from_residual-in_err-job.result c.from_residual-in_err-job.ensures.1 in
+    loads_performs _ _ c.in_ok-roads.ensures (rw (p.1, p.2) (memory_performs _ (g.S.Shelf.state c.load_network.new.shelf) (g.K.Sink.state c.args.out.now)))
 
 pub returns : goal.returns
 returns g c =
     loads_performs _ _ c.in_ok-roads.ensures
     (subst (λ on. Performs (Ok (works_traces c.args.traces.now (streams_job on))) (g.S.Shelf.state c.load_network.new.shelf) (g.S.Shelf.state c.work_traces.new.shelf) (g.K.Sink.state c.args.out.now)
-    (g.K.Sink.state c.work_traces.new.out) c.work_traces.result) (c.in-Ok-open.ensures.matcher ∙ c.in-Ok.ensures) c.work_traces.ensures)
+    (g.K.Sink.state c.work_traces.new.out) c.work_traces.result) (c.in_ok-job.ensures.matcher ∙ c.in_ok-matcher.ensures) c.work_traces.ensures)

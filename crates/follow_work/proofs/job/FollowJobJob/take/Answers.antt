@@ -14,11 +14,11 @@ write_followed-requires-clause-traces c = bounded_back c.requires.0 c.args.trace
 
 pub add-requires : goal.add-requires
 add-requires c =
-    fits_more (pieces_of c.args.self.now.matcher) c.requires.0 c.args.traces.now c.args.self.now.tally c.in-Ok.pieces c.requires.2 c.requires.1.counts c.in-Ok.ensures.pieces
+    fits_more (pieces_of c.args.self.now.matcher) c.requires.0 c.args.traces.now c.args.self.now.tally c.in_ok-pieces.pieces c.requires.2 c.requires.1.counts c.in_ok-pieces.ensures.pieces
 
-pub returns-in-Ok-clause-takes : goal.returns-in-Ok-clause-takes
-returns-in-Ok-clause-takes c before has bounded = (
-  followed_more c.args.self.now.matcher before c.args.traces.now c.args.self.now.rows c.write_followed.new.rows c.args.self.now.tally c.add.new.self c.in-Ok.pieces has c.in-Ok.ensures.pieces c.in-Ok.ensures.asks c.add.ensures,
+pub returns-clause-takes : goal.returns-clause-takes
+returns-clause-takes c before has bounded = (
+  followed_more c.args.self.now.matcher before c.args.traces.now c.args.self.now.rows c.write_followed.new.rows c.args.self.now.tally c.add.new.self c.in_ok-pieces.pieces has c.in_ok-pieces.ensures.pieces c.in_ok-pieces.ensures.asks c.add.ensures,
   refl,
-  followed_grows c.args.self.now.matcher before c.args.traces.now c.args.into.now c.write_followed.new.into c.in-Ok.ensures.text,
+  followed_grows c.args.self.now.matcher before c.args.traces.now c.args.into.now c.write_followed.new.into c.in_ok-pieces.ensures.text,
 )

@@ -9,7 +9,7 @@ returns-in-Ok-clause-refuses g c base traces holds =
     let writes = c.in-Ok.ensures.writes base traces holds in
     record {
       memory = λ is. absurd (c.in_default.not-Memory is);
-      known = λ known. refused_all c.args.fault c.refuse_traces.result writes.0 writes.1 c.refuse_traces.ensures;
+      known = λ known. refused_all c.args.fault c.refuse_fault.result writes.0 writes.1 c.refuse_fault.ensures;
     }
 
 pub returns-in-Err-clause-refuses : goal.returns-in-Err-clause-refuses

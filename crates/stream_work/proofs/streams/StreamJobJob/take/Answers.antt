@@ -34,4 +34,4 @@ pub returns-in-Err-clause-takes : goal.returns-in-Err-clause-takes
 returns-in-Err-clause-takes c before has bounded =
     stopped c.args.self.now.matcher.now c.args.self.now.sessions c.stream_fragments.new.sessions c.args.self.now.rows c.args.self.now.tally
     (HasStreamed c.args.self.now.matcher.now c.stream_fragments.new.sessions c.stream_fragments.new.rows c.args.self.now.tally) before c.args.traces.now c.args.into.now c.stream_fragments.new.into
-    c.in-Err.fault c.stop_at.result has (c.in-Err.ensures.streams _ has.stands) c.stop_at.ensures
+    c.in-Err.fault c.refuse_fault.result has (c.in-Err.ensures.streams _ has.stands) c.refuse_fault.ensures

@@ -1,6 +1,6 @@
 use Rattle.std.proofs.Common.{◌≡◌, length}
 use Rattle.program_frame.proofs.ChunkEnds.{IsUnderway}
-use Rattle.program_frame.proofs.batches.Batches.take_bytes.Given as goal
+use Rattle.program_frame.proofs.batches.Batches.take_chunk.Given as goal
 
 abbrev pub invariant-loop-rest : goal.invariant-loop-rest
 invariant-loop-rest g l = record {
