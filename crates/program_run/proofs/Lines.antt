@@ -97,9 +97,6 @@ work_end limits (match_files network traces None) options status line refused is
 work_end limits (match_files network traces (Some table)) options status line refused is = table_match_end limits network table traces options status line refused is
 work_end limits (follow_files network traces) options status line refused is =
     network_end run_lines has_refusals limits is.0 (network_said limits is.0) (λ net. works_traces traces (follow_job (record { network = net; params = options }))) status line refl (λ net. follows_end (record { network = net; params = options }) traces status line refused) is.1
-work_end limits (table_of_network network) options status line refused is =
-    network_end run_lines has_refusals limits is.0 (network_said limits is.0) (λ net. accepts 8 (table_said net options.bound) (λ text. ends (done_with text))) status line refl
-    (λ net. table_end network options (table_said net options.bound) net status line refl refused) is.1
 work_end limits (stream_files network traces) options status line refused is =
     network_end run_lines has_refusals limits is.0 (network_said limits is.0) (λ net. works_traces traces (streams_job (record { network = net; params = options }))) status line refl
     (λ net more. streams_end (record { network = net; params = options }) _ _ more.0 (full_id [] (points_in (file_traces more.0))) status line refused more.1) is.1
@@ -111,6 +108,9 @@ work_end limits (check_files network traces certificate) options status line ref
     network_end run_lines has_refusals limits is.0 (network_said limits is.0) (λ net. loads Traces traces trace_limit 6 traces_said (λ taken. loads Certificate certificate certificate_limit 7 (check_said (record { network = net; params = options }) taken) (λ text. ends (done_with text)))) status line refl
     (λ net more. loaded_end more.0 (file_fault more.0) (λ taken. loads Certificate certificate certificate_limit 7 (check_said (record { network = net; params = options }) taken) (λ text. ends (done_with text))) status line refl
     (λ taken last. check_end (record { network = net; params = options }) taken last.0 (check_said (record { network = net; params = options }) taken last.0) status line refl refused last.1) more.1) is.1
+work_end limits (table_of_network network) options status line refused is =
+    network_end run_lines has_refusals limits is.0 (network_said limits is.0) (λ net. accepts 8 (table_said net options.bound) (λ text. ends (done_with text))) status line refl
+    (λ net. table_end network options (table_said net options.bound) net status line refl refused) is.1
 work_end limits (match_town side traces seed) options status line refused is = absurd (refused (sym is.0))
 
 command_end : (limits : NetworkLimits) (command : PlainCommand) (known : Plan) (status : ℕ) (line : List ℕ) → every_work limits command ≡ Some known → status ≢ 0 → IsLineOf known status line → run_lines status line

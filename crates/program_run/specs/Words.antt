@@ -29,12 +29,12 @@ abbrev pub work_plan : NetworkLimits → PlainWork → Params → Plan
 work_plan limits (match_files network traces table) options =
     match_files_plan limits network traces table options
 work_plan limits (follow_files network traces) options = follow_plan limits network traces options
-work_plan limits (table_of_network network) options = table_plan limits network options
-work_plan limits (match_town side traces seed) options = town_plan side traces seed options
 work_plan limits (stream_files network traces) options = streams_plan limits network traces options
 work_plan limits (prove_files network traces) options = prove_plan limits network traces options
 work_plan limits (check_files network traces certificate) options =
     check_plan limits network traces certificate options
+work_plan limits (table_of_network network) options = table_plan limits network options
+work_plan limits (match_town side traces seed) options = town_plan side traces seed options
 
 abbrev pub command_plan : NetworkLimits → PlainCommand → Plan
 command_plan limits command = work_plan limits command.work command.options
