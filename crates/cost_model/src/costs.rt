@@ -1,3 +1,4 @@
+//! What a position and a route cost. Serves `trellis` and `cert_checker`; decided by `emission` and `transition`.
 ghost use Rattle.std.specs.Prelude.{◌≡◌, ◌*◌, ◌≤◌};
 ghost use Rattle.cost_model.specs.Options.{IsAccepted};
 ghost use Rattle.cost_model.specs.Costs.{emission, transition, PointCostIsBounded};

@@ -1,3 +1,4 @@
+//! The options of a match with their ranges and defaults. Serves every command; decided by `IsAccepted`.
 ghost use Rattle.std.specs.Prelude.{◌≡◌, ◌↔◌, IsOk, IfOk, IfErr};
 ghost use Rattle.cost_model.specs.Options.{IsAccepted, IsFirstFault};
 

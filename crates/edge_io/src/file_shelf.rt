@@ -22,12 +22,12 @@ pub struct FileShelf<R: Files + Drop> {
     rt: R,
     current: Option<OpenFile<R::File>>,
     failed: List<List<u8>>,
-    // The buffer of a read: empty before the first read.
-    piece: Vec<u8>,
+    // Empty before the first read.
+    buffer: Vec<u8>,
 }
 
 // The most bytes of one read.
-const PIECE: usize = 65_536;
+const BUFFER: usize = 65_536;
 
 // An open file and its position.
 #[derive(Drop)]
@@ -47,7 +47,7 @@ impl<R: Files + Drop> FileShelf<R> {
             rt,
             current: None,
             failed: List::new(alloc),
-            piece: Vec::new(alloc),
+            buffer: Vec::new(alloc),
         }
     }
 
@@ -64,14 +64,14 @@ impl<R: Files + Drop> FileShelf<R> {
             Some(left) if left.at == at && left.name.as_slice() == name.as_bytes() => left,
             _ => open_at(self.alloc, &self.rt, name, at)?,
         };
-        if self.piece.is_empty() {
-            self.piece.resize(PIECE, 0)?;
+        if self.buffer.is_empty() {
+            self.buffer.resize(BUFFER, 0)?;
         }
-        let wanted = self.piece.len().min(most as usize);
-        let count = read_again(&mut found.file, &mut self.piece[..wanted])?;
+        let wanted = self.buffer.len().min(most as usize);
+        let count = read_again(&mut found.file, &mut self.buffer[..wanted])?;
         found.at = at + count as u64;
         self.current = Some(found);
-        into.extend_from_slice(&self.piece[..count])?;
+        into.extend_from_slice(&self.buffer[..count])?;
         Ok(count)
     }
 }

@@ -2,19 +2,23 @@
 //! calls it with the real files and streams.
 #![tactic(auto)]
 
-use edge_io::{FileShelf, StreamSink};
 use live_pipeline::live;
-use program_frame::{arguments, end_without_memory};
+use program_frame::Outside;
 use std::process::ExitCode;
 
 fn main(rt: HostRuntime) -> ExitCode {
-    let alloc = rt.alloc();
-    let mut err = StreamSink::new(rt.stderr());
-    let Ok(words) = arguments(&rt) else {
-        return ExitCode::from(end_without_memory(&mut err));
-    };
-    let shelf = FileShelf::new(alloc, rt);
-    let mut out = StreamSink::new(rt.stdout());
-    let (status, _) = live(&rt, alloc, &words, shelf, &mut out, &mut err);
-    ExitCode::from(status)
+    match Outside::open(rt, rt.stdout(), rt.stderr()) {
+        Ok(mut to) => {
+            let (status, _) = live(
+                &rt,
+                rt.alloc(),
+                &to.words,
+                to.shelf,
+                &mut to.out,
+                &mut to.err,
+            );
+            ExitCode::from(status)
+        }
+        Err(status) => ExitCode::from(status),
+    }
 }

@@ -1,3 +1,4 @@
+//! A relay that is full.
 use std::test::Fail;
 use trace_relay::{Part, Relay};
 

@@ -1,3 +1,4 @@
+//! Runs of `live` with two threads that are observed, failing reads and failing puts.
 use crate::runs::{bytes, many_traces};
 use edge_io::{MemoryShelf, MemorySink, Put, Shelf, Sink, Taken};
 use live_pipeline::live;

@@ -1,3 +1,4 @@
+//! Runs of `run` with failing reads and puts, and with files that come a few bytes at a time.
 use decimal_text::write_unsigned;
 use edge_io::{MemoryShelf, MemorySink, Shelf};
 use match_pool::{Gate, OpenGate};

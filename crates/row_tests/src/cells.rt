@@ -1,3 +1,4 @@
+//! What a grid has near a position.
 use crate::small::TWO_EDGES;
 use grid_index::Grid;
 use polyline_geometry::Point;

@@ -1,3 +1,4 @@
+//! The candidates of a position.
 ghost use Rattle.std.specs.Prelude.{◌≤◌};
 ghost use Rattle.polyline_geometry.specs.Plane.{InRange};
 

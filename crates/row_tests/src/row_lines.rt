@@ -1,3 +1,4 @@
+//! A row as a line.
 use polyline_geometry::List;
 use row_text::{read_row, write_row};
 use std::test::Fail;

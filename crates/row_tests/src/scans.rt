@@ -1,3 +1,4 @@
+//! Candidates of many positions by one scan.
 use crate::small::TWO_ROADS;
 use candidate_search::EdgeScan;
 use cost_model::Params;

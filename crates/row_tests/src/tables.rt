@@ -1,3 +1,4 @@
+//! Table texts, written, read and refused.
 use polyline_geometry::List;
 use std::alloc::{AllocError, Global};
 use std::test::Fail;
