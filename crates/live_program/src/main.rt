@@ -8,15 +8,15 @@ use std::process::ExitCode;
 
 fn main(rt: HostRuntime) -> ExitCode {
     match Outside::open(rt, rt.stdout(), rt.stderr()) {
-        Ok(mut to) => {
-            let (status, _) = live(
-                &rt,
-                rt.alloc(),
-                &to.words,
-                to.shelf,
-                &mut to.out,
-                &mut to.err,
-            );
+        Ok(
+            Outside {
+                words,
+                shelf,
+                mut out,
+                mut err,
+            },
+        ) => {
+            let (status, _) = live(&rt, rt.alloc(), &words, shelf, &mut out, &mut err);
             ExitCode::from(status)
         }
         Err(status) => ExitCode::from(status),

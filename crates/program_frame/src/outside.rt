@@ -7,6 +7,7 @@ use std::io::{ErrorKind, Write};
 use std::rt::Files;
 
 /// The words after a program's name, the real files, and the streams of its output and its errors.
+#[derive(Drop)]
 pub struct Outside<R: Files + Drop, W: Write + Drop, E: Write + Drop> {
     pub words: Vec<String>,
     pub shelf: FileShelf<R>,
