@@ -30,7 +30,7 @@ asked_node n p trace v lawful accepted fixes e =
     let i = asked.2.0 in
     let at : IsAskedNodeAt t (end_of n) layers asked.0 i v = asked.2.1 in
     let after = at.after_first in
-    let here_at = at_get layers i at.here at.here-is in
+    let here_at = at_get layers i at.here at.here_is in
     let xs = drop first layers in
     let k = i - first in
     let count : i + 1 - first ≡ k + 1 = omega (arith, after) in
@@ -40,4 +40,4 @@ asked_node n p trace v lawful accepted fixes e =
     let rank_in = cost-in_range t at.here (reverse (take k xs)) at.rank reached.1 reached.0 reached.2 in
     let layer = all-at (IsLayer n p) layers i at.here (matchable n p trace layers accepted fixes refl).are.each here_at in
     let edge = (layer.candidates at.rank no_candidate rank_in).edge in
-    subst (HasNode n) at.node-is (lawful.targets (candidate_of_rank at.here at.rank).edge.0 edge)
+    subst (HasNode n) at.node_is (lawful.targets (candidate_of_rank at.here at.rank).edge.0 edge)

@@ -92,8 +92,8 @@ pub batches_verdict : (n : Net) (p : Params) (rows : List TableRow) (traces : Li
     → first_refused (map (batch_verdict n p rows) batches) ≡ verdict_from n p rows 0 traces proofs
 batches_verdict n p rows traces proofs batches are =
     by_batches n p rows 0 batches (length traces) are.follow
-    ∙ ap (λ ts. verdict_from n p rows 0 ts (flat_map (λ b. b.proofs.now) batches)) are.traces-are
-    ∙ ap (verdict_from n p rows 0 traces) are.proofs-are
+    ∙ ap (λ ts. verdict_from n p rows 0 ts (flat_map (λ b. b.proofs.now) batches)) are.traces_are
+    ∙ ap (verdict_from n p rows 0 traces) are.proofs_are
 
 -- answers to batches are answers to their verdicts
 pub to_verdicts : {E : Type 0} (f : Batch → Verdict) (batches : List Batch) (answers : List (Result Verdict E)) → AllZip (λ b r. IfOk r (λ v. v ≡ f b)) batches answers
@@ -172,12 +172,12 @@ pub record IsPart (n : Net) (p : Params) (traces : List Trace) (i first : ℕ) (
 
 pub batch_part : (n : Net) (p : Params) (traces : List Trace) (i first : ℕ) (t : Trace) (layers : List Layer) → All IsLawfulTrace traces → first ≡ length (flat_map (λ (u : Trace). u.fixes) (take i traces))
     → i < length traces → t ≡ get_or traces i t → layers ≡ map (layer_of n p) (flat_map (λ (u : Trace). u.fixes) traces) → IsPart n p traces i first t layers
-batch_part n p traces i first t layers lawful behind lt is layers-are =
+batch_part n p traces i first t layers lawful behind lt is layers_are =
     let within = part_within (λ (u : Trace). u.fixes) traces i t lt is in
-    let count : length layers ≡ length (fixes_of traces) = ap (λ (l : List Layer). length l) layers-are ∙ length-map (fixes_of traces) (layer_of n p) in
+    let count : length layers ≡ length (fixes_of traces) = ap (λ (l : List Layer). length l) layers_are ∙ length-map (fixes_of traces) (layer_of n p) in
     record {
       within = omega (arith, within, count, behind);
-      own = ap (λ (l : List Layer). take (length t.fixes) (drop first l)) layers-are
+      own = ap (λ (l : List Layer). take (length t.fixes) (drop first l)) layers_are
           ∙ map_part (layer_of n p) (length t.fixes) first (fixes_of traces)
           ∙ ap (λ k. map (layer_of n p) (take (length t.fixes) (drop k (fixes_of traces)))) behind
           ∙ ap (map (layer_of n p)) (own_part (λ (u : Trace). u.fixes) traces i t lt is);

@@ -128,7 +128,7 @@ held_matched c k h lt =
     ∙ leads_back chosen ts n (omega (arith, chosen-len)) (omega (arith, count)) follow ∙ ap reverse (ap (λ v. take v chosen) (sym chosen-len) ∙ take-length chosen) in
     record {
       chosen = chosen;
-      ranks-are = ranks_are c k h lt;
+      ranks_are = ranks_are c k h lt;
       best = subst (λ rs. IsBest t (reverse (from_to q.first q.last c.layers)) q.cost rs) leads
           (subst (λ v. IsBest t (reverse (take v xs)) q.cost (by_pointers (reverse ts) (Some end.chosen))) (count ∙ sym whole) best);
       cells = cells_of_linked t xs ts run.run.within run.run.linked;
@@ -148,9 +148,9 @@ held_is_match : (c : Case) → IsHeld c → IsMatch (trellis_of c) c.layers c.pr
 held_is_match c h =
     let ranks = held_ranks c h in
     record {
-      ranks-count = ranks;
-      tables-count = held_tables c h;
-      pieces-are = held_pieces c h;
+      ranks_count = ranks;
+      tables_count = held_tables c h;
+      pieces_are = held_pieces c h;
       each = All-map (λ (p : Piece). IsMatchedPiece (trellis_of c) c.layers c.proof.ranks c.proof.tables p) piece_of c.proof.pieces
           (λ k d lt. subst (λ (q : Routed). IsMatchedPiece (trellis_of c) c.layers c.proof.ranks c.proof.tables (piece_of q)) (get_or_default c.proof.pieces k no_piece d lt) (held_matched c k h lt));
       missing = λ i l lt l-is none.
@@ -178,14 +178,14 @@ held_asked c h v (p, among, asked) =
     let inside = run.inside in
     let some = run.some in
     let count = length_between c.proof.tables q.first q.last some (omega (arith, inside, tables)) in
-    let first-is : p.first ≡ q.first = ap (λ (x : Piece). x.first) same in
+    let first_is : p.first ≡ q.first = ap (λ (x : Piece). x.first) same in
     let last-is : p.last ≡ q.last = ap (λ (x : Piece). x.last) same in
     let asks : AsksIn c.net c.params (layers_from c q) (tables_in c q) v =
-    in_asked c.net c.params c.layers q.first (tables_in c q) p v run.run first-is (omega (arith, last-is, count, some)) asked in
+    in_asked c.net c.params c.layers q.first (tables_in c q) p v run.run first_is (omega (arith, last-is, count, some)) asked in
     let m = asks.0 in
     let at = asks.1 in
-    let cells-below = at.cells-are.below in
-    let next-below = at.next-is.below in
+    let cells-below = at.cells_are.below in
+    let next-below = at.next_is.below in
     let left = length-drop q.first c.layers in
     let i = q.first + m in
     let in_q : IsIn i q = (omega arith, omega (arith, cells-below, count, some)) in
@@ -193,15 +193,15 @@ held_asked c h v (p, among, asked) =
     let e : i - q.first ≡ m = omega arith in
     let f : i + 1 - q.first ≡ m + 1 = omega arith in
     let z : i + 1 - 1 ≡ i = omega arith in
-    let here-is : at.here ≡ layer c i = same_at (layers_from c q) m at.here (layer c i) at.here-is (subst (λ x. IsAt (layers_from c q) x (layer c i)) e (layer_at c q i run in_q)) in
-    let next-is : at.next ≡ layer c (i + 1) = same_at (layers_from c q) (m + 1) at.next (layer c (i + 1)) at.next-is (subst (λ x. IsAt (layers_from c q) x (layer c (i + 1))) f (layer_from c q (i + 1) (omega arith) next_in)) in
-    let cells-are : at.cells ≡ table c i = same_at (tables_in c q) m at.cells (table c i) at.cells-are (subst (λ x. IsAt (tables_in c q) x (table c i)) e (table_at c q i run in_q)) in
+    let here_is : at.here ≡ layer c i = same_at (layers_from c q) m at.here (layer c i) at.here_is (subst (λ x. IsAt (layers_from c q) x (layer c i)) e (layer_at c q i run in_q)) in
+    let next_is : at.next ≡ layer c (i + 1) = same_at (layers_from c q) (m + 1) at.next (layer c (i + 1)) at.next_is (subst (λ x. IsAt (layers_from c q) x (layer c (i + 1))) f (layer_from c q (i + 1) (omega arith) next_in)) in
+    let cells_are : at.cells ≡ table c i = same_at (tables_in c q) m at.cells (table c i) at.cells_are (subst (λ x. IsAt (tables_in c q) x (table c i)) e (table_at c q i run in_q)) in
     let a = at.asks.asks.0 in
-    let live : (s : ℕ) × ((cell_at (table c i) a).cost ≡ Some s) = subst (λ (cells : List Cell). (s : ℕ) × ((cell_at cells a).cost ≡ Some s)) cells-are at.asks.asks.1.1 in
-    let node : end_of c.net (layer c i) a ≡ v = subst (λ (l : Layer). end_of c.net l a ≡ v) here-is at.asks.asks.1.0 in
-    let next_some : 0 < width c (i + 1) = subst (λ (l : Layer). 0 < length l.candidates) next-is at.asks.some in
+    let live : (s : ℕ) × ((cell_at (table c i) a).cost ≡ Some s) = subst (λ (cells : List Cell). (s : ℕ) × ((cell_at cells a).cost ≡ Some s)) cells_are at.asks.asks.1.1 in
+    let node : end_of c.net (layer c i) a ≡ v = subst (λ (l : Layer). end_of c.net l a ≡ v) here_is at.asks.asks.1.0 in
+    let next_some : 0 < width c (i + 1) = subst (λ (l : Layer). 0 < length l.candidates) next_is at.asks.some in
     let near : (trellis_of c).near (layer c i) (layer c (i + 1)) ≡ true =
-    subst (λ (l : Layer). (trellis_of c).near l (layer c (i + 1)) ≡ true) here-is (subst (λ (l : Layer). (trellis_of c).near at.here l ≡ true) next-is at.asks.near) in
+    subst (λ (l : Layer). (trellis_of c).near l (layer c (i + 1)) ≡ true) here_is (subst (λ (l : Layer). (trellis_of c).near at.here l ≡ true) next_is at.asks.near) in
     let a_below = live_below (table c i) a live.0 live.1 in
     let width-is = (h.each i (omega (arith, next_in))).candidates.1.0 in
     let a_in : a < width c i = omega (arith, a_below, width-is) in

@@ -34,8 +34,8 @@ use Rattle.cert_checker.proofs.MatchedCases.{IsGroundOf, IsMatchOf, chosen_count
 
 candidates_hold : (c : Case) (i : ℕ) → IsGroundOf c → IsMatchOf c → i < length c.layers → AreCandidates c i
 candidates_hold c i ground h lt =
-    let ranks = h.matched.ranks-count in
-    let tables = h.matched.tables-count in
+    let ranks = h.matched.ranks_count in
+    let tables = h.matched.tables_count in
     let parts : (length (table c i) ≡ width c i) × IsRankOf (width c i) (rank c i) =
     ⊎_elim
     (λ some.
@@ -76,9 +76,9 @@ asked_there c i a h lt look live =
         here = layer c (i - 1);
         next = layer c i;
         cells = table c (i - 1);
-        here-is = layer_at c q (i - 1) run in_q;
-        next-is = subst (λ k. IsAt (layers_from c q) k (layer c i)) e (layer_from c q i (omega (arith, ge, some)) lt);
-        cells-are = table_at c q (i - 1) run in_q;
+        here_is = layer_at c q (i - 1) run in_q;
+        next_is = subst (λ k. IsAt (layers_from c q) k (layer c i)) e (layer_from c q i (omega (arith, ge, some)) lt);
+        cells_are = table_at c q (i - 1) run in_q;
         asks = record { some = look.1.1.0; near = look.1.1.1; asks = (a, (refl, live)) };
       },
     ) in (
@@ -95,7 +95,7 @@ rows_hold c i h lt look a a_in live = h.asked (end_of c.net (layer c (i - 1)) a)
 breaks_hold : (c : Case) (i : ℕ) → IsMatchOf c → i < length c.layers → BreaksRight c i
 breaks_hold c i h lt =
     let pieces = c.proof.pieces in
-    let order = rises_from (trellis_of c) c.layers 0 pieces h.matched.pieces-are in
+    let order = rises_from (trellis_of c) c.layers 0 pieces h.matched.pieces_are in
     record {
       missing = λ none. false_from_ne_true (is_in_any pieces i)
           (λ e. let there = (in_any pieces i).0 e in
@@ -135,7 +135,7 @@ break_holds : (c : Case) (i : ℕ) → IsMatchOf c → i < length c.layers → A
 break_holds c i h lt = (
   breaks_hold c i h lt,
   (
-    λ e. rises_from (trellis_of c) c.layers 0 c.proof.pieces h.matched.pieces-are,
+    λ e. rises_from (trellis_of c) c.layers 0 c.proof.pieces h.matched.pieces_are,
     λ e later. let inside = (run_of c later.0 h later.1).inside in let past = later.2 in omega (arith, e, inside, past),
   ),
 )
@@ -190,7 +190,7 @@ later_holds c i ground h e j j_in =
       fits = λ a s a_in way_is.
           let t = trellis_of c in
           let parts = added-parts ((cell_at (table c (i - 1)) a).cost) (t.transition (layer c (i - 1)) a (layer c i) j) (t.emission (layer c i) j) s way_is in
-          let first = small_in c q (i - 1 - q.first) (i - 1) ground run (omega (arith, low)) (omega (arith, high)) a parts.first parts.first-is in
+          let first = small_in c q (i - 1 - q.first) (i - 1) ground run (omega (arith, low)) (omega (arith, high)) a parts.first parts.first_is in
           let second = transition_le c.net c.params (layer c (i - 1)) (layer c i) a j parts.second ground.lawful pair a_in j_in parts.second-is in
           let third = emission_le c.net c.params (layer c i) j ground.trace.options pair.layer j_in in
           omega (arith, parts.sum-is, first, second, third, high, inside, few);

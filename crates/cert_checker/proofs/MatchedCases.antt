@@ -59,12 +59,12 @@ matched_piece c k h lt =
 pub run_of : (c : Case) (k : ℕ) → IsMatchOf c → k < length c.proof.pieces → IsRunOf c (piece_no c.proof.pieces k)
 run_of c k h lt =
     let q = piece_no c.proof.pieces k in
-    let is = piece_is (trellis_of c) c.layers 0 c.proof.pieces k h.matched.pieces-are lt in
+    let is = piece_is (trellis_of c) c.layers 0 c.proof.pieces k h.matched.pieces_are lt in
     let some = is.1 in
     let within = is.0.within in
     let left = length-drop q.first c.layers in
     let inside : q.last < length c.layers = omega (arith, within, left, some) in
-    let tables = h.matched.tables-count in
+    let tables = h.matched.tables_count in
     let count = length_between c.proof.tables q.first q.last some (omega (arith, inside, tables)) in
     let fits : length (tables_in c q) ≤ length (layers_from c q) = omega (arith, count, within) in
     record {
@@ -82,7 +82,7 @@ run_of c k h lt =
 -- a point with candidates is in a piece
 pub point_in : (c : Case) (i : ℕ) → IsMatchOf c → i < length c.layers → 0 < width c i → (k : ℕ) × (k < length c.proof.pieces) × IsIn i (piece_no c.proof.pieces k)
 point_in c i h lt some =
-    let lies = point_lies (trellis_of c) c.layers 0 (pieces_of c.proof.pieces) i no_layer h.matched.pieces-are (omega arith) lt some in
+    let lies = point_lies (trellis_of c) c.layers 0 (pieces_of c.proof.pieces) i no_layer h.matched.pieces_are (omega arith) lt some in
     let below = lies.1.below in
     let k_in : lies.0 < length c.proof.pieces = omega (arith, below, length-map c.proof.pieces piece_of) in
     let same = piece_there c.proof.pieces lies.0 k_in in
@@ -95,8 +95,8 @@ rank_in c k i h lt in_q =
     let q = piece_no c.proof.pieces k in
     let m = matched_piece c k h lt in
     let inside = (run_of c k h lt).inside in
-    let count = h.matched.ranks-count in
-    (point_chosen c.proof.ranks m.chosen q.first q.last i m.ranks-are (record { from_first = in_q.0; to_last = in_q.1; inside = omega (arith, inside, count) })).1
+    let count = h.matched.ranks_count in
+    (point_chosen c.proof.ranks m.chosen q.first q.last i m.ranks_are (record { from_first = in_q.0; to_last = in_q.1; inside = omega (arith, inside, count) })).1
 
 pub chosen_count : (c : Case) (k : ℕ) (h : IsMatchOf c) (lt : k < length c.proof.pieces)
     → length (matched_piece c k h lt).chosen ≡ (piece_no c.proof.pieces k).last + 1 - (piece_no c.proof.pieces k).first
@@ -105,8 +105,8 @@ chosen_count c k h lt =
     let m = matched_piece c k h lt in
     let run = run_of c k h lt in
     let inside = run.inside in
-    let count = h.matched.ranks-count in
-    (point_chosen c.proof.ranks m.chosen q.first q.last q.first m.ranks-are (record { from_first = omega arith; to_last = run.some; inside = omega (arith, inside, count) })).0
+    let count = h.matched.ranks_count in
+    (point_chosen c.proof.ranks m.chosen q.first q.last q.first m.ranks_are (record { from_first = omega arith; to_last = run.some; inside = omega (arith, inside, count) })).0
 
 if_some : (P : ℕ → Type 0) (o : Option ℕ) (r : ℕ) → o ≡ Some r → IfSome o P → P r
 if_some P None r e h = absurd (cc)

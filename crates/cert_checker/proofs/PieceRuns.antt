@@ -152,7 +152,7 @@ live_before c i0 i q lawful has lt le cells points here =
     let pointer : rank c (i - 1) ≡ pointer_of (table c i) (rank c i) =
     subst (λ k. rank c (i - 1) ≡ pointer_of (table c k) (rank c k)) next (same_option (rank c (i - 1)) (pointer_of (table c (i - 1 + 1)) (rank c (i - 1 + 1))) points) in
     let rank-is : rank c (i - 1) ≡ Some a = pointer ∙ ap (pointer_of (table c i)) here.rank-is ∙ tight.rank-is in
-    let live : IsLiveAt c (i - 1) = record { rank = a; rank-is = rank-is; among = step.below; cost = parts.first; live = parts.first-is } in
+    let live : IsLiveAt c (i - 1) = record { rank = a; rank-is = rank-is; among = step.below; cost = parts.first; live = parts.first_is } in
     let from : Candidate = candidate_of_rank (layer c (i - 1)) a in
     let to : Candidate = candidate_of_rank (layer c i) j in
     let move : ℕ → ℕ = λ route. transition c.params route (straight (layer c (i - 1)).point (layer c i).point) in

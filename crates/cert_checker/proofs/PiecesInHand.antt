@@ -133,7 +133,7 @@ ending_is pieces left i q h is ends =
         after = head.after;
         parts = head.parts;
         rise = head.rise;
-        is-in = and_from (nat_le q.first i) (nat_le i q.last) (le-leb q.first i (omega (arith, some, ends))) (le-leb i q.last (omega (arith, ends)));
+        is_in = and_from (nat_le q.first i) (nat_le i q.last) (le-leb q.first i (omega (arith, some, ends))) (le-leb i q.last (omega (arith, ends)));
       };
       ends = ends;
     }

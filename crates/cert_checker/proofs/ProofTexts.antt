@@ -175,8 +175,8 @@ proof_has_text n p trace proof lawful accepted fixes names id is =
     let ground : IsGroundOf c = ground_of n p rows trace proof lawful accepted fixes in
     let found = match_lawful n p trace accepted fixes in
     let count = length-map trace.fixes (layer_of n p) in
-    let ranks = h.matched.ranks-count in
-    let tables = h.matched.tables-count in
+    let ranks = h.matched.ranks_count in
+    let tables = h.matched.tables_count in
     let few = λ (i : ℕ). case_narrow n p rows trace proof accepted i in
     record {
       points = points_by_place proof.ranks proof.tables (ranks ∙ sym tables) (λ i lt. point_of_case c i ground h few (omega (arith, lt, ranks)));

@@ -111,7 +111,7 @@ pub among : (pieces : List Routed) (i : ℕ) (q : Routed) (h : HasPoint pieces i
 among pieces i q h =
     let rise : rise_from 0 (h.before ++ q ∷ h.after) ≡ true = subst (λ x. rise_from 0 x ≡ true) h.parts h.rise in
     let p = placed 0 h.before q h.after rise in
-    let ends = and_parts (nat_le q.first i) (nat_le i q.last) h.is-in in
+    let ends = and_parts (nat_le q.first i) (nat_le i q.last) h.is_in in
     record {
       from_first = leb-true q.first i ends.0;
       to_last = leb-true i q.last ends.1;

@@ -51,7 +51,7 @@ module _ (c : Case) (i : ℕ) (ready : IsReady c i) (lawful : IsLawful c.net) (s
       let t = trellis c.net c.params in
       let pair = neighbours c i ready in
       let p = added-parts ((cell_at (table c (i - 1)) a).cost) (t.transition (layer c (i - 1)) a (layer c i) j) (t.emission (layer c i) j) s e in
-      let first = small a p.first p.first-is in
+      let first = small a p.first p.first_is in
       let second = transition_le c.net c.params (layer c (i - 1)) (layer c i) a j p.second lawful pair a_in j_in p.second-is in
       let own = emission_le c.net c.params (layer c i) j pair.options pair.layer j_in in
       omega (arith, p.sum-is, first, second, own)
@@ -115,7 +115,7 @@ can_step c i m before l apart ready parts small far =
         few = omega (arith, count, narrow);
         small = small;
       };
-      apart-is = far;
+      apart_is = far;
     }
 
 -- and its cells are the least

@@ -38,4 +38,4 @@ link_tells {m = m} {l = l} {a = a} {j = j} n p row link move is tells =
     ap (λ (len : Option ℕ). option_map (λ k. transition p k (straight m.point l.point)) len)
     (link_length n p.bound p.back (candidate_of_rank m a) (candidate_of_rank l j) link move.lawful (told_of n p row link move is tells))
     ∙ mapped p (straight m.point l.point) link
-    ∙ ap (λ (d : ℕ). link_cost p d link) (sym move.apart-is)
+    ∙ ap (λ (d : ℕ). link_cost p d link) (sym move.apart_is)

@@ -23,8 +23,8 @@ FollowFrom first (b ∷ batches) end =
 pub record AreBatchesOf (traces : List Trace) (proofs : List TraceProof)
     (batches : List Batch) : Type 0 where
   pub follow : FollowFrom 0 batches (length traces)
-  pub traces-are : flat_map (λ b. b.traces.now) batches ≡ traces
-  pub proofs-are : flat_map (λ b. b.proofs.now) batches ≡ proofs
+  pub traces_are : flat_map (λ b. b.traces.now) batches ≡ traces
+  pub proofs_are : flat_map (λ b. b.proofs.now) batches ≡ proofs
 
 -- the first verdict that refuses a trace of the batch
 abbrev pub batch_verdict : Net → Params → List TableRow → Batch → Verdict

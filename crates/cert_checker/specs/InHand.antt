@@ -18,7 +18,7 @@ pub record HasPoint (pieces : List Routed) (i : ℕ) (q : Routed) : Type 0 where
   pub after : List Routed
   pub parts : pieces ≡ before ++ q ∷ after
   pub rise : rise_from 0 pieces ≡ true
-  pub is-in : is_in i q ≡ true
+  pub is_in : is_in i q ≡ true
 
 -- the pieces rise, and this is the one that ends with point i
 pub record IsEnding (pieces : List Routed) (i : ℕ) (q : Routed) : Type 0 where

@@ -41,9 +41,9 @@ answered n p trace answer lawful same is written =
     let whole = written ∙ match_found n p trace answer.layers answer.solved same is in
     let text : IsMatchText n p trace = match_lawful n p trace is.trace.options lawful in
     record {
-      layers-are = same;
-      solved-is = is;
-      matched-is = whole;
+      layers_are = same;
+      solved_is = is;
+      matched_is = whole;
       lawful = subst IsLawful (sym whole) text.lawful;
       labels_count = ap (λ (m : MatchedTrace). length m.labels) whole ∙ text.labels_count;
       pieces_few = subst (λ (m : MatchedTrace). length m.pieces ≤ length trace.fixes) (sym whole) text.pieces_few;

@@ -141,7 +141,7 @@ nearest_within n p fixes d c first =
 none_next : (n : Net) (p : Params) (layer : Layer) (v : ℕ) (trace : Trace) → AsksTrace n p (layer ∷ []) (solution_of n p trace).pieces v → ⊥
 none_next n p layer v trace h =
     let no = slice_get_past (layer ∷ []) (h.2.0 + 1) (omega arith) in
-    let yes = h.2.1.next-is in
+    let yes = h.2.1.next_is in
     absurd (cc)
 
 none_asked : (n : Net) (p : Params) (id : ℕ) (fix : Fix) (v : ℕ) → asks n p (record { id = id; fixes = fix ∷ [] }) v ≡ true → ⊥

@@ -38,9 +38,9 @@ nothing_matches n p trace none =
     let layers = layers_of n p trace in
     let many : length layers ≡ k = length-map trace.fixes (layer_of n p) in
     record {
-      ranks-count = length-replicate k None ∙ sym many;
-      tables-count = length-replicate k [] ∙ sym many;
-      pieces-are = none_wide n p trace.fixes none;
+      ranks_count = length-replicate k None ∙ sym many;
+      tables_count = length-replicate k [] ∙ sym many;
+      pieces_are = none_wide n p trace.fixes none;
       each = All-nil (λ (x : Piece). IsMatchedPiece (trellis n p) layers (replicate k None) (replicate k []) x);
       missing = λ i l lt is wide. (
         get_or-replicate k i None (Some 0) (omega (arith, lt, many)),
@@ -59,7 +59,7 @@ pub unmatched_is : (n : Net) (p : Params) (trace : Trace) → IsAccepted p → I
 unmatched_is n p trace accepted lawful none =
     let written : unmatched trace ≡ matched_of n p trace.id (layers_of n p trace) (as_solution (nothing_for trace))
     = ap (λ (ls : List Label). record { id = trace.id; labels = ls; pieces = [] }) (sym (labels_missing n p trace.fixes)) in
-    (answered n p trace (record { layers = layers_of n p trace; solved = nothing_for trace; matched = unmatched trace }) lawful refl (nothing_solved n p trace accepted lawful none) written).matched-is
+    (answered n p trace (record { layers = layers_of n p trace; solved = nothing_for trace; matched = unmatched trace }) lawful refl (nothing_solved n p trace accepted lawful none) written).matched_is
 
 none_asked : (n : Net) (p : Params) (layers : List Layer) (v : ℕ) → AsksTrace n p layers [] v → ⊥
 none_asked n p layers v h = omega (arith, h.1.1)

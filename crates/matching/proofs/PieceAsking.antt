@@ -30,9 +30,9 @@ before_push n p layers tables cells v (i, lt, asks) = (
     here = asks.here;
     next = asks.next;
     cells = asks.cells;
-    here-is = asks.here-is;
-    next-is = asks.next-is;
-    cells-are = at_unpush tables (cells ∷ []) i asks.cells (omega (arith, lt, length_push tables cells)) asks.cells-are;
+    here_is = asks.here_is;
+    next_is = asks.next_is;
+    cells_are = at_unpush tables (cells ∷ []) i asks.cells (omega (arith, lt, length_push tables cells)) asks.cells_are;
     asks = asks.asks;
   },
 )
@@ -40,16 +40,16 @@ before_push n p layers tables cells v (i, lt, asks) = (
 pub push_before : (n : Net) (p : Params) (layers : List Layer) (tables : List (List Cell)) (cells : List Cell) (v : ℕ)
     → AsksIn n p layers tables v → AsksBeforeLast n p layers (tables ++ cells ∷ []) v
 push_before n p layers tables cells v (i, asks) =
-    let lt = asks.cells-are.below in (
+    let lt = asks.cells_are.below in (
       i,
       omega (arith, lt, length_push tables cells),
       record {
         here = asks.here;
         next = asks.next;
         cells = asks.cells;
-        here-is = asks.here-is;
-        next-is = asks.next-is;
-        cells-are = at_push tables (cells ∷ []) i asks.cells asks.cells-are;
+        here_is = asks.here_is;
+        next_is = asks.next_is;
+        cells_are = at_push tables (cells ∷ []) i asks.cells asks.cells_are;
         asks = asks.asks;
       },
     )
@@ -68,9 +68,9 @@ last_in n p layers tables m l cells v ends at asks =
         here = m;
         next = l;
         cells = cells;
-        here-is = ends.layer;
-        next-is = subst (λ k. IsAt layers k l) e at;
-        cells-are = ends.table;
+        here_is = ends.layer;
+        next_is = subst (λ k. IsAt layers k l) e at;
+        cells_are = ends.table;
         asks = asks;
       },
     )
@@ -82,19 +82,19 @@ pub in_split : (n : Net) (p : Params) (layers : List Layer) (tables : List (List
 in_split n p layers tables m l cells v ends at (i, asks) =
     ⊎_elim (λ lt. inl (i, lt, asks))
     (λ ge.
-    let below = asks.cells-are.below in
+    let below = asks.cells_are.below in
     let last : i ≡ length tables - 1 = omega (arith, ge, below) in
     let next : i + 1 ≡ length tables = omega (arith, ge, below) in
-    let here-is = same_at layers (length tables - 1) asks.here m (subst (λ k. IsAt layers k asks.here) last asks.here-is) ends.layer in
-    let next-is = same_at layers (length tables) asks.next l (subst (λ k. IsAt layers k asks.next) next asks.next-is) at in
-    let cells-are = same_at tables (length tables - 1) asks.cells cells (subst (λ k. IsAt tables k asks.cells) last asks.cells-are) ends.table in
-    inr (subst (λ x. AsksNext n p x cells l v) here-is (subst (λ x. AsksNext n p asks.here x l v) cells-are (subst (λ x. AsksNext n p asks.here asks.cells x v) next-is asks.asks))))
+    let here_is = same_at layers (length tables - 1) asks.here m (subst (λ k. IsAt layers k asks.here) last asks.here_is) ends.layer in
+    let next_is = same_at layers (length tables) asks.next l (subst (λ k. IsAt layers k asks.next) next asks.next_is) at in
+    let cells_are = same_at tables (length tables - 1) asks.cells cells (subst (λ k. IsAt tables k asks.cells) last asks.cells_are) ends.table in
+    inr (subst (λ x. AsksNext n p x cells l v) here_is (subst (λ x. AsksNext n p asks.here x l v) cells_are (subst (λ x. AsksNext n p asks.here asks.cells x v) next_is asks.asks))))
     (cases_lt (i + 1) (length tables))
 
 -- at the end of the trace no point follows the last one
 pub in_before : (n : Net) (p : Params) (layers : List Layer) (tables : List (List Cell)) (v : ℕ)
     → length layers ≤ length tables → AsksIn n p layers tables v → AsksBeforeLast n p layers tables v
-in_before n p layers tables v le (i, asks) = let lt = asks.next-is.below in (i, omega (arith, lt, le), asks)
+in_before n p layers tables v le (i, asks) = let lt = asks.next_is.below in (i, omega (arith, lt, le), asks)
 
 pub asks_alone : (n : Net) (p : Params) (layers : List Layer) (cells : List Cell) (v : ℕ) → AsksBeforeLast n p layers (cells ∷ []) v → ⊥
 asks_alone n p layers cells v (i, lt, asks) = omega (arith, lt)

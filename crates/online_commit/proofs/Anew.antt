@@ -14,7 +14,7 @@ use Rattle.matching.specs.Local.{AreFirst}
 use Rattle.matching.specs.Pieces.{IsPiece}
 use Rattle.matching.specs.Sequences.{IsBest}
 use Rattle.matching.specs.Value.{best_of}
-use Rattle.matching.proofs.CommittedValues.{front, front-is, whole}
+use Rattle.matching.proofs.CommittedValues.{front, front_is, whole}
 use Rattle.matching.proofs.Fronts.{front-none, front-unique}
 use Rattle.matching.proofs.Lists.{all-cons, length-map_some}
 use Rattle.matching.proofs.PieceSoFar.{IsStepAt, so_far_ends}
@@ -52,7 +52,7 @@ new-some n p all s i j l cells new items b at rest count =
     let same : drop s.closed all ≡ new.layers = rest ∙ sym ext.layers in
     let len : length new.layers ≡ 1 = ap length ext.layers in
     let told : front t (drop s.closed all) ≡ length items =
-    front-unique t (reverse (drop s.closed all)) (front t (drop s.closed all)) new.told (front-is t (drop s.closed all) s.last) (subst (λ ys. IsCommitted t (reverse ys) new.told) (sym same) committed)
+    front-unique t (reverse (drop s.closed all)) (front t (drop s.closed all)) new.told (front_is t (drop s.closed all) s.last) (subst (λ ys. IsCommitted t (reverse ys) new.told) (sym same) committed)
     ∙ ext.told ∙ omega arith in
     let z : s.closed ≡ s.closed + 0 = omega arith in (
       stands-by (seen made) all s first (sym same ∙ ap (λ k. drop k all) first) (omega (arith, first, at, len, count)) committed,
@@ -125,7 +125,7 @@ ends-before s l h some =
     let p = s.params in
     let t = trellis n p in
     let is = h.session in
-    let count = is.tables-count in
+    let count = is.tables_count in
     let xs = s.layers ++ l ∷ [] in
     let last = last-ends s is some in
     let step : IsStepAt n p xs s.tables (last_layer s) l (last_cells s) = record {
@@ -141,7 +141,7 @@ ends-before s l h some =
         is = sym (ap (λ k. get_or xs k l) count ∙ get_or-append_seam s.layers l [] l);
       };
     } in
-    subst (λ k. IsPiece t xs k) count (so_far_ends n p xs s.tables (last_layer s) l (last_cells s) (so_far-longer n p s.layers (l ∷ []) s.tables (is.open-is some).so_far) step (h.ends some))
+    subst (λ k. IsPiece t xs k) count (so_far_ends n p xs s.tables (last_layer s) l (last_cells s) (so_far-longer n p s.layers (l ∷ []) s.tables (is.open_is some).so_far) step (h.ends some))
 
 over-of : (s : KeptSession) (l : Layer) (items : List Item) (fed : List Layer) (split : Splits (trellis s.network s.params) 0 fed) (c : IsClosing s items) → IsSession s → 0 < length s.layers → IsSplitAt (seen s) fed split
     → IsPiece (trellis s.network s.params) (drop split.closed fed ++ l ∷ []) (length (drop split.closed fed)) → IsOver s.network s.params fed (l ∷ []) split c.cost c.ranks
@@ -239,8 +239,8 @@ anew-some s l new first-items items fed h left st b width =
     (λ some. anew-ended-some s l g.0 new first-items items fed h some (left.some some) st begins)
     (λ few.
     let none : length s.layers ≡ 0 = omega (arith, few) in
-    let open-is = anew-open-some s l g.0 new items fed none st begins in
-    (open-is.0, open-is.1 ∙ ap (λ ys. handed s.network s.params fed ++ (ys ++ items)) (sym (left.none none))))
+    let open_is = anew-open-some s l g.0 new items fed none st begins in
+    (open_is.0, open_is.1 ∙ ap (λ ys. handed s.network s.params fed ++ (ys ++ items)) (sym (left.none none))))
     (cases_lt 0 (length s.layers))
 
 anew-none : (s : KeptSession) (l : Layer) (new : Piece) (first-items items : List Item) (fed : List Layer) → BeginsAnew s l → IsLeft s first-items → StandsFor (seen s) fed → IsBegun s.params (points_of (seen s)) l new items
@@ -252,8 +252,8 @@ anew-none s l new first-items items fed h left st b width =
     (λ some. anew-ended-none s l first-items fed h some (left.some some) st width)
     (λ few.
     let none : length s.layers ≡ 0 = omega (arith, few) in
-    let open-is = anew-open-none s l fed none st width in
-    (open-is.0, open-is.1 ∙ ap (λ ys. handed s.network s.params fed ++ (ys ++ Missing (points_of (seen s)) ∷ [])) (sym (left.none none))))
+    let open_is = anew-open-none s l fed none st width in
+    (open_is.0, open_is.1 ∙ ap (λ ys. handed s.network s.params fed ++ (ys ++ Missing (points_of (seen s)) ∷ [])) (sym (left.none none))))
     (cases_lt 0 (length s.layers)) in
     subst (λ a. Hands s l a (first-items ++ items) fed) (sym g.0) (subst (λ ys. Hands s l (empty_piece (points_of (seen s) + 1)) (first-items ++ ys) fed) (sym g.1) both)
 
@@ -268,7 +268,7 @@ anew-fed s l new first-items items h left b = record {
   network = refl;
   params = refl;
   stands = λ fed st. (anew-hands s l new first-items items fed h left st b).0;
-  handed-on = λ fed st. (anew-hands s l new first-items items fed h left st b).1;
+  handed_on = λ fed st. (anew-hands s l new first-items items fed h left st b).1;
   stays = λ fed more st. fed-stays s.network s.params fed more l (first-items ++ items) (anew-hands s l new first-items items fed h left st b).1;
 }
 
@@ -276,10 +276,10 @@ anew-fed s l new first-items items h left b = record {
 pub first-grows : (n : Net) (p : Params) (i : ℕ) (l : Layer) (cells : List Cell) → i < 100_000 → IsFedLayer n p l → ((net : Net) → AreFirst (trellis net p) l cells) → MayGrow (empty_piece i) cells
 first-grows n p i l cells few fed first = record {
   few = omega (arith, few);
-  tables-count = refl;
-  masks-count = refl;
-  masks-are = λ lt. absurd (omega (arith, lt));
+  tables_count = refl;
+  masks_count = refl;
+  masks_are = λ lt. absurd (omega (arith, lt));
   ranks = λ k d lt. absurd (omega (arith, lt));
-  cells-few = first-ranks (trellis n p) l cells (first n) fed.few;
+  cells_few = first-ranks (trellis n p) l cells (first n) fed.few;
   told = omega arith;
 }

@@ -45,7 +45,7 @@ begun-fresh n p i l cells new items h =
     let first-cell = h.first.each 0 h.some in
     record {
       layers = ext.layers;
-      told-is = ext.told;
+      told_is = ext.told;
       tabled = subst (λ ys. IsTabled t ys new.tables) (sym ext.layers) (subst (λ ts. IsTabled t (l ∷ []) ts) (sym ext.tables) tabled);
       masks = ext.masks;
       settled = ext.settled;
@@ -94,9 +94,9 @@ begun-session s l cells new items h b =
       few = omega (arith, room, first, len);
       layers = subst (All (IsFedLayer n p)) (sym ext.layers) (all-cons (IsFedLayer n p) l [] h.layer (λ k d lt. absurd (omega (arith, lt))));
       ranks = subst (All HasFewRanks) (sym ext.tables) (all-cons HasFewRanks cells [] (first-ranks (trellis n p) l cells b.first h.layer.few) (λ k d lt. absurd (omega (arith, lt))));
-      tables-count = omega (arith, len, lent);
-      masks-count = ext.masks-count;
-      open-is = λ some. record {
+      tables_count = omega (arith, len, lent);
+      masks_count = ext.masks_count;
+      open_is = λ some. record {
         so_far = subst (λ ys. IsPieceSoFar n p ys new.tables) (sym ext.layers) (subst (λ ts. IsPieceSoFar n p (l ∷ []) ts) (sym ext.tables) so_far);
         masks = ext.masks;
       };
@@ -112,9 +112,9 @@ empty-session s l new h e =
       few = omega (arith, room);
       layers = λ k d lt. absurd (omega (arith, lt));
       ranks = λ k d lt. absurd (omega (arith, lt));
-      tables-count = refl;
-      masks-count = refl;
-      open-is = λ some. absurd (omega (arith, some));
+      tables_count = refl;
+      masks_count = refl;
+      open_is = λ some. absurd (omega (arith, some));
       front = front-none (trellis s.network s.params);
     })
 

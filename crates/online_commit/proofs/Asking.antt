@@ -35,7 +35,7 @@ only-in x y (suc k, lt, e) = absurd (omega (arith, lt))
 record IsOpenIn (pieces : List Piece) (first last : ℕ) : Type 0 where
   piece : Piece
   «in» : Contains pieces piece
-  first-is : piece.first ≡ first
+  first_is : piece.first ≡ first
   last-is : last ≤ piece.last
 
 head-in : {X : Type 0} (x : X) (xs : List X) → Contains (x ∷ xs) x
@@ -70,7 +70,7 @@ open-in n p fed more s some =
     record {
       piece = q;
       «in» = subst (λ ps. Contains ps q) (sym is) (Contains-append_right s.pieces (q ∷ tail.0) q (head-in q tail.0));
-      first-is = refl;
+      first_is = refl;
       last-is = omega (arith, least, left, w, some);
     }
 
@@ -87,7 +87,7 @@ open-now n p fed s some =
     record {
       piece = q;
       «in» = subst (λ ps. Contains ps q) (sym is) (Contains-append_right s.pieces (q ∷ tail.0) q (head-in q tail.0));
-      first-is = refl;
+      first_is = refl;
       last-is = omega (arith, left, w, some);
     }
 
@@ -124,15 +124,15 @@ kind-of n p fed more s q c =
 pub asks-more : (n : Net) (p : Params) (fed more : List Layer) (s : Splits (trellis n p) 0 fed) (v : ℕ) → AsksPoints n p fed v → AsksPoints n p (fed ++ more) v
 asks-more n p fed more s v (q, c, (i, asked)) =
     let t = trellis n p in
-    let lt = slice_get_within fed (i + 1) asked.next asked.next-is in
+    let lt = slice_get_within fed (i + 1) asked.next asked.next_is in
     let ge = asked.after_first in
     let closed : Contains s.pieces q → AsksPoints n p (fed ++ more) v = λ k.
     (q, subst (λ ps. Contains ps q) (sym (more-pieces n p fed more s)) (Contains-append_left s.pieces (from_point t s.closed (drop s.closed fed ++ more)).pieces q k), (i, at-more n p fed more q i v asked q refl asked.to_last)) in
-    let open-is : 0 < length (drop s.closed fed) → q.first ≡ s.closed → AsksPoints n p (fed ++ more) v = λ some first.
+    let open_is : 0 < length (drop s.closed fed) → q.first ≡ s.closed → AsksPoints n p (fed ++ more) v = λ some first.
     let o = open-in n p fed more s some in
     let high = o.last-is in
-    (o.piece, o.«in», (i, at-more n p fed more q i v asked o.piece (o.first-is ∙ sym first) (omega (arith, high, lt)))) in
-    ⊎_elim closed (λ others. ⊎_elim (λ here. open-is here.0 here.1) (λ later. absurd (omega (arith, later, ge, lt))) others)
+    (o.piece, o.«in», (i, at-more n p fed more q i v asked o.piece (o.first_is ∙ sym first) (omega (arith, high, lt)))) in
+    ⊎_elim closed (λ others. ⊎_elim (λ here. open_is here.0 here.1) (λ later. absurd (omega (arith, later, ge, lt))) others)
     (kind-of n p fed [] s q (subst (λ ys. Contains (solution t ys).pieces q) (sym (append-nil fed)) c))
 
 -- the last point of the open piece, with its cells
@@ -174,7 +174,7 @@ asks-step n p fed l s tables m cells v last asks =
     let left = length-drop s.closed fed in
     let some : 0 < length xs = omega (arith, run-some, last.count) in
     let o = open-in n p fed (l ∷ []) s some in
-    let first = o.first-is in
+    let first = o.first_is in
     let high = o.last-is in
     let i = length fed - 1 in
     let next : i + 1 ≡ length fed = omega (arith, left, some) in
@@ -191,13 +191,13 @@ asks-step n p fed l s tables m cells v last asks =
           here = m;
           next = l;
           rank = a.0;
-          here-is = slice-left fed (l ∷ []) i (omega (arith, left, some)) ∙ last-place n p fed s tables m cells last;
-          next-is = ap (slice_get (fed ++ l ∷ [])) next ∙ slice-seam fed l;
-          next-some = asks.some;
+          here_is = slice-left fed (l ∷ []) i (omega (arith, left, some)) ∙ last-place n p fed s tables m cells last;
+          next_is = ap (slice_get (fed ++ l ∷ [])) next ∙ slice-seam fed l;
+          next_some = asks.some;
           near = asks.near;
           reached = subst (λ ys. IsRankReached t (reverse ys) a.0) (sym (last-points n p fed (l ∷ []) s o.piece.first first some))
               (subst (λ k. IsRankReached t (reverse (take (k + 1) xs)) a.0) z reached);
-          node-is = a.1.0;
+          node_is = a.1.0;
         },
       ),
     )
@@ -209,7 +209,7 @@ asks-split n p fed l s v (q, c, (i, asked)) =
     let t = trellis n p in
     let xs = drop s.closed fed in
     let all = fed ++ l ∷ [] in
-    let lt = slice_get_within all (i + 1) asked.next asked.next-is in
+    let lt = slice_get_within all (i + 1) asked.next asked.next_is in
     let len = length-append fed (l ∷ []) in
     let w = s.within in
     let left = length-drop s.closed fed in
@@ -224,14 +224,14 @@ asks-split n p fed l s v (q, c, (i, asked)) =
     let earlier : 0 < length xs → q.first ≡ s.closed → i + 1 < length fed → AsksPoints n p fed v = λ some first less.
     let o = open-now n p fed s some in
     let high = o.last-is in
-    (o.piece, o.«in», (i, at-fewer n p fed (l ∷ []) q i v less asked o.piece (o.first-is ∙ sym first) (omega (arith, high, less)))) in
+    (o.piece, o.«in», (i, at-fewer n p fed (l ∷ []) q i v less asked o.piece (o.first_is ∙ sym first) (omega (arith, high, less)))) in
     let latest : 0 < length xs → q.first ≡ s.closed → i + 1 ≡ length fed → (tables : List (List Cell)) (m : Layer) (cells : List Cell) → IsLastPoint n p fed s tables m cells → AsksNext n p m cells l v =
     λ some first e tables m cells last.
     let k : i ≡ length fed - 1 = omega (arith, e) in
     let z : length xs - 1 ≡ length tables - 1 = ap (λ j. j - 1) (sym last.count) in
-    let here-is : Some asked.here ≡ Some m =
-    sym asked.here-is ∙ slice-left fed (l ∷ []) i (omega (arith, e)) ∙ ap (slice_get fed) k ∙ last-place n p fed s tables m cells last in
-    let next-is : Some asked.next ≡ Some l = sym asked.next-is ∙ ap (slice_get all) e ∙ slice-seam fed l in
+    let here_is : Some asked.here ≡ Some m =
+    sym asked.here_is ∙ slice-left fed (l ∷ []) i (omega (arith, e)) ∙ ap (slice_get fed) k ∙ last-place n p fed s tables m cells last in
+    let next_is : Some asked.next ≡ Some l = sym asked.next_is ∙ ap (slice_get all) e ∙ slice-seam fed l in
     let here : asked.here ≡ m = cc in
     let next : asked.next ≡ l = cc in
     let reached : IsRankReached t (reverse (take (length tables - 1 + 1) xs)) asked.rank =
@@ -240,9 +240,9 @@ asks-split n p fed l s v (q, c, (i, asked)) =
     (subst (λ j. IsRankReached t (reverse (take (j + 1 - q.first) (drop q.first all))) asked.rank) k asked.reached)) in
     let live = run_live t xs tables (length tables - 1) m cells asked.rank last.run last.ends.layer last.ends.table reached in
     record {
-      some = subst (λ x. 0 < t.width x) next asked.next-some;
+      some = subst (λ x. 0 < t.width x) next asked.next_some;
       near = subst (λ x. IsTrue (t.near m x)) next (subst (λ x. IsTrue (t.near x asked.next)) here asked.near);
-      asks = (asked.rank, (subst (λ x. end_of n x asked.rank ≡ v) here asked.node-is, live));
+      asks = (asked.rank, (subst (λ x. end_of n x asked.rank ≡ v) here asked.node_is, live));
     } in
     ⊎_elim (λ k. inl (closed k))
     (λ others. ⊎_elim
@@ -265,4 +265,4 @@ asks-open n p fed s tables v run count asks =
     let i = inside.0 in
     let asked = inside.1 in
     let le = asked.to_last in
-    (o.piece, o.«in», (i, at-itself n p fed r i v asked o.piece o.first-is (omega (arith, le, low, count, left, w, some))))
+    (o.piece, o.«in», (i, at-itself n p fed r i v asked o.piece o.first_is (omega (arith, le, low, count, left, w, some))))

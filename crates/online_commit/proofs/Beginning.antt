@@ -63,7 +63,7 @@ ended-handed n p fed l s c ranks some piece last over best none =
     ap (λ k. let v : Piece = record { first = k; last = 0 + s.closed + L - 1; cost = b.cost } in v) f
     ∙ ap (λ k. let v : Piece = record { first = s.closed; last = k; cost = b.cost } in v) e
     ∙ ap (λ k. let v : Piece = record { first = s.closed; last = s.closed + (L - 1); cost = k } in v) same.0) in
-    let ranks-are : next.ranks ≡ s.ranks ++ (as_ranks ranks ++ last.ranks) = ap (λ r. s.ranks ++ (as_ranks r ++ last.ranks)) same.1 in
+    let ranks_are : next.ranks ≡ s.ranks ++ (as_ranks ranks ++ last.ranks) = ap (λ r. s.ranks ++ (as_ranks r ++ last.ranks)) same.1 in
     let label = label_at all next.ranks in
     let closed = closed_at n p all next.ranks next.pieces in
     let tail = labels_between n p all next.closed (front t (drop next.closed all)) in
@@ -71,8 +71,8 @@ ended-handed n p fed l s c ranks some piece last over best none =
     let high : EndAfter (s.closed + L) last.pieces = subst (λ ps. EndAfter (s.closed + L) ps) (sym none) (end_none (s.closed + L)) in
     let low-all : EndAfter s.closed (q ∷ last.pieces) = all-cons (λ (x : Piece). s.closed ≤ x.last) q last.pieces (omega (arith, some)) (λ i d lt. let z = high i d lt in omega (arith, z)) in
     let P = points_from label closed s.closed L in
-    let open-is : P ≡ ranked_items s.closed xs (rank_in ranks) 0 h ++ closing_of n p s.closed xs c ranks h =
-    ap (λ r. points_from (label_at all r) (closed_at n p all r next.pieces) s.closed L) ranks-are
+    let open_is : P ≡ ranked_items s.closed xs (rank_in ranks) 0 h ++ closing_of n p s.closed xs c ranks h =
+    ap (λ r. points_from (label_at all r) (closed_at n p all r next.pieces) s.closed L) ranks_are
     ∙ over-points n p fed (l ∷ []) s c h ranks last.ranks q last.pieces over low q-is high in
     let A = ranked_items s.closed xs (rank_in ranks) 0 h in
     let C = closing_of n p s.closed xs c ranks h in
@@ -80,7 +80,7 @@ ended-handed n p fed l s c ranks some piece last over best none =
     let base-is : base n p all next ≡ B ++ (P ++ Q) =
     items-with n p fed all s (ranks_of b ++ last.ranks) (q ∷ last.pieces) (L + last.closed) (same-more fed (l ∷ []) s.closed s.within) low-all
     ∙ ap (λ ys. B ++ ys) (points-split label closed s.closed L last.closed) in
-    handed-form n p all next ∙ ap (λ ys. ys ++ tail) base-is ∙ ap (λ ys. (B ++ (ys ++ Q)) ++ tail) open-is
+    handed-form n p all next ∙ ap (λ ys. ys ++ tail) base-is ∙ ap (λ ys. (B ++ (ys ++ Q)) ++ tail) open_is
     ∙ regroup B A C Q tail
     ∙ ap (λ ys. ys ++ (C ++ (Q ++ tail))) (sym (handed-before n p fed s c ranks best low))
 

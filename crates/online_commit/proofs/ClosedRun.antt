@@ -21,8 +21,8 @@ use Rattle.online_commit.proofs.OwnRun.{IsEndRead, own-asked, own-ranks, own-run
 -- what was read at the last point
 pub end-read : (s : KeptSession) (ts : List (List Cell)) (cells slice : List Cell) (last : Cell) (c : ℕ) (ranks : List ℕ) → IsLawful s.network → IsSession s → 0 < length s.layers → ts ≡ s.tables
     → cells ≡ get_or ts (length s.layers - 1) cells → slice ≡ cells → IsLeastCell slice last → c ≡ unwrap_or (last.cost) 0 → reverse ranks ≡ by_pointers (reverse ts) (last.«from») → IsEndRead s last c ranks
-end-read s ts cells slice last c ranks lawful is some et ec es least cost ranks-are =
-    let count = is.tables-count in
+end-read s ts cells slice last c ranks lawful is some et ec es least cost ranks_are =
+    let count = is.tables_count in
     let place : length s.layers - 1 ≡ length s.tables - 1 = omega (arith, count) in
     record {
       lawful = lawful;
@@ -35,7 +35,7 @@ end-read s ts cells slice last c ranks lawful is some et ec es least cost ranks-
       };
       least = subst (λ v. IsLeastCell v last) es least;
       cost-is = cost;
-      ranks-are = subst (λ xs. reverse ranks ≡ by_pointers (reverse xs) (last.«from»)) et ranks-are;
+      ranks_are = subst (λ xs. reverse ranks ≡ by_pointers (reverse xs) (last.«from»)) et ranks_are;
     }
 
 -- and the run over its points, as they are lent

@@ -100,14 +100,14 @@ low-at t layers s (l ∷ xs) e =
     ∙ ap (λ ys. s.pieces ++ (from_point t s.closed ys).pieces) e
     ∙ ap (λ v. s.pieces ++ v.pieces) (from_joins t s.closed (l ∷ xs) m (omega arith) piece) in
     let match = solution_is_a_match t layers in
-    (pieces-low t layers 0 s.pieces q rest (subst (λ ps. ArePieces t layers 0 ps) is match.pieces-are)).1
+    (pieces-low t layers 0 s.pieces q rest (subst (λ ps. ArePieces t layers 0 ps) is match.pieces_are)).1
 
 pub closed-before : {L : Type 0} (t : Trellis L) (layers : List L) (s : Splits t 0 layers) → All (AreBefore s.closed) s.pieces
 closed-before t layers s =
     let match = solution_is_a_match t layers in
     let all : (solution t layers).pieces ≡ s.pieces ++ (from_point t (0 + s.closed) (drop s.closed layers)).pieces = ap (λ v. v.pieces) (solution_from t layers ∙ split_now t 0 layers s) in
     let some = all-left (λ p. p.first ≤ p.last) s.pieces (from_point t (0 + s.closed) (drop s.closed layers)).pieces
-    (pieces-some t layers 0 (s.pieces ++ (from_point t (0 + s.closed) (drop s.closed layers)).pieces) (subst (λ ps. ArePieces t layers 0 ps) all match.pieces-are)) in
+    (pieces-some t layers 0 (s.pieces ++ (from_point t (0 + s.closed) (drop s.closed layers)).pieces) (subst (λ ps. ArePieces t layers 0 ps) all match.pieces_are)) in
     all-both (λ p. p.first ≤ p.last) (λ p. p.last < s.closed) (AreBefore s.closed) s.pieces (λ x a b. record { points = a; low = b }) some (low-at t layers s (drop s.closed layers) refl)
 
 -- pieces of the points from `at` on lie there

@@ -111,12 +111,12 @@ over-points n p fed more s c h ranks later q rest over le is high =
     let all = ranks_to n p fed s ranks later in
     let label = label_at (fed ++ more) all in
     let closed = closed_at n p (fed ++ more) all (s.pieces ++ q ∷ rest) in
-    let first-is : q.first ≡ s.closed = ap (λ v. v.first) is in
+    let first_is : q.first ≡ s.closed = ap (λ v. v.first) is in
     let last-is : q.last ≡ s.closed + (L - 1) = ap (λ v. v.last) is in
     let split : L ≡ h + (L - h) = omega (arith, le) in
     let z : s.closed ≡ s.closed + 0 = omega arith in
     let zero-h : 0 + h ≡ h = omega arith in
-    let route = over-route n p fed more s c ranks later q count (omega (arith, some, count)) first-is (omega (arith, last-is, count)) in
+    let route = over-route n p fed more s c ranks later q count (omega (arith, some, count)) first_is (omega (arith, last-is, count)) in
     points-closed label closed s.closed L (closed_item n p (fed ++ more) all q) some
     (λ k ge lt. closed-later n p fed (fed ++ more) s all (q ∷ rest) k ge
     (all-cons (λ (x : Piece). x.last ≡ k → ⊥) q rest (λ e. omega (arith, e, last-is, lt, some)) (λ i d b. λ e. let z2 = high i d b in omega (arith, z2, e, lt))))
@@ -173,12 +173,12 @@ finished-items n p fed s c ranks best le =
     let q-is : q ≡ piece_from s.closed L c =
     (let e : s.closed + L - 1 ≡ s.closed + (L - 1) = omega (arith, some) in
     ap (λ k. let v : Piece = record { first = s.closed; last = k; cost = q.cost } in v) e ∙ ap (λ k. let v : Piece = record { first = s.closed; last = s.closed + (L - 1); cost = k } in v) same.0) in
-    let ranks-are : (solution t fed).ranks ≡ ranks_to n p fed s ranks rest.ranks = ap (λ v. v.ranks) is ∙ ap (λ v. s.ranks ++ v.ranks) joined ∙ ap (λ r. s.ranks ++ (as_ranks r ++ rest.ranks)) same.1 in
-    let pieces-are : (solution t fed).pieces ≡ s.pieces ++ q ∷ rest.pieces = ap (λ v. v.pieces) is ∙ ap (λ v. s.pieces ++ v.pieces) joined in
+    let ranks_are : (solution t fed).ranks ≡ ranks_to n p fed s ranks rest.ranks = ap (λ v. v.ranks) is ∙ ap (λ v. s.ranks ++ v.ranks) joined ∙ ap (λ r. s.ranks ++ (as_ranks r ++ rest.ranks)) same.1 in
+    let pieces_are : (solution t fed).pieces ≡ s.pieces ++ q ∷ rest.pieces = ap (λ v. v.pieces) is ∙ ap (λ v. s.pieces ++ v.pieces) joined in
     let high : EndAfter (s.closed + L) rest.pieces = after t (length (drop L xs)) (s.closed + L) (drop L xs) in
     let nil = append-nil fed in
-    ap (λ r. items_with n p fed r (solution t fed).pieces (length fed)) ranks-are
-    ∙ ap (λ ps. items_with n p fed (ranks_to n p fed s ranks rest.ranks) ps (length fed)) pieces-are
+    ap (λ r. items_with n p fed r (solution t fed).pieces (length fed)) ranks_are
+    ∙ ap (λ ps. items_with n p fed (ranks_to n p fed s ranks rest.ranks) ps (length fed)) pieces_are
     ∙ ap (items_with n p fed (ranks_to n p fed s ranks rest.ranks) (s.pieces ++ q ∷ rest.pieces)) all
     ∙ items-with n p fed fed s (as_ranks ranks ++ rest.ranks) (q ∷ rest.pieces) L (λ k lt. refl) (all-cons (λ (x : Piece). s.closed ≤ x.last) q rest.pieces (omega (arith, some)) (λ i d b. let z = high i d b in omega (arith, z)))
     ∙ ap (λ ys. base n p fed s ++ ys)

@@ -37,8 +37,8 @@ pub extended-made : (old : Piece) (l : Layer) (cells : List Cell) (changed : Lis
     → AreMasks (old.tables ++ cells ∷ []) (mask_after old.masks changed) (length old.tables + 1)
     → AreSettled old.first (old.layers ++ l ∷ []) (mask_after old.masks changed) old.told items → new.told ≡ old.told + length items → IsExtended old l cells new items
 extended-made old l cells changed new items may app masks settled told =
-    let tc = may.tables-count in
-    let mc = may.masks-count in
+    let tc = may.tables_count in
+    let mc = may.masks_count in
     let count = app.count in
     let len : length new.layers ≡ length old.layers + 1 = ap length app.layers ∙ length_push old.layers l in
     let same : (i : ℕ) → i < length new.layers → mask_at new.masks i ≡ mask_after old.masks changed i = λ i lt. app.masks i (omega (arith, lt, len, mc)) in
@@ -48,7 +48,7 @@ extended-made old l cells changed new items may app masks settled told =
       told = told;
       layers = app.layers;
       tables = app.tables;
-      masks-count = omega (arith, len, count, mc);
+      masks_count = omega (arith, len, count, mc);
       masks = subst (λ k. AreMasks new.tables (mask_at new.masks) k) n-is
           (masks-same new.tables (mask_after old.masks changed) (mask_at new.masks) (length old.tables + 1) (omega arith) (λ i lt. same i (omega (arith, lt, n-is)))
           (subst (λ ts. AreMasks ts (mask_after old.masks changed) (length old.tables + 1)) (sym app.tables) masks));

@@ -15,7 +15,7 @@ use Rattle.matching.specs.Pieces.{AreNear, IsPiece}
 use Rattle.matching.specs.PieceSteps.{PieceGoesOn}
 use Rattle.matching.specs.Places.{IsAt}
 use Rattle.matching.specs.Sequences.{HasSequence}
-use Rattle.matching.proofs.CommittedValues.{front, front-is, whole}
+use Rattle.matching.proofs.CommittedValues.{front, front_is, whole}
 use Rattle.matching.proofs.Fronts.{front-unique}
 use Rattle.matching.proofs.Lists.{all-at, all-push, at-get_or}
 use Rattle.matching.proofs.PieceSoFar.{IsGround, IsPieceSoFar, IsStepAt, so_far_all, so_far_more}
@@ -55,14 +55,14 @@ session-ground s is lawful = record {
 pub tabled-of : (s : KeptSession) → IsSession s → 0 < length s.layers → IsTabled (trellis s.network s.params) s.layers s.tables
 tabled-of s is some =
     let t = trellis s.network s.params in
-    let open-is = is.open-is some in
-    let count = is.tables-count in
+    let open_is = is.open_is some in
+    let count = is.tables_count in
     let whole-is : take (length s.tables) s.layers ≡ s.layers = ap (λ k. take k s.layers) count ∙ take-length s.layers in
     record {
       some = some;
       count = count;
-      linked = subst (λ xs. AreLinked t (reverse xs) (reverse s.tables)) whole-is open-is.so_far.run.linked;
-      piece = subst (λ k. IsPiece t s.layers k) count (so_far_all s.network s.params s.layers s.tables open-is.so_far (omega (arith, count)));
+      linked = subst (λ xs. AreLinked t (reverse xs) (reverse s.tables)) whole-is open_is.so_far.run.linked;
+      piece = subst (λ k. IsPiece t s.layers k) count (so_far_all s.network s.params s.layers s.tables open_is.so_far (omega (arith, count)));
     }
 
 -- a piece so far, where more points come
@@ -87,7 +87,7 @@ so_far-longer n p xs more tables h =
 -- the last point of the open piece
 pub last-ends : (s : KeptSession) → IsSession s → 0 < length s.layers → EndsWith s.layers s.tables (last_layer s) (last_cells s)
 last-ends s is some =
-    let count = is.tables-count in
+    let count = is.tables_count in
     let e : length s.layers - 1 ≡ length s.tables - 1 = omega (arith, count) in
     record {
       layer = subst (λ k. IsAt s.layers k (last_layer s)) e (at-get_or s.layers (length s.layers - 1) no_layer (omega (arith, some)));
@@ -112,14 +112,14 @@ new-ranks s l cells h =
 pub may-grow : (s : KeptSession) (l : Layer) (cells : List Cell) → GoesOnTo s l cells → MayGrow (piece_part s) cells
 may-grow s l cells h =
     let is = h.session in
-    let count = is.tables-count in
+    let count = is.tables_count in
     record {
       few = h.room;
-      tables-count = is.tables-count;
-      masks-count = is.masks-count;
-      masks-are = λ lt. subst (λ k. AreMasks s.tables (mask_at s.masks) k) (sym count) (is.open-is h.some).masks;
+      tables_count = is.tables_count;
+      masks_count = is.masks_count;
+      masks_are = λ lt. subst (λ k. AreMasks s.tables (mask_at s.masks) k) (sym count) (is.open_is h.some).masks;
       ranks = is.ranks;
-      cells-few = new-ranks s l cells h;
+      cells_few = new-ranks s l cells h;
       told = let w = is.front.within in omega (arith, w, length-reverse s.layers);
     }
 
@@ -129,7 +129,7 @@ grown-so_far s l cells h =
     let n = s.network in
     let p = s.params in
     let xs = s.layers ++ l ∷ [] in
-    let count = is.tables-count in
+    let count = is.tables_count in
     let room = h.room in
     let last = last-ends s is h.some in
     let ground : IsGround n p xs = record {
@@ -156,7 +156,7 @@ grown-so_far s l cells h =
         is = sym (ap (λ k. get_or xs k l) count ∙ get_or-append_seam s.layers l [] l);
       };
     } in
-    so_far_more n p xs s.tables (last_layer s) l (last_cells s) cells ground (so_far-longer n p s.layers (l ∷ []) s.tables (is.open-is h.some).so_far) step h.goes
+    so_far_more n p xs s.tables (last_layer s) l (last_cells s) cells ground (so_far-longer n p s.layers (l ∷ []) s.tables (is.open_is h.some).so_far) step h.goes
 
 -- a session whose piece went on
 
@@ -167,7 +167,7 @@ grown-fresh s l cells new items h ext =
     let p = s.params in
     let t = trellis n p in
     let is = h.session in
-    let count = is.tables-count in
+    let count = is.tables_count in
     let so_far = grown-so_far s l cells h in
     let lt = length_push s.tables cells in
     let ll = length_push s.layers l in
@@ -185,7 +185,7 @@ grown-fresh s l cells new items h ext =
     let live = h.goes.live in
     record {
       layers = ext.layers;
-      told-is = ext.told;
+      told_is = ext.told;
       tabled = subst (λ ys. IsTabled t ys new.tables) (sym ext.layers) (subst (λ ts. IsTabled t (s.layers ++ l ∷ []) ts) (sym ext.tables) tabled);
       masks = ext.masks;
       settled = ext.settled;
@@ -202,7 +202,7 @@ grown-session s l cells new items h ext =
     let is = h.session in
     let room = h.room in
     let first = ext.first in
-    let count = is.tables-count in
+    let count = is.tables_count in
     let fresh = grown-fresh s l cells new items h ext in
     let so_far = grown-so_far s l cells h in
     let len = ap length ext.layers ∙ length_push s.layers l in
@@ -212,9 +212,9 @@ grown-session s l cells new items h ext =
       few = omega (arith, room, first, len);
       layers = subst (All (IsFedLayer n p)) (sym ext.layers) (all-push (IsFedLayer n p) s.layers l is.layers h.layer);
       ranks = subst (All HasFewRanks) (sym ext.tables) (all-push HasFewRanks s.tables cells is.ranks (new-ranks s l cells h));
-      tables-count = omega (arith, len, lent, count);
-      masks-count = ext.masks-count;
-      open-is = λ some. record {
+      tables_count = omega (arith, len, lent, count);
+      masks_count = ext.masks_count;
+      open_is = λ some. record {
         so_far = subst (λ ys. IsPieceSoFar n p ys new.tables) (sym ext.layers) (subst (λ ts. IsPieceSoFar n p (s.layers ++ l ∷ []) ts) (sym ext.tables) so_far);
         masks = ext.masks;
       };
@@ -243,7 +243,7 @@ grown-stands s l cells new items fed h ext st =
     let len = ap length layers ∙ length_push xs l in
     let stands = stands-by (seen made) (fed ++ l ∷ []) next first (layers ∙ sym rest ∙ ap (λ k. drop k (fed ++ l ∷ [])) first) (let c = is.count in omega (arith, first, len, c, length_push fed l)) committed in
     let front-is-it : front t (drop (split.closed + 0) (fed ++ l ∷ [])) ≡ front t xs + length items =
-    front-unique t (reverse (drop (split.closed + 0) (fed ++ l ∷ []))) (front t (drop (split.closed + 0) (fed ++ l ∷ []))) new.told (front-is t (drop (split.closed + 0) (fed ++ l ∷ [])) next.last)
+    front-unique t (reverse (drop (split.closed + 0) (fed ++ l ∷ []))) (front t (drop (split.closed + 0) (fed ++ l ∷ []))) new.told (front_is t (drop (split.closed + 0) (fed ++ l ∷ [])) next.last)
     (subst (λ ys. IsCommitted t (reverse ys) new.told) (layers ∙ sym rest) committed)
     ∙ ext.told ∙ ap (λ k. k + length items) (sym is.told) in (
       stands,
@@ -259,6 +259,6 @@ grown-fed s l cells new items h ext = record {
   network = refl;
   params = refl;
   stands = λ fed st. (grown-stands s l cells new items fed h ext st).0;
-  handed-on = λ fed st. (grown-stands s l cells new items fed h ext st).1;
+  handed_on = λ fed st. (grown-stands s l cells new items fed h ext st).1;
   stays = λ fed more st. fed-stays s.network s.params fed more l items (grown-stands s l cells new items fed h ext st).1;
 }

@@ -22,8 +22,8 @@ last-point s fed split is some at =
     let t = trellis s.network s.params in
     let same = sym at.layers in
     record {
-      run = subst (λ xs. IsRun t xs s.tables) same (is.open-is some).so_far.run;
-      count = is.tables-count ∙ ap length same;
+      run = subst (λ xs. IsRun t xs s.tables) same (is.open_is some).so_far.run;
+      count = is.tables_count ∙ ap length same;
       ends = subst (λ xs. EndsWith xs s.tables (last_layer s) (last_cells s)) same (last-ends s is some);
     }
 
@@ -37,8 +37,8 @@ open-asked s fed v is st asks =
     let t = trellis s.network s.params in
     let split = whole t fed in
     let at = split-of (seen s) fed split st in
-    let low = asks.1.cells-are.below in
-    let count = is.tables-count in
+    let low = asks.1.cells_are.below in
+    let count = is.tables_count in
     let last = last-point s fed split is (omega (arith, low, count)) at in
     asks-open s.network s.params fed split s.tables v last.run last.count (subst (λ xs. AsksIn s.network s.params xs s.tables v) (sym at.layers) asks)
 

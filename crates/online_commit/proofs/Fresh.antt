@@ -21,7 +21,7 @@ use Rattle.online_commit.proofs.Passing.{IsBoundary, IsTabled, chosen-single, co
 -- what a piece with a settled front stands on, whether it went on or begins
 pub record IsFresh (t-new : KeptSession) (xs : List Layer) (l : Layer) (told : ℕ) (items : List Item) : Type 0 where
   pub layers : t-new.layers ≡ xs ++ l ∷ []
-  pub told-is : t-new.told ≡ told + length items
+  pub told_is : t-new.told ≡ told + length items
   pub tabled : IsTabled (trellis t-new.network t-new.params) t-new.layers t-new.tables
   pub masks : AreMasks t-new.tables (mask_at t-new.masks) (length t-new.layers)
   pub settled : AreSettled t-new.first t-new.layers (mask_at t-new.masks) told items
@@ -39,7 +39,7 @@ fresh-committed new xs l told items h =
     let is = committed-boundary t xs (l ∷ []) new.tables (mask_at new.masks) told (told + length items) h.rank
     (subst (λ ys. IsTabled t ys new.tables) same h.tabled) (subst (λ ys. AreMasks new.tables (mask_at new.masks) (length ys)) same h.masks)
     (subst (λ ys. IsBoundary (mask_at new.masks) told (told + length items) (length ys)) same boundary) h.live h.front in
-    subst (λ k. IsCommitted t (reverse new.layers) k) (sym h.told-is) (subst (λ ys. IsCommitted t (reverse ys) (told + length items)) (sym same) is)
+    subst (λ k. IsCommitted t (reverse new.layers) k) (sym h.told_is) (subst (λ ys. IsCommitted t (reverse ys) (told + length items)) (sym same) is)
 
 -- the best sequence of the open piece
 pub own-best : (new : KeptSession) → IsTabled (trellis new.network new.params) new.layers new.tables

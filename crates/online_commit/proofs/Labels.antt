@@ -11,7 +11,7 @@ use Rattle.matching.specs.Layers.{trellis}
 use Rattle.matching.specs.Pieces.{IsPiece}
 use Rattle.matching.specs.Sequences.{Trellis, IsBest}
 use Rattle.matching.specs.Value.{best_of, solution}
-use Rattle.matching.proofs.CommittedValues.{committed_split, committed_stays, front, front-is, opens_first}
+use Rattle.matching.proofs.CommittedValues.{committed_split, committed_stays, front, front_is, opens_first}
 use Rattle.matching.proofs.Costs.{cost-length}
 use Rattle.matching.proofs.Fronts.{front-unique}
 use Rattle.matching.proofs.Lists.{length-map_some}
@@ -96,12 +96,12 @@ stands-by new fed s first layers count committed =
     let t = trellis new.network new.params in
     let xs = drop s.closed fed in
     let same : xs ≡ new.layers = ap (λ k. drop k fed) first ∙ sym layers in
-    let front-is-it : front t xs ≡ new.told = front-unique t (reverse xs) (front t xs) new.told (front-is t xs s.last) (subst (λ ys. IsCommitted t (reverse ys) new.told) (sym same) committed) in
+    let front-is-it : front t xs ≡ new.told = front-unique t (reverse xs) (front t xs) new.told (front_is t xs s.last) (subst (λ ys. IsCommitted t (reverse ys) new.told) (sym same) committed) in
     record {
       count = count;
-      layers-are = layers;
-      first-is = opens_first t fed s ∙ first;
-      told-is = committed_split t fed s ∙ ap (λ k. k + front t xs) first ∙ ap (λ k. new.first + k) front-is-it;
+      layers_are = layers;
+      first_is = opens_first t fed s ∙ first;
+      told_is = committed_split t fed s ∙ ap (λ k. k + front t xs) first ∙ ap (λ k. new.first + k) front-is-it;
     }
 
 -- what a session that stands for points says of where their open piece begins
@@ -115,13 +115,13 @@ pub record IsSplitAt (old : Session) (fed : List Layer) (s : Splits (trellis old
 pub split-of : (old : Session) (fed : List Layer) (s : Splits (trellis old.network old.params) 0 fed) → StandsFor old fed → IsSplitAt old fed s
 split-of old fed s st =
     let t = trellis old.network old.params in
-    let first : s.closed ≡ old.first = sym (opens_first t fed s) ∙ st.first-is in
+    let first : s.closed ≡ old.first = sym (opens_first t fed s) ∙ st.first_is in
     let w = s.within in
     let a = committed_split t fed s in
-    let b = st.told-is in
+    let b = st.told_is in
     record {
       first = first;
-      layers = ap (λ k. drop k fed) first ∙ sym st.layers-are;
+      layers = ap (λ k. drop k fed) first ∙ sym st.layers_are;
       told = omega (arith, a, b, first);
       within = w;
       count = omega (arith, w, length-drop s.closed fed);

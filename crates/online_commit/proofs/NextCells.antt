@@ -30,7 +30,7 @@ pub record IsLastRead (s : KeptSession) (m : Layer) (costs : List Cell) : Type 0
 pub last-read : (s : KeptSession) (m : Layer) (costs : List Cell) (ls : List Layer) (ts : List (List Cell)) → IsSession s → 0 < length s.layers → ls ≡ s.layers → ts ≡ s.tables
     → m ≡ get_or ls (length ls - 1) m → costs ≡ get_or ts (length ls - 1) costs → IsLastRead s m costs
 last-read s m costs ls ts is some el et em ec =
-    let count = is.tables-count in
+    let count = is.tables_count in
     let e : length ls - 1 ≡ length s.layers - 1 = ap (λ xs. length xs - 1) el in
     record {
       some = some;
@@ -41,7 +41,7 @@ last-read s m costs ls ts is some el et em ec =
 pub next-costs : (s : KeptSession) (m : Layer) (costs : List Cell) → IsSession s → IsLawful s.network → IsLastRead s m costs → AreCosts m costs
 next-costs s m costs is lawful read =
     let last = last-ends s is read.some in
-    let so_far = (is.open-is read.some).so_far in
+    let so_far = (is.open_is read.some).so_far in
     let count = so_far_count s.network s.params s.layers s.tables (last_layer s) (last_cells s) so_far last in
     let few = (all-at (IsFedLayer s.network s.params) s.layers (length s.tables - 1) (last_layer s) is.layers last.layer).few in
     let are : AreCosts (last_layer s) (last_cells s) = record {

@@ -34,19 +34,19 @@ pub record IsEndRead (s : KeptSession) (last : Cell) (c : ℕ) (ranks : List ℕ
   pub at : IsAt s.tables (length s.tables - 1) cells
   pub least : IsLeastCell cells last
   pub cost-is : c ≡ unwrap_or (last.cost) 0
-  pub ranks-are : reverse ranks ≡ by_pointers (reverse s.tables) (last.«from»)
+  pub ranks_are : reverse ranks ≡ by_pointers (reverse s.tables) (last.«from»)
 
 own-from : (s : KeptSession) (last : Cell) (c : ℕ) (ranks : List ℕ) → IsEndRead s last c ranks → IsPieceFrom (trellis s.network s.params) s.layers 0 (whole_piece (length s.layers) c) ranks s.tables
 own-from s last c ranks h =
-    let count = h.session.tables-count in
+    let count = h.session.tables_count in
     let followed : IsFollowed (trellis s.network s.params) (drop 0 s.layers) s.tables last c ranks = record {
-      run = (h.session.open-is h.some).so_far.run;
+      run = (h.session.open_is h.some).so_far.run;
       piece = subst (λ k. IsPiece (trellis s.network s.params) s.layers k) (sym count) (tabled-of s h.session h.some).piece;
       cells = h.cells;
       at = h.at;
       least = h.least;
       cost-is = h.cost-is;
-      ranks-are = h.ranks-are;
+      ranks_are = h.ranks_are;
     } in
     piece_from (trellis s.network s.params) s.layers 0 s.tables last (whole_piece (length s.layers) c) ranks followed refl (omega (arith, count))
 
@@ -88,10 +88,10 @@ own-asked s last c ranks v h end =
     let p = s.params in
     let q = whole_piece (length s.layers) c in
     let solved : Solved = record { ranks = as_ranks ranks; pieces = q ∷ []; tables = s.tables } in
-    let count = h.session.tables-count in
+    let count = h.session.tables_count in
     let asked = chosen_asked n p s.layers solved 0 h.lawful (own-solved s last c ranks h) (omega arith) v end in
     let only : asked.0 ≡ q = one-of q asked.0 asked.1 in
-    in_asked n p s.layers 0 s.tables q v (h.session.open-is h.some).so_far.run refl (omega (arith, count)) (subst (λ x. IsAskedNodeIn (trellis n p) (end_of n) s.layers x v) only asked.2)
+    in_asked n p s.layers 0 s.tables q v (h.session.open_is h.some).so_far.run refl (omega (arith, count)) (subst (λ x. IsAskedNodeIn (trellis n p) (end_of n) s.layers x v) only asked.2)
 
 -- it has a rank for each point
 pub own-count : (s : KeptSession) (last : Cell) (c : ℕ) (ranks : List ℕ) → IsEndRead s last c ranks → length ranks ≡ length s.layers

@@ -12,7 +12,7 @@ use Rattle.matching.specs.Local.{AreLinked, by_pointers}
 use Rattle.matching.specs.Pieces.{IsPiece}
 use Rattle.matching.specs.Places.{IsAt}
 use Rattle.matching.proofs.Commits.{IsOpenRun, best_in, live_in, setting_of}
-use Rattle.matching.proofs.CommittedValues.{front, front-is}
+use Rattle.matching.proofs.CommittedValues.{front, front_is}
 use Rattle.matching.proofs.Costs.{cost-length}
 use Rattle.matching.proofs.Fronts.{ends-in, front-grows}
 use Rattle.matching.proofs.Lists.{at-get_or, reverse-take}
@@ -139,7 +139,7 @@ agree-less t layers m n le agree j k c d ranks others bj bk =
 agree-old : {L : Type 0} (t : Trellis L) (xs more : List L) (told : ℕ) → OneOrNone t (xs ++ more) → IsCommitted t (reverse xs) told → Agree t (reverse (xs ++ more)) told
 agree-old t xs more told one old =
     let k = front t (xs ++ more) in
-    let is = front-is t (xs ++ more) one in
+    let is = front_is t (xs ++ more) one in
     let low = front-grows t (reverse xs) (reverse more) told k old (subst (λ ys. IsCommitted t ys k) (reverse-append xs more) is) in
     agree-less t (reverse (xs ++ more)) k told low is.agree
 

@@ -33,7 +33,7 @@ AsksFrom n p layers first i v =
 pub at-more : (n : Net) (p : Params) (fed more : List Layer) (q : Piece) (i v : ℕ) → IsAskedNodeAt (trellis n p) (end_of n) fed q i v → AsksFrom n p (fed ++ more) q.first i v
 at-more n p fed more q i v h r first last =
     let t = trellis n p in
-    let lt = slice_get_within fed (i + 1) h.next h.next-is in
+    let lt = slice_get_within fed (i + 1) h.next h.next_is in
     let ge = h.after_first in
     let same = points-same fed more r.first i (omega (arith, ge, first)) (omega (arith, lt)) in
     record {
@@ -42,13 +42,13 @@ at-more n p fed more q i v h r first last =
       here = h.here;
       next = h.next;
       rank = h.rank;
-      here-is = slice-left fed more i (omega (arith, lt)) ∙ h.here-is;
-      next-is = slice-left fed more (i + 1) lt ∙ h.next-is;
-      next-some = h.next-some;
+      here_is = slice-left fed more i (omega (arith, lt)) ∙ h.here_is;
+      next_is = slice-left fed more (i + 1) lt ∙ h.next_is;
+      next_some = h.next_some;
       near = h.near;
       reached = subst (λ ys. IsRankReached t (reverse ys) h.rank) (sym same)
           (subst (λ k. IsRankReached t (reverse (take (i + 1 - k) (drop k fed))) h.rank) (sym first) h.reached);
-      node-is = h.node-is;
+      node_is = h.node_is;
     }
 
 pub at-fewer : (n : Net) (p : Params) (fed more : List Layer) (q : Piece) (i v : ℕ) → i + 1 < length fed → IsAskedNodeAt (trellis n p) (end_of n) (fed ++ more) q i v → AsksFrom n p fed q.first i v
@@ -62,13 +62,13 @@ at-fewer n p fed more q i v lt h r first last =
       here = h.here;
       next = h.next;
       rank = h.rank;
-      here-is = sym (slice-left fed more i (omega (arith, lt))) ∙ h.here-is;
-      next-is = sym (slice-left fed more (i + 1) lt) ∙ h.next-is;
-      next-some = h.next-some;
+      here_is = sym (slice-left fed more i (omega (arith, lt))) ∙ h.here_is;
+      next_is = sym (slice-left fed more (i + 1) lt) ∙ h.next_is;
+      next_some = h.next_some;
       near = h.near;
       reached = subst (λ ys. IsRankReached t (reverse ys) h.rank) same
           (subst (λ k. IsRankReached t (reverse (take (i + 1 - k) (drop k (fed ++ more)))) h.rank) (sym first) h.reached);
-      node-is = h.node-is;
+      node_is = h.node_is;
     }
 
 pub at-itself : (n : Net) (p : Params) (fed : List Layer) (q : Piece) (i v : ℕ) → IsAskedNodeAt (trellis n p) (end_of n) fed q i v → AsksFrom n p fed q.first i v
@@ -78,10 +78,10 @@ at-itself n p fed q i v h r first last = record {
   here = h.here;
   next = h.next;
   rank = h.rank;
-  here-is = h.here-is;
-  next-is = h.next-is;
-  next-some = h.next-some;
+  here_is = h.here_is;
+  next_is = h.next_is;
+  next_some = h.next_some;
   near = h.near;
   reached = subst (λ k. IsRankReached (trellis n p) (reverse (take (i + 1 - k) (drop k fed))) h.rank) (sym first) h.reached;
-  node-is = h.node-is;
+  node_is = h.node_is;
 }

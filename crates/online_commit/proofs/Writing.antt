@@ -63,11 +63,11 @@ written-after old changed i le =
 pub appended-made : (old : Piece) (l : Layer) (cells : List Cell) (changed lent new : List ℕ) (layers : List Layer) (tables : List (List Cell)) → layers ≡ old.layers ++ l ∷ [] → tables ≡ old.tables ++ cells ∷ []
     → lent ≡ old.masks ++ 0 ∷ [] → length new ≡ length lent → ((i : ℕ) → i < length lent → mask_at new i ≡ mask_written lent changed i)
     → IsAppended old l cells changed (record { first = old.first; told = old.told; layers = layers; tables = tables; masks = new })
-appended-made old l cells changed lent new layers tables layers-are tables-are lent-is same written =
+appended-made old l cells changed lent new layers tables layers_are tables-are lent-is same written =
     let len : length lent ≡ length old.masks + 1 = ap length lent-is ∙ length_push old.masks 0 in
     record {
       first = refl;
-      layers = layers-are;
+      layers = layers_are;
       tables = tables-are;
       count = same ∙ len;
       masks = λ i le. subst (λ ms. mask_at new i ≡ mask_written ms changed i) lent-is (written i (omega (arith, le, len))) ∙ written-after old.masks changed i le;

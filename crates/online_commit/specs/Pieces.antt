@@ -53,11 +53,11 @@ pub record HasRoom (a : OpenPiece) : Type 0 where
 -- the piece may take a point with these cells
 pub record MayGrow (a : Piece) (cells : List Cell) : Type 0 where
   pub few : a.first + length a.layers < 100_000
-  pub tables-count : length a.tables ≡ length a.layers
-  pub masks-count : length a.masks ≡ length a.layers
-  pub masks-are : 0 < length a.tables → AreMasks a.tables (mask_at a.masks) (length a.tables)
+  pub tables_count : length a.tables ≡ length a.layers
+  pub masks_count : length a.masks ≡ length a.layers
+  pub masks_are : 0 < length a.tables → AreMasks a.tables (mask_at a.masks) (length a.tables)
   pub ranks : All HasFewRanks a.tables
-  pub cells-few : HasFewRanks cells
+  pub cells_few : HasFewRanks cells
   pub told : a.told ≤ length a.layers
 
 -- these masks change where the point comes, and these are the items of the points that are committed by it
@@ -82,7 +82,7 @@ pub record IsExtended (old : Piece) (l : Layer) (cells : List Cell) (new : Piece
   pub told : new.told ≡ old.told + length items
   pub layers : new.layers ≡ old.layers ++ l ∷ []
   pub tables : new.tables ≡ old.tables ++ cells ∷ []
-  pub masks-count : length new.masks ≡ length new.layers
+  pub masks_count : length new.masks ≡ length new.layers
   pub masks : AreMasks new.tables (mask_at new.masks) (length new.layers)
   pub settled : AreSettled new.first new.layers (mask_at new.masks) old.told items
 

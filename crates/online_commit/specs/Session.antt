@@ -26,9 +26,9 @@ points_of s = s.first + length s.layers
 -- it stands for these points: it keeps those of their open piece, and has handed out what is committed
 pub record StandsFor (s : Session) (fed : List Layer) : Type 0 where
   pub count : points_of s ≡ length fed
-  pub layers-are : s.layers ≡ drop s.first fed
-  pub first-is : open_first (solution (trellis s.network s.params) fed).pieces (length fed) ≡ s.first
-  pub told-is : committed_of (trellis s.network s.params) fed ≡ s.first + s.told
+  pub layers_are : s.layers ≡ drop s.first fed
+  pub first_is : open_first (solution (trellis s.network s.params) fed).pieces (length fed) ≡ s.first
+  pub told_is : committed_of (trellis s.network s.params) fed ≡ s.first + s.told
 
 -- a session with no points
 abbrev pub no_points_of : Net → Params → Session
@@ -57,7 +57,7 @@ pub record IsFed (old : Session) (l : Layer) (new : Session) (items : List Item)
   pub network : new.network ≡ old.network
   pub params : new.params ≡ old.params
   pub stands : (fed : List Layer) → StandsFor old fed → StandsFor new (fed ++ l ∷ [])
-  pub handed-on : (fed : List Layer) → StandsFor old fed
+  pub handed_on : (fed : List Layer) → StandsFor old fed
       → handed old.network old.params (fed ++ l ∷ []) ≡ handed old.network old.params fed ++ items
   pub stays : (fed more : List Layer) → StandsFor old fed
       → BeginsWith (items_of old.network old.params ((fed ++ l ∷ []) ++ more))

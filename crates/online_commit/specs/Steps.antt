@@ -46,9 +46,9 @@ pub record IsSession (s : KeptSession) : Type 0 where
   pub few : points_of (seen s) ≤ 100_000
   pub layers : All (IsFedLayer s.network s.params) s.layers
   pub ranks : All HasFewRanks s.tables
-  pub tables-count : length s.tables ≡ length s.layers
-  pub masks-count : length s.masks ≡ length s.layers
-  pub open-is : 0 < length s.layers → IsOpen s
+  pub tables_count : length s.tables ≡ length s.layers
+  pub masks_count : length s.masks ≡ length s.layers
+  pub open_is : 0 < length s.layers → IsOpen s
   pub front : IsCommitted (trellis s.network s.params) (reverse s.layers) s.told
 
 -- the last point of the open piece, and its cells

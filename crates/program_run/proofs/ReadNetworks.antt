@@ -51,12 +51,12 @@ signed_small most z text read = abs_by_minus (starts_with_minus text) most z tex
 record BothRead {A B C : Type 0} (f : A → B → C) (x : Result A NumberFault) (y : Result B NumberFault) (c : C) : Type 0 where
   first : A
   second : B
-  first-is : x ≡ Ok first
+  first_is : x ≡ Ok first
   second-is : y ≡ Ok second
   is : f first second ≡ c
 
 both_read : {A B C : Type 0} (f : A → B → C) (x : Result A NumberFault) (y : Result B NumberFault) (c : C) → both f x y ≡ Ok c → BothRead f x y c
-both_read f (Ok a) (Ok b) c e = record { first = a; second = b; first-is = refl; second-is = refl; is = cc e }
+both_read f (Ok a) (Ok b) c e = record { first = a; second = b; first_is = refl; second-is = refl; is = cc e }
 both_read f (Ok a) (Err g) c e = absurd (cc e)
 both_read f (Err Misspelt) y c e = absurd (cc e)
 both_read f (Err OutOfRange) (Ok b) c e = absurd (cc e)
@@ -67,7 +67,7 @@ point_within part p e =
     let text = trim part in
     let b = both_read make_point (signed_within 1_000_000_000 (before_first is_blank text)) (signed_within 1_000_000_000 (trim (after_first is_blank text))) p e in
     subst InRange b.is (record {
-      x_abs = signed_small 1_000_000_000 b.first (before_first is_blank text) b.first-is;
+      x_abs = signed_small 1_000_000_000 b.first (before_first is_blank text) b.first_is;
       y_abs = signed_small 1_000_000_000 b.second (trim (after_first is_blank text)) b.second-is;
     })
 
@@ -75,7 +75,7 @@ points_within : (parts : List (List ℕ)) (line : List Point) → points_of part
 points_within [] line e = let same : [] ≡ line = cc e in subst (λ (l : List Point). All InRange l) same (All-nil InRange)
 points_within (part ∷ parts) line e =
     let b = both_read (λ p l. p ∷ l) (point_of part) (points_of parts) line e in
-    subst (λ (l : List Point). All InRange l) b.is (All-cons InRange b.first b.second (point_within part b.first b.first-is) (points_within parts b.second b.second-is))
+    subst (λ (l : List Point). All InRange l) b.is (All-cons InRange b.first b.second (point_within part b.first b.first_is) (points_within parts b.second b.second-is))
 
 line_within : (field : List ℕ) (line : List Point) → line_of field ≡ Ok line → All InRange line
 unfolding line_of
@@ -153,25 +153,25 @@ row_added l n m r h short e =
 
 record FollowsRead {A B : Type 0} (x : Result A NetworkFault) (f : A → Result B NetworkFault) (b : B) : Type 0 where
   first : A
-  first-is : x ≡ Ok first
+  first_is : x ≡ Ok first
   then-is : f first ≡ Ok b
 
 next_read : {A B : Type 0} (x : Result A NetworkFault) (f : A → Result B NetworkFault) (b : B) → next x f ≡ Ok b → FollowsRead x f b
-next_read (Ok a) f b e = record { first = a; first-is = refl; then-is = e }
+next_read (Ok a) f b e = record { first = a; first_is = refl; then-is = e }
 next_read (Err g) f b e = absurd (cc e)
 
 record_added : (l : NetworkLimits) (n m : Net) (fields : List (List ℕ)) → IsReadable n → add_record l n fields ≡ Ok m → IsReadable m
 unfolding add_record
 record_added l n m fields h e =
     let f = next_read (row_of (length n.edges + 1) fields) (add_row l n) m e in
-    row_added l n m f.first h (row_short (length n.edges + 1) fields f.first f.first-is) f.then-is
+    row_added l n m f.first h (row_short (length n.edges + 1) fields f.first f.first_is) f.then-is
 
 records_added : (l : NetworkLimits) (n m : Net) (records : List (List (List ℕ))) → IsReadable n → add_records l n records ≡ Ok m → IsReadable m
 unfolding add_records
 records_added l n m [] h e = let same : n ≡ m = cc e in subst IsReadable same h
 records_added l n m (fields ∷ records) h e =
     let f = next_read (add_record l n fields) (λ k. add_records l k records) m e in
-    records_added l f.first m records (record_added l n f.first fields h f.first-is) f.then-is
+    records_added l f.first m records (record_added l n f.first fields h f.first_is) f.then-is
 
 nothing_readable : IsReadable no_net
 nothing_readable = record {

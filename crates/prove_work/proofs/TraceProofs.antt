@@ -20,9 +20,9 @@ pub proof_made : (n : Net) (p : Params) (trace : Trace) (answer : Answer) → Is
     → record { id = trace.id; ranks = answer.solved.ranks; tables = answer.solved.tables; pieces = answer.matched.pieces } ≡ proof_of n p trace
 proof_made n p trace answer is =
     let s = answer.solved in
-    let found : solution_of n p trace ≡ as_solution s = ap (solution (trellis n p)) (sym is.layers-are) ∙ solution-is (trellis n p) answer.layers s.ranks s.pieces s.tables is.solved-is.matched in
+    let found : solution_of n p trace ≡ as_solution s = ap (solution (trellis n p)) (sym is.layers_are) ∙ solution-is (trellis n p) answer.layers s.ranks s.pieces s.tables is.solved_is.matched in
     ap (λ (x : Solution). let proof : TraceProof = record { id = trace.id; ranks = x.ranks; tables = x.tables; pieces = answer.matched.pieces } in proof) (sym found)
-    ∙ ap (λ (m : MatchedTrace). let proof : TraceProof = record { id = trace.id; ranks = (solution_of n p trace).ranks; tables = (solution_of n p trace).tables; pieces = m.pieces } in proof) is.matched-is
+    ∙ ap (λ (m : MatchedTrace). let proof : TraceProof = record { id = trace.id; ranks = (solution_of n p trace).ranks; tables = (solution_of n p trace).tables; pieces = m.pieces } in proof) is.matched_is
 
 -- the next of some traces was proved
 pub proved_next : (n : Net) (p : Params) (traces : List Trace) (i : ℕ) (trace : Trace) (proof : TraceProof) (proofs : List TraceProof) → i < length traces → trace ≡ get_or traces i trace

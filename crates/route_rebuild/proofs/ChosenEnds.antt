@@ -62,10 +62,10 @@ near_in t layers first last i d near ge less inside =
     let k = i - first in
     let here : first + k ≡ i = omega (arith, ge) in
     let next : first + suc k ≡ i + 1 = omega (arith, ge) in
-    let here-is : get_or (from_to first last layers) k d ≡ get_or layers i d = between layers first last k d (omega (arith, ge, less)) ∙ ap (λ j. get_or layers j d) here in
-    let next-is : get_or (from_to first last layers) (suc k) d ≡ get_or layers (i + 1) d = between layers first last (suc k) d (omega (arith, ge, less)) ∙ ap (λ j. get_or layers j d) next in
-    subst (λ x. IsTrue (t.near x (get_or layers (i + 1) d))) here-is
-    (subst (λ x. IsTrue (t.near (get_or (from_to first last layers) k d) x)) next-is
+    let here_is : get_or (from_to first last layers) k d ≡ get_or layers i d = between layers first last k d (omega (arith, ge, less)) ∙ ap (λ j. get_or layers j d) here in
+    let next_is : get_or (from_to first last layers) (suc k) d ≡ get_or layers (i + 1) d = between layers first last (suc k) d (omega (arith, ge, less)) ∙ ap (λ j. get_or layers j d) next in
+    subst (λ x. IsTrue (t.near x (get_or layers (i + 1) d))) here_is
+    (subst (λ x. IsTrue (t.near (get_or (from_to first last layers) k d) x)) next_is
     (near_at t (from_to first last layers) k d near (omega (arith, len, ge, less))))
 
 -- the chosen candidate of a point ends a sequence from the piece's first point on
@@ -88,13 +88,13 @@ chosen_reached t layers s piece i m count place =
     let earlier = cost_earlier t back chosen piece.cost q m.best.costs (omega (arith, long, ge, le)) in
     let points-are : drop q back ≡ reverse (take (i + 1 - first) (drop first layers)) =
     drop-reverse points q (i + 1 - first) (omega (arith, len, ge, le)) ∙ ap reverse (take-take (i + 1 - first) (last + 1 - first) (drop first layers) (omega (arith, le))) in
-    let rank-is : get_or chosen q 0 ≡ unwrap_or (get_or s.ranks i None) 0 = point_rank s.ranks m.chosen first last i m.ranks-are (record { from_first = ge; to_last = le; inside = omega (arith, inside, count) }) in
-    let ranks-are : drop q chosen ≡ unwrap_or (get_or s.ranks i None) 0 ∷ drop (suc q) chosen =
+    let rank-is : get_or chosen q 0 ≡ unwrap_or (get_or s.ranks i None) 0 = point_rank s.ranks m.chosen first last i m.ranks_are (record { from_first = ge; to_last = le; inside = omega (arith, inside, count) }) in
+    let ranks_are : drop q chosen ≡ unwrap_or (get_or s.ranks i None) 0 ∷ drop (suc q) chosen =
     drop-cons chosen q 0 (omega (arith, same_count, long, ge, le)) ∙ ap (λ r. r ∷ drop (suc q) chosen) rank-is in (
       earlier.0,
       drop (suc q) chosen,
       subst (λ xs. cost t xs (unwrap_or (get_or s.ranks i None) 0 ∷ drop (suc q) chosen) ≡ Some earlier.0) points-are
-          (subst (λ rs. cost t (drop q back) rs ≡ Some earlier.0) ranks-are earlier.1),
+          (subst (λ rs. cost t (drop q back) rs ≡ Some earlier.0) ranks_are earlier.1),
     )
 
 -- the trace asks for the end of each chosen edge of this piece, but for its last point's
@@ -106,9 +106,9 @@ chosen_asked n p layers s k lawful is lt v (i, ge, less, end) =
     let t : Trellis Layer = trellis n p in
     let none : Piece = record { first = 0; last = 0; cost = 0 } in
     let piece : Piece = piece_at s.pieces k in
-    let within = pieces_within t layers 0 s.pieces k none is.matched.pieces-are lt in
+    let within = pieces_within t layers 0 s.pieces k none is.matched.pieces_are lt in
     let inside = within.inside in
-    let whole : IsPiece t (drop piece.first layers) (piece.last + 1 - piece.first) = piece_is t layers 0 s.pieces k is.matched.pieces-are lt in
+    let whole : IsPiece t (drop piece.first layers) (piece.last + 1 - piece.first) = piece_is t layers 0 s.pieces k is.matched.pieces_are lt in
     let run = chosen_run n p layers s k lawful is lt in
     let next : IsChosenPoint layers s.ranks (i + 1) = run.points (i + 1) (omega (arith, ge)) (omega (arith, less)) in
     let among = next.among in
@@ -123,12 +123,12 @@ chosen_asked n p layers s k lawful is lt v (i, ge, less, end) =
           here = get_or layers i no_layer;
           next = get_or layers (i + 1) no_layer;
           rank = unwrap_or (get_or s.ranks i None) 0;
-          here-is = slice_get-get_or layers i no_layer (omega (arith, le, inside));
-          next-is = slice_get-get_or layers (i + 1) no_layer next.layer;
-          next-some = omega (arith, among);
+          here_is = slice_get-get_or layers i no_layer (omega (arith, le, inside));
+          next_is = slice_get-get_or layers (i + 1) no_layer next.layer;
+          next_some = omega (arith, among);
           near = near_in t layers piece.first piece.last i no_layer whole.can.near ge less inside;
-          reached = chosen_reached t layers s piece i (is.matched.each k none lt) is.matched.ranks-count (record { from_first = ge; to_last = le; inside = inside });
-          node-is = sym end;
+          reached = chosen_reached t layers s piece i (is.matched.each k none lt) is.matched.ranks_count (record { from_first = ge; to_last = le; inside = inside });
+          node_is = sym end;
         },
       ),
     )

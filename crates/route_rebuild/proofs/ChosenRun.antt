@@ -154,7 +154,7 @@ piece_back n p layers s piece within count m =
       count = length-reverse (from_to first last layers) ∙ length_between layers first last within.some within.inside;
       costs = m.best.costs;
       layer-is = λ j ge le. point_layer layers first last j no_layer (record { from_first = ge; to_last = le; inside = below });
-      rank-is = λ j ge le. point_rank s.ranks m.chosen first last j m.ranks-are (record { from_first = ge; to_last = le; inside = inside });
+      rank-is = λ j ge le. point_rank s.ranks m.chosen first last j m.ranks_are (record { from_first = ge; to_last = le; inside = inside });
     }
 
 among : (n : Net) (p : Params) (layers : List Layer) (s : Solved) (piece : Piece) (j : ℕ) → IsPieceBack n p layers s piece → piece.first ≤ j → j ≤ piece.last
@@ -191,9 +191,9 @@ chosen_run n p layers s k lawful is lt =
     let t : Trellis Layer = trellis n p in
     let piece : Piece = piece_at s.pieces k in
     let none : Piece = record { first = 0; last = 0; cost = 0 } in
-    let within : IsWithin (length layers) piece = pieces_within t layers 0 s.pieces k none is.matched.pieces-are lt in
+    let within : IsWithin (length layers) piece = pieces_within t layers 0 s.pieces k none is.matched.pieces_are lt in
     let below = within.inside in
-    let count = is.matched.ranks-count in
+    let count = is.matched.ranks_count in
     let b = piece_back n p layers s piece within count (is.matched.each k none lt) in
     record {
       options = is.trace.options;

@@ -53,7 +53,7 @@ joined n p layers ranks piece es run is =
     let chosen : ℕ → Candidate = chosen_at layers ranks in
     let some = run.some in
     let end : piece.first + (piece.last - piece.first) ≡ piece.last = omega (arith, some) in
-    let on = joins n p chosen piece.first (piece.last - piece.first) is.rest (known_run n p layers ranks piece run) is.legs-are in
+    let on = joins n p chosen piece.first (piece.last - piece.first) is.rest (known_run n p layers ranks piece run) is.legs_are in
     let far : Leads n (target n (chosen piece.first).edge.0) is.rest (target n (chosen piece.last).edge.0) = subst (λ (q : ℕ). Leads n (target n (chosen piece.first).edge.0) is.rest (target n (chosen q).edge.0)) end on in
     subst (λ (q : List ℕ). Leads n (source n (chosen piece.first).edge.0) q (target n (chosen piece.last).edge.0)) (sym is.begins)
     ((run.candidates piece.first (omega arith) some).edge, refl, far)
@@ -112,7 +112,7 @@ added_up : (n : Net) (p : Params) (layers : List Layer) (ranks : List (Option �
 added_up n p layers ranks piece es run is =
     let chosen : ℕ → Candidate = chosen_at layers ranks in
     let some = run.some in
-    let t : Totals n p chosen piece.first (piece.last - piece.first) is.rest = totals n p chosen piece.first (piece.last - piece.first) is.rest (known_run n p layers ranks piece run) is.legs-are in
+    let t : Totals n p chosen piece.first (piece.last - piece.first) is.rest = totals n p chosen piece.first (piece.last - piece.first) is.rest (known_run n p layers ranks piece run) is.legs_are in
     let end : chosen (piece.first + (piece.last - piece.first)) ≡ chosen piece.last = ap chosen (let e : piece.first + (piece.last - piece.first) ≡ piece.last = omega (arith, some) in e) in
     let spans : span n (chosen (piece.first + (piece.last - piece.first))).edge.0 ≡ span n (chosen piece.last).edge.0 = ap (λ (c : Candidate). span n c.edge.0) end in
     let offsets : (chosen (piece.first + (piece.last - piece.first))).offset ≡ (chosen piece.last).offset = ap (λ (c : Candidate). c.offset) end in

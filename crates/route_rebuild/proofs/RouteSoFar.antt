@@ -48,7 +48,7 @@ so_far_end run i es at far =
     record {
       rest = far.tail;
       begins = far.begins;
-      legs-are = subst (λ (k : List ℕ). AreLegs n bound back (chosen_in run) first (last - first) k) (append-nil far.tail)
+      legs_are = subst (λ (k : List ℕ). AreLegs n bound back (chosen_in run) first (last - first) k) (append-nil far.tail)
           (far.legs [] (subst (λ (k : ℕ). AreLegs n bound back (chosen_in run) i k []) none refl));
     }
 

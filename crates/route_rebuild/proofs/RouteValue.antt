@@ -28,7 +28,7 @@ pub route_of-is : (n : Net) (p : Params) (layers : List Layer) (ranks : List (Op
 unfolding route_of
 route_of-is n p layers ranks piece es lawful h =
     h.begins ∙ ap (λ (x : List ℕ). (chosen_at layers ranks piece.first).edge.0 ∷ x)
-    (legs-is n p.bound p.back (chosen_at layers ranks) piece.first (piece.last - piece.first) h.rest lawful h.legs-are)
+    (legs-is n p.bound p.back (chosen_at layers ranks) piece.first (piece.last - piece.first) h.rest lawful h.legs_are)
 
 some_between : (n : Net) (bound back : ℕ) (a b : Candidate) (o : Option Route) → MatchOption o (HasNoRoute n bound back a b) (IsTheRoute n bound back a b)
     → (HasNoRoute n bound back a b → ⊥) → (q : Route) × (o ≡ Some q) × IsTheRoute n bound back a b q
@@ -44,9 +44,9 @@ route_found n bound back a b lawful some = some_between n bound back a b (route_
 abbrev HaveRoutes : Net → ℕ → ℕ → (ℕ → Candidate) → ℕ → ℕ → Type 0
 HaveRoutes n bound back chosen i k = (j : ℕ) → i ≤ j → j < i + k → HasNoRoute n bound back (chosen j) (chosen (j + 1)) → ⊥
 
-legs-are : (n : Net) (bound back : ℕ) (chosen : ℕ → Candidate) (i k : ℕ) → IsLawful n → HaveRoutes n bound back chosen i k → AreLegs n bound back chosen i k (legs n bound back chosen i k)
-legs-are n bound back chosen i zero lawful routes = refl
-legs-are n bound back chosen i (suc k) lawful routes =
+legs_are : (n : Net) (bound back : ℕ) (chosen : ℕ → Candidate) (i k : ℕ) → IsLawful n → HaveRoutes n bound back chosen i k → AreLegs n bound back chosen i k (legs n bound back chosen i k)
+legs_are n bound back chosen i zero lawful routes = refl
+legs_are n bound back chosen i (suc k) lawful routes =
     let a = chosen i in
     let b = chosen (i + 1) in
     let found = route_found n bound back a b lawful (routes i (omega arith) (omega arith)) in
@@ -55,7 +55,7 @@ legs-are n bound back chosen i (suc k) lawful routes =
       rest,
       found.2,
       ap (λ (x : Option Route). edges_to b x ++ rest) found.1,
-      legs-are n bound back chosen (i + 1) k lawful (λ j ge lt. routes j (omega (arith, ge)) (omega (arith, lt))),
+      legs_are n bound back chosen (i + 1) k lawful (λ j ge lt. routes j (omega (arith, ge)) (omega (arith, lt))),
     )
 
 -- the value is the route
@@ -67,7 +67,7 @@ route_of-route n p layers ranks piece lawful run =
     record {
       rest = legs n p.bound p.back (chosen_at layers ranks) piece.first (piece.last - piece.first);
       begins = refl;
-      legs-are = legs-are n p.bound p.back (chosen_at layers ranks) piece.first (piece.last - piece.first) lawful
+      legs_are = legs_are n p.bound p.back (chosen_at layers ranks) piece.first (piece.last - piece.first) lawful
           (λ j ge lt. run.routes j ge (omega (arith, lt, some)));
     }
 

@@ -37,7 +37,7 @@ pub record IsRouteOf (n : Net) (p : Params) (layers : List Layer) (ranks : List 
     (piece : Piece) (es : List ℕ) : Type 0 where
   pub rest : List ℕ
   pub begins : es ≡ (chosen_at layers ranks piece.first).edge.0 ∷ rest
-  pub legs-are : AreLegs n p.bound p.back (chosen_at layers ranks) piece.first
+  pub legs_are : AreLegs n p.bound p.back (chosen_at layers ranks) piece.first
       (piece.last - piece.first) rest
 
 -- the same as a value: the edges that the way to candidate b adds, and those over the next k points

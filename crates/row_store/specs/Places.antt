@@ -51,6 +51,6 @@ IsSearcherOf store t = t ≡ record { network = store.network; bound = store.bou
 -- the place of node v of a store, and a searcher for the store's rows
 pub record IsPlaceOf (store : Stored) (v : ℕ) (t : BoundedTable) (p : Place) : Type 0 where
   pub node : HasNode store.network v
-  pub cells-count : length store.cells ≡ length store.network.nodes
+  pub cells_count : length store.cells ≡ length store.network.nodes
   pub searcher : IsSearcherOf store t
   pub fits : Fits store.network store.bound v (slice_index store.cells v) p

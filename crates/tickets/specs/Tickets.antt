@@ -74,9 +74,9 @@ with_sight a b = record {
 
 -- a fresh ticket of claims on this many numbers with this many seats
 pub record IsTicketOf (count seats : ℕ) (claims : Opened) (ticket : Drawn) : Type 0 where
-  pub count-is : claims.count ≡ count
-  pub seats-is : claims.seats ≡ seats
-  pub is-fresh : ticket ≡ fresh_ticket claims.name
+  pub count_is : claims.count ≡ count
+  pub seats_is : claims.seats ≡ seats
+  pub is_fresh : ticket ≡ fresh_ticket claims.name
 
 -- each number that the ticket drew is below n
 abbrev pub IsOpenTicket : ℕ → Drawn → Type 0

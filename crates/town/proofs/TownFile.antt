@@ -46,10 +46,10 @@ unfolding street_records
 back-same [] n edge = refl
 back-same (s ∷ rest) n edge = ap (λ t. edge_fields n edge s.one s.other ∷ edge_fields n (edge + 1) s.other s.one ∷ t) (back-same rest n (edge + 2))
 
-count-is : (streets : List Street) (n edge : ℕ) → length (street_records n edge streets) ≡ 2 * length streets
+count_is : (streets : List Street) (n edge : ℕ) → length (street_records n edge streets) ≡ 2 * length streets
 unfolding street_records
-count-is [] n edge = refl
-count-is (s ∷ rest) n edge = let more = count-is rest n (edge + 2) in omega (arith, more)
+count_is [] n edge = refl
+count_is (s ∷ rest) n edge = let more = count_is rest n (edge + 2) in omega (arith, more)
 
 -- how long a line is
 place-length : (c : Corner) → IsNear c → length (place_text c) ≤ 41
@@ -115,7 +115,7 @@ text-read n list all few =
     let size = lines-length list n 0 all (omega (arith, few)) in
     let whole : length text ≡ 18 + length lines = length-append (codes "edge,from,to,line\n") lines in
     let same : text_of_records (header ∷ rows) ≡ text = ap₂ (λ a b. a ++ b) header-is (text-is list n 0 all (omega (arith, few))) in
-    let turns : length (header ∷ rows) ≤ length text + 1 = omega (arith, whole, size.0, count-is list n 0) in
+    let turns : length (header ∷ rows) ≤ length text + 1 = omega (arith, whole, size.0, count_is list n 0) in
     whole-file text (omega (arith, whole, size.1, few))
     ∙ ap (λ t. network_of_records Standard (records default_config t)) (mark-free lines)
     ∙ ap (λ t. network_of_records Standard (records_from default_config (length text + 1) st.StartRecord t)) (sym same)

@@ -98,7 +98,7 @@ lawful_found : (n : Net) (p : Params) (id : ℕ) (layers : List Layer) (s : Solv
     → length layers ≤ 100_000 → IsMatch (trellis n p) layers s.ranks s.pieces s.tables
     → IsLawful (matched_of n p id layers (as_solution s))
 lawful_found n p id layers s short is = record {
-  rising = rising n p layers s.ranks 0 s.pieces is.pieces-are;
+  rising = rising n p layers s.ranks 0 s.pieces is.pieces_are;
   covers = λ i. (
     (λ matched.
         let h = ranked_if n layers s.ranks i matched in
@@ -108,7 +108,7 @@ lawful_found n p id layers s short is = record {
     (λ covered.
         let lies = lies_if n p layers s.ranks s.pieces i covered in
         let r = rank_there (trellis n p) layers s i lies.0 is lies.1 in
-        matched_if n layers s.ranks i r.0 (lies_below (trellis n p) layers s.pieces i lies.0 is.pieces-are lies.1) r.1),
+        matched_if n layers s.ranks i r.0 (lies_below (trellis n p) layers s.pieces i lies.0 is.pieces_are lies.1) r.1),
   );
   routes = routes n p layers s.ranks s.pieces;
   few = omega (arith, short, labels_length n layers s.ranks);
@@ -127,8 +127,8 @@ match_lawful n p trace accepted lawful =
     let few = lawful.few in
     record {
       lawful = lawful_found n p trace.id layers s (omega (arith, count, few)) is;
-      labels_count = labels_all n layers s.ranks is.ranks-count ∙ count;
+      labels_count = labels_all n layers s.ranks is.ranks_count ∙ count;
       pieces_few =
-          let pieces = pieces_count (trellis n p) layers 0 s.pieces is.pieces-are in
+          let pieces = pieces_count (trellis n p) layers 0 s.pieces is.pieces_are in
           omega (arith, pieces, count, length-map s.pieces (routed_of n p layers s.ranks));
     }

@@ -74,9 +74,9 @@ rank_there t layers s i k is lies =
     let piece : Piece = piece_at s.pieces k in
     let none : Piece = record { first = 0; last = 0; cost = 0 } in
     let m : IsMatchedPiece t layers s.ranks s.tables piece = is.each k none lies.below in
-    let within = pieces_within t layers 0 s.pieces k none is.pieces-are lies.below in
-    let inside : piece.last < length s.ranks = let below = within.inside in omega (arith, below, is.ranks-count) in
-    (get_or m.chosen (i - piece.first) 0, (point_chosen s.ranks m.chosen piece.first piece.last i m.ranks-are (record { from_first = lies.after_first; to_last = lies.to_last; inside = inside })).1)
+    let within = pieces_within t layers 0 s.pieces k none is.pieces_are lies.below in
+    let inside : piece.last < length s.ranks = let below = within.inside in omega (arith, below, is.ranks_count) in
+    (get_or m.chosen (i - piece.first) 0, (point_chosen s.ranks m.chosen piece.first piece.last i m.ranks_are (record { from_first = lies.after_first; to_last = lies.to_last; inside = inside })).1)
 
 -- a point with a rank lies in a piece
 pub ranked_lies : {L : Type 0} (t : Trellis L) (layers : List L) (s : Solved) (i r : ℕ) (l : L)
@@ -84,10 +84,10 @@ pub ranked_lies : {L : Type 0} (t : Trellis L) (layers : List L) (s : Solved) (i
 ranked_lies t layers s i r l is at e =
     let lt = at.below in
     ⊎_elim
-    (λ some. point_lies t layers 0 s.pieces i l is.pieces-are (omega arith) lt (subst (λ x. 0 < t.width x) at.is some))
+    (λ some. point_lies t layers 0 s.pieces i l is.pieces_are (omega arith) lt (subst (λ x. 0 < t.width x) at.is some))
     (λ few. let none : t.width l ≡ 0 = omega (arith, few) in
     let missing = (is.missing i l lt at.is none).0 in
-    let other = get_or_default s.ranks i None (Some 0) (omega (arith, lt, is.ranks-count)) in
+    let other = get_or_default s.ranks i None (Some 0) (omega (arith, lt, is.ranks_count)) in
     absurd (let z : Some r ≡ None = sym e ∙ other ∙ missing in cc))
     (cases_lt 0 (t.width l))
 

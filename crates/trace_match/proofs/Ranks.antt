@@ -31,7 +31,7 @@ rank_among n p layers s {i} {r} {l} lawful is at e =
 
 pub are_ranked : (n : Net) (p : Params) (layers : List Layer) (s : Solved) → IsLawful n → IsSolved n p layers s → AreRanked n layers s.ranks
 are_ranked n p layers s lawful is = record {
-  count = is.matched.ranks-count;
+  count = is.matched.ranks_count;
   each = λ i l at. record {
     edges = λ j d lt. ((all-at (IsLayer n p) layers i l is.trace.are.each at).candidates j d lt).edge;
     among = if_some (λ r. r < length l.candidates) (get_or s.ranks i None) (λ r e. rank_among n p layers s lawful is at e);

@@ -98,7 +98,7 @@ in-turned t (l ∷ layers) (j ∷ ranks) c h =
     let before = added-parts (cost t layers ranks) (arrival t layers ranks l j) (t.emission l j) c g.1 in
     subst (λ ls. AllIn t ls (reverse (j ∷ ranks))) (sym (reverse-append (l ∷ []) layers))
     (subst (λ rs. AllIn t (reverse layers ++ l ∷ []) rs) (sym (reverse-append (j ∷ []) ranks))
-    (in-behind t (reverse layers) (reverse ranks) l j (in-turned t layers ranks before.first before.first-is) low))
+    (in-behind t (reverse layers) (reverse ranks) l j (in-turned t layers ranks before.first before.first_is) low))
 
 pub end-in : {L : Type 0} (t : Trellis L) (xs : List L) (x : List ℕ) → IsEnd t (reverse xs) x → AllIn t xs x
 end-in t xs x h =

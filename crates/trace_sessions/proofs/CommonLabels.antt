@@ -14,7 +14,7 @@ use Rattle.matching.specs.Layers.{trellis}
 use Rattle.matching.specs.Pieces.{IsPiece}
 use Rattle.matching.specs.Sequences.{Trellis, IsBest, IsBestTo}
 use Rattle.matching.specs.Value.{best_of, solution}
-use Rattle.matching.proofs.CommittedValues.{committed_split, front, front-is, opens_first, whole}
+use Rattle.matching.proofs.CommittedValues.{committed_split, front, front_is, opens_first, whole}
 use Rattle.matching.proofs.Lists.{Among}
 use Rattle.matching.proofs.SolutionMatches.{best_of-is}
 use Rattle.matching.proofs.Splits.{from_point, from_joins, Splits}
@@ -217,7 +217,7 @@ stands n p layers s tells some =
     let front_of : take s.closed (solution t layers).ranks ≡ s.ranks = ap (take s.closed) ranks ∙ take_at s.ranks (some_of b ++ rest) s.closed s.count in
     let parts : (tail : List (Option ℕ)) → labels_of n layers (s.ranks ++ tail) ≡ closed ++ labels_of n xs tail = λ tail.
     ap (λ ls. labels_of n ls (s.ranks ++ tail)) (sym (take-append-drop s.closed layers)) ∙ labels-parts n (take s.closed layers) xs s.ranks tail count in
-    let committed_is = front-is t xs s.last in
+    let committed_is = front_is t xs s.last in
     let low = committed_is.within in
     let all : labels_of n layers (solution t layers).ranks ≡ closed ++ tail_of n xs b =
     ap (labels_of n layers) ranks ∙ parts (some_of b ++ rest)

@@ -77,7 +77,7 @@ nothing_handed : (n : Net) (p : Params) → handed n p [] ≡ []
 unfolding handed
 nothing_handed n p =
     let found = solution (trellis n p) [] in
-    ap (items_with n p [] found.ranks (closed_pieces found.pieces 0)) ((opened-stands n p).told-is)
+    ap (items_with n p [] found.ranks (closed_pieces found.pieces 0)) ((opened-stands n p).told_is)
 
 pub none_followed : (n : Net) (p : Params) (trace : Trace) (s : Session) → s ≡ no_points_of n p → StandsFor s [] → HasFollowed n p trace 0 s 0
 none_followed n p trace s is stands = record {
@@ -92,7 +92,7 @@ pub next_handed : (n : Net) (p : Params) (trace : Trace) (i : ℕ) (fix : Fix) (
 next_handed n p trace i fix s new pieces items has low is fed =
     let front = first_layers n p trace i in
     let l = layer_of n p fix in
-    let own = fed.handed-on front has.stands in
+    let own = fed.handed_on front has.stands in
     let here : handed n p (front ++ l ∷ []) ≡ handed n p front ++ items =
     subst (λ (m : Net). handed m p (front ++ l ∷ []) ≡ handed m p front ++ items) has.network
     (subst (λ (q : Params). handed s.network q (front ++ l ∷ []) ≡ handed s.network q front ++ items) has.params own) in

@@ -89,7 +89,7 @@ pub fed_edges : (old : Session) (l : Layer) (new : Session) (items : List Item) 
     → StandsFor old fed → IsFed old l new items → AreItemsOf old.network items
 fed_edges old l new items fed lawful matchable stands is =
     back_of (IsItemOf old.network) (handed old.network old.params fed) items
-    (subst (AreItemsOf old.network) (is.handed-on fed stands) (handed_edges old.network old.params (fed ++ l ∷ []) lawful matchable))
+    (subst (AreItemsOf old.network) (is.handed_on fed stands) (handed_edges old.network old.params (fed ++ l ∷ []) lawful matchable))
 
 pub finished_edges : (old new : Session) (items : List Item) (fed : List Layer) → IsLawful old.network → IsMatchable old.network old.params fed
     → StandsFor old fed → IsFinished old new items → AreItemsOf old.network items

@@ -148,10 +148,10 @@ unfolding items_of
 items_lines n p layers =
     let s = solution (trellis n p) layers in
     let is = solution_is_a_match (trellis n p) layers in
-    ap (λ k. map (item_line n) (items_with n p layers s.ranks s.pieces k)) (sym (labels_all n layers s.ranks is.ranks-count))
+    ap (λ k. map (item_line n) (items_with n p layers s.ranks s.pieces k)) (sym (labels_all n layers s.ranks is.ranks_count))
     ∙ lines_are n p layers s.ranks (label_at layers s.ranks) 0 (labels_of n layers s.ranks) s.pieces
-    (are_written n (label_at layers s.ranks) 0 layers s.ranks is.ranks-count
+    (are_written n (label_at layers s.ranks) 0 layers s.ranks is.ranks_count
     (λ j lt.
     let z : 0 + j ≡ j = omega arith in
     ap (label_at layers s.ranks) z ∙ ap (λ k. label_item k (get_or layers j no_layer) (get_or s.ranks j None)) (sym z)))
-    (ends_rise n p layers 0 s.pieces is.pieces-are)
+    (ends_rise n p layers 0 s.pieces is.pieces_are)

@@ -82,7 +82,7 @@ point-taken old new pairs id fix items point count text text' keeps fed at count
     let n = old.network in
     let p = old.params in
     let room = room-is pairs id (fed.room pairs keeps) in
-    let grown = fed.handed-on pairs keeps in
+    let grown = fed.handed_on pairs keeps in
     record {
       network = fed.network;
       params = fed.params;

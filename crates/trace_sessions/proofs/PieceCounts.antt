@@ -110,7 +110,7 @@ count_items n p layers =
     all_met (label_at layers s.ranks) (closed_item n p layers s.ranks) s.pieces (length layers)
     (λ j. label_weighs j (get_or layers j no_layer) (get_or s.ranks j None))
     (λ q. refl)
-    (λ k d lt. (pieces_within (trellis n p) layers 0 s.pieces k d (solution_is_a_match (trellis n p) layers).pieces-are lt).inside)
+    (λ k d lt. (pieces_within (trellis n p) layers 0 s.pieces k d (solution_is_a_match (trellis n p) layers).pieces_are lt).inside)
 
 -- the pieces among all that is told of a trace
 pub count_match : (n : Net) (p : Params) (trace : Trace) → pieces_among (items_of n p (layers_of n p trace)) ≡ length (match_of n p trace).pieces

@@ -79,7 +79,7 @@ handed_to : (n : Net) (p : Params) (s t : Session) (fixes : List Fix) (fix : Fix
 handed_to n p s t fixes fix l items is same fed =
     ap (handed n p) (one_more n p fixes fix l same)
     ∙ carry (λ (m : Net) (q : Params). handed m q (layers n p fixes ++ l ∷ []) ≡ handed m q (layers n p fixes) ++ items) is.network is.params
-    (fed.handed-on (layers n p fixes) is.stands)
+    (fed.handed_on (layers n p fixes) is.stands)
 
 -- what the fix makes certain is what is handed out with it
 handed-here : (n : Net) (p : Params) (fixes : List Fix) (fix : Fix) (items : List Item)
@@ -155,7 +155,7 @@ takes n p id fix es new d l items own same few at =
           let each = subst (λ (xs : List (ℕ × Session)). KeepsEach n p xs (with_fix pairs id fix)) (sym at.entries)
           (kept-insert n p id es pairs at.session (fixes_and pairs id fix) h.each now some) in
           record { each = each; different = subst (IsDistinct nat_eq) (kept-keys n p new (with_fix pairs id fix) each) at.different };
-      handed-on = λ pairs h. handed_to n p s at.session (fixes_of pairs id) fix l items (stands-in n p id es pairs d own h) same at.fed;
+      handed_on = λ pairs h. handed_to n p s at.session (fixes_of pairs id) fix l items (stands-in n p id es pairs d own h) same at.fed;
       are = λ pairs h. handed-here n p (fixes_of pairs id) fix items (handed_to n p s at.session (fixes_of pairs id) fix l items (stands-in n p id es pairs d own h) same at.fed);
     }
 
@@ -226,7 +226,7 @@ closes n p id es new (Ok items) at =
     record {
       network = refl;
       params = refl;
-      was-open = λ pairs h. (found pairs h).0;
+      was_open = λ pairs h. (found pairs h).0;
       stands = λ pairs h.
           let each = subst (λ (xs : List (ℕ × Session)). KeepsEach n p xs (without pairs id)) (sym at.entries) (kept-remove n p id es pairs h.each) in
           record { each = each; different = subst (IsDistinct nat_eq) (kept-keys n p new (without pairs id) each) at.different };

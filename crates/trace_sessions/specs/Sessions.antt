@@ -112,7 +112,7 @@ pub record TakesFix (old : SessionsState) (id : ℕ) (fix : Fix) (new : Sessions
   pub params : new.params ≡ old.params
   pub room : (pairs : List Pair) → Keeps old pairs → length (fixes_of pairs id) < 100_000
   pub stands : (pairs : List Pair) → Keeps old pairs → Keeps new (with_fix pairs id fix)
-  pub handed-on : (pairs : List Pair) → Keeps old pairs
+  pub handed_on : (pairs : List Pair) → Keeps old pairs
       → handed_of old (fixes_and pairs id fix) ≡ handed_of old (fixes_of pairs id) ++ items
   pub are : (pairs : List Pair) → Keeps old pairs
       → items ≡ items_of_call old.network old.params pairs (feeds id fix)
@@ -121,7 +121,7 @@ pub record TakesFix (old : SessionsState) (id : ℕ) (fix : Fix) (new : Sessions
 pub record Closes (old : SessionsState) (id : ℕ) (new : SessionsState) (items : List Item) : Type 0 where
   pub network : new.network ≡ old.network
   pub params : new.params ≡ old.params
-  pub was-open : (pairs : List Pair) → Keeps old pairs → HasPair pairs id
+  pub was_open : (pairs : List Pair) → Keeps old pairs → HasPair pairs id
   pub stands : (pairs : List Pair) → Keeps old pairs → Keeps new (without pairs id)
   pub rest : (pairs : List Pair) → Keeps old pairs
       → all_of old (fixes_of pairs id) ≡ handed_of old (fixes_of pairs id) ++ items

@@ -99,7 +99,7 @@ at_cells P Q (Some y) x h e = let s : y ≡ x = cc in subst Q s h
 pub solved_further : (n : Net) (p : Params) (layers : List Layer) (old new : Solved) (at : ℕ)
     → IsMatchBefore (trellis n p) layers at new.ranks new.pieces new.tables → length old.ranks < at → IsSolvedFurther n p layers old new
 solved_further n p layers old new at h lt =
-    let count = h.ranks-count in record {
+    let count = h.ranks_count in record {
       so_far = subst (λ k. IsMatchBefore (trellis n p) layers k new.ranks new.pieces new.tables) (sym count) h;
       further = omega (arith, count, lt);
     }

@@ -17,6 +17,6 @@ loop-first-preserved c =
     record {
       within = e.within;
       follow = subst (λ bs. FollowFrom 0 bs end) (sym pushed) (follow_more 0 at.batches _ at.first end at.invariant.follow refl (part_length at.first end traces le e.within));
-      traces-are = ap (flat_map (λ (b : Batch). b.traces.now)) pushed ∙ parts_more (λ b. b.traces.now) at.batches _ at.first end traces le at.invariant.traces-are refl;
-      proofs-are = ap (flat_map (λ (b : Batch). b.proofs.now)) pushed ∙ parts_more (λ b. b.proofs.now) at.batches _ at.first end proofs le at.invariant.proofs-are refl;
+      traces_are = ap (flat_map (λ (b : Batch). b.traces.now)) pushed ∙ parts_more (λ b. b.traces.now) at.batches _ at.first end traces le at.invariant.traces_are refl;
+      proofs_are = ap (flat_map (λ (b : Batch). b.proofs.now)) pushed ∙ parts_more (λ b. b.proofs.now) at.batches _ at.first end proofs le at.invariant.proofs_are refl;
     }

@@ -7,8 +7,8 @@ abbrev pub invariant-loop-first : goal.invariant-loop-first
 invariant-loop-first l = record {
   within : l.first ≤ length l.traces;
   follow : FollowFrom 0 l.batches l.first;
-  traces-are : flat_map (λ b. b.traces.now) l.batches ≡ take l.first l.traces;
-  proofs-are : flat_map (λ b. b.proofs.now) l.batches ≡ take l.first l.proofs;
+  traces_are : flat_map (λ b. b.traces.now) l.batches ≡ take l.first l.traces;
+  proofs_are : flat_map (λ b. b.proofs.now) l.batches ≡ take l.first l.proofs;
 }
 
 abbrev pub decreases-loop-first : goal.decreases-loop-first

@@ -14,7 +14,7 @@ loop-i-init c =
     record {
       pieces = subst (λ left. AreLeft pieces left 0) (sym c.as_slice-left.ensures) (all_left pieces rise);
       points = λ i lt. absurd (omega (arith, lt));
-      pairs-are = c.new-pairs.ensures;
+      pairs_are = c.new-pairs.ensures;
       proved = refl;
     }
 
@@ -26,7 +26,7 @@ loop-i-preserved c =
     record {
       pieces = c.left_after-left.ensures k.proof.pieces c.loop-i.invariant.pieces;
       points = points_more k i c.loop-i.invariant.points (all_met k i none);
-      pairs-are = c.failing.ensures.same ∙ c.loop-i.invariant.pairs-are;
+      pairs_are = c.failing.ensures.same ∙ c.loop-i.invariant.pairs_are;
       proved = none_fails c.args.number k i c.loop-i.invariant.proved none;
     }
 

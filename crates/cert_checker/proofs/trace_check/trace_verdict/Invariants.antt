@@ -11,6 +11,6 @@ abbrev pub invariant-loop-i : goal.invariant-loop-i
 invariant-loop-i l = record {
   pieces : AreLeft l.case.proof.now.pieces l.left l.i;
   points : (k : ℕ) → k < l.i → HasCells (case_seen l.case) k;
-  pairs-are : l.pairs ≡ pairs_of l.case.net.now l.case.params.now.bound;
+  pairs_are : l.pairs ≡ pairs_of l.case.net.now l.case.params.now.bound;
   proved : verdict_before l.number (case_seen l.case) l.i ≡ Proved;
 }

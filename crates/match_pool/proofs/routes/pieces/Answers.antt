@@ -9,7 +9,7 @@ use Rattle.match_pool.proofs.routes.pieces.Goals as goal
 
 pub overflow_cast-number : goal.overflow_cast-number
 overflow_cast-number g c =
-    let few = pieces_count (trellis c.args.found.now.net.now c.args.found.now.params.now) c.args.found.now.layers.now 0 c.args.found.now.solved.now.pieces c.requires.solved.matched.pieces-are in
+    let few = pieces_count (trellis c.args.found.now.net.now c.args.found.now.params.now) c.args.found.now.layers.now 0 c.args.found.now.solved.now.pieces c.requires.solved.matched.pieces_are in
     omega (arith, few, c.requires.solved.trace.are.few)
 
 pub returns-in_err-routed_piece-clause-asks : goal.returns-in_err-routed_piece-clause-asks

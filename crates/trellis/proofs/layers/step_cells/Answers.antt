@@ -47,7 +47,7 @@ offer_from_rank-requires-clause-rows g c =
     let inv = c.loop-rank.invariant in
     record {
       rows = still_of inv.asks.only.keeps c.requires.rows;
-      pairs-are = inv.pairs ∙ c.requires.pairs-are;
+      pairs_are = inv.pairs ∙ c.requires.pairs_are;
     }
 
 pub returns-in_err-offer_from_rank-clause-asks : goal.returns-in_err-offer_from_rank-clause-asks

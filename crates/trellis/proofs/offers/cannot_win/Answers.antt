@@ -17,9 +17,9 @@ returns c = λ test.
     let length : ℕ = c.length_at_least.result in
     let move : IsMove n step.before.now step.layer.now from.rank c.args.j step.apart from.candidate c.candidate-to.result = record {
       lawful = c.invariants.ensures;
-      x-is = from.is.candidate-is;
+      x-is = from.is.candidate_is;
       y-is = c.candidate-to.ensures;
-      apart-is = step.is.apart-is;
+      apart_is = step.is.apart_is;
     } in
     let le : c.saturating_mul-more.result ≤ c.from-2.result * 1000 = leb-true c.saturating_mul-more.result (c.from-2.result * 1000) test in
     let longer : c.from-2.result ≡ length - step.apart = c.from-2.ensures ∙ c.saturating_sub-longer.ensures in

@@ -16,7 +16,7 @@ overflow_add-result c =
     let over : IsOverWalk n p.bound p.back from.candidate c.args.b.now c.in_ok-distance.distance =
     told_walk n p.bound p.back from.candidate c.args.b.now c.args.row.now c.in_ok-distance.distance c.requires.row
     (ap (distance_in c.args.row.now) (sym c.from.ensures) ∙ sym c.in_ok-distance.ensures.told) none in
-    let a : IsCandidate n p from.candidate = subst (IsCandidate n p) (sym from.is.candidate-is) (candidate_is n p step.before.now from.rank step.is.layers.before from.is.rank-in) in
+    let a : IsCandidate n p from.candidate = subst (IsCandidate n p) (sym from.is.candidate_is) (candidate_is n p step.before.now from.rank step.is.layers.before from.is.rank_in) in
     omega (arith, over.within, step.is.layers.options.bound, c.length.ensures, c.invariants.ensures.not_long from.candidate.edge.0 a.edge)
 
 pub overflow_add-result-2 : goal.overflow_add-result-2
@@ -29,7 +29,7 @@ overflow_add-result-2 c =
     let over : IsOverWalk n p.bound p.back from.candidate c.args.b.now c.in_ok-distance.distance =
     told_walk n p.bound p.back from.candidate c.args.b.now c.args.row.now c.in_ok-distance.distance c.requires.row
     (ap (distance_in c.args.row.now) (sym c.from.ensures) ∙ sym c.in_ok-distance.ensures.told) none in
-    let a : IsCandidate n p from.candidate = subst (IsCandidate n p) (sym from.is.candidate-is) (candidate_is n p step.before.now from.rank step.is.layers.before from.is.rank-in) in
+    let a : IsCandidate n p from.candidate = subst (IsCandidate n p) (sym from.is.candidate_is) (candidate_is n p step.before.now from.rank step.is.layers.before from.is.rank_in) in
     omega (arith, over.within, step.is.layers.options.bound, c.length.ensures, c.requires.b.offset, c.invariants.ensures.not_long from.candidate.edge.0 a.edge, c.invariants.ensures.not_long c.args.b.now.edge.0 c.requires.b.edge)
 
 pub returns-clause-link : goal.returns-clause-link

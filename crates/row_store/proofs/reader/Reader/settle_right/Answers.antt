@@ -8,7 +8,7 @@ offer_right-requires-clause-place c =
     let h = within _ _ _ _ c.self.view_is i.places_count c.requires.node in
     record {
       node = subst (λ (m : ℕ). c.args.n.0 < m) i.places_count h;
-      cells-count = i.cells_count;
+      cells_count = i.cells_count;
       searcher = i.searcher;
       fits = fits_at _ _ _ _ i.fit h c.index_mut-place.ensures.value;
     }

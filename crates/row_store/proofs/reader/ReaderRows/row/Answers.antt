@@ -17,7 +17,7 @@ make_own-requires c =
     let h = within _ _ _ n c.self.view_is i.places_count here in
     record {
       node = subst (λ (m : ℕ). n < m) i.places_count h;
-      cells-count = i.cells_count;
+      cells_count = i.cells_count;
       searcher = i.searcher;
       fits = fits_at _ _ _ _ i.fit h c.index_mut.ensures.value;
     }

@@ -21,7 +21,7 @@ write_point-requires g c =
     let can = c.requires.can in
     let fed = c.in_ok-items.ensures.fed in
     let lies = items-lie s.network s.params can.pairs c.args.id c.args.fix c.in_ok-items.items c.invariants.ensures.lawful c.invariants.ensures.accepted can.lawful c.requires.place
-    (fed.room can.pairs can.keeps) (fed.handed-on can.pairs can.keeps) in
+    (fed.room can.pairs can.keeps) (fed.handed_on can.pairs can.keeps) in
     subst (λ m. AreItemsOf m c.as_slice.result.now) (sym fed.network) (subst (AreItemsOf s.network) (sym c.as_slice.ensures) lies)
 
 pub returns-in_err-write_point-clause-asks : goal.returns-in_err-write_point-clause-asks
