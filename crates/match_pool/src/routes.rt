@@ -1,9 +1,8 @@
 //! The pieces of a trace with their routes. Serves `match_one`; decided by `routed_of`.
-ghost use Rattle.std.specs.Prelude.{◌≡◌, ◌<◌, IfOk, length, map};
+ghost use Rattle.std.specs.Prelude.{◌≡◌, IfOk, map};
 ghost use Rattle.bounded_search.specs.Rows.{AreRowsOf, AsksOnly};
 ghost use Rattle.matching.specs.PieceSteps.{AsksTrace};
 ghost use Rattle.route_rebuild.specs.Chosen.{IsSolved};
-ghost use Rattle.route_rebuild.specs.Routes.{piece_at};
 ghost use Rattle.trace_match.specs.Match.{routed_of};
 
 use bounded_search::Rows;
@@ -26,28 +25,6 @@ pub struct Found<'a> {
     pub solved: &'a Solved,
 }
 
-/// The piece of this number with its route.
-fn routed_piece<R: Rows>(
-    alloc: Global,
-    rows: &mut R,
-    found: &Found,
-    number: u32,
-) -> Result<Routed, AllocError>
-    requires rows { AreRowsOf (R.state rows.old) found.now.net.now found.now.params.now.bound }
-    requires solved { IsSolved found.now.net.now found.now.params.now found.now.layers.now found.now.solved.now }
-    requires number { number < length found.now.solved.now.pieces }
-    ensures routed { IfOk result (λ r. r ≡ routed_of found.now.net.now found.now.params.now
-        found.now.layers.now found.now.solved.now.ranks (piece_at found.now.solved.now.pieces number)) }
-    ensures asks { AsksOnly (R.state rows.old) (R.state rows.new) (AsksTrace found.now.net.now
-        found.now.params.now found.now.layers.now found.now.solved.now.pieces) }
-{
-    let (net, solved) = (found.net, found.solved);
-    net.invariants();
-    let edges = route(alloc, net, found.params, rows, found.layers, solved, number)?;
-    let piece = solved.pieces.as_slice()[number as usize];
-    routed(alloc, net, piece, edges.as_slice())
-}
-
 /// The pieces of a trace with their routes. Rows that the trace did not ask for stay unknown.
 pub fn pieces<R: Rows>(
     alloc: Global,
@@ -61,9 +38,14 @@ pub fn pieces<R: Rows>(
     ensures asks { AsksOnly (R.state rows.old) (R.state rows.new) (AsksTrace found.now.net.now
         found.now.params.now found.now.layers.now found.now.solved.now.pieces) }
 {
-    let mut pieces = Vec::with_capacity(alloc, found.solved.pieces.len())?;
-    for number in 0..found.solved.pieces.len() {
-        pieces.push(routed_piece(alloc, rows, found, number as u32)?)?;
+    let (net, solved) = (found.net, found.solved);
+    net.invariants();
+    let mut pieces = Vec::with_capacity(alloc, solved.pieces.len())?;
+    for number in 0..solved.pieces.len() {
+        let at = number as u32;
+        let edges = route(alloc, net, found.params, rows, found.layers, solved, at)?;
+        let piece = solved.pieces.as_slice()[number];
+        pieces.push(routed(alloc, net, piece, edges.as_slice())?)?;
     }
     Ok(List::from_vec(pieces))
 }
