@@ -1,4 +1,4 @@
-//! A memory of lookups in rows, so that a pair of nodes is not looked up again. Serves `link_by_pair`;
+//! A memory of lookups in rows, so that a pair of nodes is not looked up again. Serves `arrival_cost`;
 //! decided by `distance_in`.
 ghost use Rattle.std.specs.Prelude.{◌≡◌, IfSome};
 ghost use Rattle.bounded_search.specs.Table.{IsRow};
