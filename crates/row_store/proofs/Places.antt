@@ -1,6 +1,6 @@
 -- Places of a reader, one for each node.
-use Rattle.std.proofs.Common.{◌≡◌, ◌≢◌, ℕ, zero, suc, ◌+◌, ◌<◌, List, [], ◌∷◌, ◌++◌, map, length, get_or, set, Option, Some, None, Result, Ok, Err, IfSome, OnOk, OnErr, IsOk, IsSome, get_or-set_same, is_some, replicate, length-set, refl, sym, ap, ◌∙◌, subst, inl, inr, ⊎_elim, arith}
-use Rattle.std.specs.Prelude.{slice_get, slice_index, slice_index_or}
+use Rattle.std.proofs.Common.{◌≡◌, ◌≢◌, ℕ, zero, suc, ◌+◌, ◌<◌, ◌⊎◌, Bool, false, List, [], ◌∷◌, ◌++◌, map, length, get_or, set, Option, Some, None, Result, Ok, Err, IfSome, OnOk, OnErr, IsOk, IsSome, get_or-set_same, is_some, replicate, length-set, refl, sym, ap, ◌∙◌, subst, inl, inr, ⊎_elim, true≢false, arith}
+use Rattle.std.specs.Prelude.{IsTrue, slice_get, slice_index, slice_index_or}
 use native.Mathlib.Decide.{ℕ_discrete}
 use mathlib.Core.Logic.{dite}
 use Rattle.std.specs.declared.alloc.Global.{Global as Heap}
@@ -14,7 +14,7 @@ use Rattle.row_store.specs.declared.place.Seen.{Seen}
 use Rattle.row_store.specs.declared.place.Seen.TheVariants.{Nothing}
 use Rattle.row_store.specs.Places.{Fits, IsCheckedFor, KeepsSight, StaysBlind, row_in}
 use Rattle.row_store.specs.ReaderInside.{AllFit, reading}
-use Rattle.row_store.specs.Store.{Stored, Reading, Sees, knows, rows_state}
+use Rattle.row_store.specs.Store.{Stored, Reading, IsKnown, Sees, knows, rows_state}
 
 pub set_same : {A : Type 0} (l : List A) (i : ℕ) (a : A) → slice_get l i ≡ Some a → set l i a ≡ l
 set_same [] i a e = refl
@@ -66,6 +66,10 @@ pub on_err : {A E : Type 0} (P Q : Type 0) (r : Result A E) → (P → Q) → On
 on_err P Q (Ok a) f p = tt
 on_err P Q (Err e) f p = f p
 
+pub err_so : {A E : Type 0} (P : Type 0) (r : Result A E) → P → OnErr r P
+err_so P (Ok a) p = tt
+err_so P (Err e) p = p
+
 pub ok_or_none : {A E : Type 0} (P : Type 0) (r : Result A E) → OnErr r P → (P → ⊥) → IsOk r
 ok_or_none P (Ok a) p f = refl
 ok_or_none P (Err e) p f = absurd (f p)
@@ -111,6 +115,15 @@ within r store places n is long h = subst (λ (m : ℕ). n < m) (sym long) (subs
 -- a node that is known is not unknown
 pub known_not : (o : Option TableRow) (ps : List (Option TableRow)) (n : ℕ) → slice_get ps n ≡ Some o → (row : TableRow) × (slice_get ps n ≡ Some (Some row)) → o ≡ None → ⊥
 known_not o ps n e k none = let a : Some o ≡ Some (Some k.0) = sym e ∙ k.1 in cc
+
+-- after a look at an empty cell
+pub unseen : (r : Reading) (store : Stored) (places : List Place) (n : ℕ) (x q : Place) (looked : Bool) → reading store places ≡ r → n < length places → x ≡ get_or places n x → looked ≡ false
+    → IsTrue looked ⊎ StaysBlind x.note.known q.note.known → (reading store (set places n q) ≡ r) × (IsKnown r n → ⊥)
+unseen r store places n x q looked is h e unfound either =
+    ⊎_elim
+    (λ (found : IsTrue looked). absurd (true≢false (sym found ∙ unfound)))
+    (λ (none : StaysBlind x.note.known q.note.known). (settled_err r store places n x q is h e none, λ known. known_not x.note.known r.places n (known_there r store places n x is h e) known none.0))
+    either
 
 pub not_blind : (s : Seen) (k : Option TableRow) (ps : List (Option TableRow)) (n : ℕ) → k ≡ row_in s → slice_get ps n ≡ Some k → (row : TableRow) × (slice_get ps n ≡ Some (Some row)) → s ≡ Nothing → ⊥
 not_blind s k ps n e f t none = known_not k ps n f t (e ∙ ap row_in none)

@@ -1,5 +1,5 @@
 //! What one thread knows of a store. Serves `Reader`; decided by `Reading`.
-ghost use Rattle.std.specs.Prelude.{◌≡◌, ◌<◌, ◌↔◌, ◌⊎◌, IfOk, IsTrue, IsOk, OnOk, OnErr, length, replicate, slice_get, Some, None};
+ghost use Rattle.std.specs.Prelude.{◌≡◌, ◌<◌, ◌↔◌, IfOk, IsOk, OnOk, OnErr, length, replicate, slice_get, Some, None};
 ghost use Rattle.std.specs.Borrow.{sem};
 ghost use Rattle.std.specs.Io.BufRead.{Rests};
 ghost use Rattle.road_network.specs.Net.{HasNode};
@@ -93,17 +93,6 @@ impl<'s> Reader<'s> {
         self.places[n.0 as usize].is_known()
     }
 
-    /// Reads the cell of n, and makes its row known. False if it is empty.
-    fn glance(&mut self, n: NodeId) -> bool
-        requires { HasNode self.old.store.network n.0 }
-        ensures seen { IsTrue result → (row : TableRow) × Sees self.old n.0 row self.new }
-        ensures empty { IsTrue result ⊎ ((self.new ≡ self.old) × (IsKnown self.old n.0 → ⊥)) }
-    {
-        let store = self.store;
-        let place = &mut self.places[n.0 as usize];
-        place.look(store, &mut self.searcher, n)
-    }
-
     /// The row of n, found with the help of the accepted rows.
     fn find(&mut self, n: NodeId) -> Result<Row, AllocError>
         requires { HasNode self.old.store.network n.0 }
@@ -121,7 +110,10 @@ impl<'s> Reader<'s> {
         ensures err { OnErr result (self.new ≡ self.old) }
         ensures again { IsKnown self.old n.0 → IsOk result }
     {
-        if self.glance(n) {
+        let store = self.store;
+        let place = &mut self.places[n.0 as usize];
+        let held = place.look(store, &mut self.searcher, n);
+        if held {
             return Ok(());
         }
         let row = self.find(n)?;

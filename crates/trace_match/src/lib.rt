@@ -5,8 +5,7 @@
 //! trace asks for. All crates that match, follow or check a trace build on these.
 //!
 //! - [`layers`] gives the positions of a trace with their candidates, and [`layer`] one of them.
-//! - [`labels`] gives the labels of points by their ranks, [`label`] one of them, and [`label_on`] that of a
-//!   candidate.
+//! - [`labels`] gives the labels of points by their ranks, and [`label_on`] that of a candidate.
 //! - [`routed`] gives a piece with its route in the ids of the file.
 //! - [`Matcher`] has what traces are matched on: a network with the grid of its edges, and the options.
 //!   Contracts see it as a `Setting` (`specs/Setting.antt`). `specs/Totals.antt` has the pieces of
@@ -24,4 +23,4 @@ mod ranked;
 pub use fixes::{layer, layers};
 pub use matcher::Matcher;
 pub use names::routed;
-pub use ranked::{label, label_on, labels};
+pub use ranked::{label_on, labels};

@@ -1,8 +1,8 @@
 //! The labels of the points of a trace. Serves `labels`; decided by `labels_of`.
 ghost use Rattle.std.specs.Prelude.{◌≡◌, IfOk};
 ghost use Rattle.road_network.specs.Net.{HasEdge};
-ghost use Rattle.trace_match.specs.Match.{label_of, label_on, labels_of};
-ghost use Rattle.trace_match.specs.Ranked.{AreRanked, IsRanked};
+ghost use Rattle.trace_match.specs.Match.{label_on, labels_of};
+ghost use Rattle.trace_match.specs.Ranked.{AreRanked};
 
 use match_text::Label;
 use matching::Layer;
@@ -22,19 +22,7 @@ pub fn label_on(net: &Network, candidate: &Candidate) -> Label
     }
 }
 
-/// The label of a point: that of its chosen candidate, or none.
-pub fn label(net: &Network, layer: &Layer, rank: Option<u32>) -> Label
-    requires { IsRanked net.now layer.now rank }
-    ensures { result ≡ label_of net.now layer.now rank }
-{
-    let Some(rank) = rank else {
-        return Label::Missing;
-    };
-    let candidate = layer.candidates.as_slice()[rank as usize];
-    label_on(net, &candidate)
-}
-
-/// The labels of the points of a trace, a rank or none for each layer.
+/// The labels of the points of a trace, by a rank or none for each layer: that of the chosen candidate, or none.
 pub fn labels(
     alloc: Global,
     net: &Network,
@@ -46,7 +34,13 @@ pub fn labels(
 {
     let mut labels = Vec::with_capacity(alloc, layers.len())?;
     for (i, layer) in layers.iter().enumerate() {
-        labels.push(label(net, layer, ranks[i]))?;
+        match ranks[i] {
+            Some(rank) => {
+                let candidate = layer.candidates.as_slice()[rank as usize];
+                labels.push(label_on(net, &candidate))?;
+            }
+            None => labels.push(Label::Missing)?,
+        }
     }
     Ok(List::from_vec(labels))
 }
