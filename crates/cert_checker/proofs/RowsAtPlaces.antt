@@ -1,14 +1,14 @@
 -- Right rows rise by origin, and each is the row of its node.
-use Rattle.std.proofs.Common.{◌≡◌, ◌<◌, ◌≤◌, ℕ, zero, suc, ◌+◌, Bool, true, false, cond, List, [], ◌∷◌, length, map, get_or, Contains, ◌==◌, Option, Some, None, refl, sym, ◌∙◌, subst, arith, eq-eqb}
+use Rattle.std.proofs.Common.{◌≡◌, ◌<◌, ◌≤◌, ℕ, zero, suc, ◌+◌, Bool, true, false, cond, List, [], ◌∷◌, length, get_or, Option, Some, None, refl, sym, ap, ◌∙◌, subst, arith}
 use Rattle.std.specs.Prelude.{nat_lt}
 use Rattle.std.proofs.lemmas.Bool.{ltb-true}
-use Rattle.std.proofs.lemmas.List.{get_or-map, length-map}
-use Rattle.std.proofs.lemmas.List.Folds.{list_any_at}
 use Rattle.bounded_search.proofs.RightRows.{right_rows}
 use Rattle.bounded_search.specs.RightRow.{is_right_row}
 use Rattle.bounded_search.specs.Table.{IsRow, TableRow}
-use Rattle.road_network.specs.Net.{HasNode, IsLawful, Net}
-use Rattle.cert_checker.specs.Case.{has_row}
+use Rattle.road_network.specs.Net.{HasNode, IsLawful, Net, target}
+use Rattle.trellis.specs.declared.steps.Origin.{Origin}
+use Rattle.trellis.specs.declared.steps.Step.{Step}
+use Rattle.trellis.specs.Steps.{IsOriginAt, IsRowFor}
 use Rattle.cert_checker.specs.RowPlaces.{AreRightRows, IsRowPlace}
 use Rattle.cert_checker.specs.Rows.{bad_row_from, first_bad_row, is_next_row}
 use Rattle.cert_checker.proofs.RightRows.{both_true, next_within, no_row}
@@ -54,11 +54,13 @@ row_at_place net bound rows v place d lawful right at =
     subst (λ (s : ℕ). IsRow net bound s (get_or rows place d)) (at.origin d)
     ((right_rows net bound (get_or rows place d) lawful).0 (right_from net bound 0 0 rows place d right at.below)).own
 
--- a node among the origins has a row
-pub row_there : (rows : List TableRow) (v : ℕ) → Contains (map (λ (row : TableRow). row.origin) rows) v → has_row rows v ≡ true
-row_there rows v there =
-    let origin : TableRow → ℕ = λ (row : TableRow). row.origin in
-    let k : ℕ = there.0 in
-    let lt : k < length rows = let below = there.1 in omega (arith, below, length-map rows origin) in
-    let is : (get_or rows k no_row).origin ≡ v = sym (get_or-map origin rows k no_row v lt) ∙ there.2 in
-    list_any_at (λ row. row.origin == v) rows k no_row lt (eq-eqb (get_or rows k no_row).origin v is)
+-- the row at the place of the node of a candidate is the row that its ways want
+pub row_for : (s : Step) (rank v place : ℕ) (o : Origin) (rows : List TableRow) (row : TableRow) → IsLawful s.net.now
+    → first_bad_row s.net.now s.params.now.bound rows ≡ None → IsOriginAt s rank o → v ≡ target o.step.now.net.now o.candidate.edge.0 → IsRowPlace rows v place
+    → get_or rows place no_row ≡ row → IsRowFor o row
+row_for s rank v place o rows row lawful right at node there is =
+    let node_is : v ≡ target s.net.now o.candidate.edge.0 = node ∙ ap (λ (t : Step). target t.net.now o.candidate.edge.0) at.step_is in
+    let own = row_at_place s.net.now s.params.now.bound rows v place no_row lawful right there in
+    subst (λ (t : Step). IsRow t.net.now t.params.now.bound (target t.net.now o.candidate.edge.0) row) (sym at.step_is)
+    (subst (λ (r : TableRow). IsRow s.net.now s.params.now.bound (target s.net.now o.candidate.edge.0) r) is
+    (subst (λ (u : ℕ). IsRow s.net.now s.params.now.bound u (get_or rows place no_row)) node_is own))

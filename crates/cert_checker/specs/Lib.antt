@@ -10,8 +10,6 @@ pub mod InHand
 pub mod Legs
 pub mod RowPlaces
 pub mod Columns
-pub mod GivenInside
-pub mod Lenders
 pub mod PlacedInside
 pub mod Checked
 pub mod Laws

@@ -14,7 +14,6 @@ mod breaks;
 mod cell_tests;
 mod checked_rows;
 mod chosen;
-mod given_rows;
 mod ground;
 pub mod laws;
 mod pieces;

@@ -1,21 +1,23 @@
 //! The ways to the cells of a point, if these are the cells of a step from the previous point. Serves
 //! `point_ways`; decided by `AreWaysOf`.
-ghost use Rattle.std.specs.Prelude.{◌≡◌, ◌-◌, ◌^◌, IfSome, is_some};
+ghost use Rattle.std.specs.Prelude.{◌≡◌, ◌-◌, ◌^◌, None, IfSome, is_some};
 ghost use Rattle.std.specs.Bool.{OnTrue};
 ghost use Rattle.std.specs.List.{list_any};
 ghost use Rattle.cert_checker.specs.Case.{width};
 ghost use Rattle.cert_checker.specs.CaseSeen.{IsReady, case_seen};
 ghost use Rattle.cert_checker.specs.Columns.{AreWaysOf};
+ghost use Rattle.cert_checker.specs.Rows.{first_bad_row};
 ghost use Rattle.matching.specs.Growth.{CostAtMost};
 ghost use Rattle.trellis.specs.Pairs.{pairs_of};
+ghost use Rattle.trellis.specs.Steps.{AreFilled, pairs_for};
 
-use crate::given_rows::GivenRows;
+use crate::placed_rows::PlacedRows;
 use crate::point_ways::PointWays;
 use crate::trace_case::TraceCase;
 use matching::Cell;
 use polyline_geometry::straight;
 use std::alloc::Global;
-use trellis::{PairMemory, Step, step_cells};
+use trellis::{PairMemory, Potentials, Step, add_emissions, empty_cells, offer_by_row};
 
 /// The greatest cost to which the costs of one point are added without a test: 2^64 - 2^43.
 const SMALL: u64 = 18_446_735_277_616_529_408;
@@ -46,6 +48,33 @@ fn are_same(cells: &[Cell], others: &[Cell]) -> bool
     cells == others
 }
 
+/// The cells of a point, by a step from the previous point, with the rows of a certificate. `None` if a
+/// row is missing, or when out of memory.
+fn cells_by_rows(
+    alloc: Global,
+    rows: &PlacedRows,
+    pairs: &mut PairMemory,
+    step: &Step,
+) -> Option<Potentials>
+    requires rows { first_bad_row step.now.net.now step.now.params.now.bound rows.now ≡ None }
+    requires pairs { pairs.old ≡ pairs_for step.now }
+    ensures cells { IfSome result (AreFilled step.now) }
+    ensures same { pairs.new ≡ pairs.old }
+{
+    step.net.invariants();
+    let Ok(mut cells) = empty_cells(alloc, step) else {
+        return None;
+    };
+    for rank in 0..step.costs.len() {
+        let Some(from) = step.origin(rank) else {
+            continue;
+        };
+        let place = rows.place(from.node())?;
+        offer_by_row(&from, rows.at(place), pairs, cells.as_mut_slice());
+    }
+    Some(add_emissions(step, cells))
+}
+
 /// What the ways show, if each cell of the point has the least way, as in a lawful certificate: then a
 /// step finds the same cells. `None` if it does not, or when out of memory.
 pub fn ways_by_step(
@@ -73,10 +102,7 @@ pub fn ways_by_step(
         layer,
         apart: straight(before.point, layer.point),
     };
-    let mut rows = GivenRows::of(case.net, case.params.bound, case.rows);
-    let Ok(cells) = step_cells(alloc, &mut rows, pairs, &step) else {
-        return None;
-    };
+    let cells = cells_by_rows(alloc, case.rows, pairs, &step)?;
     let own = case.table(i);
     if !are_same(cells.as_slice(), own) {
         return None;

@@ -23,7 +23,7 @@ returns-clause-ways c =
     record { m-is = c.layer-before.ensures; before-is = c.table-costs.ensures; l-is = c.layer-layer.ensures } in
     let small = subst (λ (cells : List Cell). CostAtMost (2 ^ 64 - 2 ^ 43) cells) c.table-costs.ensures c.if-not-are_small.ensures in
     let same = sym c.as_slice.ensures ∙ c.if-not-are_same.ensures ∙ c.table-own.ensures in
-    let stepped = stepped_of s c.args.i c.layer-before.result.now c.table-costs.result.now c.layer-layer.result.now c.in-Ok.cells parts same c.in-Ok.ensures.cells in
+    let stepped = stepped_of s c.args.i c.layer-before.result.now c.table-costs.result.now c.layer-layer.result.now c.in_ok-cells.cells parts same c.in_ok-cells.ensures.cells in
     let live : c.has_live.result ≡ has_live s c.args.i = c.has_live.ensures ∙ ap (λ (cells : List Cell). list_any (λ (cell : Cell). is_some (cell.cost)) cells) c.table-own.ensures in
     subst (λ (any : Bool). AreWaysOf s c.args.i (width s c.args.i) (record { any = any; relaxed = true; tight = true; least = true })) (sym live)
     (step_ways s c.args.i c.requires.ready c.invariants.ensures small stepped)
