@@ -18,5 +18,5 @@ pub returns-in-Err : goal.returns-in-Err
 returns-in-Err g c =
     let words = map string_bytes c.args.words.now in
     let performs = words_refuse (every_work c.args.limits) words c.in-Err.fault (g.S.Shelf.state c.args.shelf.now) (g.K.Sink.state c.args.out.now) c.refuse_fault.result c.in-Err.ensures.err c.refuse_fault.ensures in
-    let said = c.report.ensures in
+    let said = c.report-in-Err.ensures in
     rw said.is (promises _ _ _ _ _ _ _ _ _ (lines_covered c.args.limits words) performs said.puts said.quiet)
