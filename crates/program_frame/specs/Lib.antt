@@ -7,6 +7,7 @@ pub mod Lines
 pub mod Loads
 pub mod NoRefusal
 pub mod Outcome
+pub mod Outside
 pub mod Performs
 pub mod Plan
 pub mod PromiseLaws
