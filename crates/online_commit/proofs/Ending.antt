@@ -12,7 +12,8 @@ use Rattle.matching.specs.CommittedValue.{closed_pieces, committed_of}
 use Rattle.matching.specs.Layers.{candidate_of_rank, trellis}
 use Rattle.matching.specs.Sequences.{Trellis}
 use Rattle.matching.specs.Value.{best_of, solution}
-use Rattle.matching.proofs.CommittedValues.{closed_split, committed_split, front, front-within}
+use Rattle.matching.proofs.ClosedPieces.{closed_split}
+use Rattle.matching.proofs.CommittedValues.{committed_split, front, front-within}
 use Rattle.matching.proofs.Lists.{all-cons, length-map_some}
 use Rattle.matching.proofs.Splits.{from_point, from_joins, from_skips, Splits}
 use Rattle.route_rebuild.specs.Routes.{chosen_at, no_layer, route_of}

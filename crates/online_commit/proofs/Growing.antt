@@ -10,7 +10,8 @@ use Rattle.matching.specs.declared.parts.Piece.{Piece}
 use Rattle.matching.specs.CommittedValue.{committed_of}
 use Rattle.matching.specs.Layers.{trellis}
 use Rattle.matching.specs.Value.{best_of, solution}
-use Rattle.matching.proofs.CommittedValues.{closed_split, committed_split, committed_stays, front, front-within, longer_piece, whole}
+use Rattle.matching.proofs.ClosedPieces.{closed_split}
+use Rattle.matching.proofs.CommittedValues.{committed_split, committed_stays, front, front-within, longer_piece, whole}
 use Rattle.matching.proofs.Lists.{all-cons}
 use Rattle.matching.proofs.Splits.{from_point, from_joins, OneOrNone, Splits, split_now, split_open, splits}
 use Rattle.online_commit.specs.declared.items.Item.{Item}

@@ -14,7 +14,8 @@ use Rattle.road_network.specs.declared.Candidate.{Candidate}
 use Rattle.matching.specs.Value.{solution}
 use Rattle.matching.specs.CommittedValue.{committed_of}
 use Rattle.matching.proofs.Splits.{from_point, before, Splits, split_now}
-use Rattle.matching.proofs.CommittedValues.{closed_split, committed_split, front, solution_from}
+use Rattle.matching.proofs.ClosedPieces.{closed_split}
+use Rattle.matching.proofs.CommittedValues.{committed_split, front, solution_from}
 use Rattle.route_rebuild.specs.Routes.{chosen_at, no_layer}
 use Rattle.online_commit.specs.declared.items.Item.{Item}
 use Rattle.online_commit.specs.declared.items.Item.TheVariants.{At, Closed}
