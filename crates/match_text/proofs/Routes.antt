@@ -1,5 +1,5 @@
 -- The edges of a route, read one after the other.
-use Rattle.std.proofs.Common.{◌≡◌, ℕ, ◌^◌, ◌<◌, ◌≤◌, List, [], ◌∷◌, ◌++◌, length, map, Option, Some, None, refl, sym, ap, subst, ◌∙◌, append_assoc, arith, length-append}
+use Rattle.std.proofs.Common.{◌≡◌, ℕ, ◌^◌, ◌<◌, ◌≤◌, get_or, List, [], ◌∷◌, ◌++◌, length, map, Option, Some, None, refl, sym, ap, subst, ◌∙◌, append_assoc, arith, length-append}
 use Rattle.std.specs.Prelude.{codes}
 use Rattle.std.specs.Option.{option_map, IfSome}
 use Rattle.std.specs.List.{AllByRecursion}
@@ -34,6 +34,9 @@ first_edge e es rest = ap (λ (t : List ℕ). 32 ∷ t) (append_assoc (decimal e
 edge_again : (e : ℕ) (es rest text : List ℕ) → e < 2 ^ 32 → text ≡ route_text (e ∷ es) ++ rest → number_after (codes " ") most32 text ≡ Some (e, route_text es ++ rest)
 edge_again e es rest text small eq = ap (number_after (codes " ") most32) (eq ∙ first_edge e es rest) ∙ number_after_again (codes " ") most32 e (route_text es ++ rest) (omega arith) (omega arith) (ends_digits es rest)
 
+same_first : (b c : ℕ) (bs cs : List ℕ) → b ∷ bs ≡ c ∷ cs → b ≡ c
+same_first b c bs cs eq = ap (λ (t : List ℕ). get_or t 0 0) eq
+
 -- neither an edge nor the end of the line comes
 pub no_route : (text : List ℕ) → number_after (codes " ") most32 text ≡ None → after_bytes lf text ≡ None → ReadsRoute text None
 no_route text no_edge no_end = record { found = tt; only = only }
@@ -48,7 +51,7 @@ route_ends text rest end = record { found = (tt, after_takes lf text rest end); 
   where
     only : (edges others : List ℕ) → EdgesFit edges → text ≡ route_text edges ++ others → ◌≡◌ {A = Option (List ℕ × List ℕ)} (Some ([], rest)) (Some (edges, others))
     only [] others fits eq = ap (λ (t : List ℕ). let read : Option (List ℕ × List ℕ) = Some ([], t) in read) (same_Some rest others (sym end ∙ ap (after_bytes lf) eq))
-    only (e ∷ es) others fits eq = absurd (cc (sym eq ∙ after_takes lf text rest end))
+    only (e ∷ es) others fits eq = absurd (omega (arith, same_first 32 10 _ _ (sym eq ∙ after_takes lf text rest end)))
 
 -- an edge comes, and then the rest of the route
 pub route_more : (text : List ℕ) (e : ℕ) (next : List ℕ) (read : Option (List ℕ × List ℕ)) → number_after (codes " ") most32 text ≡ Some (e, next) → ReadsRoute next read → ReadsRoute text (prepended (e ∷ []) read)
@@ -62,7 +65,7 @@ route_more text e next read first reads = record { found = found read reads.foun
     found (Some x) h = ((omega (arith, taken.1), h.0), taken.0 ∙ ap (λ (t : List ℕ). codes " " ++ (decimal e ++ t)) h.1 ∙ sym (first_edge e x.0 x.1))
 
     only : (edges others : List ℕ) → EdgesFit edges → text ≡ route_text edges ++ others → prepended (e ∷ []) read ≡ Some (edges, others)
-    only [] others fits eq = absurd (cc (sym eq ∙ taken.0))
+    only [] others fits eq = absurd (omega (arith, same_first 10 32 _ _ (sym eq ∙ taken.0)))
     only (d ∷ ds) others fits eq =
         let same = some_pair_parts e d next (route_text ds ++ others) (sym first ∙ edge_again d ds others text fits.0 eq) in
         ap (prepended (e ∷ [])) (reads.only ds others fits.1 same.1) ∙ ap (λ (n : ℕ). Some (n ∷ ds, others)) same.0

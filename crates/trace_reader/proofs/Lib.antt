@@ -1,3 +1,4 @@
+mod Blank
 mod Ending
 mod Feeding
 mod Fields

@@ -1,10 +1,10 @@
 //! Why a trace file is refused, and the error line of each fault.
-ghost use Rattle.std.specs.Prelude.{◌≡◌, ◌≢◌, ◌++◌, IfOk, OnOk, OnErr};
-ghost use Rattle.std.specs.String.{string_bytes};
+ghost use Rattle.std.specs.Prelude.{◌≡◌, ◌≢◌, ◌++◌, OnOk, OnErr, codes};
 
+use decimal_text::write_worded;
 use polyline_geometry::List;
 use std::alloc::{AllocError, Global};
-use std::fmt::{self, Display, Formatter, Write};
+use std::fmt::{self, Debug, Display, Formatter, Write};
 use thiserror::Error;
 
 /// The first fault of a trace file. The first number is the line and the second the field, both
@@ -29,14 +29,10 @@ pub enum TraceFault {
     Memory,
 }
 
+// The program prints the line of `write_line`; the error trait shows the `Debug` text.
 impl Display for TraceFault {
     fn fmt<W: Write>(&self, f: &mut Formatter<W>) -> fmt::Result {
-        let what = self.what();
-        match self.place() {
-            Place::File => f.write_str(what),
-            Place::Line(line) => write!(f, "line {line}: {what}"),
-            Place::Field(line, field) => write!(f, "line {line} field {field}: {what}"),
-        }
+        Debug::fmt(self, f)
     }
 }
 
@@ -59,38 +55,25 @@ impl TraceFault {
         ensures ok { OnOk result (into.new ≡ into.old ++ fault_line self.now) }
         ensures err { OnErr result (into.new ≡ into.old) }
     {
-        let line = self.line(alloc)?;
-        into.extend_from_slice(line.as_bytes())
+        let mut line = List::new(alloc);
+        self.place().append_to(&mut line)?;
+        line.extend_from_slice(self.what().as_bytes())?;
+        into.extend_from_slice(line.as_slice())
     }
 
-    // The error line of the fault, with its LF.
-    fn line(&self, alloc: Global) -> Result<String, AllocError>
-        requires { self.now ≢ TraceFault.Memory }
-        ensures { IfOk result (λ line. string_bytes line ≡ fault_line self.now) }
-    {
-        let what = self.what();
-        match self.place() {
-            Place::File => format!(in alloc; "traces: {what}\n"),
-            Place::Line(line) => format!(in alloc; "traces line {line}: {what}\n"),
-            Place::Field(line, field) => {
-                format!(in alloc; "traces line {line} field {field}: {what}\n")
-            }
-        }
-    }
-
-    // What is wrong.
+    // What is wrong, after a colon, and LF.
     fn what(&self) -> &'static str
-        ensures { result.now ≡ what_of self.now }
+        ensures { result.now ≡ codes ": " ++ what_of self.now ++ codes "\n" }
     {
         match self {
-            TraceFault::BadHeader => "bad header",
-            TraceFault::FieldCount(_) => "wrong number of fields",
-            TraceFault::BadNumber(_, _) => "bad number",
-            TraceFault::OutOfRange(_, _) => "out of range",
-            TraceFault::TraceTooLong(_) => "trace too long",
-            TraceFault::LineTooLong(_) => "line too long",
-            TraceFault::FileTooLong => "file too long",
-            TraceFault::Memory => "out of memory",
+            TraceFault::BadHeader => ": bad header\n",
+            TraceFault::FieldCount(_) => ": wrong number of fields\n",
+            TraceFault::BadNumber(_, _) => ": bad number\n",
+            TraceFault::OutOfRange(_, _) => ": out of range\n",
+            TraceFault::TraceTooLong(_) => ": trace too long\n",
+            TraceFault::LineTooLong(_) => ": line too long\n",
+            TraceFault::FileTooLong => ": file too long\n",
+            TraceFault::Memory => ": out of memory\n",
         }
     }
 
@@ -116,4 +99,22 @@ enum Place {
     File,
     Line(u64),
     Field(u64, u32),
+}
+
+impl Place {
+    ghost use Rattle.trace_reader.specs.Fault.{place_text};
+
+    // Appends the front of an error line, up to the place.
+    fn append_to(self, into: &mut List<u8>) -> Result<(), AllocError>
+        ensures { OnOk result (into.new ≡ into.old ++ place_text self) }
+    {
+        match self {
+            Place::File => into.extend_from_slice(b"traces"),
+            Place::Line(line) => write_worded(b"traces line ", line, into),
+            Place::Field(line, field) => {
+                write_worded(b"traces line ", line, into)?;
+                write_worded(b" field ", u64::from(field), into)
+            }
+        }
+    }
 }

@@ -1,5 +1,5 @@
-use Rattle.std.proofs.Common.{◌≡◌, [], length, sym, eq-eqb}
-use Rattle.std.proofs.lemmas.Bool.{eqb-true}
+use Rattle.std.proofs.Common.{◌≡◌, [], length, sym, ◌∙◌, eq-eqb}
+use Rattle.std.proofs.lemmas.Bool.{eqb-true, false≢true}
 use Rattle.std.proofs.lemmas.List.{nil_from_length}
 use Rattle.match_text.proofs.Steps.{begins, point_goes_on, piece_goes_on, fails, is_whole, fails_past_end}
 use Rattle.match_text.proofs.reading.read_lines.Goals as goal
@@ -27,4 +27,4 @@ returns-then-is_empty c =
 
 pub returns-else-is_empty : goal.returns-else-is_empty
 returns-else-is_empty c =
-    fails_past_end c.args.id c.args.text.now c.loop-pieces.place c.loop-pieces.rest.now c.loop-pieces.number c.loop-pieces.labels c.loop-pieces.pieces c.in-Some.line c.in-Some.after.now (rw c.in-Some.is at c.in_ok-line.ensures) c.in-End.is (λ none. absurd (cc (eq-eqb (length c.in-Some.after.now) 0 none))) c.loop-pieces.invariant
+    fails_past_end c.args.id c.args.text.now c.loop-pieces.place c.loop-pieces.rest.now c.loop-pieces.number c.loop-pieces.labels c.loop-pieces.pieces c.in-Some.line c.in-Some.after.now (rw c.in-Some.is at c.in_ok-line.ensures) c.in-End.is (λ none. false≢true (c.if-is_empty.ensures ∙ eq-eqb (length c.in-Some.after.now) 0 none)) c.loop-pieces.invariant
