@@ -1,4 +1,3 @@
-mod Blank
 mod Ending
 mod Feeding
 mod Fields

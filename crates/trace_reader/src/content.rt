@@ -7,7 +7,7 @@ ghost use Rattle.trace_reader.specs.Content.{without_return, point_limit, begin_
 use crate::fault::TraceFault;
 use crate::row::{Header, Row, read_header, read_row};
 use crate::trace::{Fix, Trace};
-use decimal_text::trim;
+use decimal_text::is_blank;
 use polyline_geometry::List;
 use std::alloc::Global;
 
@@ -141,7 +141,7 @@ fn begin_trace(alloc: Global, row: Row) -> Result<Trace, TraceFault>
 fn is_skipped(text: &[u8]) -> bool
     ensures { result ≡ list_all is_blank text.now }
 {
-    trim(text).is_empty()
+    text.iter().all(|byte| is_blank(*byte))
 }
 
 // The line without a CR at its end.

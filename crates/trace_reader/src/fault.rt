@@ -1,10 +1,10 @@
 //! Why a trace file is refused, and the error line of each fault.
-ghost use Rattle.std.specs.Prelude.{◌≡◌, ◌≢◌, ◌++◌, OnOk, OnErr, codes};
+ghost use Rattle.std.specs.Prelude.{◌≡◌, ◌≢◌, ◌++◌, OnOk, OnErr};
 
 use decimal_text::write_worded;
 use polyline_geometry::List;
 use std::alloc::{AllocError, Global};
-use std::fmt::{self, Debug, Display, Formatter, Write};
+use std::fmt::{self, Display, Formatter, Write};
 use thiserror::Error;
 
 /// The first fault of a trace file. The first number is the line and the second the field, both
@@ -29,10 +29,14 @@ pub enum TraceFault {
     Memory,
 }
 
-// The program prints the line of `write_line`; the error trait shows the `Debug` text.
 impl Display for TraceFault {
     fn fmt<W: Write>(&self, f: &mut Formatter<W>) -> fmt::Result {
-        Debug::fmt(self, f)
+        let what = self.what();
+        match self.place() {
+            Place::File => f.write_str(what),
+            Place::Line(line) => write!(f, "line {line}: {what}"),
+            Place::Field(line, field) => write!(f, "line {line} field {field}: {what}"),
+        }
     }
 }
 
@@ -56,24 +60,33 @@ impl TraceFault {
         ensures err { OnErr result (into.new ≡ into.old) }
     {
         let mut line = List::new(alloc);
-        self.place().append_to(&mut line)?;
-        line.extend_from_slice(self.what().as_bytes())?;
+        self.append_to(&mut line)?;
         into.extend_from_slice(line.as_slice())
     }
 
-    // What is wrong, after a colon, and LF.
+    // Appends the error line, and after an error a part of it.
+    fn append_to(&self, line: &mut List<u8>) -> Result<(), AllocError>
+        ensures { OnOk result (line.new ≡ line.old ++ fault_line self.now) }
+    {
+        self.place().append_to(line)?;
+        line.extend_from_slice(b": ")?;
+        line.extend_from_slice(self.what().as_bytes())?;
+        line.push(b'\n')
+    }
+
+    // What is wrong.
     fn what(&self) -> &'static str
-        ensures { result.now ≡ codes ": " ++ what_of self.now ++ codes "\n" }
+        ensures { result.now ≡ what_of self.now }
     {
         match self {
-            TraceFault::BadHeader => ": bad header\n",
-            TraceFault::FieldCount(_) => ": wrong number of fields\n",
-            TraceFault::BadNumber(_, _) => ": bad number\n",
-            TraceFault::OutOfRange(_, _) => ": out of range\n",
-            TraceFault::TraceTooLong(_) => ": trace too long\n",
-            TraceFault::LineTooLong(_) => ": line too long\n",
-            TraceFault::FileTooLong => ": file too long\n",
-            TraceFault::Memory => ": out of memory\n",
+            TraceFault::BadHeader => "bad header",
+            TraceFault::FieldCount(_) => "wrong number of fields",
+            TraceFault::BadNumber(_, _) => "bad number",
+            TraceFault::OutOfRange(_, _) => "out of range",
+            TraceFault::TraceTooLong(_) => "trace too long",
+            TraceFault::LineTooLong(_) => "line too long",
+            TraceFault::FileTooLong => "file too long",
+            TraceFault::Memory => "out of memory",
         }
     }
 
@@ -104,7 +117,7 @@ enum Place {
 impl Place {
     ghost use Rattle.trace_reader.specs.Fault.{place_text};
 
-    // Appends the front of an error line, up to the place.
+    // Appends the error line up to the colon.
     fn append_to(self, into: &mut List<u8>) -> Result<(), AllocError>
         ensures { OnOk result (into.new ≡ into.old ++ place_text self) }
     {

@@ -2,7 +2,7 @@
 use polyline_geometry::List;
 
 /// A measured position in centimetres, and its time in seconds (0 under a header without times).
-#[derive(Clone, Copy, PartialEq, Eq)]
+#[derive(Clone, Copy, Debug, PartialEq, Eq)]
 pub struct Fix {
     pub x: i32,
     pub y: i32,
