@@ -1,71 +1,80 @@
 //! Rows that are right, and rows that are not.
-use crate::certificates::{Change, NO_CHANGE, certificate};
-use crate::forged::LONG_ROW;
-use bounded_search::{Entry, Row};
+use bounded_search::Row;
 use cert_checker::check_rows;
-use cost_model::Params;
 use polyline_geometry::List;
-use road_network::{EdgeId, Network, NodeId, read_network};
+use road_network::read_network;
 use row_tests::small::TWO_EDGES;
+use row_text::read_row;
 use std::alloc::{AllocError, Global};
-use std::test::Fail;
 
-/// The row of a node from which the edge of the same number leads this far to the next node.
-fn row(alloc: Global, origin: u32, length: u32) -> Result<Option<Row>, AllocError> {
-    let mut entries = List::new(alloc);
-    entries.push(Entry {
-        node: NodeId(origin),
-        distance: 0,
-        last: None,
-    })?;
-    entries.push(Entry {
-        node: NodeId(origin.saturating_add(1)),
-        distance: length,
-        last: Some(EdgeId(origin)),
-    })?;
-    Ok(Row::of(NodeId(origin), entries))
+const FIRST: &[u8] = b"row 0 0:0:- 1:10000:0\n";
+
+const SECOND: &[u8] = b"row 1 1:0:- 2:10000:1\n";
+
+/// Rows within a bound, and the place of the first bad one.
+#[derive(Clone, Copy)]
+struct Case {
+    shows: &'static str,
+    bound: u32,
+    rows: &'static [&'static [u8]],
+    bad: Option<u32>,
 }
 
-/// What is said of such rows within a bound.
-fn checked(
-    alloc: Global,
-    net: &Network,
-    bound: u32,
-    rows: &[(u32, u32)],
-) -> Result<Option<u32>, AllocError> {
-    let mut list = List::new(alloc);
-    for (origin, length) in rows {
-        if let Some(row) = row(alloc, *origin, *length)? {
-            list.push(row)?;
+const CASES: [Case; 5] = [
+    Case {
+        shows: "right rows",
+        bound: 10_000,
+        rows: &[FIRST, SECOND],
+        bad: None,
+    },
+    Case {
+        shows: "a row twice",
+        bound: 10_000,
+        rows: &[FIRST, SECOND, SECOND],
+        bad: Some(2),
+    },
+    Case {
+        shows: "an entry is missing",
+        bound: 20_000,
+        rows: &[FIRST, SECOND],
+        bad: Some(0),
+    },
+    Case {
+        shows: "a distance too great",
+        bound: 10_001,
+        rows: &[b"row 0 0:0:- 1:10001:0\n"],
+        bad: Some(0),
+    },
+    Case {
+        shows: "no such node",
+        bound: 10_000,
+        rows: &[b"row 7 7:0:- 8:10000:7\n"],
+        bad: Some(0),
+    },
+];
+
+/// The rows of these lines.
+fn rows_of(alloc: Global, lines: &[&[u8]]) -> Result<List<Row>, AllocError> {
+    let mut rows = List::new(alloc);
+    for line in lines {
+        if let Some((row, _)) = read_row(alloc, line)? {
+            rows.push(row)?;
         }
     }
-    Ok(check_rows(net, bound, list.as_slice()))
+    Ok(rows)
+}
+
+/// Whether the first bad row is found.
+fn is_found(alloc: Global, case: Case) -> Option<bool> {
+    let net = read_network(alloc, TWO_EDGES).ok()?;
+    let rows = rows_of(alloc, case.rows).ok()?;
+    let bad = check_rows(&net, case.bound, rows.as_slice());
+    Some(rows.len() == case.rows.len() && bad == case.bad)
 }
 
 #[test]
-fn the_first_bad_row(rt: HostRuntime) -> Result<(), Fail> {
-    let alloc = rt.alloc();
-    let net = read_network(alloc, TWO_EDGES)?;
-    let right = [(0, 10_000), (1, 10_000)];
-    let twice = [(0, 10_000), (1, 10_000), (1, 10_000)];
-    assert_eq!(rt; checked(alloc, &net, 10_000, &right)?, None);
-    assert_eq!(rt; checked(alloc, &net, 10_000, &twice)?, Some(2));
-    assert_eq!(rt; checked(alloc, &net, 20_000, &right)?, Some(0));
-    assert_eq!(rt; checked(alloc, &net, 10_001, &[(0, 10_001)])?, Some(0));
-    assert_eq!(rt; checked(alloc, &net, 10_000, &[(7, 10_000)])?, Some(0));
-    Ok(())
-}
-
-/// What is said of the rows of a changed certificate.
-fn checked_of(alloc: Global, net: &Network, change: Change) -> Result<Option<u32>, Fail> {
-    let read = certificate(alloc, change)?;
-    Ok(check_rows(net, Params::DEFAULT.bound, read.rows.as_slice()))
-}
-
-#[test]
-fn the_rows_of_a_certificate(rt: HostRuntime) -> Result<(), Fail> {
-    let net = read_network(rt.alloc(), TWO_EDGES)?;
-    assert_eq!(rt; checked_of(rt.alloc(), &net, NO_CHANGE)?, None);
-    assert_eq!(rt; checked_of(rt.alloc(), &net, LONG_ROW)?, Some(0));
-    Ok(())
+fn the_first_bad_row(rt: HostRuntime) {
+    for case in CASES {
+        assert!(rt; is_found(rt.alloc(), case) == Some(true), "{}", case.shows);
+    }
 }

@@ -8,7 +8,6 @@ use polyline_geometry::List;
 use road_network::read_network;
 use row_tests::small::TWO_EDGES;
 use std::alloc::{AllocError, Global};
-use std::test::Fail;
 use trace_reader::Fix;
 use trace_sessions::{SessionFault, Sessions};
 
@@ -45,31 +44,19 @@ fn call(
     }
 }
 
-/// What these calls hand out, in numbers.
-fn told_by(
-    alloc: Global,
-    sessions: &mut Sessions,
-    calls: &[(u32, Option<u16>)],
-) -> Result<Vec<Told>, Fail> {
-    let mut told = Vec::new(alloc);
-    for (id, x) in calls {
-        match call(alloc, sessions, *id, *x, 0) {
-            Ok(items) => append_told(&items, &mut told)?,
-            Err(_) => return Err("a call was refused".into()),
-        }
-    }
-    Ok(told)
-}
-
 /// Whether these calls hand out these items, in numbers.
 fn hands_out(
     alloc: Global,
     sessions: &mut Sessions,
     calls: &[(u32, Option<u16>)],
     items: &[Told],
-) -> Result<bool, Fail> {
-    let told = told_by(alloc, sessions, calls)?;
-    Ok(told.as_slice() == items)
+) -> Option<bool> {
+    let mut told = Vec::new(alloc);
+    for (id, x) in calls {
+        let items = call(alloc, sessions, *id, *x, 0).ok()?;
+        append_told(&items, &mut told).ok()?;
+    }
+    Some(told.as_slice() == items)
 }
 
 /// Whether this call is refused for this reason where its rows refuse this call.
@@ -92,37 +79,40 @@ fn has_both(sessions: &Sessions) -> bool {
 }
 
 /// Whether both ids get their labels, and the first its second point again after it was refused.
-fn are_fed(alloc: Global, sessions: &mut Sessions) -> Result<bool, Fail> {
-    let both = [(0, 0, 0, 1_000), (0, 0, 0, 9_000)];
-    Ok(
-        hands_out(
-            alloc,
-            sessions,
-            &[(1, Some(1_000)), (2, Some(9_000))],
-            &both,
-        )? && is_refused(alloc, sessions, 1, Some(2_000), 1, SessionFault::Memory)
-            && hands_out(alloc, sessions, &[(1, Some(2_000))], &[(0, 1, 0, 2_000)])?,
-    )
+fn are_fed(alloc: Global, sessions: &mut Sessions) -> Option<bool> {
+    let calls = [(1, Some(1_000)), (2, Some(9_000))];
+    let first = hands_out(
+        alloc,
+        sessions,
+        &calls,
+        &[(0, 0, 0, 1_000), (0, 0, 0, 9_000)],
+    )?;
+    let refused = is_refused(alloc, sessions, 1, Some(2_000), 1, SessionFault::Memory);
+    let again = hands_out(alloc, sessions, &[(1, Some(2_000))], &[(0, 1, 0, 2_000)])?;
+    Some(first && refused && again)
 }
 
 /// Whether each id gets its own piece, and the second is left when the first is closed.
-fn are_closed(alloc: Global, sessions: &mut Sessions) -> Result<bool, Fail> {
-    Ok(
-        hands_out(alloc, sessions, &[(1, None)], &[(2, 0, 1, 0), (3, 0, 0, 0)])?
-            && (sessions.count(), sessions.id_at(0)) == (1, Some(2))
-            && hands_out(alloc, sessions, &[(2, None)], &[(2, 0, 0, 0), (3, 0, 0, 0)])?,
-    )
+fn are_closed(alloc: Global, sessions: &mut Sessions) -> Option<bool> {
+    let first = hands_out(alloc, sessions, &[(1, None)], &[(2, 0, 1, 0), (3, 0, 0, 0)])?;
+    let left = (sessions.count(), sessions.id_at(0)) == (1, Some(2));
+    let second = hands_out(alloc, sessions, &[(2, None)], &[(2, 0, 0, 0), (3, 0, 0, 0)])?;
+    Some(first && left && second)
+}
+
+/// Whether ids have sessions of their own.
+fn are_apart(alloc: Global) -> Option<bool> {
+    let net = read_network(alloc, TWO_EDGES).ok()?;
+    let grid = Grid::build(alloc, &net, 10_000).ok()?;
+    let mut sessions = Sessions::open(alloc, &net, &grid, &NEAR);
+    let fault = SessionFault::NotOpen(5);
+    let refused = is_refused(alloc, &mut sessions, 5, None, 0, fault);
+    let fed = are_fed(alloc, &mut sessions)?;
+    let both = has_both(&sessions);
+    Some(refused && fed && both && are_closed(alloc, &mut sessions)?)
 }
 
 #[test]
-fn ids_have_sessions_of_their_own(rt: HostRuntime) -> Result<(), Fail> {
-    let alloc = rt.alloc();
-    let net = read_network(alloc, TWO_EDGES)?;
-    let grid = Grid::build(alloc, &net, 10_000)?;
-    let mut sessions = Sessions::open(alloc, &net, &grid, &NEAR);
-    assert!(rt; is_refused(alloc, &mut sessions, 5, None, 0, SessionFault::NotOpen(5)));
-    assert!(rt; are_fed(alloc, &mut sessions)?);
-    assert!(rt; has_both(&sessions));
-    assert!(rt; are_closed(alloc, &mut sessions)?);
-    Ok(())
+fn ids_have_sessions_of_their_own(rt: HostRuntime) {
+    assert!(rt; are_apart(rt.alloc()) == Some(true));
 }

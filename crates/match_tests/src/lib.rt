@@ -1,24 +1,19 @@
-//! Tests of traces that are matched and followed: small ones over own rows and over rows that refuse a call,
-//! those of a town by workers over one store, sessions and what they hand out, and the relay between two
-//! threads. They stand in a crate of their own, so that no other crate is proved a second time for them.
-//! What the program alone can show, `tests/cases` has.
+//! Tests of what the program does not show of matches: rows that refuse a call, foreign rows in the store that
+//! workers share, sessions and what they hand out, and the relay between two threads. They have a crate of their
+//! own, so that no other crate is proved a second time for them. What the program shows, `tests/cases` covers.
 #![tactic(auto)]
 
-#[cfg(test)]
-mod following;
 #[cfg(test)]
 mod foreign_rows;
 #[cfg(test)]
 mod interleaved;
 #[cfg(test)]
-mod item_lines;
-#[cfg(test)]
 mod one_worker;
+#[cfg(test)]
+mod refused_rows;
 #[cfg(test)]
 mod relay;
 #[cfg(test)]
 mod sessions;
-#[cfg(test)]
-mod traces;
 #[cfg(test)]
 mod workers;

@@ -1,4 +1,4 @@
-//! Whether traces are ones that a file can have. Other crates of tests use it too.
+//! Whether positions and traces are ones that a file can have. Other crates of tests use it too.
 ghost use Rattle.std.specs.Prelude.{◌↔◌, IsTrue};
 ghost use Rattle.std.specs.List.{All};
 ghost use Rattle.polyline_geometry.specs.Plane.{InRange};
@@ -6,19 +6,20 @@ ghost use Rattle.trace_reader.specs.Trace.{IsLawfulTrace};
 
 use trace_reader::{Fix, Trace};
 
-/// The greatest coordinate of a fix, in cm.
+/// The greatest coordinate of a position, in cm.
 const GREATEST: u32 = 1_000_000_000;
 
-fn is_in_range(fix: &Fix) -> bool
-    ensures { IsTrue result ↔ InRange (record { x = fix.now.x; y = fix.now.y }) }
+/// Whether a file can have a position with these coordinates.
+pub fn is_in_range(x: i32, y: i32) -> bool
+    ensures { IsTrue result ↔ InRange (record { x = x; y = y }) }
 {
-    fix.x.unsigned_abs() <= GREATEST && fix.y.unsigned_abs() <= GREATEST
+    x.unsigned_abs() <= GREATEST && y.unsigned_abs() <= GREATEST
 }
 
 fn are_in_range(fixes: &[Fix]) -> bool
     ensures { IsTrue result ↔ All (λ fix. InRange (record { x = fix.x; y = fix.y })) fixes.now }
 {
-    fixes.iter().all(|fix| is_in_range(fix))
+    fixes.iter().all(|fix| is_in_range(fix.x, fix.y))
 }
 
 /// Whether a trace has 1 to 100,000 fixes, all in range.

@@ -1,9 +1,9 @@
-//! Small networks, with candidates and rows of them. Other crates of tests use them too.
+//! Small networks, and rows of them. Other crates of tests use them too.
 ghost use Rattle.std.specs.Prelude.{◌≡◌, IfOk, IfSome};
 
 use bounded_search::{Entry, Row};
 use polyline_geometry::List;
-use road_network::{Candidate, EdgeId, NodeId};
+use road_network::{EdgeId, NodeId};
 use std::alloc::{AllocError, Global};
 
 /// Two edges of 10,000 cm, one after the other: 0 to 1, and 1 to 2.
@@ -15,15 +15,6 @@ pub const TWO_ROADS: &[u8] = b"edge,from,to,line\n1,1,2,0 0;10000 0\n2,3,4,0 400
 /// Two ways from 1 to 4 of 2,828 cm each: over 2 by edges 1 and 4, and over 3 by edges 2 and 3.
 pub const TWO_WAYS: &[u8] =
     b"edge,from,to,line\n1,1,2,0 0;1000 0\n2,2,3,1000 0;2000 1000\n3,2,4,1000 0;2000 -1000\n4,4,5,2000 -1000;3000 0\n5,3,5,2000 1000;3000 0\n6,5,6,3000 0;4000 0\n";
-
-/// The edge of this number as a candidate.
-pub fn on_edge(edge: u32, d2: u64, offset: u32) -> Candidate {
-    Candidate {
-        edge: EdgeId(edge),
-        d2,
-        offset,
-    }
-}
 
 /// An entry of a row.
 pub fn entry(node: u32, distance: u32, last: Option<u32>) -> Entry {
