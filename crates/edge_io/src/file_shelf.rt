@@ -30,11 +30,28 @@ pub struct FileShelf<R: Files + Drop> {
 const BUFFER: usize = 65_536;
 
 // An open file and its position.
-#[derive(Drop)]
 struct OpenFile<F: Drop> {
     name: List<u8>,
     at: u64,
     file: F,
+}
+
+// By hand, so that the functions that drop one call this.
+impl<F: Drop> Drop for OpenFile<F> {
+    fn drop(self) {
+        let OpenFile {
+            name: _,
+            at: _,
+            file: _,
+        } = self;
+    }
+}
+
+impl<F: Drop> OpenFile<F> {
+    // Whether a read of this name from this place on continues here.
+    fn is_at(&self, name: &str, at: u64) -> bool {
+        self.at == at && self.name.as_slice() == name.as_bytes()
+    }
 }
 
 impl<R: Files + Drop> FileShelf<R> {
@@ -60,26 +77,29 @@ impl<R: Files + Drop> FileShelf<R> {
         ensures err { IfErr result (λ _. into.new.items ≡ into.old.items) }
         ensures failed { self.new.failed ≡ self.old.failed }
     {
-        let mut found = match self.current.take() {
-            Some(left) if left.at == at && left.name.as_slice() == name.as_bytes() => left,
-            _ => open_at(self.alloc, &self.rt, name, at)?,
-        };
-        if self.buffer.is_empty() {
-            self.buffer.resize(BUFFER, 0)?;
-        }
-        let wanted = self.buffer.len().min(most as usize);
-        let count = read_again(&mut found.file, &mut self.buffer[..wanted])?;
+        let mut found = self.take_open(name, at)?;
+        let count = fill(&mut self.buffer, &mut found.file, most)?;
         found.at = at + count as u64;
         self.current = Some(found);
         into.extend_from_slice(&self.buffer[..count])?;
         Ok(count)
     }
+
+    // Takes the open file if a read continues in it, and opens the file of the name otherwise.
+    fn take_open(&mut self, name: &str, at: u64) -> io::Result<OpenFile<R::File>>
+        ensures { self.new.failed ≡ self.old.failed }
+    {
+        if let Some(left) = self.current.take() {
+            if left.is_at(name, at) {
+                return Ok(left);
+            }
+        }
+        open_at(self.alloc, &self.rt, name, at)
+    }
 }
 
 // Opens a file at the place where a read begins.
-fn open_at<R: Files>(alloc: Global, rt: &R, name: &str, at: u64) -> io::Result<OpenFile<R::File>>
-    ensures { IfOk result (λ file. file.at ≡ at) }
-{
+fn open_at<R: Files>(alloc: Global, rt: &R, name: &str, at: u64) -> io::Result<OpenFile<R::File>> {
     let mut copy = List::new(alloc);
     copy.extend_from_slice(name.as_bytes())?;
     let mut file = fs::open(rt, name)?;
@@ -91,6 +111,23 @@ fn open_at<R: Files>(alloc: Global, rt: &R, name: &str, at: u64) -> io::Result<O
         at,
         file,
     })
+}
+
+// Gives the buffer its bytes before the first read.
+fn make_room(buffer: &mut Vec<u8>) -> Result<(), AllocError> {
+    if buffer.is_empty() {
+        buffer.resize(BUFFER, 0)?;
+    }
+    Ok(())
+}
+
+// Reads once into the buffer, and returns how many bytes came, at most `most`.
+fn fill<F: Read>(buffer: &mut Vec<u8>, file: &mut F, most: u32) -> io::Result<usize>
+    ensures { IfOk result (λ count. (count ≤ most) × (count ≤ length buffer.new.items)) }
+{
+    make_room(buffer)?;
+    let wanted = buffer.len().min(most as usize);
+    read_again(file, &mut buffer[..wanted])
 }
 
 /// Reads once, and again if a signal interrupted the read. Returns how many bytes came.
