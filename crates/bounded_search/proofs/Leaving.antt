@@ -18,7 +18,9 @@ use Rattle.bounded_search.proofs.AfterArcs.{beside, tries_arc}
 use Rattle.bounded_search.proofs.Arcs.{IsLeaving, known_arcs}
 use Rattle.bounded_search.proofs.Gaining.{Tries, front_or_rest, gains_beside, gains_keeps, gains_there}
 use Rattle.bounded_search.proofs.LabelWords.{distance_by, not_farther, word_elsewhere, word_here}
-use Rattle.bounded_search.proofs.Underway.{IsPending, edge_small, no_more_effort, reordered, starts_still, step_keeps, taken}
+use Rattle.bounded_search.proofs.TriedArcs.{IsPending, no_more_effort, starts_still, step_keeps}
+use Rattle.bounded_search.proofs.Underway.{reordered, taken}
+use Rattle.bounded_search.proofs.WrittenWords.{edge_small}
 
 -- a search from s with others taken, while the arcs of a node are tried
 pub record IsTrying (n : Net) (bound s : ℕ) (state : SearchState) (marks : Marks) (taken : List Waiting) (pending : ℕ → Type 0) : Type 0 where

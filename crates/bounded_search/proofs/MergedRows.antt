@@ -20,7 +20,7 @@ use Rattle.bounded_search.specs.Underway.{IsHeld, IsTried, IsUnderway, NonePendi
 use Rattle.bounded_search.proofs.ClosedTables.{none_some}
 use Rattle.bounded_search.proofs.Gaining.{front_or_rest}
 use Rattle.bounded_search.proofs.LabelWords.{distance_by, last_by, word_elsewhere, word_here}
-use Rattle.bounded_search.proofs.Underway.{edge_small}
+use Rattle.bounded_search.proofs.WrittenWords.{edge_small}
 
 -- the lesser of two words
 pub record IsLesser (new old word : ℕ) : Type 0 where

@@ -1,5 +1,5 @@
 -- What the parts of a search leave.
-use Rattle.std.specs.Prelude.{ℕ, ◌≡◌, ◌≢◌, ◌⊎◌, ◌≤◌, Bool, true, false, List, [], ◌++◌, length, Option, Result, OnOk}
+use Rattle.std.specs.Prelude.{ℕ, ◌≡◌, ◌≢◌, ◌⊎◌, ◌≤◌, List, ◌++◌, length, Option, Result, OnOk}
 use Rattle.road_network.specs.Net.{Net}
 use Rattle.bounded_search.specs.declared.dijkstra.Workspace.{Workspace}
 use Rattle.bounded_search.specs.declared.marks.Marks.{Marks}
@@ -7,7 +7,7 @@ use Rattle.bounded_search.specs.declared.queue.Waiting.{Waiting}
 use Rattle.bounded_search.specs.declared.table_row.Entry.{Entry}
 use Rattle.bounded_search.specs.declared.table_row.Label.{Label}
 use Rattle.bounded_search.specs.LabelWords.{distance_at, no_label, word_at}
-use Rattle.bounded_search.specs.Marked.{AllMarked, IsClean, IsMarked, IsSized, KeepsSizes, labels_of}
+use Rattle.bounded_search.specs.Marked.{IsClean, IsMarked, IsSized, KeepsSizes}
 use Rattle.bounded_search.specs.Table.{RisesFrom, label_in}
 use Rattle.bounded_search.specs.Underway.{IsUnderway, NonePending, Waits, effort, state_of}
 

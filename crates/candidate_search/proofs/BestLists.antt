@@ -10,9 +10,7 @@ use Rattle.std.proofs.lemmas.List.Quantifiers.{all_pairs_remove}
 use Rattle.candidate_search.specs.declared.best.NearEdge.{NearEdge}
 use Rattle.candidate_search.specs.declared.wanted.Search.{Search}
 use Rattle.candidate_search.specs.Best.{AreApart, ComesBefore, IsAccounted, IsApart, IsBehind, IsLimit, IsNoLater, IsPlaceFor, IsPlaceOf, IsWanted, Precedes, Puts, Takes}
-
-abbrev pub no_edge : NearEdge
-no_edge = record { edge = record { 0 = 0 }; segment = 0; d2 = 0 }
+use Rattle.candidate_search.proofs.ApartLists.{all_contained, apart_insert, apart_take, from_insert, from_take, in_insert, of_contained}
 
 pub precedes_twice : (a e b f c g : ℕ) → Precedes a e b f → Precedes b f c g → Precedes a e c g
 precedes_twice a e b f c g h k = record {
@@ -57,60 +55,6 @@ accounted_later k found d2 e i far j le tie h =
     }))
     (λ behind. behind_later k found d2 e far j le behind)
     h
-
-pub of_contained : (P : NearEdge → Type 0) (xs : List NearEdge) (x : NearEdge) → All P xs → Contains xs x → P x
-of_contained P xs x h there = subst P there.2 (h there.0 x there.1)
-
-pub all_contained : (P : NearEdge → Type 0) (xs : List NearEdge) → ((x : NearEdge) → Contains xs x → P x) → All P xs
-all_contained P xs h i d lt = h (get_or xs i d) (i, lt, get_or_default xs i (get_or xs i d) d lt)
-
-apart_head : (x : NearEdge) (r : List NearEdge) → AreApart (x ∷ r) → All (IsApart x) r
-apart_head x r h i d lt = h 0 (suc i) d (omega arith) (omega (arith, lt))
-
-apart_tail : (x : NearEdge) (r : List NearEdge) → AreApart (x ∷ r) → AreApart r
-apart_tail x r h i j d lt under = h (suc i) (suc j) d (omega (arith, lt)) (omega (arith, under))
-
-pub apart_insert : (xs : List NearEdge) (place : ℕ) (y : NearEdge) → AreApart xs → place ≤ length xs
-    → ((i : ℕ) (d : NearEdge) → i < place → IsApart (get_or xs i d) y) → ((i : ℕ) (d : NearEdge) → place ≤ i → i < length xs → IsApart y (get_or xs i d))
-    → AreApart (insert xs place y)
-apart_insert [] zero y h le before after = AllPairs-cons IsApart y [] (λ i d lt. absurd (omega (arith, lt))) h
-apart_insert [] (suc place) y h le before after = absurd (omega (arith, le))
-apart_insert (x ∷ r) zero y h le before after = AllPairs-cons IsApart y (x ∷ r) (λ i d lt. after i d (omega arith) lt) h
-apart_insert (x ∷ r) (suc place) y h le before after =
-    let head = apart_head x r h in
-    AllPairs-cons IsApart x (insert r place y)
-    (All-append (IsApart x) (take place r) (y ∷ drop place r) (All-take (IsApart x) place r head)
-    (All-cons (IsApart x) y (drop place r) (before 0 y (omega arith)) (All-drop (IsApart x) place r head)))
-    (apart_insert r place y (apart_tail x r h) (omega (arith, le)) (λ i d lt. before (suc i) d (omega (arith, lt))) (λ i d from lt. after (suc i) d (omega (arith, from)) (omega (arith, lt))))
-
-pub apart_take : (k : ℕ) (xs : List NearEdge) → AreApart xs → AreApart (take k xs)
-apart_take k xs h i j d lt under =
-    let l = length-take k xs in
-    let a = get_or-take k xs i d (omega (arith, lt, under, l)) in
-    let b = get_or-take k xs j d (omega (arith, under, l)) in
-    subst (λ v. IsApart (get_or (take k xs) i d) v) (sym b) (subst (λ u. IsApart u (get_or xs j d)) (sym a) (h i j d lt (omega (arith, under, l))))
-
-pub in_insert : (xs : List NearEdge) (place : ℕ) (y x : NearEdge) → Contains xs x → Contains (insert xs place y) x
-in_insert [] place y x h = absurd (omega (arith, h.1))
-in_insert (a ∷ r) zero y x h = (suc h.0, omega (arith, h.1), h.2)
-in_insert (a ∷ r) (suc place) y x (zero, lt, is) = (0, omega arith, is)
-in_insert (a ∷ r) (suc place) y x (suc i, lt, is) = let t = in_insert r place y x (i, omega (arith, lt), is) in (suc t.0, omega (arith, t.1), t.2)
-
-pub from_insert : (xs : List NearEdge) (place : ℕ) (y x : NearEdge) → Contains (insert xs place y) x → Contains xs x ⊎ (x ≡ y)
-from_insert [] zero y x (zero, lt, is) = inr (sym is)
-from_insert [] zero y x (suc i, lt, is) = absurd (omega (arith, lt))
-from_insert [] (suc place) y x (zero, lt, is) = inr (sym is)
-from_insert [] (suc place) y x (suc i, lt, is) = absurd (omega (arith, lt))
-from_insert (a ∷ r) zero y x (zero, lt, is) = inr (sym is)
-from_insert (a ∷ r) zero y x (suc i, lt, is) = inl (i, omega (arith, lt), is)
-from_insert (a ∷ r) (suc place) y x (zero, lt, is) = inl (0, omega arith, is)
-from_insert (a ∷ r) (suc place) y x (suc i, lt, is) =
-    ⊎_elim (λ t. inl (suc t.0, omega (arith, t.1), t.2)) (λ e. inr e) (from_insert r place y x (i, omega (arith, lt), is))
-
-pub from_take : (k : ℕ) (xs : List NearEdge) (x : NearEdge) → Contains (take k xs) x → Contains xs x
-from_take k xs x h =
-    let l = length-take k xs in
-    (h.0, omega (arith, h.1, l), sym (get_or-take k xs h.0 x (omega (arith, h.1, l))) ∙ h.2)
 
 -- what the first k do not have comes behind them
 in_take : (k : ℕ) (xs : List NearEdge) (x : NearEdge) → AreApart xs → Contains xs x → Contains (take k xs) x ⊎ IsBehind k (take k xs) x.d2 x.edge.0
@@ -181,23 +125,6 @@ takes_list k old mid near place left wanted at =
 pub takes_put : (k : ℕ) (old mid new : List NearEdge) (near : NearEdge) → IsLeft k old mid near → IsWanted k old near → Puts k mid new near → Takes k old new near
 takes_put k old mid new near left wanted h = subst (λ l. Takes k old l near) (sym h.list) (takes_list k old mid near h.place left wanted h.place_is)
 
--- where k are found, what comes behind the last comes behind all of them
-pub behind_last : (k : ℕ) (found : List NearEdge) (d2 e : ℕ) (last : NearEdge) → 1 ≤ k → length found ≡ k → AreApart found → get_or found (k - 1) last ≡ last
-    → Precedes last.d2 last.edge.0 d2 e → IsBehind k found d2 e
-behind_last k found d2 e last some full apart is before = record {
-  full = full;
-  before = λ i d lt.
-      let end = get_or_default found (k - 1) d last (omega (arith, full, some)) ∙ is in
-      ⊎_elim
-      (λ below. let b = subst (ComesBefore (get_or found i d)) end (apart i (k - 1) d below (omega (arith, full, some))).before in precedes_twice (get_or found i d).d2 (get_or found i d).edge.0 last.d2 last.edge.0 d2 e b before)
-      (λ here. let same : k - 1 ≡ i = omega (arith, lt, full, here) in subst (λ (c : NearEdge). Precedes c.d2 c.edge.0 d2 e) (sym end ∙ ap (λ v. get_or found v d) same) before)
-      (cases_lt i (k - 1));
-}
-
--- what k come before comes behind the last
-pub after_last : (k : ℕ) (found : List NearEdge) (d2 e : ℕ) → 1 ≤ k → IsBehind k found d2 e → Precedes (get_or found (k - 1) no_edge).d2 (get_or found (k - 1) no_edge).edge.0 d2 e
-after_last k found d2 e some behind = behind.before (k - 1) no_edge (omega (arith, some, behind.full))
-
 -- where the edge is told of as well, nothing changes
 pub takes_told : (k : ℕ) (found : List NearEdge) (near x : NearEdge) → length found ≤ k → AreApart found → Contains found x → x.edge.0 ≡ near.edge.0 → IsNoLater x near.d2 near.segment → Takes k found found near
 takes_told k found near x few apart there same no_later = record {
@@ -258,77 +185,3 @@ is_left k old near place few apart at lt later =
           (cases_lt place h.0))
           (cases_lt h.0 place);
     }
-
--- where k are found, what is farther than the last comes behind them
-pub limit_full : (search : Search) (found : List NearEdge) (last : NearEdge) (limit : ℕ) → length found ≡ search.k → 1 ≤ search.k → AreApart found → get_or found (search.k - 1) last ≡ last
-    → limit ≤ search.radius * search.radius + 1 → ((d2 : ℕ) → limit ≤ d2 → d2 ≤ search.radius * search.radius → last.d2 < d2) → IsLimit search found limit
-limit_full search found last limit full some apart is low over = record {
-  low = low;
-  far = λ d2 e i le near.
-      let beyond = over d2 le near in
-      inr (record {
-        full = full;
-        before = λ j d lt.
-            let end = get_or_default found (search.k - 1) d last (omega (arith, full, some)) ∙ is in
-            let up : (get_or found j d).d2 ≤ last.d2 = ⊎_elim
-            (λ below. let b = (apart j (search.k - 1) d below (omega (arith, full, some))).before in let s = ap (λ (c : NearEdge). c.d2) end in omega (arith, b.near, s))
-            (λ here. let e : search.k - 1 ≡ j = omega (arith, lt, full, here) in let s = ap (λ (c : NearEdge). c.d2) (sym end ∙ ap (λ v. get_or found v d) e) in omega (arith, s))
-            (cases_lt j (search.k - 1))
-            in
-            record { near = omega (arith, up, beyond); tie = λ back. absurd (omega (arith, back, up, beyond)) };
-      });
-}
-
-pub limit_none : (search : Search) (found : List NearEdge) (limit : ℕ) → limit ≡ search.radius * search.radius + 1 → IsLimit search found limit
-limit_none search found limit is = record { low = omega (arith, is); far = λ d2 e i le near. absurd (omega (arith, is, le, near)) }
-
--- of two edges that differ one comes before the other
-pub comes_other : (x near : NearEdge) → (ComesBefore near x → ⊥) → (x.edge.0 ≡ near.edge.0 → ⊥) → ComesBefore x near
-comes_other x near not_before differ =
-    ⊎_elim
-    (λ lt. absurd (not_before (record { near = omega (arith, lt); tie = λ le. absurd (omega (arith, le, lt)) })))
-    (λ ge. record {
-      near = ge;
-      tie = λ le.
-          ⊎_elim
-          (λ lt. lt)
-          (λ high.
-          ⊎_elim
-          (λ lt. absurd (not_before (record { near = le; tie = λ same. lt })))
-          (λ low. absurd (differ (omega (arith, high, low))))
-          (cases_lt near.edge.0 x.edge.0))
-          (cases_lt x.edge.0 near.edge.0);
-    })
-    (cases_lt near.d2 x.d2)
-
--- what stands before a place comes before it, where the last of these does
-pub place_last : (found : List NearEdge) (near : NearEdge) (place : ℕ) → AreApart found → All (λ c. c.edge.0 ≡ near.edge.0 → ⊥) found → 0 < place → place ≤ length found
-    → (ComesBefore near (get_or found (place - 1) no_edge) → ⊥) → (i : ℕ) (d : NearEdge) → i < place → ComesBefore (get_or found i d) near
-place_last found near place apart others some within not_before i d lt =
-    let at : place - 1 < length found = omega (arith, some, within) in
-    let x = get_or found (place - 1) no_edge in
-    let end : get_or found (place - 1) d ≡ x = get_or_default found (place - 1) d no_edge at in
-    let last : ComesBefore x near = comes_other x near not_before (others (place - 1) no_edge at) in
-    ⊎_elim
-    (λ below. let b = subst (ComesBefore (get_or found i d)) end (apart i (place - 1) d below at).before in precedes_twice (get_or found i d).d2 (get_or found i d).edge.0 x.d2 x.edge.0 near.d2 near.edge.0 b last)
-    (λ here. let e : place - 1 ≡ i = omega (arith, lt, here) in subst (λ c. ComesBefore c near) (sym end ∙ ap (λ v. get_or found v d) e) last)
-    (cases_lt i (place - 1))
-
--- of two segments of an edge one is no later than the other
-pub later_other : (x near : NearEdge) → (IsNoLater x near.d2 near.segment → ⊥) → IsNoLater near x.d2 x.segment
-later_other x near not_later = record {
-  near =
-      ⊎_elim
-      (λ lt. absurd (not_later (record { near = omega (arith, lt); tie = λ le. absurd (omega (arith, le, lt)) })))
-      (λ le. le)
-      (cases_lt x.d2 near.d2);
-  tie = λ le.
-      ⊎_elim
-      (λ lt. absurd (not_later (record { near = le; tie = λ same. omega (arith, lt) })))
-      (λ low. low)
-      (cases_lt x.segment near.segment);
-}
-
--- where the place of an edge is their number, no other is of it
-pub others_whole : (found : List NearEdge) (e place : ℕ) → IsPlaceOf found e place → place ≡ length found → All (λ c. c.edge.0 ≡ e → ⊥) found
-others_whole found e place at is i d lt = at.before i d (omega (arith, is, lt))

@@ -1,7 +1,9 @@
 pub mod Order
 pub mod Found
 pub mod Taken
+pub mod ApartLists
 pub mod BestLists
+pub mod LastFound
 pub mod Pairs
 pub mod EdgeBoxes
 pub mod Parts

@@ -6,7 +6,8 @@ use Rattle.std.proofs.lemmas.List.Edits.{get_or-insert_at, get_or-insert_below, 
 use Rattle.std.proofs.lemmas.List.Elements.{All-take}
 use Rattle.candidate_search.specs.declared.best.NearEdge.{NearEdge}
 use Rattle.candidate_search.specs.Best.{AreApart, ComesBefore, IsAccounted, IsBehind, IsNewPair, IsPlaceFor, IsWanted, Precedes, PutsPair, Takes, TakesPair}
-use Rattle.candidate_search.proofs.BestLists.{accounted_later, accounted_one, all_contained, apart_insert, apart_take, from_insert, from_take, in_insert, of_contained, precedes_twice}
+use Rattle.candidate_search.proofs.ApartLists.{all_contained, apart_insert, apart_take, from_insert, from_take, in_insert, of_contained}
+use Rattle.candidate_search.proofs.BestLists.{accounted_later, accounted_one, precedes_twice}
 
 -- one more edge at its place
 pub apart_placed : (found : List NearEdge) (near : NearEdge) (place : ℕ) → AreApart found → All (λ c. c.edge.0 ≡ near.edge.0 → ⊥) found → IsPlaceFor found near place

@@ -17,7 +17,7 @@ use Rattle.candidate_search.specs.declared.best.NearEdge.{NearEdge}
 use Rattle.candidate_search.specs.declared.wanted.Search.{Search}
 use Rattle.candidate_search.specs.Best.{AreApart, IsNearEdge, Precedes}
 use Rattle.candidate_search.specs.Nearest.{AreNearestEdges, IsNearestOn}
-use Rattle.candidate_search.proofs.BestLists.{of_contained}
+use Rattle.candidate_search.proofs.ApartLists.{of_contained}
 
 head_or_tail : (c x : Candidate) (l : List Candidate) → Contains (c ∷ l) x → (c ≡ x) ⊎ Contains l x
 head_or_tail c x l (zero, lt, is) = inl is

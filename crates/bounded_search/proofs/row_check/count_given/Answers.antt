@@ -58,3 +58,15 @@ returns-clause-some c =
 
 pub returns-in_err-try_arc-clause-count : goal.returns-in_err-try_arc-clause-count
 returns-in_err-try_arc-clause-count c = rw c.from_residual.ensures tt
+
+pub arcs-arc-items-requires : goal.arcs-arc-items-requires
+arcs-arc-items-requires c = c.requires.node
+
+pub loop-arc-init : goal.loop-arc-init
+loop-arc-init c = record { relaxed = λ k d lt. absurd (omega arith); counted = refl }
+
+pub try_arc-requires-clause-rising : goal.try_arc-requires-clause-rising
+try_arc-requires-clause-rising c = c.requires.rising
+
+pub try_arc-requires-clause-index : goal.try_arc-requires-clause-index
+try_arc-requires-clause-index c = c.requires.index

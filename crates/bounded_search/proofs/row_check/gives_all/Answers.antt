@@ -1,4 +1,6 @@
-use Rattle.std.proofs.Common.{◌≡◌, ◌<◌, ◌+◌, ◌≤◌, ℕ, List, None, length, get_or, take, rules, arith, refl}
+use Rattle.std.proofs.Common.{◌≡◌, ◌<◌, ◌+◌, ◌≤◌, ℕ, List, None, length, get_or, take, rules, arith, refl, sym, ap, ◌∙◌}
+use Rattle.std.proofs.lemmas.Bool.{eq-eqb, eqb-true, false≢true}
+use Rattle.std.proofs.lemmas.List.{take_all}
 use Rattle.std.proofs.lemmas.List.Elements.{All-more}
 use Rattle.std.proofs.lemmas.List.Sums.{sum_by-take-le, sum_by_more, sum_by_more_le}
 use Rattle.std.specs.List.{sum_by}
@@ -48,3 +50,29 @@ overflow_add-result c =
     let given : c.loop-index.given ≡ sum_by f (take c.loop-index.index entries) = c.loop-index.invariant.counted in
     let inside : c.loop-index.given ≤ length entries = omega (arith, part, few, given) in
     search rules
+
+pub loop-index-init : goal.loop-index-init
+loop-index-init c = record { each = λ k d lt. absurd (omega arith); counted = refl }
+
+pub bounds-entries-index : goal.bounds-entries-index
+bounds-entries-index c = c.loop-index-test.true
+
+pub given_at-requires-clause-rising : goal.given_at-requires-clause-rising
+given_at-requires-clause-rising c = c.requires
+
+pub given_at-requires-clause-index : goal.given_at-requires-clause-index
+given_at-requires-clause-index c = c.loop-index-test.true
+
+pub returns-in_default : goal.returns-in_default
+returns-in_default c = (λ is. absurd (false≢true is), λ given. c.in_default.ensures.some.1 (given.each c.loop-index.index nothing c.loop-index-test.true))
+
+pub returns : goal.returns
+returns c =
+    let entries : List Entry = c.args.entries.now in
+    let whole : take c.loop-index.index entries ≡ entries = take_all c.loop-index.index entries c.loop-index-test.false in
+    let each = rw whole at c.loop-index.invariant.each in
+    let counted = rw whole at c.loop-index.invariant.counted in
+    let more = ap (λ (k : ℕ). k + 1) counted in (
+      λ is. record { each = each; all = sym more ∙ eqb-true (c.loop-index.given + 1) (length entries) is },
+      λ given. eq-eqb (c.loop-index.given + 1) (length entries) (more ∙ given.all),
+    )

@@ -24,3 +24,12 @@ returns-2-clause-some c =
       λ some ahead inside. by.0 (test.0 some),
       λ relaxed. test.1 (by.1 (relaxed forward short)),
     )
+
+pub find-requires-clause-rising : goal.find-requires-clause-rising
+find-requires-clause-rising c = c.requires.rising
+
+pub find-requires-clause-place : goal.find-requires-clause-place
+find-requires-clause-place c = c.requires.index
+
+pub returns-in_err-found-clause-given : goal.returns-in_err-found-clause-given
+returns-in_err-found-clause-given c = rw c.from_residual.ensures tt

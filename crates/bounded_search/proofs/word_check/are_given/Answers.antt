@@ -1,4 +1,6 @@
-use Rattle.std.proofs.Common.{◌≡◌, ◌<◌, ◌+◌, ◌≤◌, ℕ, List, Option, None, sym, subst, length, get_or, take, rules, arith, refl}
+use Rattle.std.proofs.Common.{◌≡◌, ◌<◌, ◌+◌, ◌≤◌, ℕ, List, Option, None, sym, subst, length, get_or, take, rules, arith, refl, ap, ◌∙◌}
+use Rattle.std.proofs.lemmas.Bool.{eq-eqb, eqb-true, false≢true}
+use Rattle.std.proofs.lemmas.List.{take_all}
 use Rattle.std.proofs.lemmas.List.Elements.{All-more}
 use Rattle.std.proofs.lemmas.List.Sums.{sum_by-take-le, sum_by_more, sum_by_more_le}
 use Rattle.std.specs.List.{count_by, sum_by}
@@ -67,3 +69,37 @@ overflow_add-result c =
     let given : c.loop-place.given ≡ sum_by f (take c.loop-place.place entries) = c.loop-place.invariant.counted in
     let inside : c.loop-place.given ≤ length entries = omega (arith, part, few, given) in
     search rules
+
+pub loop-place-init : goal.loop-place-init
+loop-place-init c = record { each = λ k d lt. absurd (omega arith); counted = refl }
+
+pub bounds-entries-place : goal.bounds-entries-place
+bounds-entries-place c = c.loop-place-test.true
+
+pub count_given-requires-clause-node : goal.count_given-requires-clause-node
+count_given-requires-clause-node c = (c.requires.fits c.loop-place.place nothing c.loop-place-test.true).node
+
+pub count_given-requires-clause-within : goal.count_given-requires-clause-within
+count_given-requires-clause-within c = let fits = c.requires.fits c.loop-place.place nothing c.loop-place-test.true in omega (arith, fits.within, c.requires.bound)
+
+pub count_given-requires-clause-words : goal.count_given-requires-clause-words
+count_given-requires-clause-words c = c.requires.words.0
+
+pub returns-in_default : goal.returns-in_default
+returns-in_default c =
+    let entries : List Entry = c.args.entries.now in
+    let place : ℕ = c.loop-place.place in (
+      λ is. absurd (false≢true is),
+      λ given. c.in_default.ensures.some.1 (back_there c.args.net.now c.args.bound c.args.words.now entries (get_or entries place nothing) c.requires.words.1 (given.each place nothing c.loop-place-test.true)),
+    )
+
+pub returns : goal.returns
+returns c =
+    let entries : List Entry = c.args.entries.now in
+    let whole : take c.loop-place.place entries ≡ entries = take_all c.loop-place.place entries c.loop-place-test.false in
+    let each = rw whole at c.loop-place.invariant.each in
+    let counted = rw whole at c.loop-place.invariant.counted in
+    let more = ap (λ (k : ℕ). k + 1) counted in (
+      λ is. record { each = each; all = sym more ∙ eqb-true (c.loop-place.given + 1) (length entries) is },
+      λ given. eq-eqb (c.loop-place.given + 1) (length entries) (more ∙ given.all),
+    )

@@ -1,7 +1,7 @@
 use Rattle.std.proofs.Common.{◌≡◌, ◌-◌, get_or, length, arith}
 use Rattle.std.proofs.lemmas.Bool.{lt-ltb, ltb-true}
 use Rattle.std.proofs.lemmas.List.{get_or_default}
-use Rattle.candidate_search.proofs.BestLists.{after_last, behind_last, no_edge}
+use Rattle.candidate_search.proofs.LastFound.{after_last, behind_last, no_edge}
 use Rattle.candidate_search.proofs.best.is_behind.Goals as goal
 
 pub returns-then-last-d2 : goal.returns-then-last-d2

@@ -1,6 +1,6 @@
 use Rattle.std.proofs.Common.{◌≡◌, ◌+◌, ◌-◌, get_or, length, arith}
 use Rattle.std.proofs.lemmas.List.{get_or_default}
-use Rattle.candidate_search.proofs.BestLists.{limit_full, no_edge}
+use Rattle.candidate_search.proofs.LastFound.{limit_full, no_edge}
 use Rattle.candidate_search.proofs.best.limit_for.Goals as goal
 
 pub returns-else-found-search : goal.returns-else-found-search

@@ -1,6 +1,6 @@
 use Rattle.std.proofs.Common.{◌∙◌, sym, arith}
 use Rattle.std.proofs.lemmas.Bool.{true≢false}
-use Rattle.candidate_search.proofs.BestLists.{place_last}
+use Rattle.candidate_search.proofs.LastFound.{place_last}
 use Rattle.candidate_search.proofs.best.place_for.Goals as goal
 
 pub returns-else-is_before : goal.returns-else-is_before

@@ -2,7 +2,7 @@ use Rattle.std.proofs.Common.{ℕ, ◌≡◌, ap, arith, get_or, subst, ⊎_elim
 use Rattle.std.proofs.lemmas.Bool.{cases_lt}
 use Rattle.std.proofs.lemmas.List.{get_or_default}
 use Rattle.candidate_search.specs.declared.best.NearEdge.{NearEdge}
-use Rattle.candidate_search.proofs.BestLists.{no_edge}
+use Rattle.candidate_search.proofs.LastFound.{no_edge}
 use Rattle.candidate_search.proofs.best.place_of_edge.Goals as goal
 
 pub bounds-found-place : goal.bounds-found-place

@@ -1,7 +1,7 @@
 use Rattle.std.proofs.Common.{◌++◌, ◌∷◌, [], ◌∙◌, ap, get_or, map, sym}
 use Rattle.std.proofs.lemmas.List.{map_more, take_all}
 use Rattle.candidate_search.specs.declared.best.NearEdge.{NearEdge}
-use Rattle.candidate_search.proofs.BestLists.{no_edge}
+use Rattle.candidate_search.proofs.LastFound.{no_edge}
 use Rattle.candidate_search.proofs.Reached.{made}
 use Rattle.candidate_search.proofs.search.candidates_of.Goals as goal
 

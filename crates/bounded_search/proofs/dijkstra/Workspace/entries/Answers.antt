@@ -5,13 +5,14 @@ use Rattle.std.specs.Prelude.{OnOk}
 use Rattle.std.specs.List.Sorted.{IsPermutation}
 use Rattle.bounded_search.specs.declared.queue.Waiting.{Waiting}
 use Rattle.bounded_search.specs.LabelWords.{label_at, origin_word}
-use Rattle.bounded_search.specs.Marked.{IsClean, KeepsSizes}
+use Rattle.bounded_search.specs.Marked.{IsClean}
 use Rattle.bounded_search.specs.Searching.{ListsLabels}
 use Rattle.bounded_search.specs.Table.{IsRow}
 use Rattle.bounded_search.proofs.Leaving.{all_marked, fewer_wait, marked_begun, node_taken, taken_inside}
 use Rattle.bounded_search.proofs.MarkedNodes.{keeps_both, sized_here}
 use Rattle.bounded_search.proofs.RowOfLabels.{row_of_labels}
-use Rattle.bounded_search.proofs.Underway.{begun, closed_at_end}
+use Rattle.bounded_search.proofs.ClosedAtEnd.{closed_at_end}
+use Rattle.bounded_search.proofs.Underway.{begun}
 use Rattle.bounded_search.proofs.dijkstra.Workspace.entries.Goals as goal
 
 if_ok : {A E : Type 0} (P Q : A → Type 0) (r : Result A E) → IfOk r P → ((x : A) → P x → Q x) → IfOk r Q

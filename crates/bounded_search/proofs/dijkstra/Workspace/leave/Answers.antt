@@ -1,4 +1,4 @@
-use Rattle.std.proofs.Common.{◌≡◌, ◌≢◌, ◌++◌, ◌/◌, ◌^◌, List, ℕ, length, map, take, drop, sym, ap, ◌∙◌, arith}
+use Rattle.std.proofs.Common.{◌≡◌, ◌≢◌, ◌++◌, ◌/◌, ◌^◌, List, ℕ, length, map, take, drop, refl, sym, ap, ◌∙◌, arith}
 use Rattle.std.proofs.lemmas.Bool.Decides.{nat_tests}
 use Rattle.std.proofs.lemmas.List.{get_or_read, take_at}
 use Rattle.std.proofs.lemmas.List.Elements.{All-weaker}
@@ -110,3 +110,37 @@ returns-clause-leaves g c =
       merged = c.merge.ensures;
     } in
     left_by_merging n x row w c.merge.new.self left
+
+pub index-requires : goal.index-requires
+index-requires g c = let count = c.requires.sized.words_count in omega arith
+
+pub returns-then-distance_in-next-clause-sized : goal.returns-then-distance_in-next-clause-sized
+returns-then-distance_in-next-clause-sized g c = record { bound = refl; words_count = refl; marks = λ count sized. sized }
+
+pub known_row-requires : goal.known_row-requires
+known_row-requires g c = rw c.requires.known c.requires.next.0
+
+pub merge-requires-clause-distance : goal.merge-requires-clause-distance
+merge-requires-clause-distance g c = let within = c.requires.next.1 in omega arith
+
+pub merge-requires-clause-sized : goal.merge-requires-clause-sized
+merge-requires-clause-sized g c =
+    let sized = c.requires.sized in
+    record { low = sized.low; few = rw sized.words_count sized.few; words_count = refl; marks = rw sized.words_count sized.marks }
+
+pub returns-clause-sized : goal.returns-clause-sized
+returns-clause-sized g c = c.merge.ensures.sized
+
+pub arcs-arcs-requires : goal.arcs-arcs-requires
+arcs-arcs-requires g c = c.requires.next.0
+
+pub try_arcs-requires-clause-distance : goal.try_arcs-requires-clause-distance
+try_arcs-requires-clause-distance g c = c.requires.next.1
+
+pub returns-2-clause-sized : goal.returns-2-clause-sized
+returns-2-clause-sized g c =
+    let old : List ℕ = c.args.self.now.words.items in
+    let tried : List ℕ = c.try_arcs.new.words in
+    let count = c.try_arcs.ensures.count in
+    let back : take c.args.self.now.words.len (tried ++ drop (length tried) old) ≡ tried = take_at tried (drop (length tried) old) c.args.self.now.words.len (count ∙ c.as_mut_slice.ensures.len) in
+    record { bound = refl; words_count = ap length back ∙ (count ∙ ap length c.as_mut_slice.ensures.value); marks = c.mark.ensures.sized }

@@ -58,3 +58,21 @@ returns-in_err-take_region-clause-clean c = record {
   sized = keeps_both c.args.self.now c.loop-region.self c.take_region.new.self c.loop-region.invariant.sized c.in_err-take_region.ensures.sized;
   clean = (let p = err_from_is_err_and c.from_residual.result c.from_residual.ensures.1 in rw p.1 tt);
 }
+
+pub index-requires : goal.index-requires
+index-requires c = let now = c.loop-region.invariant.sized.marks (length c.args.self.now.words.items) c.requires.sized.marks in omega arith
+
+pub overflow_add-region : goal.overflow_add-region
+overflow_add-region c = omega arith
+
+pub loop-region-smaller-then-index-eq0 : goal.loop-region-smaller-then-index-eq0
+loop-region-smaller-then-index-eq0 c = omega arith
+
+pub take_region-requires-clause-region : goal.take_region-requires-clause-region
+take_region-requires-clause-region c = omega arith
+
+pub overflow_add-region-else-region-eq0 : goal.overflow_add-region-else-region-eq0
+overflow_add-region-else-region-eq0 c = omega arith
+
+pub loop-region-smaller : goal.loop-region-smaller
+loop-region-smaller c = omega arith

@@ -1,4 +1,4 @@
-use Rattle.std.proofs.Common.{◌≡◌, ◌*◌, ◌-◌, ℕ, [], length}
+use Rattle.std.proofs.Common.{◌≡◌, ◌*◌, ◌-◌, [], length}
 use Rattle.bounded_search.specs.Marked.{IsTaken, KeepsSizes}
 use Rattle.bounded_search.proofs.dijkstra.Workspace.take_entries.Given as goal
 

@@ -96,3 +96,30 @@ returns-clause-sized c =
       words_count = inv.sized.words_count;
       marks = λ count sized. as_many w.marks _ refl (length-set w.marks.regions.items c.args.region 0) refl count (inv.sized.marks count sized);
     }
+
+pub index-mark-requires : goal.index-mark-requires
+index-mark-requires c = let lt = c.requires.region in omega arith
+
+pub overflow_step-octet : goal.overflow_step-octet
+overflow_step-octet c = omega arith
+
+pub overflow_add-octet-end : goal.overflow_add-octet-end
+overflow_add-octet-end c = omega arith
+
+pub overflow_mul-octet-end : goal.overflow_mul-octet-end
+overflow_mul-octet-end c = omega arith
+
+pub index-octet_mark-requires : goal.index-octet_mark-requires
+index-octet_mark-requires c = let now = c.loop-octet.invariant.sized.marks (length c.args.self.now.words.items) c.requires.sized.marks in omega arith
+
+pub take_nodes-requires-clause-bound : goal.take_nodes-requires-clause-bound
+take_nodes-requires-clause-bound c = omega (arith, c.loop-octet.invariant.sized.bound, c.requires.sized.low)
+
+pub take_nodes-requires-clause-few : goal.take_nodes-requires-clause-few
+take_nodes-requires-clause-few c = omega (arith, ap length c.as_mut_slice.ensures.value, c.loop-octet.invariant.sized.words_count, c.requires.sized.few)
+
+pub index_mut-requires : goal.index_mut-requires
+index_mut-requires c = let now = c.loop-octet.invariant.sized.marks (length c.args.self.now.words.items) c.requires.sized.marks in omega arith
+
+pub index_mut-requires-2 : goal.index_mut-requires-2
+index_mut-requires-2 c = let now = c.loop-octet.invariant.sized.marks (length c.args.self.now.words.items) c.requires.sized.marks in omega arith
