@@ -188,8 +188,9 @@ adding_on old items now now' read reads so_far grows = record {
   each = so_far.each.1;
 }
 
-pub adding_ends : (old : Gathered) (items : List ℕ) (now : Gathered) → Adding old items now [] → Grows old items now
-adding_ends old items now so_far = subst (λ (t : List ℕ). Grows old t now) (sym (append-nil so_far.fed) ∙ so_far.rest) so_far.grown
+pub adding_ends : (old : Gathered) (items : List ℕ) (now : Gathered) (reads : List PartRead) → length reads ≡ 0 → Adding old items now reads → Grows old items now
+adding_ends old items now [] none so_far = subst (λ (t : List ℕ). Grows old t now) (sym (append-nil so_far.fed) ∙ so_far.rest) so_far.grown
+adding_ends old items now (read ∷ reads) none so_far = absurd (omega (arith, none))
 
 -- ---- what is read of parts
 

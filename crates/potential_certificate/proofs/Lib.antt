@@ -1,4 +1,5 @@
 pub mod WrittenLines
+pub mod WrittenTexts
 pub mod WordsOfLine
 pub mod CellWords
 pub mod ProofLines
@@ -11,6 +12,7 @@ pub mod Certificates
 pub mod Gatherings
 pub mod Drawings
 pub mod EndsOfLines
+pub mod Ends
 pub mod RowFaults
 pub mod ProofFaults
 pub mod TraceFaults
