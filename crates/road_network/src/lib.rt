@@ -46,7 +46,7 @@ pub struct EdgeId(pub u32);
 /// An outgoing edge of a node, with its length in cm and the node where it ends.
 ///
 /// The edge and its length are adjacent, so that a search reads both as one number of eight bytes.
-#[derive(Clone, Copy, PartialEq, Eq)]
+#[derive(Clone, Copy, Debug, PartialEq, Eq)]
 pub struct Arc {
     pub edge: EdgeId,
     pub length: u32,

@@ -3,7 +3,7 @@ ghost use Rattle.std.specs.Prelude.{◌≡◌};
 ghost use Rattle.road_network.specs.Limits.{edge_limit, file_limit, node_limit, point_limit};
 
 /// The limits that a network file is read within.
-#[derive(Clone, Copy)]
+#[derive(Clone, Copy, Debug, PartialEq, Eq)]
 pub enum NetworkLimits {
     /// A network of a city or a region.
     Standard,
