@@ -4,7 +4,7 @@
 //! [`check_all`] a whole certificate; [`check_certificate`] tells a bad row from a missing one. The verdict on a
 //! trace is `trace_verdict` in `specs/Verdicts.antt`, and that on a certificate `verdict` in
 //! `specs/Whole.antt`. [`laws`] shows that a certificate is proved exactly if it has the matches of the
-//! traces. The crate `cert_tests` tests right and forged certificates.
+//! traces.
 #![tactic(auto)]
 
 mod batch;

@@ -77,16 +77,20 @@ impl<R: Files + Drop> FileShelf<R> {
         ensures err { IfErr result (λ _. into.new.items ≡ into.old.items) }
         ensures failed { self.new.failed ≡ self.old.failed }
     {
-        let mut found = self.take_open(name, at)?;
-        let count = fill(&mut self.buffer, &mut found.file, most)?;
+        let mut found = self.open_at(name, at)?;
+        if self.buffer.is_empty() {
+            self.buffer.resize(BUFFER, 0)?;
+        }
+        let wanted = self.buffer.len().min(most as usize);
+        let count = read_again(&mut found.file, &mut self.buffer[..wanted])?;
         found.at = at + count as u64;
         self.current = Some(found);
         into.extend_from_slice(&self.buffer[..count])?;
         Ok(count)
     }
 
-    // Takes the open file if a read continues in it, and opens the file of the name otherwise.
-    fn take_open(&mut self, name: &str, at: u64) -> io::Result<OpenFile<R::File>>
+    // The file of the name at this place: the open one if the last read ended here.
+    fn open_at(&mut self, name: &str, at: u64) -> io::Result<OpenFile<R::File>>
         ensures { self.new.failed ≡ self.old.failed }
     {
         if let Some(left) = self.current.take() {
@@ -94,40 +98,18 @@ impl<R: Files + Drop> FileShelf<R> {
                 return Ok(left);
             }
         }
-        open_at(self.alloc, &self.rt, name, at)
+        let mut copy = List::new(self.alloc);
+        copy.extend_from_slice(name.as_bytes())?;
+        let mut file = fs::open(&self.rt, name)?;
+        if at > 0 {
+            file.seek(SeekFrom::Start(at))?;
+        }
+        Ok(OpenFile {
+            name: copy,
+            at,
+            file,
+        })
     }
-}
-
-// Opens a file at the place where a read begins.
-fn open_at<R: Files>(alloc: Global, rt: &R, name: &str, at: u64) -> io::Result<OpenFile<R::File>> {
-    let mut copy = List::new(alloc);
-    copy.extend_from_slice(name.as_bytes())?;
-    let mut file = fs::open(rt, name)?;
-    if at > 0 {
-        file.seek(SeekFrom::Start(at))?;
-    }
-    Ok(OpenFile {
-        name: copy,
-        at,
-        file,
-    })
-}
-
-// Gives the buffer its bytes before the first read.
-fn make_room(buffer: &mut Vec<u8>) -> Result<(), AllocError> {
-    if buffer.is_empty() {
-        buffer.resize(BUFFER, 0)?;
-    }
-    Ok(())
-}
-
-// Reads once into the buffer, and returns how many bytes came, at most `most`.
-fn fill<F: Read>(buffer: &mut Vec<u8>, file: &mut F, most: u32) -> io::Result<usize>
-    ensures { IfOk result (λ count. (count ≤ most) × (count ≤ length buffer.new.items)) }
-{
-    make_room(buffer)?;
-    let wanted = buffer.len().min(most as usize);
-    read_again(file, &mut buffer[..wanted])
 }
 
 /// Reads once, and again if a signal interrupted the read. Returns how many bytes came.
