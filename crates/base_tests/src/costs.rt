@@ -3,35 +3,43 @@ use cost_model::{ParamFault, Params, emission, transition};
 
 #[test]
 fn the_first_option_out_of_range_is_the_fault(rt: HostRuntime) {
-    let params = Params {
+    let two_faults = Params {
         k: 0,
         beta: 0,
         ..Params::DEFAULT
     };
-    assert_eq!(rt; params.check(), Err(ParamFault::KRange));
-    let params = Params {
+    let far_back = Params {
         back: 100_001,
         ..Params::DEFAULT
     };
-    assert_eq!(rt; params.check(), Err(ParamFault::BackRange));
-    assert_eq!(rt; Params::DEFAULT.check(), Ok(Params::DEFAULT));
+    let checked = [
+        two_faults.check(),
+        far_back.check(),
+        Params::DEFAULT.check(),
+    ];
+    let wanted = [
+        Err(ParamFault::KRange),
+        Err(ParamFault::BackRange),
+        Ok(Params::DEFAULT),
+    ];
+    assert!(rt; checked == wanted);
 }
 
 #[test]
-fn costs_are_rounded_down(rt: HostRuntime) {
-    assert_eq!(rt; emission(&Params::DEFAULT, 90_000), 45);
-    assert_eq!(rt; emission(&Params::DEFAULT, 1_999), 0);
-    assert_eq!(rt; transition(&Params::DEFAULT, 8_000, 8_022), 22);
-}
-
-#[test]
-fn the_greatest_costs_are_taken(rt: HostRuntime) {
-    let params = Params {
+fn costs_are_rounded_down_up_to_the_greatest(rt: HostRuntime) {
+    let steep = Params {
         radius: 100_000,
         sigma: 1,
         beta: 1,
         ..Params::DEFAULT
     };
-    assert_eq!(rt; emission(&params, 10_000_000_000), 5_000_000_000_000);
-    assert_eq!(rt; transition(&params, 20, 2_828_427_124), 2_828_427_104_000);
+    let costs = [
+        emission(&Params::DEFAULT, 90_000),
+        emission(&Params::DEFAULT, 1_999),
+        transition(&Params::DEFAULT, 8_000, 8_022),
+        emission(&steep, 10_000_000_000),
+        transition(&steep, 20, 2_828_427_124),
+    ];
+    let wanted = [45, 0, 22, 5_000_000_000_000, 2_828_427_104_000];
+    assert_eq!(rt; costs, wanted);
 }

@@ -1,22 +1,21 @@
 //! Numbers drawn by one ticket and by two.
-ghost use Rattle.std.specs.Prelude.{◌≡◌, ◌≤◌, ◌^◌, IfOk, IfSome};
-ghost use Rattle.tickets.specs.Tickets.{HasEnded, IsTicketOf};
+ghost use Rattle.std.specs.Prelude.{◌≡◌, ◌≤◌, ◌^◌, IfSome};
+ghost use Rattle.tickets.specs.Tickets.{HasEnded, IsOpenTicket, IsTicketOf};
 
 use polyline_geometry::List;
 use std::alloc::{AllocError, Global};
-use std::test::Fail;
 use tickets::{Claims, Ticket};
 
-/// Claims with one ticket. None where the list of tickets has none.
-fn one_ticket(alloc: Global, count: u64) -> Result<Option<(Claims, Ticket)>, AllocError>
+/// Claims with one ticket. None if out of memory.
+fn one_ticket(alloc: Global, count: u64) -> Option<(Claims, Ticket)>
     requires { count ≤ 2 ^ 32 }
-    ensures { IfOk result (λ o. IfSome o (λ r. IsTicketOf count 1 r.0 r.1)) }
+    ensures { IfSome result (λ r. IsTicketOf count 1 r.0 r.1) }
 {
-    let (claims, mut tickets) = Claims::open(alloc, count, 1)?;
-    match tickets.pop() {
-        None => Ok(None),
-        Some(ticket) => Ok(Some((claims, ticket))),
-    }
+    let Ok((claims, mut tickets)) = Claims::open(alloc, count, 1) else {
+        return None;
+    };
+    let ticket = tickets.pop()?;
+    Some((claims, ticket))
 }
 
 /// Gathers the one ticket.
@@ -44,54 +43,90 @@ fn gather_two(alloc: Global, claims: Claims, a: Ticket, b: Ticket) -> Result<(),
     Ok(())
 }
 
-/// Claims on two numbers with two tickets. None where the list of tickets has fewer.
-fn two_tickets(alloc: Global) -> Result<Option<(Claims, Ticket, Ticket)>, AllocError>
-    ensures { IfOk result (λ o. IfSome o (λ r. IsTicketOf 2 2 r.0 r.1 × IsTicketOf 2 2 r.0 r.2)) }
+/// Claims on two numbers with two tickets. None if out of memory.
+fn two_tickets(alloc: Global) -> Option<(Claims, Ticket, Ticket)>
+    ensures { IfSome result (λ r. IsTicketOf 2 2 r.0 r.1 × IsTicketOf 2 2 r.0 r.2) }
 {
-    let (claims, mut tickets) = Claims::open(alloc, 2, 2)?;
-    let Some(a) = tickets.pop() else {
-        return Ok(None);
+    let Ok((claims, mut tickets)) = Claims::open(alloc, 2, 2) else {
+        return None;
     };
-    match tickets.pop() {
-        None => Ok(None),
-        Some(b) => Ok(Some((claims, a, b))),
-    }
+    let a = tickets.pop()?;
+    let b = tickets.pop()?;
+    Some((claims, a, b))
+}
+
+// The two numbers of a ticket that then ends.
+fn draw_two(claims: &Claims, ticket: &mut Ticket) -> Option<[u64; 2]>
+    requires own { ticket.old.claims ≡ claims.now.name }
+    requires open { IsOpenTicket claims.now.count ticket.old }
+    ensures own { ticket.new.claims ≡ claims.now.name }
+    ensures ended { IfSome result (λ _. HasEnded claims.now.count ticket.new) }
+{
+    let first = claims.draw(&mut *ticket)?;
+    let second = claims.draw(&mut *ticket)?;
+    let None = claims.draw(&mut *ticket) else {
+        return None;
+    };
+    Some([first, second])
+}
+
+fn drawn_by_one(alloc: Global) -> Option<[u64; 2]> {
+    let (claims, mut ticket) = one_ticket(alloc, 2)?;
+    let numbers = draw_two(&claims, &mut ticket)?;
+    gather_one(alloc, claims, ticket).ok()?;
+    Some(numbers)
 }
 
 #[test]
-fn one_ticket_draws_each_number(rt: HostRuntime) -> Result<(), Fail> {
-    let (claims, mut ticket) = one_ticket(rt.alloc(), 2)?.ok_or("no ticket")?;
-    let first = claims.draw(&mut ticket).ok_or("no number")?;
-    assert_eq!(rt; first, 0);
-    let second = claims.draw(&mut ticket).ok_or("one number alone")?;
-    assert_eq!(rt; second, 1);
-    let third = claims.draw(&mut ticket);
-    assert!(rt; third.is_none());
-    gather_one(rt.alloc(), claims, ticket)?;
-    Ok(())
+fn one_ticket_draws_each_number(rt: HostRuntime) {
+    assert_eq!(rt; drawn_by_one(rt.alloc()), Some([0, 1]));
+}
+
+fn none_is_drawn(alloc: Global) -> Option<bool> {
+    let (claims, mut ticket) = one_ticket(alloc, 0)?;
+    let None = claims.draw(&mut ticket) else {
+        return Some(false);
+    };
+    gather_one(alloc, claims, ticket).ok()?;
+    Some(true)
 }
 
 #[test]
-fn of_no_numbers_none_is_drawn(rt: HostRuntime) -> Result<(), Fail> {
-    let (claims, mut ticket) = one_ticket(rt.alloc(), 0)?.ok_or("no ticket")?;
-    let first = claims.draw(&mut ticket);
-    assert!(rt; first.is_none());
-    gather_one(rt.alloc(), claims, ticket)?;
-    Ok(())
+fn of_no_numbers_none_is_drawn(rt: HostRuntime) {
+    assert_eq!(rt; none_is_drawn(rt.alloc()), Some(true));
+}
+
+// The number of the first ticket, and that of the second after they met. Then both end.
+fn draw_in_turn(claims: &Claims, a: &mut Ticket, b: &mut Ticket) -> Option<[u64; 2]>
+    requires own { (a.old.claims ≡ claims.now.name) × (b.old.claims ≡ claims.now.name) }
+    requires open { IsOpenTicket claims.now.count a.old × IsOpenTicket claims.now.count b.old }
+    ensures own { IfSome result
+        (λ _. (a.new.claims ≡ claims.now.name) × (b.new.claims ≡ claims.now.name)) }
+    ensures ended { IfSome result
+        (λ _. HasEnded claims.now.count a.new × HasEnded claims.now.count b.new) }
+{
+    let first = claims.draw(&mut *a)?;
+    let Ok(()) = claims.meet(&mut *a, &mut *b) else {
+        return None;
+    };
+    let second = claims.draw(&mut *b)?;
+    let None = claims.draw(&mut *a) else {
+        return None;
+    };
+    let None = claims.draw(&mut *b) else {
+        return None;
+    };
+    Some([first, second])
+}
+
+fn drawn_by_two(alloc: Global) -> Option<[u64; 2]> {
+    let (claims, mut a, mut b) = two_tickets(alloc)?;
+    let numbers = draw_in_turn(&claims, &mut a, &mut b)?;
+    gather_two(alloc, claims, a, b).ok()?;
+    Some(numbers)
 }
 
 #[test]
-fn two_tickets_meet(rt: HostRuntime) -> Result<(), Fail> {
-    let (claims, mut a, mut b) = two_tickets(rt.alloc())?.ok_or("no tickets")?;
-    let first = claims.draw(&mut a).ok_or("no number")?;
-    assert_eq!(rt; first, 0);
-    claims.meet(&mut a, &mut b)?;
-    let second = claims.draw(&mut b).ok_or("one number alone")?;
-    assert_eq!(rt; second, 1);
-    let third = claims.draw(&mut a);
-    assert!(rt; third.is_none());
-    let fourth = claims.draw(&mut b);
-    assert!(rt; fourth.is_none());
-    gather_two(rt.alloc(), claims, a, b)?;
-    Ok(())
+fn two_tickets_meet(rt: HostRuntime) {
+    assert_eq!(rt; drawn_by_two(rt.alloc()), Some([0, 1]));
 }

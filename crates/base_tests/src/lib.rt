@@ -14,6 +14,8 @@ mod limits;
 #[cfg(test)]
 mod match_texts;
 #[cfg(test)]
+mod network_faults;
+#[cfg(test)]
 mod networks;
 #[cfg(test)]
 mod numbers;

@@ -1,16 +1,21 @@
 //! What the last reads before a limit ask for.
-use crate::shelves::list;
+use crate::shelves::file_a;
 use edge_io::{MemoryShelf, Shelf, Taken};
 use polyline_geometry::List;
 use program_frame::{Chunks, File, read_file};
 use std::alloc::{AllocError, Global};
-use std::test::Fail;
 
 // A shelf that records where each read begins, and how many bytes it asks for.
-#[derive(Drop)]
 struct AskedShelf {
     inner: MemoryShelf,
     asked: List<(u64, u32)>,
+}
+
+// By hand, so that the functions that drop one call this.
+impl Drop for AskedShelf {
+    fn drop(self) {
+        let AskedShelf { inner: _, asked: _ } = self;
+    }
 }
 
 impl Shelf for AskedShelf {
@@ -24,32 +29,48 @@ impl Shelf for AskedShelf {
 
 // A file `a` of nine bytes, of which a read gives at most four.
 fn nine_bytes(alloc: Global) -> Result<AskedShelf, AllocError> {
-    let mut files = List::new(alloc);
-    files.push((list(alloc, b"a")?, list(alloc, b"123456789")?))?;
+    let files = file_a(alloc, b"123456789")?;
     Ok(AskedShelf {
         inner: MemoryShelf::drip(alloc, files, List::new(alloc), 4),
         asked: List::new(alloc),
     })
 }
 
-#[test]
-fn the_last_read_ends_one_byte_above_the_limit(rt: HostRuntime) -> Result<(), Fail> {
-    let mut shelf = nine_bytes(rt.alloc())?;
-    let read = read_file(rt.alloc(), &mut shelf, File::Network, "a", 6);
-    let bytes = read.ok().ok_or("not read")?;
-    assert!(rt; bytes.as_slice() == b"1234567".as_slice());
-    assert!(rt; shelf.asked.as_slice() == [(0, 7), (4, 3)].as_slice());
-    Ok(())
+fn is_read_up_to_seven(alloc: Global, shelf: &mut AskedShelf) -> bool {
+    let Ok(bytes) = read_file(alloc, &mut *shelf, File::Network, "a", 6) else {
+        return false;
+    };
+    bytes.as_slice() == b"1234567".as_slice()
+        && shelf.asked.as_slice() == [(0, 7), (4, 3)].as_slice()
+}
+
+const SIX_BEFORE_THE_LIMIT: u64 = 1_099_511_627_770;
+
+fn asks_for_seven_more(alloc: Global, shelf: &mut AskedShelf) -> bool {
+    let mut chunks = Chunks {
+        at: SIX_BEFORE_THE_LIMIT,
+        bytes: Vec::new(alloc),
+    };
+    matches!(chunks.next(&mut *shelf, "a"), Ok(false))
+        && shelf.asked.as_slice() == [(SIX_BEFORE_THE_LIMIT, 7)].as_slice()
+}
+
+fn stops_above_limit(alloc: Global, file: File) -> bool {
+    let Ok(mut shelf) = nine_bytes(alloc) else {
+        return false;
+    };
+    match file {
+        File::Traces => asks_for_seven_more(alloc, &mut shelf),
+        _ => is_read_up_to_seven(alloc, &mut shelf),
+    }
 }
 
 #[test]
-fn traces_are_read_to_one_byte_above_their_limit(rt: HostRuntime) -> Result<(), Fail> {
-    let mut shelf = nine_bytes(rt.alloc())?;
-    let mut chunks = Chunks {
-        at: 1_099_511_627_770,
-        bytes: Vec::new(rt.alloc()),
-    };
-    assert!(rt; matches!(chunks.next(&mut shelf, "a"), Ok(false)));
-    assert!(rt; shelf.asked.as_slice() == [(1_099_511_627_770, 7)].as_slice());
-    Ok(())
+fn the_last_read_ends_one_byte_above_the_limit(rt: HostRuntime) {
+    assert!(rt; stops_above_limit(rt.alloc(), File::Network));
+}
+
+#[test]
+fn traces_are_read_to_one_byte_above_their_limit(rt: HostRuntime) {
+    assert!(rt; stops_above_limit(rt.alloc(), File::Traces));
 }

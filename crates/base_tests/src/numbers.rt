@@ -4,46 +4,63 @@ use decimal_text::{
     write_unsigned,
 };
 use polyline_geometry::List;
-use std::test::Fail;
 
 #[test]
-fn reads_at_the_front(rt: HostRuntime) -> Result<(), Fail> {
-    assert_eq!(rt; digits_at_front(b"12345678,5"), (12_345_678, 8));
-    assert_eq!(rt; digits_at_front(b"1234567890"), (123_456_789, 9));
-    assert_eq!(rt; digits_at_front(b"0042 12345"), (42, 4));
-    assert_eq!(rt; signed_at_front(b"-70;"), Some((-70, 3)));
-    assert_eq!(rt; signed_at_front(b"--7"), None);
-    Ok(())
+fn reads_at_the_front(rt: HostRuntime) {
+    let digits = [
+        digits_at_front(b"12345678,5"),
+        digits_at_front(b"1234567890"),
+        digits_at_front(b"0042 12345"),
+    ];
+    assert!(rt; digits == [(12_345_678, 8), (123_456_789, 9), (42, 4)]);
+    let signed = [signed_at_front(b"-70;"), signed_at_front(b"--7")];
+    assert!(rt; signed == [Some((-70, 3)), None]);
+}
+
+// Each text, the greatest number allowed, and the number.
+static UNSIGNED: [(&[u8], u64, Result<u64, NumberFault>); 6] = [
+    (b"0042", 42, Ok(42)),
+    (b"43", 42, Err(NumberFault::OutOfRange)),
+    (b"18446744073709551615", u64::MAX, Ok(u64::MAX)),
+    (
+        b"18446744073709551616",
+        u64::MAX,
+        Err(NumberFault::OutOfRange),
+    ),
+    (b"000000000000000000001", 9, Err(NumberFault::Misspelt)),
+    (b"+1", 9, Err(NumberFault::Misspelt)),
+];
+
+#[test]
+fn reads_numbers(rt: HostRuntime) {
+    for (text, most, number) in &UNSIGNED {
+        assert_eq!(rt; parse_unsigned(text, *most), *number);
+    }
 }
 
 #[test]
-fn reads_numbers(rt: HostRuntime) -> Result<(), Fail> {
-    assert_eq!(rt; parse_unsigned(b"0042", 42), Ok(42));
-    assert_eq!(rt; parse_unsigned(b"43", 42), Err(NumberFault::OutOfRange));
-    assert_eq!(rt;
-        parse_unsigned(b"18446744073709551615", u64::MAX),
-        Ok(u64::MAX)
-    );
-    assert_eq!(rt;
-        parse_unsigned(b"18446744073709551616", u64::MAX),
-        Err(NumberFault::OutOfRange)
-    );
-    assert_eq!(rt;
-        parse_unsigned(b"000000000000000000001", 9),
-        Err(NumberFault::Misspelt)
-    );
-    assert_eq!(rt; parse_unsigned(b"+1", 9), Err(NumberFault::Misspelt));
-    assert_eq!(rt; parse_signed(b"-1000", 1000), Ok(-1000));
-    assert_eq!(rt; parse_signed(b"-1001", 1000), Err(NumberFault::OutOfRange));
-    assert_eq!(rt; parse_signed(b"--1", 1000), Err(NumberFault::Misspelt));
-    Ok(())
+fn reads_signed_numbers(rt: HostRuntime) {
+    let read = [
+        parse_signed(b"-1000", 1000),
+        parse_signed(b"-1001", 1000),
+        parse_signed(b"--1", 1000),
+    ];
+    let wanted = [
+        Ok(-1000),
+        Err(NumberFault::OutOfRange),
+        Err(NumberFault::Misspelt),
+    ];
+    assert_eq!(rt; read, wanted);
+}
+
+fn writes_greatest_and_signed(text: &mut List<u8>) -> bool {
+    write_unsigned(u64::MAX, &mut *text).is_ok()
+        && write_signed(-70, &mut *text).is_ok()
+        && text.as_slice() == b"18446744073709551615-70".as_slice()
 }
 
 #[test]
-fn writes_numbers(rt: HostRuntime) -> Result<(), Fail> {
+fn writes_numbers(rt: HostRuntime) {
     let mut text = List::new(rt.alloc());
-    write_unsigned(u64::MAX, &mut text)?;
-    write_signed(-70, &mut text)?;
-    assert_eq!(rt; text.as_slice(), b"18446744073709551615-70".as_slice());
-    Ok(())
+    assert!(rt; writes_greatest_and_signed(&mut text));
 }

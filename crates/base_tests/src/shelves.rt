@@ -5,19 +5,19 @@ use edge_io::{
 use polyline_geometry::List;
 use std::alloc::{AllocError, Global};
 use std::io::{BufWriter, ErrorKind, Read};
-use std::test::Fail;
 use std::{fs, io};
 
-pub fn list<T: Copy>(alloc: Global, items: &[T]) -> Result<List<T>, AllocError> {
+fn list<T: Copy>(alloc: Global, items: &[T]) -> Result<List<T>, AllocError> {
     let mut list = List::new(alloc);
     list.extend_from_slice(items)?;
     Ok(list)
 }
 
-// A file `a` of three bytes.
-fn files(alloc: Global) -> Result<List<(List<u8>, List<u8>)>, AllocError> {
+// The file `a` alone.
+pub fn file_a(alloc: Global, bytes: &[u8]) -> Result<List<(List<u8>, List<u8>)>, AllocError> {
+    let file = (list(alloc, b"a")?, list(alloc, bytes)?);
     let mut files = List::new(alloc);
-    files.push((list(alloc, b"a")?, list(alloc, b"xyz")?))?;
+    files.push(file)?;
     Ok(files)
 }
 
@@ -36,29 +36,47 @@ fn read<S: Shelf + Send>(shelf: &mut S, name: &str, at: u32, into: &mut Vec<u8>)
     }
 }
 
-// Whether these reads give this, one after another.
+// Whether each read gives its count, and all of them together these bytes.
 fn gives<S: Shelf + Send>(
+    alloc: Global,
     shelf: &mut S,
-    into: &mut Vec<u8>,
     reads: &[(&'static str, u32, i64)],
+    bytes: &[u8],
 ) -> bool {
+    let mut into = Vec::new(alloc);
     for (name, at, given) in reads {
-        if read(shelf, name, *at, into) != *given {
+        if read(shelf, name, *at, &mut into) != *given {
             return false;
         }
     }
-    true
+    into.as_slice() == bytes
 }
 
-fn put<K: Sink>(sink: &mut K, text: &[u8]) -> Put {
-    sink.put(text)
+fn failing_shelf(alloc: Global, fail: &[u64]) -> Result<MemoryShelf, AllocError> {
+    let files = file_a(alloc, b"xyz")?;
+    Ok(MemoryShelf::new(alloc, files, list(alloc, fail)?))
+}
+
+fn dripping_shelf(alloc: Global, most: u32) -> Result<MemoryShelf, AllocError> {
+    let files = file_a(alloc, b"xyz")?;
+    Ok(MemoryShelf::drip(alloc, files, List::new(alloc), most.max(1)))
+}
+
+// The same of a shelf in memory, if there is memory for it.
+fn memory_gives(
+    alloc: Global,
+    shelf: Result<MemoryShelf, AllocError>,
+    reads: &[(&'static str, u32, i64)],
+    bytes: &[u8],
+) -> bool {
+    match shelf {
+        Ok(mut shelf) => gives(alloc, &mut shelf, reads, bytes),
+        Err(_) => false,
+    }
 }
 
 #[test]
-fn a_shelf_in_memory_brings_a_file_in_parts(rt: HostRuntime) -> Result<(), Fail> {
-    let alloc = rt.alloc();
-    let mut shelf = MemoryShelf::new(alloc, files(alloc)?, list(alloc, &[5])?);
-    let mut into = Vec::new(alloc);
+fn a_shelf_in_memory_brings_a_file_in_parts(rt: HostRuntime) {
     let reads = [
         ("a", 0, 2),
         ("a", 2, 1),
@@ -67,43 +85,51 @@ fn a_shelf_in_memory_brings_a_file_in_parts(rt: HostRuntime) -> Result<(), Fail>
         ("a", 0, FAILED),
         ("a", 1, 2),
     ];
-    assert!(rt; gives(&mut shelf, &mut into, &reads));
-    assert!(rt; into.as_slice() == b"xyzyz".as_slice());
-    Ok(())
+    let alloc = rt.alloc();
+    assert!(rt; memory_gives(alloc, failing_shelf(alloc, &[5]), &reads, b"xyzyz"));
 }
 
 #[test]
-fn a_dripping_shelf_gives_no_more_than_its_most(rt: HostRuntime) -> Result<(), Fail> {
-    let alloc = rt.alloc();
-    let mut shelf = MemoryShelf::drip(alloc, files(alloc)?, List::new(alloc), 1);
-    let mut into = Vec::new(alloc);
+fn a_dripping_shelf_gives_no_more_than_its_most(rt: HostRuntime) {
     let reads = [("a", 0, 1), ("a", 2, 1), ("a", 3, 0)];
-    assert!(rt; gives(&mut shelf, &mut into, &reads));
-    assert!(rt; into.as_slice() == b"xz".as_slice());
-    Ok(())
+    let alloc = rt.alloc();
+    assert!(rt; memory_gives(alloc, dripping_shelf(alloc, 1), &reads, b"xz"));
+}
+
+// Puts as a caller does that knows the trait alone.
+fn put<K: Sink>(sink: &mut K, text: &[u8]) -> Put {
+    sink.put(text)
+}
+
+fn failing_sink(alloc: Global, fail: &[u64]) -> Result<MemorySink, AllocError> {
+    Ok(MemorySink::new(alloc, list(alloc, fail)?))
+}
+
+fn fails_at_first(sink: &mut MemorySink) -> bool {
+    matches!(put(&mut *sink, b"abcd"), Put::Failed)
+        && sink.bytes() == b"ab".as_slice()
+        && matches!(put(&mut *sink, b"wxyz"), Put::All)
+        && sink.bytes() == b"abwxyz".as_slice()
+}
+
+fn writes_half(sink: Result<MemorySink, AllocError>) -> bool {
+    match sink {
+        Ok(mut sink) => fails_at_first(&mut sink),
+        Err(_) => false,
+    }
 }
 
 #[test]
-fn a_put_that_fails_writes_half_and_is_counted(rt: HostRuntime) -> Result<(), Fail> {
-    let alloc = rt.alloc();
-    let mut sink = MemorySink::new(alloc, list(alloc, &[1])?);
-    assert!(rt; matches!(put(&mut sink, b"abcd"), Put::Failed));
-    assert_eq!(rt; sink.bytes(), b"ab".as_slice());
-    assert!(rt; matches!(put(&mut sink, b"wxyz"), Put::All));
-    assert_eq!(rt; sink.bytes(), b"abwxyz".as_slice());
-    Ok(())
+fn a_put_that_fails_writes_half_and_is_counted(rt: HostRuntime) {
+    assert!(rt; writes_half(failing_sink(rt.alloc(), &[1])));
+}
+
+fn are_written(rt: &HostRuntime) -> bool {
+    fs::write(rt, "here", "xyz").is_ok() && fs::write(rt, "other", "uvw").is_ok()
 }
 
 // The file `here` is read from its start on as it was opened, whatever takes its name meanwhile.
-#[test]
-fn a_real_file_is_read_on_where_it_is_open(rt: HostRuntime) -> Result<(), Fail> {
-    let alloc = rt.alloc();
-    fs::write(&rt, "here", "xyz")?;
-    fs::write(&rt, "other", "uvw")?;
-    let mut shelf = FileShelf::new(alloc, rt);
-    let mut into = Vec::new(alloc);
-    assert!(rt; gives(&mut shelf, &mut into, &[("here", 0, 2)]));
-    fs::rename(&rt, "other", "here")?;
+fn is_read_on(rt: &HostRuntime, shelf: &mut FileShelf<HostRuntime>) -> bool {
     let reads = [
         ("here", 2, 1),
         ("here", 3, 0),
@@ -111,9 +137,16 @@ fn a_real_file_is_read_on_where_it_is_open(rt: HostRuntime) -> Result<(), Fail> 
         ("gone", 0, FAILED),
         ("gone", 3, FAILED),
     ];
-    assert!(rt; gives(&mut shelf, &mut into, &reads));
-    assert!(rt; into.as_slice() == b"xyzvw".as_slice());
-    Ok(())
+    gives(rt.alloc(), &mut *shelf, &[("here", 0, 2)], b"xy")
+        && fs::rename(rt, "other", "here").is_ok()
+        && gives(rt.alloc(), &mut *shelf, &reads, b"zvw")
+}
+
+#[test]
+fn a_real_file_is_read_on_where_it_is_open(rt: HostRuntime) {
+    assert!(rt; are_written(&rt));
+    let mut shelf = FileShelf::new(rt.alloc(), rt);
+    assert!(rt; is_read_on(&rt, &mut shelf));
 }
 
 // A reader whose first reads are interrupted.
@@ -133,21 +166,35 @@ impl Read for Interrupted {
 }
 
 #[test]
-fn an_interrupted_read_is_tried_again(rt: HostRuntime) -> Result<(), Fail> {
+fn an_interrupted_read_is_tried_again(rt: HostRuntime) {
     let mut buffer = [0u8; 3];
-    let count = read_again(&mut Interrupted { times: 2 }, &mut buffer)?;
-    assert_eq!(rt; count, 3);
-    Ok(())
+    let count = read_again(&mut Interrupted { times: 2 }, &mut buffer);
+    assert!(rt; matches!(count, Ok(3)));
+}
+
+// Whether the file `there` has this text after the put.
+fn is_flushed<K: Sink>(rt: &HostRuntime, sink: &mut K, text: &[u8], whole: &str) -> bool {
+    if !matches!(put(sink, text), Put::All) {
+        return false;
+    }
+    match fs::read_to_string(rt, "there") {
+        Ok(written) => written.as_str() == whole,
+        Err(_) => false,
+    }
+}
+
+fn writes_through(rt: &HostRuntime) -> bool {
+    let Ok(file) = fs::create(rt, "there") else {
+        return false;
+    };
+    let Ok(stream) = BufWriter::new(rt.alloc(), file) else {
+        return false;
+    };
+    let mut sink = StreamSink::new(stream);
+    is_flushed(rt, &mut sink, b"ab", "ab") && is_flushed(rt, &mut sink, b"c", "abc")
 }
 
 #[test]
-fn a_stream_is_flushed_after_each_text(rt: HostRuntime) -> Result<(), Fail> {
-    let stream = BufWriter::new(rt.alloc(), fs::create(&rt, "there")?)?;
-    let mut sink = StreamSink::new(stream);
-    for (text, whole) in [(b"ab".as_slice(), "ab"), (b"c".as_slice(), "abc")] {
-        assert!(rt; matches!(put(&mut sink, text), Put::All));
-        let written = fs::read_to_string(&rt, "there")?;
-        assert_eq!(rt; written.as_str(), whole);
-    }
-    Ok(())
+fn a_stream_is_flushed_after_each_text(rt: HostRuntime) {
+    assert!(rt; writes_through(&rt));
 }

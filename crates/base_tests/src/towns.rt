@@ -1,44 +1,55 @@
 //! Generated towns.
-use polyline_geometry::List;
-use std::alloc::Global;
-use std::test::Fail;
 use town::{Draw, town_network, town_traces};
 
-// The lines of a text, each with its LF.
-fn lines(alloc: Global, text: &List<u8>) -> Result<Vec<&[u8]>, Fail> {
-    let mut lines = Vec::new(alloc);
-    for line in text.as_slice().split_inclusive(|byte| *byte == b'\n') {
-        lines.push(line)?;
+#[test]
+fn first_draws(rt: HostRuntime) {
+    let draws = [Draw::new(0).below(4), Draw::new(0).below(2001)];
+    assert!(rt; draws == [3, 1874]);
+}
+
+// The line of a text with this index, with its LF.
+fn line_of(text: &[u8], index: usize) -> Option<&[u8]> {
+    text.split_inclusive(|byte| *byte == b'\n').nth(index)
+}
+
+fn has_line(text: &[u8], index: usize, line: &[u8]) -> bool {
+    match line_of(text, index) {
+        None => false,
+        Some(found) => found == line,
     }
-    Ok(lines)
+}
+
+fn is_smallest_network(text: &[u8]) -> bool {
+    has_line(text, 0, b"edge,from,to,line\n")
+        && has_line(text, 1, b"0,0,1,0 0;10000 0\n")
+        && has_line(text, 8, b"7,3,2,10000 10000;0 10000\n")
+        && line_of(text, 9).is_none()
 }
 
 #[test]
-fn first_draws(rt: HostRuntime) -> Result<(), Fail> {
-    assert_eq!(rt; Draw::new(0).below(4), 3);
-    assert_eq!(rt; Draw::new(0).below(2001), 1874);
-    Ok(())
+fn smallest_network(rt: HostRuntime) {
+    let written = town_network(rt.alloc(), 2);
+    assert!(rt; matches!(&written, Ok(text) if is_smallest_network(text.as_slice())));
 }
 
-#[test]
-fn smallest_network(rt: HostRuntime) -> Result<(), Fail> {
-    let text = town_network(rt.alloc(), 2)?;
-    let lines = lines(rt.alloc(), &text)?;
-    assert_eq!(rt; lines.len(), 9);
-    assert!(rt; lines[0] == b"edge,from,to,line\n".as_slice());
-    assert!(rt; lines[1] == b"0,0,1,0 0;10000 0\n".as_slice());
-    assert!(rt; lines[8] == b"7,3,2,10000 10000;0 10000\n".as_slice());
-    Ok(())
-}
-
-#[test]
-fn smallest_traces(rt: HostRuntime) -> Result<(), Fail> {
-    let text = town_traces(rt.alloc(), 2, 1, 0)?;
-    let lines = lines(rt.alloc(), &text)?;
-    assert_eq!(rt; lines.len(), 21);
-    assert!(rt; lines[0] == b"trace,x,y\n".as_slice());
-    for line in &lines[1..] {
-        assert!(rt; line.starts_with(b"0,"));
+fn is_point_of_trace_0(line: Option<&[u8]>) -> bool {
+    match line {
+        None => false,
+        Some(line) => line.starts_with(b"0,"),
     }
-    Ok(())
+}
+
+fn has_twenty_points(text: &[u8]) -> bool {
+    for index in 1..21 {
+        if !is_point_of_trace_0(line_of(text, index)) {
+            return false;
+        }
+    }
+    has_line(text, 0, b"trace,x,y\n") && line_of(text, 21).is_none()
+}
+
+#[test]
+fn smallest_traces(rt: HostRuntime) {
+    let written = town_traces(rt.alloc(), 2, 1, 0);
+    assert!(rt; matches!(&written, Ok(text) if has_twenty_points(text.as_slice())));
 }

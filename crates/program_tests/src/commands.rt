@@ -1,13 +1,15 @@
 //! Runs of the commands over files in memory, with what each of them must give.
-use crate::runs::{Ended, FAULTY, TWO_TRACES, bytes, numbers, run_to_end};
-use edge_io::MemoryShelf;
+use crate::ended::{Ended, run_to_end, shelf};
 use match_pool::OpenGate;
-use polyline_geometry::List;
 use row_tests::small::{TWO_EDGES, TWO_WAYS};
 use std::alloc::{AllocError, Global};
 use std::thread::Threads;
 
 pub const ONE_TRACE: &[u8] = b"trace,x,y\n7,1000,300\n7,9000,-300\n";
+
+pub const TWO_TRACES: &[u8] = b"trace,x,y\n1,1000,0\n2,1000,0\n";
+
+pub const FAULTY: &[u8] = b"trace,x,y\n1,1000,0\n2,1000,0\n7,2000,0\n7,12x,0\n";
 
 const TWO_PLACES: &[u8] = b"trace,x,y\n1,500,0\n1,3500,0\n";
 
@@ -31,14 +33,22 @@ row 2 2:0:-
 certified traces 1 rows 2
 ";
 
-// A run, the file that each of its reads is for, how many puts on out it takes, and how it ends.
+const NO_NETWORK: &[u8] = b"fmm: cannot read network\n";
+
+const NO_TRACES: &[u8] = b"fmm: cannot read traces\n";
+
+const NO_TABLE: &[u8] = b"fmm: cannot read table\n";
+
+const NO_CERTIFICATE: &[u8] = b"fmm: cannot read certificate\n";
+
+// A run, the line of each of its reads where that fails, how many puts on out it takes, and how it ends.
 #[derive(Clone, Copy)]
 pub struct Run<'a> {
     pub shows: &'static str,
     pub words: &'static [&'static str],
-    pub network: &'static [u8],
+    pub network: &'a [u8],
     pub traces: &'a [u8],
-    pub reads: &'static [&'static str],
+    pub reads: &'static [&'static [u8]],
     pub puts: u64,
     pub status: u8,
     pub line: &'static [u8],
@@ -49,13 +59,13 @@ pub const MATCH: Run<'static> = Run {
     words: &["match", "net", "tra"],
     network: TWO_EDGES,
     traces: ONE_TRACE,
-    reads: &["network", "network", "traces", "traces"],
+    reads: &[NO_NETWORK, NO_NETWORK, NO_TRACES, NO_TRACES],
     puts: 2,
     status: 0,
     line: b"",
 };
 
-pub const RUNS: [Run<'static>; 13] = [
+pub static RUNS: [Run<'static>; 13] = [
     MATCH,
     Run {
         shows: "match of two traces",
@@ -72,7 +82,7 @@ pub const RUNS: [Run<'static>; 13] = [
     Run {
         shows: "match with a fault",
         traces: FAULTY,
-        reads: &["network", "network", "traces"],
+        reads: &[NO_NETWORK, NO_NETWORK, NO_TRACES],
         puts: 1,
         status: 6,
         line: b"traces line 5 field 2: bad number\n",
@@ -81,7 +91,7 @@ pub const RUNS: [Run<'static>; 13] = [
     Run {
         shows: "match with an id twice",
         network: ID_TWICE,
-        reads: &["network", "network"],
+        reads: &[NO_NETWORK, NO_NETWORK],
         puts: 0,
         status: 5,
         line: b"network record 3: edge id repeated\n",
@@ -108,7 +118,9 @@ pub const RUNS: [Run<'static>; 13] = [
     Run {
         shows: "match with a table",
         words: &["match", "net", "tra", "--table", "tab"],
-        reads: &["network", "network", "table", "table", "traces", "traces"],
+        reads: &[
+            NO_NETWORK, NO_NETWORK, NO_TABLE, NO_TABLE, NO_TRACES, NO_TRACES,
+        ],
         ..MATCH
     },
     Run {
@@ -133,12 +145,12 @@ pub const RUNS: [Run<'static>; 13] = [
         shows: "check",
         words: &["check", "net", "tra", "cert"],
         reads: &[
-            "network",
-            "network",
-            "traces",
-            "traces",
-            "certificate",
-            "certificate",
+            NO_NETWORK,
+            NO_NETWORK,
+            NO_TRACES,
+            NO_TRACES,
+            NO_CERTIFICATE,
+            NO_CERTIFICATE,
         ],
         puts: 1,
         ..MATCH
@@ -147,7 +159,7 @@ pub const RUNS: [Run<'static>; 13] = [
         shows: "table",
         words: &["table", "net"],
         traces: b"",
-        reads: &["network", "network"],
+        reads: &[NO_NETWORK, NO_NETWORK],
         puts: 1,
         ..MATCH
     },
@@ -175,12 +187,12 @@ pub fn end<R: Threads + Sync>(
     it: &Run<'_>,
     trouble: Trouble<'_>,
 ) -> Result<Ended, AllocError> {
-    let mut files = List::new(alloc);
-    files.push((bytes(alloc, b"net")?, bytes(alloc, it.network)?))?;
-    files.push((bytes(alloc, b"tra")?, bytes(alloc, it.traces)?))?;
-    files.push((bytes(alloc, b"tab")?, bytes(alloc, TABLE)?))?;
-    files.push((bytes(alloc, b"cert")?, bytes(alloc, CERTIFICATE)?))?;
-    let reads = numbers(alloc, trouble.reads)?;
-    let mut shelf = MemoryShelf::drip(alloc, files, reads, trouble.most.max(1));
+    let files = [
+        ("net", it.network),
+        ("tra", it.traces),
+        ("tab", TABLE),
+        ("cert", CERTIFICATE),
+    ];
+    let mut shelf = shelf(alloc, &files, trouble.reads, trouble.most)?;
     run_to_end(rt, alloc, it.words, &mut shelf, trouble.puts, &OpenGate)
 }

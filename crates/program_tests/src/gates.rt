@@ -2,7 +2,8 @@
 //! the rows of one store. Each gate shows it through `run`.
 ghost use Rattle.std.specs.Prelude.{◌≡◌, IfOk, IfSome};
 
-use crate::runs::{many_texts, many_traces, run_to_end, shelf};
+use crate::ended::{run_to_end, shelf};
+use crate::texts::{many_texts, many_traces};
 use bounded_search::Row;
 use match_pool::Gate;
 use polyline_geometry::List;
@@ -12,7 +13,6 @@ use row_tests::small::{TWO_EDGES, entry};
 use std::alloc::{AllocError, Global};
 use std::sync::atomic::AtomicU64;
 use std::sync::atomic::Ordering::SeqCst;
-use std::test::Fail;
 use std::thread;
 use std::thread::Threads;
 
@@ -23,18 +23,30 @@ fn gives<R: Threads + Sync, G: Gate>(
     traces: &[u8],
     text: &[u8],
     gate: &G,
-) -> Result<bool, AllocError> {
-    let mut shelf = shelf(alloc, TWO_EDGES, traces, &[])?;
+) -> bool {
+    let files = [("net", TWO_EDGES), ("tra", traces)];
+    let Ok(mut shelf) = shelf(alloc, &files, &[], u32::MAX) else {
+        return false;
+    };
     let words = ["match", "net", "tra", "--workers", "2"];
-    let ended = run_to_end(rt, alloc, &words, &mut shelf, [&[], &[]], gate)?;
-    Ok(ended.is(0, text, b""))
+    match run_to_end(rt, alloc, &words, &mut shelf, [&[], &[]], gate) {
+        Ok(ended) => ended.is(0, text, b""),
+        Err(_) => false,
+    }
 }
 
-// The text of so many traces of one point, with the total line.
-fn whole_text(alloc: Global, count: u64, total: &[u8]) -> Result<List<u8>, AllocError> {
-    let mut text = many_texts(alloc, count)?;
-    text.extend_from_slice(total)?;
-    Ok(text)
+// The same for so many traces of one point, with their total line.
+fn gives_many<R: Threads + Sync, G: Gate>(
+    rt: &R,
+    alloc: Global,
+    count: u64,
+    total: &[u8],
+    gate: &G,
+) -> bool {
+    match (many_traces(alloc, count), many_texts(alloc, count, total)) {
+        (Ok(traces), Ok(text)) => gives(rt, alloc, traces.as_slice(), text.as_slice(), gate),
+        _ => false,
+    }
 }
 
 const TWO: &[u8] = b"total traces 2 points 2 pieces 2 rows 0\n";
@@ -89,30 +101,24 @@ fn end_beside<R: Threads + Sync>(
     held: u64,
     others: u64,
     total: &[u8],
-) -> Result<bool, AllocError> {
-    let count = others.saturating_add(1);
-    let traces = many_traces(alloc, count)?;
-    let text = whole_text(alloc, count, total)?;
+) -> bool {
     let gate = Holder::new(held, others);
-    let given = gives(rt, alloc, traces.as_slice(), text.as_slice(), &gate)?;
-    Ok(given && gate.late.load(SeqCst) == 0)
+    gives_many(rt, alloc, others.saturating_add(1), total, &gate) && gate.late.load(SeqCst) == 0
 }
 
 // Workers that run one after the other fail here: the second trace never ends while the first is held.
 #[test]
-fn workers_run_beside_each_other(rt: HostRuntime) -> Result<(), Fail> {
-    assert!(rt; end_beside(&rt, rt.alloc(), 0, 1, TWO)?);
-    Ok(())
+fn workers_run_beside_each_other(rt: HostRuntime) {
+    assert!(rt; end_beside(&rt, rt.alloc(), 0, 1, TWO));
 }
 
 // Workers with fixed parts of the traces fail here: where the first trace of a part is held, the others
 // of that part never end.
 #[test]
-fn no_worker_has_a_fixed_part(rt: HostRuntime) -> Result<(), Fail> {
+fn no_worker_has_a_fixed_part(rt: HostRuntime) {
     for held in 0..4 {
-        assert!(rt; end_beside(&rt, rt.alloc(), held, 3, FOUR)?);
+        assert!(rt; end_beside(&rt, rt.alloc(), held, 3, FOUR));
     }
-    Ok(())
 }
 
 const ALONG: &[u8] = b"trace,x,y\n7,1000,300\n7,9000,-300\n";
@@ -165,13 +171,13 @@ fn has_both_rows(alloc: Global, store: &RowStore<'_>) -> Result<bool, AllocError
     if store.network().node_count() < 3 {
         return Ok(false);
     }
-    let Some(row) = long_row(alloc)? else {
-        return Ok(false);
-    };
     let mut reader = store.reader()?;
     if !is_cut_row(reader.look(NodeId(1))?) {
         return Ok(false);
     }
+    let Some(row) = long_row(alloc)? else {
+        return Ok(false);
+    };
     let held = reader.offer(NodeId(2), row)?;
     Ok(held.entries() == [entry(2, 0, None)].as_slice())
 }
@@ -198,21 +204,19 @@ impl Gate for Planter {
 }
 
 // Whether a trace is matched as always where a gate plants rows, and both looks of the gate find them.
-fn share_the_store<R: Threads + Sync>(rt: &R, alloc: Global) -> Result<bool, AllocError> {
+fn share_the_store<R: Threads + Sync>(rt: &R, alloc: Global) -> bool {
     let gate = Planter {
         alloc,
         steps: AtomicU64::new(0),
     };
-    let given = gives(rt, alloc, ALONG, ALONG_TEXT, &gate)?;
-    Ok(given && gate.steps.load(SeqCst) == 2)
+    gives(rt, alloc, ALONG, ALONG_TEXT, &gate) && gate.steps.load(SeqCst) == 2
 }
 
 // Workers with rows of their own past the store fail here: the cell of node 2 is empty afterwards, and
 // takes the wrong row.
 #[test]
-fn workers_share_the_store(rt: HostRuntime) -> Result<(), Fail> {
-    assert!(rt; share_the_store(&rt, rt.alloc())?);
-    Ok(())
+fn workers_share_the_store(rt: HostRuntime) {
+    assert!(rt; share_the_store(&rt, rt.alloc()));
 }
 
 // How many traces begin and end at each place, and last how many at any other place.
@@ -261,21 +265,24 @@ impl Gate for Places {
 
 const MANY: &[u8] = b"total traces 600 points 600 pieces 600 rows 0\n";
 
+fn make_places(alloc: Global, count: u64) -> Result<Places, AllocError> {
+    let begun = noughts(alloc, count)?;
+    let ended = noughts(alloc, count)?;
+    Ok(Places { begun, ended })
+}
+
 // Whether the gate hears of each place from 0 to 599 once.
-fn are_heard_once<R: Threads + Sync>(rt: &R, alloc: Global) -> Result<bool, AllocError> {
-    let traces = many_traces(alloc, 600)?;
-    let text = whole_text(alloc, 600, MANY)?;
-    let gate = Places {
-        begun: noughts(alloc, 601)?,
-        ended: noughts(alloc, 601)?,
+fn are_heard_once<R: Threads + Sync>(rt: &R, alloc: Global) -> bool {
+    let Ok(gate) = make_places(alloc, 601) else {
+        return false;
     };
-    let given = gives(rt, alloc, traces.as_slice(), text.as_slice(), &gate)?;
-    Ok(given && are_once_each(gate.begun.as_slice()) && are_once_each(gate.ended.as_slice()))
+    gives_many(rt, alloc, 600, MANY, &gate)
+        && are_once_each(gate.begun.as_slice())
+        && are_once_each(gate.ended.as_slice())
 }
 
 // A run that counts the places of each batch from 0 fails here.
 #[test]
-fn each_place_of_the_file_is_heard_once(rt: HostRuntime) -> Result<(), Fail> {
-    assert!(rt; are_heard_once(&rt, rt.alloc())?);
-    Ok(())
+fn each_place_of_the_file_is_heard_once(rt: HostRuntime) {
+    assert!(rt; are_heard_once(&rt, rt.alloc()));
 }

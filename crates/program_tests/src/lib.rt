@@ -7,6 +7,8 @@
 #[cfg(test)]
 mod commands;
 #[cfg(test)]
+mod ended;
+#[cfg(test)]
 mod gates;
 #[cfg(test)]
 mod live_runs;
@@ -16,3 +18,5 @@ mod reads;
 mod refusals;
 #[cfg(test)]
 mod runs;
+#[cfg(test)]
+mod texts;

@@ -1,5 +1,6 @@
 //! Runs of `live` with two threads that are observed, failing reads and failing puts.
-use crate::runs::{bytes, many_traces};
+use crate::ended::{self, sink, words};
+use crate::texts::many_traces;
 use edge_io::{MemoryShelf, MemorySink, Put, Shelf, Sink, Taken};
 use live_pipeline::live;
 use polyline_geometry::List;
@@ -7,7 +8,6 @@ use row_tests::small::TWO_EDGES;
 use std::alloc::{AllocError, Global};
 use std::sync::Wait;
 use std::sync::atomic::{AtomicBool, Ordering};
-use std::test::Fail;
 use std::thread;
 use std::thread::Threads;
 
@@ -16,22 +16,25 @@ const TRACES: &[u8] = b"trace,x,y\n1,1000,0\n2,1000,0\n3,1000,0\n3,2000,0\n";
 
 const FIRST_PIECE: u32 = 37;
 
-// A shelf of the network `net` and the traces `tra`, whose calls give so many bytes at most, and fail at
-// these numbers.
+// A shelf of the network `net` and the traces `tra`.
 fn shelf(alloc: Global, traces: &[u8], most: u32, fail: &[u64]) -> Result<MemoryShelf, AllocError> {
-    let mut files = List::new(alloc);
-    files.push((bytes(alloc, b"net")?, bytes(alloc, TWO_EDGES)?))?;
-    files.push((bytes(alloc, b"tra")?, bytes(alloc, traces)?))?;
-    let mut calls = List::new(alloc);
-    calls.extend_from_slice(fail)?;
-    Ok(MemoryShelf::drip(alloc, files, calls, most.max(1)))
+    ended::shelf(alloc, &[("net", TWO_EDGES), ("tra", traces)], fail, most)
 }
 
-fn words(alloc: Global) -> Result<Vec<String>, AllocError> {
-    let mut words = Vec::new(alloc);
-    words.push(String::from_str(alloc, "net")?)?;
-    words.push(String::from_str(alloc, "tra")?)?;
-    Ok(words)
+// Whether the run over the shelf ends with this status and line.
+fn ends_with<R: Threads + Wait + Sync, S: Shelf + Send + Drop, K: Sink>(
+    rt: &R,
+    alloc: Global,
+    shelf: S,
+    out: &mut K,
+    (status, line): (u8, &[u8]),
+) -> bool {
+    let Ok(words) = words(alloc, &["net", "tra"]) else {
+        return false;
+    };
+    let mut err = MemorySink::new(alloc, List::new(alloc));
+    let (ended, _) = live(rt, alloc, &words, shelf, out, &mut err);
+    ended == status && err.bytes() == line
 }
 
 // A shelf that gives what is behind the first piece of the traces only when trace 1 was written, or
@@ -84,14 +87,16 @@ impl<'a> Sink for SeeingSink<'a> {
     }
 }
 
-// What no clause says: a trace is written while the file is still being read.
-#[test]
-fn both_threads_run(rt: HostRuntime) -> Result<(), Fail> {
-    let alloc = rt.alloc();
+const TOTAL: &[u8] = b"total traces 3 points 4 pieces 3 rows 2\n";
+
+fn is_written_while_read<R: Threads + Wait + Sync>(rt: &R, alloc: Global) -> bool {
+    let Ok(inner) = shelf(alloc, TRACES, FIRST_PIECE, &[]) else {
+        return false;
+    };
     let seen = AtomicBool::new(false);
     let late = AtomicBool::new(false);
     let shelf = GatedShelf {
-        inner: shelf(alloc, TRACES, FIRST_PIECE, &[])?,
+        inner,
         seen: &seen,
         late: &late,
     };
@@ -99,62 +104,91 @@ fn both_threads_run(rt: HostRuntime) -> Result<(), Fail> {
         inner: MemorySink::new(alloc, List::new(alloc)),
         seen: &seen,
     };
-    let mut err = MemorySink::new(alloc, List::new(alloc));
-    let words = words(alloc)?;
-    let (status, _) = live(&rt, alloc, &words, shelf, &mut out, &mut err);
-    assert_eq!(rt; status, 0u8);
-    assert!(rt;
-        out.inner
-            .bytes()
-            .ends_with(b"total traces 3 points 4 pieces 3 rows 2\n")
-    );
-    assert!(rt; !late.load(Ordering::SeqCst));
-    Ok(())
+    ends_with(rt, alloc, shelf, &mut out, (0, b""))
+        && out.inner.bytes().ends_with(TOTAL)
+        && !late.load(Ordering::SeqCst)
 }
 
-// The status, what is on out and what is on err, where the reads of these numbers fail.
-fn ended<R: Threads + Wait + Sync>(
+// What no clause says: a trace is written while the file is still being read.
+#[test]
+fn both_threads_run(rt: HostRuntime) {
+    assert!(rt; is_written_while_read(&rt, rt.alloc()));
+}
+
+// What is on out where the reads of these numbers fail. None where the run ends with another status or
+// line.
+fn out_of<R: Threads + Wait + Sync>(
     rt: &R,
     alloc: Global,
     fail: &[u64],
-) -> Result<(u8, MemorySink, MemorySink), AllocError> {
+    wanted: (u8, &[u8]),
+) -> Option<MemorySink> {
+    let Ok(shelf) = shelf(alloc, TRACES, u32::MAX, fail) else {
+        return None;
+    };
     let mut out = MemorySink::new(alloc, List::new(alloc));
-    let mut err = MemorySink::new(alloc, List::new(alloc));
-    let words = words(alloc)?;
-    let shelf = shelf(alloc, TRACES, u32::MAX, fail)?;
-    let (status, _) = live(rt, alloc, &words, shelf, &mut out, &mut err);
-    Ok((status, out, err))
+    if ends_with(rt, alloc, shelf, &mut out, wanted) {
+        Some(out)
+    } else {
+        None
+    }
 }
 
-// Two reads are for the network, and two for the traces.
-#[test]
-fn each_read_fails_in_turn(rt: HostRuntime) -> Result<(), Fail> {
-    let alloc = rt.alloc();
-    let (status, whole, _) = ended(&rt, alloc, &[5])?;
-    assert_eq!(rt; status, 0u8);
-    let network = b"fmm: cannot read network\n".as_slice();
-    let traces = b"fmm: cannot read traces\n".as_slice();
-    for (read, line) in [(1, network), (2, network), (3, traces), (4, traces)] {
-        let (status, out, err) = ended(&rt, alloc, &[read])?;
-        assert_eq!(rt; status, 3u8);
-        assert!(rt; whole.bytes().starts_with(out.bytes()));
-        assert_eq!(rt; err.bytes(), line);
+// Whether this failing read ends the run with status 3, this line and a beginning of the whole text.
+fn is_cut<R: Threads + Wait + Sync>(
+    rt: &R,
+    alloc: Global,
+    read: u64,
+    line: &[u8],
+    whole: &[u8],
+) -> bool {
+    match out_of(rt, alloc, &[read], (3, line)) {
+        Some(out) => whole.starts_with(out.bytes()),
+        None => false,
     }
-    Ok(())
+}
+
+const NO_NETWORK: &[u8] = b"fmm: cannot read network\n";
+
+const NO_TRACES: &[u8] = b"fmm: cannot read traces\n";
+
+// Each failing read and its line: two reads are for the network, and two for the traces.
+static READS: [(u64, &[u8]); 4] = [
+    (1, NO_NETWORK),
+    (2, NO_NETWORK),
+    (3, NO_TRACES),
+    (4, NO_TRACES),
+];
+
+fn fails_at_each_read<R: Threads + Wait + Sync>(rt: &R, alloc: Global, whole: &[u8]) -> bool {
+    for (read, line) in &READS {
+        if !is_cut(rt, alloc, *read, line, whole) {
+            return false;
+        }
+    }
+    true
+}
+
+#[test]
+fn each_read_fails_in_turn(rt: HostRuntime) {
+    let whole = out_of(&rt, rt.alloc(), &[5], (0, b""));
+    assert!(rt; matches!(&whole, Some(out) if fails_at_each_read(&rt, rt.alloc(), out.bytes())));
+}
+
+fn shelf_of_many(alloc: Global, count: u64) -> Result<MemoryShelf, AllocError> {
+    let traces = many_traces(alloc, count)?;
+    shelf(alloc, traces.as_slice(), u32::MAX, &[])
+}
+
+fn fails_at_its_first_put<R: Threads + Wait + Sync>(rt: &R, alloc: Global) -> bool {
+    let (Ok(shelf), Ok(mut out)) = (shelf_of_many(alloc, 600), sink(alloc, &[1])) else {
+        return false;
+    };
+    ends_with(rt, alloc, shelf, &mut out, (4, b"fmm: write failed\n"))
 }
 
 // More traces than the relay has room for: the matcher takes on, and drops them.
 #[test]
-fn a_failed_put_ends_the_run(rt: HostRuntime) -> Result<(), Fail> {
-    let alloc = rt.alloc();
-    let shelf = shelf(alloc, many_traces(alloc, 600)?.as_slice(), u32::MAX, &[])?;
-    let mut first = List::new(alloc);
-    first.push(1u64)?;
-    let mut out = MemorySink::new(alloc, first);
-    let mut err = MemorySink::new(alloc, List::new(alloc));
-    let words = words(alloc)?;
-    let (status, _) = live(&rt, alloc, &words, shelf, &mut out, &mut err);
-    assert_eq!(rt; status, 4u8);
-    assert_eq!(rt; err.bytes(), b"fmm: write failed\n".as_slice());
-    Ok(())
+fn a_failed_put_ends_the_run(rt: HostRuntime) {
+    assert!(rt; fails_at_its_first_put(&rt, rt.alloc()));
 }

@@ -1,21 +1,36 @@
 //! Each read and each put fails in turn, and files come a few bytes at a time.
 use crate::commands::{MATCH, NONE, RUNS, Run, Trouble, end};
-use crate::runs::{Ended, many_traces};
-use polyline_geometry::List;
-use std::alloc::{AllocError, Global};
-use std::test::Fail;
+use crate::ended::Ended;
+use crate::texts::many_traces;
+use std::alloc::Global;
 use std::thread::Threads;
 
-impl Ended {
-    // It ended with this status and line, and with a beginning of the text of another run.
-    fn is_cut(&self, status: u8, line: &[u8], whole: &Ended) -> bool {
-        self.status == status
-            && self.err.bytes() == line
-            && whole.out.bytes().starts_with(self.out.bytes())
+// Whether a run with such trouble ends with this status and line, and with a beginning of the whole text.
+fn is_cut<R: Threads + Sync>(
+    rt: &R,
+    alloc: Global,
+    it: &Run<'_>,
+    trouble: Trouble<'_>,
+    (status, line): (u8, &[u8]),
+    whole: &Ended,
+) -> bool {
+    match end(rt, alloc, it, trouble) {
+        Ok(cut) => cut.is_cut(status, line, whole),
+        Err(_) => false,
     }
+}
 
-    fn is_same(&self, whole: &Ended) -> bool {
-        self.is_cut(whole.status, whole.err.bytes(), whole) && self.out.bytes() == whole.out.bytes()
+// Whether it ends as the whole run does.
+fn is_same<R: Threads + Sync>(
+    rt: &R,
+    alloc: Global,
+    it: &Run<'_>,
+    trouble: Trouble<'_>,
+    whole: &Ended,
+) -> bool {
+    match end(rt, alloc, it, trouble) {
+        Ok(ended) => ended.is_same(whole),
+        Err(_) => false,
     }
 }
 
@@ -24,46 +39,26 @@ fn fails_at_each_read<R: Threads + Sync>(
     rt: &R,
     alloc: Global,
     it: &Run<'_>,
-) -> Result<bool, AllocError> {
-    let whole = end(rt, alloc, it, NONE)?;
-    for (place, file) in it.reads.iter().enumerate() {
-        let mut line = List::new(alloc);
-        line.extend_from_slice(b"fmm: cannot read ")?;
-        line.extend_from_slice(file.as_bytes())?;
-        line.extend_from_slice(b"\n")?;
-        let read = (place as u64).saturating_add(1);
-        let cut = end(
-            rt,
-            alloc,
-            it,
-            Trouble {
-                reads: &[read],
-                ..NONE
-            },
-        )?;
-        if !cut.is_cut(3, line.as_slice(), &whole) {
-            return Ok(false);
-        }
-    }
-    let after_all = (it.reads.len() as u64).saturating_add(1);
-    let same = end(
-        rt,
-        alloc,
-        it,
-        Trouble {
-            reads: &[after_all],
+    whole: &Ended,
+) -> bool {
+    let mut read = 1;
+    for line in it.reads {
+        let trouble = Trouble {
+            reads: &[read],
             ..NONE
-        },
-    )?;
-    Ok(same.is_same(&whole) && whole.status == it.status && whole.err.bytes() == it.line)
-}
-
-#[test]
-fn each_read_fails_in_turn(rt: HostRuntime) -> Result<(), Fail> {
-    for it in &RUNS {
-        assert!(rt; fails_at_each_read(&rt, rt.alloc(), it)?, "{}", it.shows);
+        };
+        if !is_cut(rt, alloc, it, trouble, (3, line), whole) {
+            return false;
+        }
+        read = read.saturating_add(1);
     }
-    Ok(())
+    let trouble = Trouble {
+        reads: &[read],
+        ..NONE
+    };
+    is_same(rt, alloc, it, trouble, whole)
+        && whole.status == it.status
+        && whole.err.bytes() == it.line
 }
 
 // The same for each put on out.
@@ -71,55 +66,23 @@ fn fails_at_each_put<R: Threads + Sync>(
     rt: &R,
     alloc: Global,
     it: &Run<'_>,
-) -> Result<bool, AllocError> {
-    let whole = end(rt, alloc, it, NONE)?;
-    for put in 0..it.puts {
-        let cut = end(
-            rt,
-            alloc,
-            it,
-            Trouble {
-                puts: [&[put + 1], &[]],
-                ..NONE
-            },
-        )?;
-        if !cut.is_cut(4, b"fmm: write failed\n", &whole) || cut.is_same(&whole) {
-            return Ok(false);
+    whole: &Ended,
+) -> bool {
+    for before in 0..it.puts {
+        let trouble = Trouble {
+            puts: [&[before + 1], &[]],
+            ..NONE
+        };
+        if !is_cut(rt, alloc, it, trouble, (4, b"fmm: write failed\n"), whole) {
+            return false;
         }
     }
     let after_all = it.puts.saturating_add(1);
-    let same = end(
-        rt,
-        alloc,
-        it,
-        Trouble {
-            puts: [&[after_all], &[]],
-            ..NONE
-        },
-    )?;
-    Ok(same.is_same(&whole))
-}
-
-#[test]
-fn each_put_fails_in_turn(rt: HostRuntime) -> Result<(), Fail> {
-    for it in &RUNS {
-        assert!(rt; fails_at_each_put(&rt, rt.alloc(), it)?, "{}", it.shows);
-    }
-    Ok(())
-}
-
-// Two batches of 256 traces, one of 88, and the total line.
-#[test]
-fn batches_fail_in_turn(rt: HostRuntime) -> Result<(), Fail> {
-    let traces = many_traces(rt.alloc(), 600)?;
-    let it = Run {
-        traces: traces.as_slice(),
-        puts: 4,
-        ..MATCH
+    let trouble = Trouble {
+        puts: [&[after_all], &[]],
+        ..NONE
     };
-    assert!(rt; fails_at_each_read(&rt, rt.alloc(), &it)?);
-    assert!(rt; fails_at_each_put(&rt, rt.alloc(), &it)?);
-    Ok(())
+    is_same(rt, alloc, it, trouble, whole)
 }
 
 // Whether a run that has a line for err ends with status 4 and half of the line where its put fails.
@@ -127,50 +90,95 @@ fn fails_at_its_line<R: Threads + Sync>(
     rt: &R,
     alloc: Global,
     it: &Run<'_>,
-) -> Result<bool, AllocError> {
-    let whole = end(rt, alloc, it, NONE)?;
-    let cut = end(
-        rt,
-        alloc,
-        it,
-        Trouble {
-            puts: [&[], &[1]],
-            ..NONE
-        },
-    )?;
+    whole: &Ended,
+) -> bool {
+    let trouble = Trouble {
+        puts: [&[], &[1]],
+        ..NONE
+    };
     if it.line.is_empty() {
-        return Ok(cut.is_same(&whole));
+        return is_same(rt, alloc, it, trouble, whole);
     }
-    Ok(cut.is(4, whole.out.bytes(), &it.line[..it.line.len() / 2]))
-}
-
-#[test]
-fn each_line_fails(rt: HostRuntime) -> Result<(), Fail> {
-    for it in &RUNS {
-        assert!(rt; fails_at_its_line(&rt, rt.alloc(), it)?, "{}", it.shows);
+    let half = &it.line[..it.line.len() / 2];
+    match end(rt, alloc, it, trouble) {
+        Ok(cut) => cut.is(4, whole.out.bytes(), half),
+        Err(_) => false,
     }
-    Ok(())
 }
 
 // Whether a run ends as always where its files come by one, two and seven bytes.
-fn is_same_by_drops<R: Threads + Sync>(
-    rt: &R,
-    alloc: Global,
-    it: &Run<'_>,
-) -> Result<bool, AllocError> {
-    let whole = end(rt, alloc, it, NONE)?;
+fn is_same_by_drops<R: Threads + Sync>(rt: &R, alloc: Global, it: &Run<'_>, whole: &Ended) -> bool {
     for most in [1, 2, 7] {
-        if !end(rt, alloc, it, Trouble { most, ..NONE })?.is_same(&whole) {
-            return Ok(false);
+        if !is_same(rt, alloc, it, Trouble { most, ..NONE }, whole) {
+            return false;
         }
     }
-    Ok(true)
+    true
+}
+
+#[derive(Clone, Copy)]
+enum Trial {
+    Reads,
+    Puts,
+    Line,
+    Drops,
+}
+
+fn passes<R: Threads + Sync>(rt: &R, alloc: Global, it: &Run<'_>, trial: Trial) -> bool {
+    let Ok(whole) = end(rt, alloc, it, NONE) else {
+        return false;
+    };
+    match trial {
+        Trial::Reads => fails_at_each_read(rt, alloc, it, &whole),
+        Trial::Puts => fails_at_each_put(rt, alloc, it, &whole),
+        Trial::Line => fails_at_its_line(rt, alloc, it, &whole),
+        Trial::Drops => is_same_by_drops(rt, alloc, it, &whole),
+    }
 }
 
 #[test]
-fn files_come_by_drops(rt: HostRuntime) -> Result<(), Fail> {
+fn each_read_fails_in_turn(rt: HostRuntime) {
     for it in &RUNS {
-        assert!(rt; is_same_by_drops(&rt, rt.alloc(), it)?, "{}", it.shows);
+        assert!(rt; passes(&rt, rt.alloc(), it, Trial::Reads), "{}", it.shows);
     }
-    Ok(())
+}
+
+#[test]
+fn each_put_fails_in_turn(rt: HostRuntime) {
+    for it in &RUNS {
+        assert!(rt; passes(&rt, rt.alloc(), it, Trial::Puts), "{}", it.shows);
+    }
+}
+
+#[test]
+fn each_line_fails(rt: HostRuntime) {
+    for it in &RUNS {
+        assert!(rt; passes(&rt, rt.alloc(), it, Trial::Line), "{}", it.shows);
+    }
+}
+
+#[test]
+fn files_come_by_drops(rt: HostRuntime) {
+    for it in &RUNS {
+        assert!(rt; passes(&rt, rt.alloc(), it, Trial::Drops), "{}", it.shows);
+    }
+}
+
+// Two batches of 256 traces, one of 88, and the total line.
+fn passes_in_batches<R: Threads + Sync>(rt: &R, alloc: Global, trial: Trial) -> bool {
+    let Ok(traces) = many_traces(alloc, 600) else {
+        return false;
+    };
+    let it = Run {
+        traces: traces.as_slice(),
+        puts: 4,
+        ..MATCH
+    };
+    passes(rt, alloc, &it, trial)
+}
+
+#[test]
+fn batches_fail_in_turn(rt: HostRuntime) {
+    assert!(rt; passes_in_batches(&rt, rt.alloc(), Trial::Reads));
+    assert!(rt; passes_in_batches(&rt, rt.alloc(), Trial::Puts));
 }

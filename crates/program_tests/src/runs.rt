@@ -1,21 +1,9 @@
-//! Runs of `run` with failing reads and puts, and with files that come a few bytes at a time.
-use decimal_text::write_unsigned;
-use edge_io::{MemoryShelf, MemorySink, Shelf};
-use match_pool::{Gate, OpenGate};
+//! Runs of `run` with failing reads and puts, and the text that they then give.
+use crate::commands::{FAULTY, MATCH, NONE, Run, TWO_TRACES, Trouble, end};
+use crate::texts::{list, many_texts, many_traces};
 use polyline_geometry::List;
-use program_run::run;
-use row_tests::small::TWO_EDGES;
 use std::alloc::{AllocError, Global};
-use std::test::Fail;
 use std::thread::Threads;
-
-const MATCH: &[&str] = &["match", "net", "tra"];
-
-const PROVE: &[&str] = &["prove", "net", "tra"];
-
-pub const TWO_TRACES: &[u8] = b"trace,x,y\n1,1000,0\n2,1000,0\n";
-
-pub const FAULTY: &[u8] = b"trace,x,y\n1,1000,0\n2,1000,0\n7,2000,0\n7,12x,0\n";
 
 // Half of the two texts.
 const ONE_TEXT: &[u8] =
@@ -24,218 +12,176 @@ const ONE_TEXT: &[u8] =
 const TWO_TEXTS: &[u8] =
     b"trace 1\nat 0 edge 10 offset 1000 d2 0\npiece 0 0 cost 0 route 10\nend 1\ntrace 2\nat 0 edge 10 offset 1000 d2 0\npiece 0 0 cost 0 route 10\nend 2\n";
 
-// A run, with the numbers of the calls that fail on the shelf, on out and on err, and what it
-// must give.
-struct Case {
-    shows: &'static str,
-    words: &'static [&'static str],
-    traces: &'static [u8],
-    fail: [&'static [u64]; 3],
+// A run with trouble, and the status, the text and the line that it must give.
+#[derive(Clone, Copy)]
+struct Case<'a> {
+    run: Run<'a>,
+    trouble: Trouble<'a>,
     status: u8,
-    out: &'static [u8],
-    err: &'static [u8],
+    out: &'a [u8],
+    err: &'a [u8],
 }
 
-const CASES: [Case; 9] = [
+const TWO: Run<'static> = Run {
+    traces: TWO_TRACES,
+    ..MATCH
+};
+
+static CASES: [Case<'static>; 7] = [
     Case {
-        shows: "a refused word reads nothing",
-        words: &["match", "net", "tra", "--k", "33"],
-        traces: TWO_TRACES,
-        fail: [&[1], &[], &[]],
-        status: 2,
-        out: b"",
-        err: b"fmm: bad value k\n",
-    },
-    Case {
-        shows: "a refused command line reads nothing",
-        words: &["match", "net"],
-        traces: TWO_TRACES,
-        fail: [&[1], &[], &[]],
-        status: 2,
-        out: b"",
-        err: b"fmm: bad command line\n",
-    },
-    Case {
-        shows: "the first call for the network fails",
-        words: MATCH,
-        traces: TWO_TRACES,
-        fail: [&[1], &[], &[]],
+        run: Run {
+            shows: "the first call for the network fails",
+            ..TWO
+        },
+        trouble: Trouble {
+            reads: &[1],
+            ..NONE
+        },
         status: 3,
         out: b"",
         err: b"fmm: cannot read network\n",
     },
     Case {
-        shows: "the first call for the traces fails",
-        words: MATCH,
-        traces: TWO_TRACES,
-        fail: [&[3], &[], &[]],
+        run: Run {
+            shows: "the first call for the traces fails",
+            ..TWO
+        },
+        trouble: Trouble {
+            reads: &[3],
+            ..NONE
+        },
         status: 3,
         out: b"",
         err: b"fmm: cannot read traces\n",
     },
     Case {
-        shows: "the traces are read no further than the chunk with the fault",
-        words: MATCH,
-        traces: FAULTY,
-        fail: [&[4], &[], &[]],
+        run: Run {
+            shows: "the traces are read no further than the chunk with the fault",
+            traces: FAULTY,
+            ..MATCH
+        },
+        trouble: Trouble {
+            reads: &[4],
+            ..NONE
+        },
         status: 6,
         out: TWO_TEXTS,
         err: b"traces line 5 field 2: bad number\n",
     },
     Case {
-        shows: "traces that are held are read no further than the chunk with the fault",
-        words: PROVE,
-        traces: FAULTY,
-        fail: [&[4], &[], &[]],
+        run: Run {
+            shows: "traces that are held are read no further than the chunk with the fault",
+            words: &["prove", "net", "tra"],
+            traces: FAULTY,
+            ..MATCH
+        },
+        trouble: Trouble {
+            reads: &[4],
+            ..NONE
+        },
         status: 6,
         out: b"",
         err: b"traces line 5 field 2: bad number\n",
     },
     Case {
-        shows: "the certificate is read behind the traces",
-        words: &["check", "net", "tra", "tra"],
-        traces: TWO_TRACES,
-        fail: [&[5], &[], &[]],
+        run: Run {
+            shows: "the certificate is read behind the traces",
+            words: &["check", "net", "tra", "tra"],
+            ..TWO
+        },
+        trouble: Trouble {
+            reads: &[5],
+            ..NONE
+        },
         status: 3,
         out: b"",
         err: b"fmm: cannot read certificate\n",
     },
     Case {
-        shows: "the put of a text fails after half of it",
-        words: MATCH,
-        traces: TWO_TRACES,
-        fail: [&[], &[1], &[]],
+        run: Run {
+            shows: "the put of a text fails after half of it",
+            ..TWO
+        },
+        trouble: Trouble {
+            puts: [&[1], &[]],
+            ..NONE
+        },
         status: 4,
         out: ONE_TEXT,
         err: b"fmm: write failed\n",
     },
     Case {
-        shows: "the put of a refusal fails after half of it",
-        words: MATCH,
-        traces: FAULTY,
-        fail: [&[], &[], &[1]],
+        run: Run {
+            shows: "the put of a refusal fails after half of it",
+            traces: FAULTY,
+            ..MATCH
+        },
+        trouble: Trouble {
+            puts: [&[], &[1]],
+            ..NONE
+        },
         status: 4,
         out: TWO_TEXTS,
         err: b"traces line 5 fie",
     },
 ];
 
-pub fn bytes(alloc: Global, text: &[u8]) -> Result<List<u8>, AllocError> {
-    let mut list = List::new(alloc);
-    list.extend_from_slice(text)?;
-    Ok(list)
-}
-
-pub fn numbers(alloc: Global, all: &[u64]) -> Result<List<u64>, AllocError> {
-    let mut list = List::new(alloc);
-    list.extend_from_slice(all)?;
-    Ok(list)
-}
-
-// A shelf with the files `net` and `tra`, on which these calls fail.
-pub fn shelf(
-    alloc: Global,
-    network: &[u8],
-    traces: &[u8],
-    fail: &[u64],
-) -> Result<MemoryShelf, AllocError> {
-    let mut files = List::new(alloc);
-    files.push((bytes(alloc, b"net")?, bytes(alloc, network)?))?;
-    files.push((bytes(alloc, b"tra")?, bytes(alloc, traces)?))?;
-    Ok(MemoryShelf::new(alloc, files, numbers(alloc, fail)?))
-}
-
-fn words(alloc: Global, all: &[&str]) -> Result<Vec<String>, AllocError> {
-    let mut words = Vec::new(alloc);
-    for word in all {
-        words.push(String::from_str(alloc, word)?)?;
+fn is_as_wanted<R: Threads + Sync>(rt: &R, alloc: Global, case: &Case<'_>) -> bool {
+    match end(rt, alloc, &case.run, case.trouble) {
+        Ok(ended) => ended.is(case.status, case.out, case.err),
+        Err(_) => false,
     }
-    Ok(words)
-}
-
-// How a run ended.
-#[derive(Drop)]
-pub struct Ended {
-    pub status: u8,
-    pub out: MemorySink,
-    pub err: MemorySink,
-}
-
-impl Ended {
-    pub fn is(&self, status: u8, out: &[u8], err: &[u8]) -> bool {
-        self.status == status && self.out.bytes() == out && self.err.bytes() == err
-    }
-}
-
-// Ends the run of these words over a shelf, where the puts of these numbers on out and on err fail.
-pub fn run_to_end<R: Threads + Sync, S: Shelf, G: Gate>(
-    rt: &R,
-    alloc: Global,
-    all: &[&str],
-    shelf: &mut S,
-    puts: [&[u64]; 2],
-    gate: &G,
-) -> Result<Ended, AllocError> {
-    let mut out = MemorySink::new(alloc, numbers(alloc, puts[0])?);
-    let mut err = MemorySink::new(alloc, numbers(alloc, puts[1])?);
-    let words = words(alloc, all)?;
-    let status = run(rt, alloc, &words, shelf, &mut out, &mut err, gate);
-    Ok(Ended { status, out, err })
-}
-
-// Whether a run gives what the case wants.
-fn is_as_wanted<R: Threads + Sync>(rt: &R, alloc: Global, case: &Case) -> Result<bool, AllocError> {
-    let [reads, outs, errs] = case.fail;
-    let mut shelf = shelf(alloc, TWO_EDGES, case.traces, reads)?;
-    let ended = run_to_end(rt, alloc, case.words, &mut shelf, [outs, errs], &OpenGate)?;
-    Ok(ended.is(case.status, case.out, case.err))
 }
 
 #[test]
-fn failed_calls_show_in_the_status(rt: HostRuntime) -> Result<(), Fail> {
+fn failed_calls_show_in_the_status(rt: HostRuntime) {
     for case in &CASES {
-        assert!(rt; is_as_wanted(&rt, rt.alloc(), case)?, "{}", case.shows);
+        assert!(rt; is_as_wanted(&rt, rt.alloc(), case), "{}", case.run.shows);
     }
-    Ok(())
-}
-
-// A file of so many traces of one point.
-pub fn many_traces(alloc: Global, count: u64) -> Result<List<u8>, AllocError> {
-    let mut text = bytes(alloc, b"trace,x,y\n")?;
-    for id in 0..count {
-        write_unsigned(id, &mut text)?;
-        text.extend_from_slice(b",1000,0\n")?;
-    }
-    Ok(text)
-}
-
-// The texts of the first of them.
-pub fn many_texts(alloc: Global, count: u64) -> Result<List<u8>, AllocError> {
-    let mut text = List::new(alloc);
-    for id in 0..count {
-        text.extend_from_slice(b"trace ")?;
-        write_unsigned(id, &mut text)?;
-        text.extend_from_slice(
-            b"\nat 0 edge 10 offset 1000 d2 0\npiece 0 0 cost 0 route 10\nend ",
-        )?;
-        write_unsigned(id, &mut text)?;
-        text.extend_from_slice(b"\n")?;
-    }
-    Ok(text)
 }
 
 // A network of more than 65,536 bytes comes with two calls, and its end with the third.
-fn is_long_network_cut<R: Threads + Sync>(rt: &R, alloc: Global) -> Result<bool, AllocError> {
-    let long = many_traces(alloc, 6_000)?;
-    let mut shelf = shelf(alloc, long.as_slice(), TWO_TRACES, &[3])?;
-    let ended = run_to_end(rt, alloc, MATCH, &mut shelf, [&[], &[]], &OpenGate)?;
-    Ok(ended.is(3, b"", b"fmm: cannot read network\n"))
+fn is_long_network_cut<R: Threads + Sync>(rt: &R, alloc: Global) -> bool {
+    let Ok(long) = many_traces(alloc, 6_000) else {
+        return false;
+    };
+    let case = Case {
+        run: Run {
+            network: long.as_slice(),
+            ..TWO
+        },
+        trouble: Trouble {
+            reads: &[3],
+            ..NONE
+        },
+        status: 3,
+        out: b"",
+        err: b"fmm: cannot read network\n",
+    };
+    is_as_wanted(rt, alloc, &case)
 }
 
 #[test]
-fn a_long_network_is_read_in_chunks(rt: HostRuntime) -> Result<(), Fail> {
-    assert!(rt; is_long_network_cut(&rt, rt.alloc())?);
-    Ok(())
+fn a_long_network_is_read_in_chunks(rt: HostRuntime) {
+    assert!(rt; is_long_network_cut(&rt, rt.alloc()));
+}
+
+// Whether this text is written before this call for the shelf fails.
+fn is_cut_after<R: Threads + Sync>(
+    rt: &R,
+    alloc: Global,
+    it: &Run<'_>,
+    call: u64,
+    text: &[u8],
+) -> bool {
+    let trouble = Trouble {
+        reads: &[call],
+        ..NONE
+    };
+    match end(rt, alloc, it, trouble) {
+        Ok(ended) => ended.is(3, text, b"fmm: cannot read traces\n"),
+        Err(_) => false,
+    }
 }
 
 // Whether of so many traces exactly the first are written before this call for the shelf fails.
@@ -245,38 +191,58 @@ fn are_traces_cut<R: Threads + Sync>(
     traces: u64,
     call: u64,
     written: u64,
-) -> Result<bool, AllocError> {
-    let long = many_traces(alloc, traces)?;
-    let texts = many_texts(alloc, written)?;
-    let mut shelf = shelf(alloc, TWO_EDGES, long.as_slice(), &[call])?;
-    let ended = run_to_end(rt, alloc, MATCH, &mut shelf, [&[], &[]], &OpenGate)?;
-    Ok(ended.is(3, texts.as_slice(), b"fmm: cannot read traces\n"))
+) -> bool {
+    let (Ok(long), Ok(texts)) = (many_traces(alloc, traces), many_texts(alloc, written, b"")) else {
+        return false;
+    };
+    let it = Run {
+        traces: long.as_slice(),
+        ..MATCH
+    };
+    is_cut_after(rt, alloc, &it, call, texts.as_slice())
 }
 
 // Of 600 traces, in one chunk, two batches are written before the fourth call, which is to tell the end
 // of the file. Of 6,000 traces, in two chunks, it is 23 batches before the fifth call.
 #[test]
-fn whole_batches_are_written(rt: HostRuntime) -> Result<(), Fail> {
+fn whole_batches_are_written(rt: HostRuntime) {
     for (traces, call, written) in [(600, 4, 512), (6_000, 5, 5_888)] {
         assert!(rt;
-            are_traces_cut(&rt, rt.alloc(), traces, call, written)?,
+            are_traces_cut(&rt, rt.alloc(), traces, call, written),
             "{traces}"
         );
     }
-    Ok(())
 }
 
-// The fault stands in the first chunk, so the second is not read.
-fn is_fault_said_first<R: Threads + Sync>(rt: &R, alloc: Global) -> Result<bool, AllocError> {
-    let mut long = bytes(alloc, FAULTY)?;
-    long.extend_from_slice(many_traces(alloc, 6_000)?.as_slice())?;
-    let mut shelf = shelf(alloc, TWO_EDGES, long.as_slice(), &[4])?;
-    let ended = run_to_end(rt, alloc, MATCH, &mut shelf, [&[], &[]], &OpenGate)?;
-    Ok(ended.is(6, TWO_TEXTS, b"traces line 5 field 2: bad number\n"))
+fn fault_before_many(alloc: Global) -> Result<List<u8>, AllocError> {
+    let more = many_traces(alloc, 6_000)?;
+    let mut long = list(alloc, FAULTY)?;
+    long.extend_from_slice(more.as_slice())?;
+    Ok(long)
+}
+
+// The fault is in the first chunk, so the second is not read.
+fn is_fault_said_first<R: Threads + Sync>(rt: &R, alloc: Global) -> bool {
+    let Ok(long) = fault_before_many(alloc) else {
+        return false;
+    };
+    let case = Case {
+        run: Run {
+            traces: long.as_slice(),
+            ..MATCH
+        },
+        trouble: Trouble {
+            reads: &[4],
+            ..NONE
+        },
+        status: 6,
+        out: TWO_TEXTS,
+        err: b"traces line 5 field 2: bad number\n",
+    };
+    is_as_wanted(rt, alloc, &case)
 }
 
 #[test]
-fn nothing_is_read_behind_a_fault(rt: HostRuntime) -> Result<(), Fail> {
-    assert!(rt; is_fault_said_first(&rt, rt.alloc())?);
-    Ok(())
+fn nothing_is_read_behind_a_fault(rt: HostRuntime) {
+    assert!(rt; is_fault_said_first(&rt, rt.alloc()));
 }
