@@ -11,7 +11,6 @@ use std::alloc::Global;
 use std::marker::Model;
 
 /// A shelf of files in memory. Contracts see their bytes.
-#[derive(Drop)]
 pub struct MemoryShelf {
     alloc: Global,
     files: List<(List<u8>, List<u8>)>,
@@ -21,6 +20,20 @@ pub struct MemoryShelf {
     // the most bytes that a call gives
     drip: u32,
     pub(crate) failed: List<List<u8>>,
+}
+
+// By hand, so that the functions that drop one call this.
+impl Drop for MemoryShelf {
+    fn drop(self) {
+        let MemoryShelf {
+            alloc: _,
+            files: _,
+            fail: _,
+            calls: _,
+            drip: _,
+            failed: _,
+        } = self;
+    }
 }
 
 impl Model for MemoryShelf {

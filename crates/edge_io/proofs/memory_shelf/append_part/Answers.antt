@@ -1,4 +1,4 @@
-use Rattle.std.proofs.Common.{◌≡◌, ◌∙◌, ◌+◌, ◌≤◌, ◌<◌, ◌-◌, ◌==◌, ◌++◌, ℕ, List, true, false, length, take, drop, min, inr, refl, sym, ap, arith, ⊎_elim, length-append, length-drop, length-take}
+use Rattle.std.proofs.Common.{◌≡◌, ◌∙◌, ◌+◌, ◌≤◌, ◌-◌, ◌==◌, ◌++◌, ℕ, List, true, false, length, take, drop, min, inr, refl, sym, ap, arith, ⊎_elim, length-append, length-drop, length-take}
 use Rattle.std.proofs.Math.Seq.{take-append_seam, take-length}
 use Rattle.std.proofs.lemmas.Bool.{eqb-true}
 use Rattle.std.proofs.lemmas.Bool.Decides.{nat_tests}
