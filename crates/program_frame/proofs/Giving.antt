@@ -28,10 +28,6 @@ refused_later job traces line is later =
     let stays = job.stays traces later.more line is in
     ap (λ r. given_by r later.fault (job.texts all) (job.ending all)) stays.0 ∙ ap (λ t. refused_behind t line) stays.1
 
--- where the job refuses nothing, a fault is the outcome
-pub fault_given : (job : JobText) (traces : List Trace) (fault : TraceFault) → job.refusal traces ≡ None → (line : List ℕ) → (given_by None (Some fault) (job.texts traces) (job.ending traces)) ≡ refused_behind (job.texts traces) line → traces_give job traces (Some fault) ≡ refused_behind (job.texts traces) line
-fault_given job traces fault none line is = ap (λ r. given_by r (Some fault) (job.texts traces) (job.ending traces)) none ∙ is
-
 -- what a file gives of which the front was read, by the traces that are closed in it
 pub rest_later : (job : JobText) (fed rest : List ℕ) → (later : Later) × (bytes_give job (fed ++ rest) ≡ with_later job (closed fed) later)
 rest_later job fed rest =

@@ -1,5 +1,5 @@
 -- The names of nodes and their places.
-use Rattle.std.proofs.Common.{◌≡◌, ℕ, ◌+◌, ◌<◌, ◌≤◌, Bool, true, false, List, [], ◌∷◌, ◌++◌, inl, inr, refl, sym, ap, ◌∙◌, arith, length, length-append}
+use Rattle.std.proofs.Common.{◌≡◌, ℕ, ◌+◌, ◌<◌, ◌≤◌, Bool, true, List, [], ◌∷◌, ◌++◌, inl, inr, refl, ap, ◌∙◌, arith, length, length-append}
 use Rattle.std.proofs.lemmas.Bool.{cases_Bool}
 use Rattle.std.proofs.lemmas.Bool.Decides.{nat_tests}
 use Rattle.std.proofs.lemmas.List.Folds.{list_any-append}
@@ -31,30 +31,8 @@ place-inside p (x ∷ xs) h =
           rw f (omega arith)
     ]
 
-pub place-none : {X : Type 0} (p : X → Bool) (xs : List X) → list_any p xs ≡ false → position_or_len p xs ≡ length xs
-place-none p [] h = refl
-place-none p (x ∷ xs) h =
-    elim (cases_Bool (p x)) [
-      | inl t ↦ let no : true ≡ false = rw t at h in cc
-      | inr f ↦
-          let rest : list_any p xs ≡ false = rw f at h in
-          let none : position_or_len p xs ≡ length xs = place-none p xs rest in
-          rw f (omega arith)
-    ]
-
 is-it : (name : ℕ) → nat_eq name name ≡ true
 is-it name = grind (arith, nat_tests)
-
-last-place : (nodes : List ℕ) (name : ℕ) → list_any (nat_eq name) nodes ≡ false → place_of (nodes ++ name ∷ []) name ≡ length nodes
-last-place [] name h = rw (is-it name) refl
-last-place (x ∷ nodes) name h =
-    elim (cases_Bool (nat_eq name x)) [
-      | inl t ↦ let no : true ≡ false = rw t at h in cc
-      | inr f ↦
-          let rest : list_any (nat_eq name) nodes ≡ false = rw f at h in
-          let last : place_of (nodes ++ name ∷ []) name ≡ length nodes = last-place nodes name rest in
-          rw f (omega arith)
-    ]
 
 -- after its mention a node is there
 pub mentioned : (nodes : List ℕ) (name : ℕ) → list_any (nat_eq name) (with_node nodes name) ≡ true
@@ -72,17 +50,6 @@ stays nodes name other h =
 pub stays-at : (nodes : List ℕ) (name other : ℕ) → list_any (nat_eq name) nodes ≡ true → place_of (with_node nodes other) name ≡ place_of nodes name
 stays-at nodes name other h =
     elim (cases_Bool (list_any (nat_eq other) nodes)) [ inl t ↦ rw t refl | inr f ↦ rw f (place-kept (nat_eq name) nodes (other ∷ []) h) ]
-
--- a node that is mentioned has the place that it has already, or the next one
-pub mentioned-at : (nodes : List ℕ) (name : ℕ) → place_of (with_node nodes name) name ≡ place_of nodes name
-mentioned-at nodes name =
-    elim (cases_Bool (list_any (nat_eq name) nodes)) [
-      | inl t ↦ rw t refl
-      | inr f ↦
-          let before : place_of nodes name ≡ length nodes = place-none (nat_eq name) nodes f in
-          let after : place_of (nodes ++ name ∷ []) name ≡ length nodes = last-place nodes name f in
-          rw f (after ∙ sym before)
-    ]
 
 pub nodes-grow : (nodes : List ℕ) (name : ℕ) → length nodes ≤ length (with_node nodes name)
 nodes-grow nodes name =
