@@ -15,7 +15,7 @@ use std::alloc::{AllocError, Global};
 use trellis::PairMemory;
 
 /// What the ways to the candidates of a point show about its cells.
-#[derive(Clone, Copy, Debug, PartialEq, Eq)]
+#[derive(Clone, Copy)]
 pub struct PointWays {
     /// Some live cell of the previous point has a route to some candidate.
     pub any: bool,

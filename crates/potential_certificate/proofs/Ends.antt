@@ -1,23 +1,33 @@
 -- The end of a certificate that is read.
-use Rattle.std.proofs.Common.{◌≡◌, ℕ, ◌<◌, List, [], ◌∷◌, length, Option, Some, None, Result, Ok, Err, sym, ap, ◌∙◌, arith}
+use Rattle.std.proofs.Common.{◌≡◌, ◌⊎◌, inl, inr, ℕ, ◌<◌, List, [], ◌∷◌, length, Option, Some, None, Result, Ok, Err, sym, ap, ◌∙◌, arith}
 use Rattle.match_text.specs.Reading.{after_bytes}
 use Rattle.potential_certificate.specs.CertificateText.{last_line}
 use Rattle.potential_certificate.specs.Reading.{certificate_ended, ended, fault_at, line_number}
 use Rattle.potential_certificate.specs.declared.fault.CertFault.{CertFault}
-use Rattle.potential_certificate.specs.declared.fault.CertFault.TheVariants.{BadLine}
+use Rattle.potential_certificate.specs.declared.fault.CertFault.TheVariants.{BadLine, Memory}
 use Rattle.potential_certificate.specs.declared.proof.Certificate.{Certificate}
 
-module _ (whole : List ℕ) (c : Certificate) (left last : List ℕ) (is : last ≡ last_line (length c.proofs) (length c.rows)) where
-  by_end : (end : Option (List ℕ)) → end ≡ after_bytes last left → certificate_ended whole c left ≡ ended whole c left end
+-- `last` is the last line that was looked for
+module _ (whole left line last : List ℕ) (is : last ≡ line) (c : Certificate) where
+  by_end : (end : Option (List ℕ)) → end ≡ after_bytes last left → ended whole c left (after_bytes line left) ≡ ended whole c left end
   by_end end found = sym (ap (ended whole c left) (found ∙ ap (λ (l : List ℕ). after_bytes l left) is))
 
-  pub lacks_end : (fault : CertFault) → None ≡ after_bytes last left → fault ≡ fault_at whole left → certificate_ended whole c left ≡ Err fault
+  pub lacks_end : (fault : CertFault) → None ≡ after_bytes last left → fault ≡ fault_at whole left → ended whole c left (after_bytes line left) ≡ Err fault
   lacks_end fault none fault_is = by_end None none ∙ sym (λ i. let y : Result Certificate CertFault = Err (fault_is i) in y)
 
-  pub ends : (behind : List ℕ) → Some behind ≡ after_bytes last left → length behind ≡ 0 → certificate_ended whole c left ≡ Ok c
+  pub ends : (behind : List ℕ) → Some behind ≡ after_bytes last left → length behind ≡ 0 → ended whole c left (after_bytes line left) ≡ Ok c
   ends [] found none = by_end (Some []) found
   ends (b ∷ bs) found none = absurd (omega (arith, none))
 
-  pub goes_past : (behind : List ℕ) (n : ℕ) → Some behind ≡ after_bytes last left → 0 < length behind → n ≡ line_number whole behind → certificate_ended whole c left ≡ Err (BadLine n)
+  pub goes_past : (behind : List ℕ) (n : ℕ) → Some behind ≡ after_bytes last left → 0 < length behind → n ≡ line_number whole behind → ended whole c left (after_bytes line left) ≡ Err (BadLine n)
   goes_past [] n found some n_is = absurd (omega (arith, some))
   goes_past (b ∷ bs) n found some n_is = by_end (Some (b ∷ bs)) found ∙ sym (λ i. let y : Result Certificate CertFault = Err (BadLine (n_is i)) in y)
+
+-- the last line has the counts of the certificate
+pub counted : (whole : List ℕ) (c : Certificate) (left : List ℕ) (proofs rows : ℕ) → proofs ≡ length c.proofs → rows ≡ length c.rows → certificate_ended whole c left ≡ ended whole c left (after_bytes (last_line proofs rows) left)
+counted whole c left proofs rows first second = sym (λ i. ended whole c left (after_bytes (last_line (first i) (second i)) left))
+
+-- a fault of the end is that of the text
+pub fault_of_end : (fault : CertFault) (text : Result Certificate CertFault) (end : Certificate → Result Certificate CertFault) (c : Certificate) → text ≡ end c → (fault ≡ Memory) ⊎ ((c : Certificate) → end c ≡ Err fault) → (fault ≡ Memory) ⊎ (text ≡ Err fault)
+fault_of_end fault text end c is (inl memory) = inl memory
+fault_of_end fault text end c is (inr e) = inr (is ∙ e c)

@@ -47,18 +47,23 @@ cells_words : (cells : List Cell) → words_after (map cell_word cells) ≡ cell
 cells_words [] = refl
 cells_words (cell ∷ cells) = ap (λ (t : List ℕ). 32 ∷ (cell_word cell ++ t)) (cells_words cells) ∙ sym (append_assoc (32 ∷ cell_word cell) (cells_text cells) lf)
 
-layer_group : (old word i rank_word rank cells_part all : List ℕ) → (((((old ++ word) ++ i) ++ rank_word) ++ rank) ++ cells_part) ++ (all ++ lf) ≡ old ++ (word ++ (i ++ (rank_word ++ (rank ++ (cells_part ++ (all ++ lf))))))
-layer_group old word i rank_word rank cells_part all = simp append_assoc
+layer_group : (old i rank cells_part all : List ℕ) → (((old ++ i) ++ rank) ++ cells_part) ++ (all ++ lf) ≡ old ++ (i ++ (rank ++ (cells_part ++ (all ++ lf))))
+layer_group old i rank cells_part all = simp append_assoc
 
-pub layer_written : (i rank : ℕ) (cells : List Cell) (old a b c d e f new : List ℕ)
-    → a ≡ old ++ codes "layer " → b ≡ a ++ decimal i → c ≡ b ++ codes " rank " → d ≡ c ++ decimal rank → e ≡ d ++ codes " cells" → f ≡ e ++ cells_text cells
-    → new ≡ f ++ lf → new ≡ old ++ layer_line i rank cells
-layer_written i rank cells old a b c d e f new first second third fourth fifth sixth last =
-    last ∙ ap (λ (t : List ℕ). t ++ lf) sixth ∙ append_assoc e (cells_text cells) lf
+pub layer_written : (i rank : ℕ) (cells : List Cell) (old a b c d new : List ℕ)
+    → a ≡ old ++ (codes "layer " ++ decimal i) → b ≡ a ++ (codes " rank " ++ decimal rank) → c ≡ b ++ codes " cells" → d ≡ c ++ cells_text cells → new ≡ d ++ lf → new ≡ old ++ layer_line i rank cells
+layer_written i rank cells old a b c d new first second third fourth last =
+    last ∙ ap (λ (t : List ℕ). t ++ lf) fourth ∙ append_assoc c (cells_text cells) lf
     ∙ ap (λ (t : List ℕ). t ++ (cells_text cells ++ lf))
-    (fifth ∙ ap (λ (t : List ℕ). t ++ codes " cells") (fourth ∙ ap (λ (t : List ℕ). t ++ decimal rank) (third ∙ ap (λ (t : List ℕ). t ++ codes " rank ") (second ∙ ap (λ (t : List ℕ). t ++ decimal i) first))))
-    ∙ layer_group old (codes "layer ") (decimal i) (codes " rank ") (decimal rank) (codes " cells") (cells_text cells)
-    ∙ ap (λ (t : List ℕ). old ++ (codes "layer " ++ (decimal i ++ (codes " rank " ++ (decimal rank ++ (codes " cells" ++ t)))))) (sym (cells_words cells))
+    (third ∙ ap (λ (t : List ℕ). t ++ codes " cells") (second ∙ ap (λ (t : List ℕ). t ++ (codes " rank " ++ decimal rank)) first))
+    ∙ layer_group old (codes "layer " ++ decimal i) (codes " rank " ++ decimal rank) (codes " cells") (cells_text cells)
+    ∙ append_tail
+  where
+    append_tail : old ++ ((codes "layer " ++ decimal i) ++ ((codes " rank " ++ decimal rank) ++ (codes " cells" ++ (cells_text cells ++ lf)))) ≡ old ++ layer_line i rank cells
+    append_tail =
+        ap (λ (t : List ℕ). old ++ t) (append_assoc (codes "layer ") (decimal i) ((codes " rank " ++ decimal rank) ++ (codes " cells" ++ (cells_text cells ++ lf))))
+        ∙ ap (λ (t : List ℕ). old ++ (codes "layer " ++ (decimal i ++ t))) (append_assoc (codes " rank ") (decimal rank) (codes " cells" ++ (cells_text cells ++ lf)))
+        ∙ ap (λ (t : List ℕ). old ++ (codes "layer " ++ (decimal i ++ (codes " rank " ++ (decimal rank ++ (codes " cells" ++ t)))))) (sym (cells_words cells))
 
 -- ---- some of the lines are no longer than all
 

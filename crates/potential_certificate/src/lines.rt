@@ -5,7 +5,7 @@ ghost use Rattle.potential_certificate.specs.CertificateText.{back_words, first_
 ghost use Rattle.potential_certificate.specs.Words.{words_text};
 
 use cost_model::Params;
-use decimal_text::{write_unsigned, write_worded};
+use decimal_text::write_worded;
 use polyline_geometry::List;
 use std::alloc::AllocError;
 
@@ -67,9 +67,7 @@ fn append_gap(p: &Params, into: &mut List<u8>) -> Result<(), AllocError>
 pub fn append_last(traces: u64, rows: u64, into: &mut List<u8>) -> Result<(), AllocError>
     ensures { OnOk result (into.new ≡ into.old ++ last_line traces rows) }
 {
-    into.extend_from_slice(b"certified traces ")?;
-    write_unsigned(traces, into)?;
-    into.extend_from_slice(b" rows ")?;
-    write_unsigned(rows, into)?;
+    write_worded(b"certified traces ", traces, into)?;
+    write_worded(b" rows ", rows, into)?;
     into.extend_from_slice(b"\n")
 }

@@ -5,7 +5,7 @@ ghost use Rattle.potential_certificate.specs.CertificateText.{cell_word, layer_l
 ghost use Rattle.potential_certificate.specs.Words.{cells_text};
 
 use crate::proof::TraceProof;
-use decimal_text::write_unsigned;
+use decimal_text::{write_unsigned, write_worded};
 use match_text::{Label, Routed, write_end, write_label, write_piece, write_trace};
 use polyline_geometry::List;
 use std::alloc::AllocError;
@@ -79,10 +79,8 @@ fn append_layer(
     ensures ok { OnOk result (into.new ≡ into.old ++ layer_line point rank cells.now) }
     ensures err { OnErr result (take (length into.old) into.new ≡ into.old) }
 {
-    into.extend_from_slice(b"layer ")?;
-    write_unsigned(point, into)?;
-    into.extend_from_slice(b" rank ")?;
-    write_unsigned(u64::from(rank), into)?;
+    write_worded(b"layer ", point, into)?;
+    write_worded(b" rank ", u64::from(rank), into)?;
     into.extend_from_slice(b" cells")?;
     append_cells(cells, into)?;
     into.extend_from_slice(b"\n")
@@ -112,14 +110,13 @@ fn append_cell(cell: Cell, into: &mut List<u8>) -> Result<(), AllocError>
     append_pointer(cell.from, into)
 }
 
-// Appends `<` and the rank at the previous point. On `Err`, a part of it may remain at the end.
+// Appends `<` and the rank at the previous point, or nothing.
 fn append_pointer(pointer: Option<u32>, into: &mut List<u8>) -> Result<(), AllocError>
     ensures ok { OnOk result (into.new ≡ into.old ++ pointer_word pointer) }
-    ensures err { OnErr result (take (length into.old) into.new ≡ into.old) }
+    ensures err { OnErr result (into.new ≡ into.old) }
 {
     let Some(rank) = pointer else {
         return Ok(());
     };
-    into.extend_from_slice(b"<")?;
-    write_unsigned(u64::from(rank), into)
+    write_worded(b"<", u64::from(rank), into)
 }

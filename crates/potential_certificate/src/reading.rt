@@ -1,11 +1,13 @@
 //! The text of a certificate, read line by line. Serves all who take one; decided by `certificate_of`.
-ghost use Rattle.std.specs.Prelude.{◌≡◌, ◌⊎◌, ◌<◌, ◌+◌, ◌^◌, ◌==◌, ℕ, length, IfErr, IfOk, IsErrOf, Ok, Err};
+ghost use Rattle.std.specs.Prelude.{◌≡◌, ◌⊎◌, ◌<◌, ◌+◌, ◌^◌, ◌==◌, ℕ, length, IfErr, IfOk, IsErrOf, OnOk, Ok, Err};
 ghost use Rattle.std.specs.List.{count_by, list_any};
+ghost use Rattle.match_text.specs.Reading.{after_bytes};
 ghost use Rattle.row_text.specs.LineFaults.{IsCutOf, IsFirstBadLineOf};
-ghost use Rattle.potential_certificate.specs.CertificateText.{text_limit};
+ghost use Rattle.potential_certificate.specs.CertificateText.{last_line, text_limit};
 ghost use Rattle.potential_certificate.specs.Faults.{IsCertificate, OptionsFit};
-ghost use Rattle.potential_certificate.specs.Reading.{all_rows_at, certificate_ended, certificate_of, fault_at, line_count, line_number, proof_at, proofs_at, rows_and_end};
+ghost use Rattle.potential_certificate.specs.Reading.{all_rows_at, certificate_of, ended, fault_at, line_count, line_number, proof_at, proofs_at, rows_and_end};
 ghost use Rattle.potential_certificate.specs.declared.fault.CertFault.TheVariants.{Memory};
+ghost use Rattle.potential_certificate.specs.declared.proof.Certificate.{Certificate};
 
 use crate::TEXT_LIMIT;
 use crate::fault::CertFault;
@@ -52,7 +54,8 @@ fn read_text(alloc: Global, p: &Params, text: &[u8]) -> Result<Certificate, Cert
 {
     let (proofs, rest) = read_front(alloc, p, text)?;
     let (rows, rest) = read_rows(alloc, rest)?;
-    end_certificate(alloc, text, Certificate { proofs, rows }, rest)
+    check_end(alloc, text, proofs.len() as u64, rows.len() as u64, rest)?;
+    Ok(Certificate { proofs, rows })
 }
 
 // The proofs after the first line, and the text after them.
@@ -77,24 +80,26 @@ fn read_front<'a>(
     read_proofs(alloc, text, rest)
 }
 
-// The certificate, if the rest is its last line.
-fn end_certificate(
+// Whether the rest is the last line of a certificate with so many proofs and rows.
+fn check_end(
     alloc: Global,
     whole: &[u8],
-    c: Certificate,
+    proofs: u64,
+    rows: u64,
     left: &[u8],
-) -> Result<Certificate, CertFault>
-    ensures ok { IfOk result (λ read. certificate_ended whole.now c left.now ≡ Ok read) }
-    ensures err { IfErr result (λ fault. (fault ≡ Memory)
-        ⊎ (certificate_ended whole.now c left.now ≡ Err fault)) }
+) -> Result<(), CertFault>
+    ensures ok { OnOk result ((c : Certificate) → ended whole.now c left.now
+        (after_bytes (last_line proofs rows) left.now) ≡ Ok c) }
+    ensures err { IfErr result (λ fault. (fault ≡ Memory) ⊎ ((c : Certificate) → ended whole.now c left.now
+        (after_bytes (last_line proofs rows) left.now) ≡ Err fault)) }
 {
     let mut last = List::new(alloc);
-    append_last(c.proofs.len() as u64, c.rows.len() as u64, &mut last)?;
+    append_last(proofs, rows, &mut last)?;
     let Some(behind) = after(left, last.as_slice()) else {
         return Err(fault_at(whole, left));
     };
     if behind.is_empty() {
-        return Ok(c);
+        return Ok(());
     }
     Err(CertFault::BadLine(line_number(whole, behind)))
 }

@@ -2,7 +2,7 @@ use Rattle.std.proofs.Common.{[], ap, rules}
 use Rattle.std.specs.List.{flat_map}
 use Rattle.row_text.specs.RowLine.{row_line}
 use Rattle.potential_certificate.specs.CertificateText.{proof_text, text_limit}
-use Rattle.potential_certificate.proofs.WrittenTexts.{all_written, long_proofs, long_rows}
+use Rattle.potential_certificate.proofs.WrittenTexts.{long_proofs, long_rows}
 use Rattle.potential_certificate.proofs.gathered.Gathered.into_text.Goals as goal
 
 pub returns-in_err-append_proofs-clause-too_long : goal.returns-in_err-append_proofs-clause-too_long
