@@ -1,15 +1,11 @@
 -- Lists of the nearest edges in which all are of different edges: one more, and the first few.
-use Rattle.std.proofs.Common.{◌≡◌, ℕ, zero, suc, ◌+◌, ◌-◌, ◌*◌, ◌<◌, ◌≤◌, ◌⊎◌, List, [], ◌∷◌, length, get_or, take, drop, All, refl, sym, ap, ◌∙◌, subst, inl, inr, arith, ⊎_elim, length-take}
-use Rattle.std.specs.List.{Contains, insert, remove}
-use Rattle.std.proofs.lemmas.Bool.{cases_lt}
+use Rattle.std.proofs.Common.{◌≡◌, ℕ, zero, suc, ◌<◌, ◌≤◌, ◌⊎◌, List, [], ◌∷◌, length, get_or, take, drop, All, sym, ◌∙◌, subst, inl, inr, arith, ⊎_elim, length-take}
+use Rattle.std.specs.List.{Contains, insert}
 use Rattle.std.proofs.lemmas.List.{get_or_default, get_or-take}
-use Rattle.std.proofs.lemmas.List.Edits.{get_or-insert_at, get_or-remove_above, get_or-remove_below, length-insert, length-remove}
 use Rattle.std.proofs.lemmas.List.Elements.{All-append, All-cons, All-drop, All-take}
 use Rattle.std.proofs.lemmas.List.Kept.{AllPairs-cons}
-use Rattle.std.proofs.lemmas.List.Quantifiers.{all_pairs_remove}
 use Rattle.candidate_search.specs.declared.best.NearEdge.{NearEdge}
-use Rattle.candidate_search.specs.declared.wanted.Search.{Search}
-use Rattle.candidate_search.specs.Best.{AreApart, ComesBefore, IsAccounted, IsApart, IsBehind, IsLimit, IsNoLater, IsPlaceFor, IsPlaceOf, IsWanted, Precedes, Puts, Takes}
+use Rattle.candidate_search.specs.Best.{AreApart, IsApart}
 
 pub of_contained : (P : NearEdge → Type 0) (xs : List NearEdge) (x : NearEdge) → All P xs → Contains xs x → P x
 of_contained P xs x h there = subst P there.2 (h there.0 x there.1)

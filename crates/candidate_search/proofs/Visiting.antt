@@ -1,5 +1,5 @@
 -- What is seen where runs are visited.
-use Rattle.std.proofs.Common.{◌≡◌, ℕ, suc, ◌+◌, ◌<◌, ◌≤◌, List, length, get_or, sym, ap, ◌∙◌, subst, arith, ⊎_elim, pos}
+use Rattle.std.proofs.Common.{Err, Ok, OnOk, Result, ◌≡◌, ℕ, suc, ◌+◌, ◌<◌, ◌≤◌, List, length, get_or, sym, ap, ◌∙◌, subst, arith, ⊎_elim, pos}
 use Rattle.std.specs.List.{Contains}
 use Rattle.std.proofs.lemmas.Bool.{cases_lt}
 use Rattle.std.proofs.lemmas.List.{get_or_default}
@@ -200,3 +200,8 @@ rows_joined net g search one two three cells own next le here first behind secon
 
 pub rows_still : (net : Net) (g : GridOf) (search : Search) (old new : List NearEdge) (cells : Cells) (bottom top : ℕ) → Steps net search old new → HasSeenRows net g search old cells bottom top → HasSeenRows net g search new cells bottom top
 rows_still net g search old new cells bottom top steps h w le lt = row_still net g search old new cells.left cells.right w steps (h w le lt)
+
+-- what holds of each of two facts after Ok holds of both
+pub on_ok_both : {A E : Type 0} {P Q R : Type 0} (r : Result A E) → (P → Q → R) → OnOk r P → OnOk r Q → OnOk r R
+on_ok_both (Ok x) f p q = f p q
+on_ok_both (Err e) f p q = tt

@@ -208,6 +208,5 @@ pub(crate) fn take_pair(
         return put_pair(found, search.k, own, twin);
     }
     take_near(found, search, own)?;
-    take_near(found, search, twin)?;
-    Ok(())
+    take_near(found, search, twin)
 }

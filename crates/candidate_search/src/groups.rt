@@ -119,8 +119,7 @@ pub(crate) fn list_group(
         None => list_each(alloc, closer, group, lists),
         Some(halves) => {
             list_group(alloc, closer, halves.below.as_slice(), lists)?;
-            list_group(alloc, closer, halves.above.as_slice(), lists)?;
-            Ok(())
+            list_group(alloc, closer, halves.above.as_slice(), lists)
         }
     }
 }

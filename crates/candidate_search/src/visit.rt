@@ -174,8 +174,7 @@ fn look_at_row(
     let next = own.saturating_add(1);
     look_at_cell(look, found, own, row)?;
     look_at_columns(look, found, next, cells.right, row)?;
-    look_at_columns(look, found, cells.left, own, row)?;
-    Ok(())
+    look_at_columns(look, found, cells.left, own, row)
 }
 
 /// Visits the rows of cells in a range.
@@ -214,6 +213,5 @@ pub(crate) fn look_at_cells(
     let next = own.saturating_add(1);
     look_at_row(look, found, cells, own)?;
     look_at_rows(look, found, cells, next, cells.top)?;
-    look_at_rows(look, found, cells, cells.bottom, own)?;
-    Ok(())
+    look_at_rows(look, found, cells, cells.bottom, own)
 }

@@ -39,7 +39,7 @@ pub enum Verdict {
 }
 
 /// What is found of a certificate. It says of a refusal by Row whether a row is bad or missing.
-#[derive(Clone, Copy)]
+#[derive(Clone, Copy, Debug, PartialEq, Eq)]
 pub enum Finding {
     /// The index of the first bad row.
     BadRow(u64),

@@ -18,7 +18,7 @@ pub enum CertFault {
 }
 
 /// Why a certificate was not written.
-#[derive(Clone, Copy)]
+#[derive(Clone, Copy, Debug, PartialEq, Eq)]
 pub enum WriteFault {
     /// The text would have more than `TEXT_LIMIT` bytes.
     TooLong,

@@ -1,12 +1,13 @@
-use Rattle.std.proofs.Common.{◌≡◌, ◌<◌, ℕ, Bool, List, length, get_or, sym, ◌∙◌, arith, refl, true≢false}
+use Rattle.std.proofs.Common.{◌≡◌, ◌<◌, ℕ, Bool, List, length, get_or, sym, ap, ◌∙◌, arith, refl, true≢false}
 use Rattle.std.proofs.lemmas.List.{take_all}
 use Rattle.std.proofs.lemmas.List.Elements.{All-more}
 use Rattle.std.proofs.lemmas.List.Sums.{count_by_more_no, count_by_more_yes}
-use Rattle.std.specs.List.{All}
+use Rattle.std.specs.List.{All, count_by}
+use Rattle.road_network.specs.Net.{leaving}
 use Rattle.road_network.specs.declared.Arc.{Arc}
 use Rattle.bounded_search.specs.Given.{IsRelaxedOrBack, arc_gives}
 use Rattle.bounded_search.specs.Table.{label_in}
-use Rattle.bounded_search.proofs.Arcs.{arcs_are, nothing}
+use Rattle.bounded_search.proofs.Arcs.{arcs_are, count_arcs, nothing}
 use Rattle.bounded_search.proofs.row_check.count_given.Goals.{then-branch, else-branch}
 use Rattle.bounded_search.proofs.row_check.count_given.Goals as goal
 
@@ -70,3 +71,11 @@ try_arc-requires-clause-rising c = c.requires.rising
 
 pub try_arc-requires-clause-index : goal.try_arc-requires-clause-index
 try_arc-requires-clause-index c = c.requires.index
+
+pub returns-clause-count : goal.returns-clause-count
+returns-clause-count c =
+    let n = c.args.net.now in
+    let arcs : List Arc = c.arcs-arc-items.result.now in
+    let p : Arc → Bool = arc_gives c.args.place.now.bound (label_in c.args.place.now.entries.now) c.args.before c.args.x.now.distance in
+    let counted = rw (take_all c.loop-arc.arc-index arcs c.loop-arc-test.false) at c.loop-arc.invariant.counted in
+    counted ∙ (ap (count_by p) c.arcs-arc-items.ensures ∙ count_arcs n p (leaving n c.args.x.now.node.0))

@@ -1,13 +1,13 @@
-use Rattle.std.proofs.Common.{◌≡◌, ◌<◌, ℕ, Bool, List, None, length, map, get_or, subst, sym, ◌∙◌, arith, refl, true≢false}
+use Rattle.std.proofs.Common.{◌≡◌, ◌<◌, ℕ, Bool, List, None, length, map, get_or, subst, sym, ap, ◌∙◌, arith, refl, true≢false}
 use Rattle.std.proofs.lemmas.List.{take_all}
 use Rattle.std.proofs.lemmas.List.Elements.{All-more}
 use Rattle.std.proofs.lemmas.List.Sums.{count_by_more_no, count_by_more_yes}
-use Rattle.std.specs.List.{All}
+use Rattle.std.specs.List.{All, count_by}
 use Rattle.road_network.specs.Net.{Net, IsLawful, arc_of, leaving}
 use Rattle.road_network.specs.declared.Arc.{Arc}
 use Rattle.bounded_search.specs.Given.{IsRelaxedOrBack, arc_gives}
 use Rattle.bounded_search.specs.LabelWords.{label_at}
-use Rattle.bounded_search.proofs.Arcs.{IsLeaving, arcs_are, known_arcs, nothing}
+use Rattle.bounded_search.proofs.Arcs.{IsLeaving, arcs_are, count_arcs, known_arcs, nothing}
 use Rattle.bounded_search.proofs.word_check.count_given.Goals.{then-branch, else-branch}
 use Rattle.bounded_search.proofs.word_check.count_given.Goals as goal
 
@@ -80,3 +80,11 @@ arcs-arc-items-requires c = c.requires.node
 
 pub loop-arc-init : goal.loop-arc-init
 loop-arc-init c = record { relaxed = λ k d lt. absurd (omega arith); counted = refl }
+
+pub returns-clause-count : goal.returns-clause-count
+returns-clause-count c =
+    let n = c.args.net.now in
+    let arcs : List Arc = c.arcs-arc-items.result.now in
+    let p : Arc → Bool = arc_gives c.args.bound (label_at c.args.bound c.args.words.now) None c.args.x.now.distance in
+    let counted = rw (take_all c.loop-arc.arc-index arcs c.loop-arc-test.false) at c.loop-arc.invariant.counted in
+    counted ∙ (ap (count_by p) c.arcs-arc-items.ensures ∙ count_arcs n p (leaving n c.args.x.now.node.0))

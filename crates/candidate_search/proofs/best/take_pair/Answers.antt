@@ -18,7 +18,9 @@ returns-then-is_new_pair c =
 
 pub returns : goal.returns
 returns c =
-    takes_two c.args.search.k c.args.found.now.items c.take_near.new.found.items c.take_near-2.new.found.items c.args.own c.args.twin c.in_ok-take_near.ensures c.in_ok-take_near-2.ensures
+    on_ok_weaker c.take_near-2.result
+    (λ takes. takes_two c.args.search.k c.args.found.now.items c.take_near.new.found.items c.take_near-2.new.found.items c.args.own c.args.twin c.in_ok-take_near.ensures takes)
+    c.take_near-2.ensures
 
 pub is_new_pair-requires-clause-few : goal.is_new_pair-requires-clause-few
 is_new_pair-requires-clause-few c = subst (λ (l : List NearEdge). length l ≤ c.args.search.k) (sym c.as_slice.ensures.value) c.requires.few

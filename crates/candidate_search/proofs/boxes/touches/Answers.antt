@@ -17,3 +17,13 @@ returns-then-overlap c =
     a.low.y a.high.y b.low.y b.high.y (search rules) (search rules) (search rules) (search rules)
     in
     c.overlap-then-overlap.ensures ∙ y ∙ sym (ap (λ v. v && overlap a.low.y a.high.y b.low.y b.high.y) (sym (c.overlap.ensures ∙ x) ∙ c.if-overlap.true))
+
+pub returns-else-overlap : goal.returns-else-overlap
+returns-else-overlap c =
+    let a = c.args.one in
+    let b = c.args.other in
+    let x = same_overlap
+    (to_z w32 (of_z w32 a.low.x)) (to_z w32 (of_z w32 a.high.x)) (to_z w32 (of_z w32 b.low.x)) (to_z w32 (of_z w32 b.high.x))
+    a.low.x a.high.x b.low.x b.high.x (search rules) (search rules) (search rules) (search rules)
+    in
+    c.if-overlap.false ∙ sym (ap (λ v. v && overlap a.low.y a.high.y b.low.y b.high.y) (sym (c.overlap.ensures ∙ x) ∙ c.if-overlap.false))

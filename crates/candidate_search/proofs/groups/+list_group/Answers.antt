@@ -1,3 +1,4 @@
+use Rattle.std.proofs.lemmas.Result.{err_from_is_err_and, on_ok_weaker}
 use Rattle.std.proofs.Common.{IfSome, List, All, ap, arith, length, sym, subst}
 use Rattle.road_network.specs.Near.{candidates}
 use Rattle.candidate_search.specs.declared.boxes.EdgeBox.{EdgeBox}
@@ -54,7 +55,9 @@ list_group-requires-in-Some t c =
     )
 
 pub returns : goal.returns
-returns t c = λ points placed.
+returns t c =
+    on_ok_weaker c.list_group-in-Some.result
+    (λ written points placed.
     let own = candidates c.args.among.net.now c.args.among.p.now.k c.args.among.p.now.radius in
     let group = c.args.group.now in
     let below = c.in-Some.halves.below.items in
@@ -68,6 +71,31 @@ returns t c = λ points placed.
     (c.in_ok-list_group-in-Some.ensures points (subst (All (IsPlaced points)) (sym c.as_slice.ensures.value) parts.0))
     in
     let second : AreWritten own points mid new above = subst (AreWritten own points mid new) c.as_slice-in-Some.ensures.value
-    (c.in_ok-list_group-in-Some-2.ensures points (subst (All (IsPlaced points)) (sym c.as_slice-in-Some.ensures.value) parts.1))
+    (written points (subst (All (IsPlaced points)) (sym c.as_slice-in-Some.ensures.value) parts.1))
     in
-    both_written own points old mid new group below above are.all parts.0 first second
+    both_written own points old mid new group below above are.all parts.0 first second)
+    c.list_group-in-Some.ensures
+
+pub boxes_for-requires-clause-options : goal.boxes_for-requires-clause-options
+boxes_for-requires-clause-options t c = c.requires.options
+
+pub boxes_for-requires-clause-boxes : goal.boxes_for-requires-clause-boxes
+boxes_for-requires-clause-boxes t c = c.requires.boxes
+
+pub cut_in_two-requires : goal.cut_in_two-requires
+cut_in_two-requires t c = c.extent_of-extent.ensures.corners
+
+pub list_each-requires-clause-options : goal.list_each-requires-clause-options
+list_each-requires-clause-options t c = c.requires.options
+
+pub list_each-requires-clause-group : goal.list_each-requires-clause-group
+list_each-requires-clause-group t c = c.requires.group
+
+pub returns-in_err-near : goal.returns-in_err-near
+returns-in_err-near t c = let p = err_from_is_err_and c.from_residual.result c.from_residual.ensures.1 in rw p.1 tt
+
+pub returns-in_err-cut_in_two : goal.returns-in_err-cut_in_two
+returns-in_err-cut_in_two t c = let p = err_from_is_err_and c.from_residual-in_err-cut_in_two.result c.from_residual-in_err-cut_in_two.ensures.1 in rw p.1 tt
+
+pub returns-in_err-list_group-in-Some : goal.returns-in_err-list_group-in-Some
+returns-in_err-list_group-in-Some t c = let p = err_from_is_err_and c.from_residual-in_err-list_group-in-Some.result c.from_residual-in_err-list_group-in-Some.ensures.1 in rw p.1 tt

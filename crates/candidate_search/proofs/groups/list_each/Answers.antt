@@ -1,3 +1,4 @@
+use Rattle.std.proofs.lemmas.Result.{err_from_is_err_and}
 use Rattle.std.proofs.Common.{◌+◌, ◌<◌, List, arith, get_or, length, set, sym, subst, take}
 use Rattle.std.proofs.lemmas.List.{take_all, take_more}
 use Rattle.std.proofs.lemmas.List.Elements.{All-take}
@@ -26,3 +27,15 @@ pub returns : goal.returns
 returns c = λ points placed.
     let s = c.loop-index in
     subst (AreWritten (candidates c.args.among.net.now c.args.among.p.now.k c.args.among.p.now.radius) points c.args.lists.now s.lists) (take_all s.index c.args.group.now c.loop-index-test.false) (s.invariant points placed)
+
+pub candidates_among-requires-clause-options : goal.candidates_among-requires-clause-options
+candidates_among-requires-clause-options c = c.requires.options
+
+pub candidates_among-requires-clause-boxes : goal.candidates_among-requires-clause-boxes
+candidates_among-requires-clause-boxes c = c.requires.boxes.are
+
+pub candidates_among-requires-clause-enough : goal.candidates_among-requires-clause-enough
+candidates_among-requires-clause-enough c = c.requires.boxes.enough c.loop-index.index no_point c.loop-index-test.true
+
+pub returns-in_err-lists : goal.returns-in_err-lists
+returns-in_err-lists c = let p = err_from_is_err_and c.from_residual.result c.from_residual.ensures.1 in rw p.1 tt

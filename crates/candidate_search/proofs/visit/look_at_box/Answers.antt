@@ -1,10 +1,11 @@
-use Rattle.std.proofs.Common.{arith, subst, sym, ◌∙◌}
+use Rattle.std.proofs.Common.{ap, ◌≤◌, List, length, arith, subst, sym, ◌∙◌}
+use Rattle.polyline_geometry.specs.Plane.{IsLine}
+use Rattle.candidate_search.proofs.Visiting.{stays, far_box, pair_steps, seen_far, taken_steps}
 use Rattle.std.proofs.lemmas.Result.{on_ok_weaker}
 use Rattle.polyline_geometry.specs.Nearest.{AreFar, AreNearest}
 use Rattle.candidate_search.specs.declared.best.NearEdge.{NearEdge}
 use Rattle.candidate_search.specs.Best.{AreApart, AreNearestIn, IsLimit}
 use Rattle.candidate_search.proofs.Twins.{no_twin, own_near, seen_both, taken_own, taken_twin, twin_near}
-use Rattle.candidate_search.proofs.Visiting.{far_box, pair_steps, seen_far, taken_steps}
 use Rattle.candidate_search.proofs.visit.look_at_box.Goals as goal
 
 pub limit_for-limit-requires-clause-apart : goal.limit_for-limit-requires-clause-apart
@@ -97,3 +98,45 @@ returns-in-Some-twin-clause-seen c =
     (λ takes. seen_both net search new r c.invariants.ensures c.requires.run (taken_own net search new r s nearest takes.first_taken)
     (taken_twin net search new r c.in-Some-twin.twin s twin nearest (sym c.twin.ensures ∙ c.in-Some-twin.is) c.nearest_of_twin.ensures takes.second_taken))
     c.take_pair.ensures
+
+pub limit_for-limit-requires-clause-few : goal.limit_for-limit-requires-clause-few
+limit_for-limit-requires-clause-few c = subst (λ (l : List NearEdge). length l ≤ c.args.search.k) (sym c.as_slice.ensures.value) c.requires.best.few
+
+pub returns-then-d2-limit-clause-steps : goal.returns-then-d2-limit-clause-steps
+returns-then-d2-limit-clause-steps c = stays c.args.net.now c.args.search c.args.found.now.items c.requires.best
+
+pub line-requires : goal.line-requires
+line-requires c = c.requires.run.has
+
+pub nearest_segments-requires-clause-p_in : goal.nearest_segments-requires-clause-p_in
+nearest_segments-requires-clause-p_in c = c.args.search.at_in
+
+pub returns-in_default-clause-steps : goal.returns-in_default-clause-steps
+returns-in_default-clause-steps c = stays c.args.net.now c.args.search c.args.found.now.items c.requires.best
+
+pub take_near-requires-clause-few : goal.take_near-requires-clause-few
+take_near-requires-clause-few c = c.requires.best.few
+
+pub take_near-requires-clause-apart : goal.take_near-requires-clause-apart
+take_near-requires-clause-apart c = c.requires.best.apart
+
+pub take_pair-requires-clause-few : goal.take_pair-requires-clause-few
+take_pair-requires-clause-few c = c.requires.best.few
+
+pub take_pair-requires-clause-apart : goal.take_pair-requires-clause-apart
+take_pair-requires-clause-apart c = c.requires.best.apart
+
+pub nearest_of_twin-requires-clause-run : goal.nearest_of_twin-requires-clause-run
+nearest_of_twin-requires-clause-run c = c.requires.run
+
+pub nearest_segments-requires-clause-line : goal.nearest_segments-requires-clause-line
+nearest_segments-requires-clause-line c = subst IsLine (sym c.line.ensures) (c.invariants.ensures.lines c.args.run.edge.0 c.requires.run.has)
+
+pub nearest_segments-requires-clause-order : goal.nearest_segments-requires-clause-order
+nearest_segments-requires-clause-order c = omega (arith, c.requires.run.run.some)
+
+pub nearest_segments-requires-clause-end : goal.nearest_segments-requires-clause-end
+nearest_segments-requires-clause-end c = omega (arith, c.requires.run.run.within, ap length c.line.ensures)
+
+pub nearest_of_twin-requires-clause-last : goal.nearest_of_twin-requires-clause-last
+nearest_of_twin-requires-clause-last c = c.in-Some.ensures.0.before_end

@@ -1,4 +1,8 @@
-use Rattle.std.proofs.Common.{ap, get_or, arith, subst, sym, ◌≤◌, List, length}
+use Rattle.std.proofs.lemmas.Result.{err_from_is_err_and}
+use Rattle.std.proofs.Common.{◌≡◌, ◌∙◌, All, ap, get_or, arith, subst, sym, ◌≤◌, List, length}
+use Rattle.std.proofs.lemmas.Bool.{eqb-true}
+use Rattle.road_network.specs.Net.{Net}
+use Rattle.grid_index.specs.Runs.{IsRun}
 use Rattle.std.proofs.lemmas.List.{get_or_default}
 use Rattle.grid_index.specs.declared.runs.Run.{Run}
 use Rattle.candidate_search.specs.Best.{AreApart, HasSeen, IsLimit, Steps}
@@ -74,3 +78,33 @@ look_at_box-requires-clause-best c = c.loop-run.invariant.steps.best
 
 pub returns-clause-steps : goal.returns-clause-steps
 returns-clause-steps c = c.loop-run.invariant.steps
+
+pub returns-then-is_empty-clause-seen : goal.returns-then-is_empty-clause-seen
+returns-then-is_empty-clause-seen c =
+    let runs : List Run = c.runs_at-runs.result.now in
+    let none : length runs ≡ 0 = eqb-true (length runs) 0 (sym c.is_empty.ensures ∙ c.if-is_empty.true) in
+    seen_cell c.args.look.net.now c.args.look.grid.now c.args.look.search c.args.found.now.items runs c.args.column c.args.row 0 c.runs_at-runs.ensures (omega (arith, none)) (λ i d lt. absurd (omega (arith, lt)))
+
+pub bounds-runs-run-index : goal.bounds-runs-run-index
+bounds-runs-run-index c = c.loop-run-test.true
+
+pub distance2_in_cell-requires-clause-run : goal.distance2_in_cell-requires-clause-run
+distance2_in_cell-requires-clause-run c = subst (All (IsRun c.args.look.grid.now.net)) (sym c.runs_at-runs.ensures) (c.invariants.ensures.cell_runs c.args.column c.args.row) c.loop-run.run-index nothing c.loop-run-test.true
+
+pub distance2_in_cell-requires-clause-p_in : goal.distance2_in_cell-requires-clause-p_in
+distance2_in_cell-requires-clause-p_in c = c.args.look.search.at_in
+
+pub look_at_box-requires-clause-run : goal.look_at_box-requires-clause-run
+look_at_box-requires-clause-run c =
+    let runs : List Run = c.runs_at-runs.result.now in
+    let are : All (IsRun c.args.look.grid.now.net) runs = subst (All (IsRun c.args.look.grid.now.net)) (sym c.runs_at-runs.ensures) (c.invariants.ensures.cell_runs c.args.column c.args.row) in
+    subst (λ (n : Net). IsRun n (get_or runs c.loop-run.run-index nothing)) c.requires.network (are c.loop-run.run-index nothing c.loop-run-test.true)
+
+pub look_at_box-requires-clause-d2 : goal.look_at_box-requires-clause-d2
+look_at_box-requires-clause-d2 c = c.in-Some.ensures.1
+
+pub returns-in_err-look_at_box-clause-steps : goal.returns-in_err-look_at_box-clause-steps
+returns-in_err-look_at_box-clause-steps c = let p = err_from_is_err_and c.from_residual.result c.from_residual.ensures.1 in rw p.1 tt
+
+pub returns-in_err-look_at_box-clause-seen : goal.returns-in_err-look_at_box-clause-seen
+returns-in_err-look_at_box-clause-seen c = let p = err_from_is_err_and c.from_residual.result c.from_residual.ensures.1 in rw p.1 tt

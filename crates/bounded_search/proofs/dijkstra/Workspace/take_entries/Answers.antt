@@ -1,8 +1,9 @@
-use Rattle.std.proofs.lemmas.Result.{err_from_is_err_and}
+use Rattle.bounded_search.specs.LabelWords.{label_at}
+use Rattle.std.proofs.lemmas.Result.{IfOk-weaker, err_from_is_err_and}
 use Rattle.std.proofs.lemmas.List.{get_or_read}
-use Rattle.std.proofs.Common.{◌≡◌, ◌+◌, ◌*◌, ◌/◌, ◌<◌, ℕ, length, refl, subst, arith, ◌∙◌}
+use Rattle.std.proofs.Common.{◌≡◌, ◌+◌, ◌*◌, ◌/◌, ◌<◌, ◌≤◌, ℕ, List, length, refl, ap, subst, arith, ◌∙◌}
 use Rattle.bounded_search.specs.Marked.{IsTaken}
-use Rattle.bounded_search.proofs.MarkedNodes.{area_skipped, keeps_both, none_taken, sized_here}
+use Rattle.bounded_search.proofs.MarkedNodes.{all_taken, area_skipped, keeps_both, none_taken, sized_here}
 use Rattle.bounded_search.proofs.dijkstra.Workspace.take_entries.Goals as goal
 
 pub loop-region-init : goal.loop-region-init
@@ -76,3 +77,15 @@ overflow_add-region-else-region-eq0 c = omega arith
 
 pub loop-region-smaller : goal.loop-region-smaller
 loop-region-smaller c = omega arith
+
+pub returns-clause-entries : goal.returns-clause-entries
+returns-clause-entries c =
+    let inv = c.loop-region.invariant in
+    let w = c.loop-region.self in
+    let words : List ℕ = c.args.self.now.words.items in
+    let old = c.requires.sized.marks in
+    let end : length w.words.items ≤ c.loop-region.region * 512 = omega (arith, c.loop-region-test.false, c.len.ensures, inv.regions, inv.sized.words_count, old.areas, old.regions) in
+    let all = all_taken words (c.loop-region.region * 512) w end inv.taken in
+    IfOk-weaker c.to_vec.result _ _
+    (λ entries is. rw is (record { rising = inv.taken.taken.rising; same = λ v. (all v).1 ∙ ap (λ (k : ℕ). label_at k words v) inv.sized.bound }))
+    c.to_vec.ensures
