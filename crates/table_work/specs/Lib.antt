@@ -2,3 +2,4 @@ pub mod Preload
 pub mod PreloadDone
 pub mod Table
 pub mod TableDone
+pub mod RecentInside

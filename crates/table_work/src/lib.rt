@@ -7,6 +7,7 @@
 #![tactic(auto)]
 
 mod preloading;
+mod recent_rows;
 mod table;
 
 pub use preloading::preload;

@@ -7,6 +7,7 @@ ghost use Rattle.road_network.specs.Net.{IsLawful};
 ghost use Rattle.table_work.specs.Table.{table_plan, table_said};
 ghost use Rattle.table_work.specs.TableDone.{AddsRows, WritesTable};
 
+use crate::recent_rows::RecentRows;
 use bounded_search::Searcher;
 use cost_model::Params;
 use edge_io::{Shelf, Sink};
@@ -16,19 +17,22 @@ use road_network::{Network, NodeId};
 use std::alloc::Global;
 use table_file::{TableWriteFault, TableWriter};
 
-// Finds the row of each node, and adds it. No row is kept.
+// Finds the row of each node, by the rows found last, and adds it.
 fn add_rows(
     searcher: &mut Searcher,
+    recent: &mut RecentRows,
     nodes: u32,
     writer: &mut TableWriter,
 ) -> Result<(), TableWriteFault>
     requires nodes { nodes ≡ length searcher.old.network.nodes }
+    requires recent { recent.old ≡ searcher.old }
     requires lawful { IsLawful searcher.old.network }
     ensures { AddsRows searcher.old nodes writer.old writer.new result }
 {
     for node in 0..nodes {
-        let row = searcher.row(NodeId(node))?;
+        let row = searcher.row_from(recent, NodeId(node))?;
         writer.add(&row)?;
+        recent.keep(row)?;
     }
     Ok(())
 }
@@ -42,7 +46,8 @@ fn write_rows(alloc: Global, network: &Network, bound: u32) -> Result<List<u8>, 
     let nodes = network.node_count();
     let mut searcher = Searcher::open(alloc, network, bound)?;
     let mut writer = TableWriter::open(alloc, bound, nodes, network.edge_count())?;
-    add_rows(&mut searcher, nodes, &mut writer)?;
+    let mut recent = RecentRows::new(alloc, network, bound);
+    add_rows(&mut searcher, &mut recent, nodes, &mut writer)?;
     writer.finish()
 }
 

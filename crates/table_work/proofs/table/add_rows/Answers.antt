@@ -17,6 +17,7 @@ loop-node-preserved c =
     let has : c.loop-node.node < length c.args.searcher.now.network.nodes = omega arith in
     let is = subst (λ (t : BoundedTable). IsRow t.network t.bound c.loop-node.node c.in_ok-row.row) c.loop-node.invariant.searcher c.in_ok-row.ensures.row in
     record {
-      searcher = c.row.ensures.same ∙ c.loop-node.invariant.searcher;
+      searcher = c.row_from.ensures.same ∙ c.loop-node.invariant.searcher;
+      recent = c.keep.ensures ∙ c.loop-node.invariant.recent;
       added = row_added c.args.searcher.now c.loop-node.node c.in_ok-row.row c.args.writer.now c.loop-node.writer c.add.new.self c.requires.lawful has is c.loop-node.invariant.added c.in_ok-add.ensures.ok;
     }

@@ -6,5 +6,6 @@ use Rattle.table_work.proofs.table.add_rows.Given as goal
 abbrev pub invariant-loop-node : goal.invariant-loop-node
 invariant-loop-node l = record {
   searcher : l.searcher ≡ l.initial.searcher;
+  recent : l.recent ≡ l.initial.recent;
   added : l.writer ≡ with_rows l.initial.searcher l.node l.initial.writer;
 }
