@@ -1,6 +1,6 @@
 //! A list of entries, to which those of labelled nodes are appended without a branch. Serves `Workspace::entries`;
 //! decided by `TakesNodes`.
-ghost use Rattle.std.specs.Prelude.{◌≡◌, ◌==◌, ◌<◌, ◌≤◌, ◌+◌, [], length, not, slice_set, take, IfOk, OnOk};
+ghost use Rattle.std.specs.Prelude.{◌≡◌, ◌==◌, ◌<◌, ◌≤◌, ◌⊎◌, ◌+◌, [], length, not, slice_set, take, IfOk, OnOk};
 ghost use Rattle.bounded_search.specs.LabelWords.{no_label, word_at};
 ghost use Rattle.bounded_search.specs.Labels.{entry_by};
 ghost use Rattle.bounded_search.specs.Marked.{TakesNodes};
@@ -11,6 +11,7 @@ use crate::table_row::Entry;
 use road_network::NodeId;
 use std::alloc::{AllocError, Global};
 use std::marker::Model;
+use std::ops::Range;
 
 const FREE: Entry = Entry {
     node: NodeId(0),
@@ -61,25 +62,29 @@ fn take_node(words: &mut [u64], bound: u32, node: usize, place: &mut Entry) -> b
     word != no_label(bound)
 }
 
-/// Removes the labels of the eight nodes from `first` on, and puts their entries behind the first `count` places. The
-/// result is how many entries there are then.
+/// Removes the labels of these nodes, which are eight or the last ones, and puts their entries behind the first
+/// `count` places. The result is how many entries there are then.
 ///
 /// Nothing branches on labels: the next entry overwrites that of a node without a label.
-fn take_nodes(
+// Inlined, so that a range of just eight nodes is no loop.
+#[inline(always)]
+fn take_range(
     words: &mut [u64],
     bound: u32,
-    first: usize,
+    nodes: Range<usize>,
     places: &mut [Entry],
     count: usize,
 ) -> usize
-    requires bound { bound ≤ 10_000_000 }
-    requires few { length words.old ≤ 1_000_000_000 }
+    requires words { (bound ≤ 10_000_000) × (length words.old ≤ 1_000_000_000) }
+    requires inside { (nodes.end ≤ length words.old) × (nodes.end ≤ nodes.start + 8) }
+    requires all { (nodes.end ≡ nodes.start + 8) ⊎ (nodes.end ≡ length words.old) }
     requires room { count + 8 ≤ length places.old }
-    ensures takes { TakesNodes bound first (first + 8) words.old (take count places.old) words.new (take result places.new) }
+    ensures takes { TakesNodes bound nodes.start (nodes.start + 8)
+        words.old (take count places.old) words.new (take result places.new) }
     ensures room { result ≤ length places.new }
 {
     let mut end = count;
-    for node in first..words.len().min(first.saturating_add(8)) {
+    for node in nodes.start..nodes.end {
         let labelled = take_node(words, bound, node, &mut places[end]);
         end += usize::from(labelled);
     }
@@ -112,7 +117,13 @@ impl FoundEntries {
         ensures count { length words.new ≡ length words.old }
     {
         make_places(&mut self.places, self.count.saturating_add(8), FREE)?;
-        self.count = take_nodes(words, bound, first, self.places.as_mut_slice(), self.count);
+        let places = self.places.as_mut_slice();
+        let past = first.saturating_add(8);
+        self.count = if past <= words.len() {
+            take_range(words, bound, first..past, places, self.count)
+        } else {
+            take_range(words, bound, first..words.len(), places, self.count)
+        };
         Ok(())
     }
 

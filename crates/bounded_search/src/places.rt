@@ -1,4 +1,4 @@
-//! The place of a node among entries by ascending node number. Serves `Row::find` and `check_row`; decided by `IsPlaceOf`.
+//! The place of a node among entries by ascending node number. Serves `Row::find`; decided by `IsPlaceOf`.
 ghost use Rattle.std.specs.Prelude.{◌≡◌, ◌<◌, ◌≤◌, ℕ, length, None, MatchOption};
 ghost use Rattle.bounded_search.specs.Finding.{AllAbove, AllBelow, IsPlaceOf};
 ghost use Rattle.bounded_search.specs.Table.{RisesFrom, entry_in};
@@ -34,37 +34,24 @@ pub fn place_between(entries: &[Entry], first: usize, past: usize, n: NodeId) ->
     Some(low)
 }
 
-/// The place of a node, searched from another place: two entries are at most as far apart as their node
-/// numbers differ, and exactly so if no number between them is missing. So the farthest place is tried
-/// first.
-pub fn place_from(entries: &[Entry], start: usize, n: NodeId) -> Option<usize>
+/// The place of a node, searched from the place of another, `here`: two entries are at most as far apart as their
+/// node numbers differ, and exactly so if no number between them is missing. So the farthest place is tried first.
+pub fn place_from(entries: &[Entry], start: usize, here: NodeId, n: NodeId) -> Option<usize>
     requires rising { RisesFrom 0 entries.now }
-    requires start { start < length entries.now }
+    requires start { IsPlaceOf entries.now here.0 start }
     ensures { MatchOption result (entry_in entries.now n.0 ≡ None) (IsPlaceOf entries.now n.0) }
 {
-    let here = entries[start].node.0;
-    if n.0 < here {
-        let first = start - start.min((here - n.0) as usize);
+    if n.0 < here.0 {
+        let first = start - start.min((here.0 - n.0) as usize);
         if entries[first].node == n {
             return Some(first);
         }
         place_between(entries, first, start, n)
     } else {
-        let last = start + (entries.len() - 1 - start).min((n.0 - here) as usize);
+        let last = start + (entries.len() - 1 - start).min((n.0 - here.0) as usize);
         if entries[last].node == n {
             return Some(last);
         }
         place_between(entries, start, last + 1, n)
     }
-}
-
-/// The place of a node, searched from `middle` if that is a place.
-pub fn place_near(entries: &[Entry], middle: usize, n: NodeId) -> Option<usize>
-    requires { RisesFrom 0 entries.now }
-    ensures { MatchOption result (entry_in entries.now n.0 ≡ None) (IsPlaceOf entries.now n.0) }
-{
-    if middle < entries.len() {
-        return place_from(entries, middle, n);
-    }
-    place_between(entries, 0, entries.len(), n)
 }

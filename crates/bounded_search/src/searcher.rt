@@ -122,7 +122,7 @@ impl<'n> Searcher<'n> {
         match self.workspace.entries(alloc, network, known, origin) {
             Ok(entries) => Ok(Row {
                 origin,
-                middle: place_between(&entries, 0, entries.len(), origin).unwrap_or(0),
+                middle: place_between(&entries, 0, entries.len(), origin).unwrap(),
                 entries: List::from_vec(entries),
             }),
             Err(error) => {

@@ -1,6 +1,6 @@
 //! Takes the labels of a search out as entries, by ascending node number. Serves `Workspace::entries`; decided by
 //! `ListsLabels`.
-ghost use Rattle.std.specs.Prelude.{◌≡◌, ◌<◌, ◌+◌, ◌*◌, [], length, IfOk, OnOk};
+ghost use Rattle.std.specs.Prelude.{◌≡◌, ◌<◌, ◌≤◌, ◌+◌, ◌*◌, [], length, IfOk, OnOk};
 ghost use Rattle.bounded_search.specs.Marked.{AllMarked, IsSized, KeepsSizes, Takes, labels_of};
 ghost use Rattle.bounded_search.specs.Searching.{EndsClean, ListsLabels};
 
@@ -9,7 +9,29 @@ use crate::table_row::Entry;
 use std::alloc::{AllocError, Global};
 
 impl Workspace {
-    /// Takes the labels of a region of 64 octets of 8 nodes, if it is marked: those of its marked octets.
+    /// Takes the labels of a group of 8 octets of 8 nodes: those of its marked octets.
+    fn take_group(&mut self, group: usize) -> Result<(), AllocError>
+        requires group { (group + 1) * 8 ≤ length self.old.marks.octets.items }
+        requires sized { IsSized (length self.old.words.items) self.old }
+        ensures takes { OnOk result (Takes (group * 64) ((group + 1) * 64) self.old self.new) }
+        ensures sized { KeepsSizes self.old self.new }
+    {
+        if self.marks.none_in(group) {
+            return Ok(());
+        }
+        for octet in group * 8..(group + 1) * 8 {
+            let mark = self.marks.octets[octet];
+            if mark == 0 {
+                continue;
+            }
+            self.found
+                .take_nodes(self.words.as_mut_slice(), self.bound, octet * 8)?;
+            self.marks.octets[octet] = 0;
+        }
+        Ok(())
+    }
+
+    /// Takes the labels of a region of 8 groups, if it is marked.
     fn take_region(&mut self, region: usize) -> Result<(), AllocError>
         requires region { region < length self.old.marks.regions.items }
         requires sized { IsSized (length self.old.words.items) self.old }
@@ -20,14 +42,8 @@ impl Workspace {
         if mark == 0 {
             return Ok(());
         }
-        for octet in region * 64..(region + 1) * 64 {
-            let octet_mark = self.marks.octets[octet];
-            if octet_mark == 0 {
-                continue;
-            }
-            self.found
-                .take_nodes(self.words.as_mut_slice(), self.bound, octet * 8)?;
-            self.marks.octets[octet] = 0;
+        for group in region * 8..(region + 1) * 8 {
+            self.take_group(group)?;
         }
         self.marks.regions[region] = 0;
         Ok(())

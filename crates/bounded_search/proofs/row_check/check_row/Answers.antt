@@ -16,7 +16,7 @@ returns-then-eq c =
     let has : HasNode n row.origin = subst (HasNode n) (sym same) c.requires in
     let is = row_is n bound row c.invariants.ensures c.invariants-2.ensures in
     let given = closed_is n bound (start_of n) row (start_tells n) c.invariants.ensures c.invariants-2.ensures has in
-    let test = rw c.entries.ensures at c.gives_all.ensures in (
+    let test = c.gives_all.ensures in (
       λ t. subst (λ (s : ℕ). IsRow n bound s row) same (is.0 (given.0 (test.0 t))),
       λ h. test.1 (given.1 (is.1 (subst (λ (s : ℕ). IsRow n bound s row) (sym same) h))),
     )

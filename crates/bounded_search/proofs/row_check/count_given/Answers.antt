@@ -13,15 +13,15 @@ use Rattle.bounded_search.proofs.row_check.count_given.Goals as goal
 
 pub loop-arc-preserved : goal.loop-arc-preserved
 loop-arc-preserved c =
-    let table = label_in c.args.place.now.entries.now in
+    let table = label_in c.args.row.now.entries in
     let distance = c.args.x.now.distance in
     let arcs : List Arc = c.arcs-arc-items.result.now in
     let i : ℕ = c.loop-arc.arc-index in
     let lt : i < length arcs = omega arith in
-    let p : Arc → Bool = arc_gives c.args.place.now.bound table c.args.before distance in
+    let p : Arc → Bool = arc_gives c.args.bound table c.args.before distance in
     let is : c.in_ok-try_arc.field-0 ≡ p (get_or arcs i nothing) = c.in_ok-try_arc.ensures.given in
     record {
-      relaxed = All-more (IsRelaxedOrBack c.args.place.now.bound table c.args.before distance) arcs i nothing lt c.loop-arc.invariant.relaxed (c.in_ok-try_arc.ensures.some.0 refl);
+      relaxed = All-more (IsRelaxedOrBack c.args.bound table c.args.before distance) arcs i nothing lt c.loop-arc.invariant.relaxed (c.in_ok-try_arc.ensures.some.0 refl);
       counted = elim c.if-branch.branch [
         | then-branch w ↦
             let more = count_by_more_yes p arcs i nothing lt (sym is ∙ w.if-branch.true) in
@@ -35,8 +35,8 @@ loop-arc-preserved c =
 pub returns-in_err-try_arc-clause-some : goal.returns-in_err-try_arc-clause-some
 returns-in_err-try_arc-clause-some c =
     let n = c.args.net.now in
-    let table = label_in c.args.place.now.entries.now in
-    let P : Arc → Type 0 = IsRelaxedOrBack c.args.place.now.bound table c.args.before c.args.x.now.distance in
+    let table = label_in c.args.row.now.entries in
+    let P : Arc → Type 0 = IsRelaxedOrBack c.args.bound table c.args.before c.args.x.now.distance in
     let are = arcs_are n c.args.x.now.node.0 P in
     let none : P (get_or c.arcs-arc-items.result.now c.loop-arc.arc-index nothing) → ⊥ = λ at. true≢false (sym (c.in_err-try_arc.ensures.some.1 at)) in (
       λ some. absurd (true≢false (sym (rw c.from_residual.ensures at some))),
@@ -48,8 +48,8 @@ returns-in_err-try_arc-clause-some c =
 pub returns-clause-some : goal.returns-clause-some
 returns-clause-some c =
     let n = c.args.net.now in
-    let table = label_in c.args.place.now.entries.now in
-    let P : Arc → Type 0 = IsRelaxedOrBack c.args.place.now.bound table c.args.before c.args.x.now.distance in
+    let table = label_in c.args.row.now.entries in
+    let P : Arc → Type 0 = IsRelaxedOrBack c.args.bound table c.args.before c.args.x.now.distance in
     let are = arcs_are n c.args.x.now.node.0 P in
     let arcs : List Arc = c.arcs-arc-items.result.now in
     let all : All P arcs = rw (take_all c.loop-arc.arc-index arcs (omega arith)) at c.loop-arc.invariant.relaxed in (
@@ -61,21 +61,15 @@ pub returns-in_err-try_arc-clause-count : goal.returns-in_err-try_arc-clause-cou
 returns-in_err-try_arc-clause-count c = rw c.from_residual.ensures tt
 
 pub arcs-arc-items-requires : goal.arcs-arc-items-requires
-arcs-arc-items-requires c = c.requires.node
+arcs-arc-items-requires c = c.requires
 
 pub loop-arc-init : goal.loop-arc-init
 loop-arc-init c = record { relaxed = λ k d lt. absurd (omega arith); counted = refl }
-
-pub try_arc-requires-clause-rising : goal.try_arc-requires-clause-rising
-try_arc-requires-clause-rising c = c.requires.rising
-
-pub try_arc-requires-clause-index : goal.try_arc-requires-clause-index
-try_arc-requires-clause-index c = c.requires.index
 
 pub returns-clause-count : goal.returns-clause-count
 returns-clause-count c =
     let n = c.args.net.now in
     let arcs : List Arc = c.arcs-arc-items.result.now in
-    let p : Arc → Bool = arc_gives c.args.place.now.bound (label_in c.args.place.now.entries.now) c.args.before c.args.x.now.distance in
+    let p : Arc → Bool = arc_gives c.args.bound (label_in c.args.row.now.entries) c.args.before c.args.x.now.distance in
     let counted = rw (take_all c.loop-arc.arc-index arcs c.loop-arc-test.false) at c.loop-arc.invariant.counted in
     counted ∙ (ap (count_by p) c.arcs-arc-items.ensures ∙ count_arcs n p (leaving n c.args.x.now.node.0))

@@ -6,6 +6,6 @@ use Rattle.bounded_search.proofs.row_check.count_given.Given as goal
 
 abbrev pub invariant-loop-arc : goal.invariant-loop-arc
 invariant-loop-arc l = record {
-  relaxed : All (IsRelaxedOrBack l.place.bound (label_in l.place.entries.now) l.before l.x.distance) (take l.arc-index l.arc-items);
-  counted : l.count ≡ count_by (arc_gives l.place.bound (label_in l.place.entries.now) l.before l.x.distance) (take l.arc-index l.arc-items);
+  relaxed : All (IsRelaxedOrBack l.bound (label_in l.row.entries) l.before l.x.distance) (take l.arc-index l.arc-items);
+  counted : l.count ≡ count_by (arc_gives l.bound (label_in l.row.entries) l.before l.x.distance) (take l.arc-index l.arc-items);
 }

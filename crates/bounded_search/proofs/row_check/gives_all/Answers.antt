@@ -15,64 +15,60 @@ nothing = record { node = record { 0 = 0 }; distance = 0; last = None }
 
 pub overflow_add-given : goal.overflow_add-given
 overflow_add-given c =
-    let entries : List Entry = c.args.entries.now in
+    let entries : List Entry = c.args.row.now.entries in
     let f : Entry → ℕ = given_by c.args.net.now c.args.bound (start_of c.args.net.now) entries in
-    let place : ℕ = c.loop-index.index in
-    let lt : place < length entries = omega arith in
+    let place : ℕ = c.loop-x.x-index in
+    let lt : place < length entries = omega (arith, ap length c.entries-entries.ensures, c.loop-x-test.true) in
     let more : sum_by f (take place entries) + f (get_or entries place nothing) ≤ sum_by f entries = sum_by_more_le f entries place nothing lt in
-    let few : sum_by f entries ≤ length entries = given_few c.args.net.now c.args.bound (start_of c.args.net.now) entries c.requires in
-    let count : c.in-Some.count ≡ f (get_or entries place nothing) = c.in-Some.ensures.count in
-    let given : c.loop-index.given ≡ sum_by f (take place entries) = c.loop-index.invariant.counted in
-    let inside : c.loop-index.given + c.in-Some.count ≤ length entries = omega (arith, more, few, count, given) in
+    let few : sum_by f entries ≤ length entries = given_few c.args.net.now c.args.bound (start_of c.args.net.now) entries c.invariants.ensures.rising in
+    let count : c.in-Some.count ≡ f (get_or entries place nothing) = (rw c.entries-entries.ensures at c.in-Some.ensures.count) in
+    let given : c.loop-x.given ≡ sum_by f (take place entries) = c.loop-x.invariant.counted in
+    let inside : c.loop-x.given + c.in-Some.count ≤ length entries = omega (arith, more, few, count, given) in
     search rules
 
-pub loop-index-preserved : goal.loop-index-preserved
-loop-index-preserved c =
+pub loop-x-preserved : goal.loop-x-preserved
+loop-x-preserved c =
     let n = c.args.net.now in
     let bound = c.args.bound in
-    let entries : List Entry = c.args.entries.now in
+    let entries : List Entry = c.args.row.now.entries in
     let f : Entry → ℕ = given_by n bound (start_of n) entries in
-    let place : ℕ = c.loop-index.index in
-    let lt : place < length entries = omega arith in
+    let place : ℕ = c.loop-x.x-index in
+    let lt : place < length entries = omega (arith, ap length c.entries-entries.ensures, c.loop-x-test.true) in
     record {
-      each = All-more (IsRelaxedAt n bound (start_of n) (label_in entries)) entries place nothing lt c.loop-index.invariant.each (c.in-Some.ensures.some.0 refl);
+      each = All-more (IsRelaxedAt n bound (start_of n) (label_in entries)) entries place nothing lt c.loop-x.invariant.each (rw c.entries-entries.ensures at (c.in-Some.ensures.some.0 refl));
       counted =
-          let count : c.in-Some.count ≡ f (get_or entries place nothing) = c.in-Some.ensures.count in
-          omega (arith, c.loop-index.invariant.counted, sum_by_more f entries place nothing lt, count);
+          let count : c.in-Some.count ≡ f (get_or entries place nothing) = (rw c.entries-entries.ensures at c.in-Some.ensures.count) in
+          omega (arith, c.loop-x.invariant.counted, sum_by_more f entries place nothing lt, count);
     }
 
 pub overflow_add-result : goal.overflow_add-result
 overflow_add-result c =
-    let entries : List Entry = c.args.entries.now in
+    let entries : List Entry = c.args.row.now.entries in
     let f : Entry → ℕ = given_by c.args.net.now c.args.bound (start_of c.args.net.now) entries in
-    let part : sum_by f (take c.loop-index.index entries) ≤ sum_by f entries = sum_by-take-le f entries c.loop-index.index in
-    let few : sum_by f entries ≤ length entries = given_few c.args.net.now c.args.bound (start_of c.args.net.now) entries c.requires in
-    let given : c.loop-index.given ≡ sum_by f (take c.loop-index.index entries) = c.loop-index.invariant.counted in
-    let inside : c.loop-index.given ≤ length entries = omega (arith, part, few, given) in
+    let part : sum_by f (take c.loop-x.x-index entries) ≤ sum_by f entries = sum_by-take-le f entries c.loop-x.x-index in
+    let few : sum_by f entries ≤ length entries = given_few c.args.net.now c.args.bound (start_of c.args.net.now) entries c.invariants.ensures.rising in
+    let given : c.loop-x.given ≡ sum_by f (take c.loop-x.x-index entries) = c.loop-x.invariant.counted in
+    let inside : c.loop-x.given ≤ length entries = omega (arith, part, few, given) in
     search rules
 
-pub loop-index-init : goal.loop-index-init
-loop-index-init c = record { each = λ k d lt. absurd (omega arith); counted = refl }
-
-pub bounds-entries-index : goal.bounds-entries-index
-bounds-entries-index c = c.loop-index-test.true
-
-pub given_at-requires-clause-rising : goal.given_at-requires-clause-rising
-given_at-requires-clause-rising c = c.requires
-
-pub given_at-requires-clause-index : goal.given_at-requires-clause-index
-given_at-requires-clause-index c = c.loop-index-test.true
+pub loop-x-init : goal.loop-x-init
+loop-x-init c = record { each = λ k d lt. absurd (omega arith); counted = refl }
 
 pub returns-in_default : goal.returns-in_default
-returns-in_default c = (λ is. absurd (false≢true is), λ given. c.in_default.ensures.some.1 (given.each c.loop-index.index nothing c.loop-index-test.true))
+returns-in_default c =
+    let lt : c.loop-x.x-index < length c.args.row.now.entries = omega (arith, ap length c.entries-entries.ensures, c.loop-x-test.true) in
+    let some = rw c.entries-entries.ensures at c.in_default.ensures.some in
+    (λ is. absurd (false≢true is), λ given. some.1 (given.each c.loop-x.x-index nothing lt))
 
 pub returns : goal.returns
 returns c =
-    let entries : List Entry = c.args.entries.now in
-    let whole : take c.loop-index.index entries ≡ entries = take_all c.loop-index.index entries c.loop-index-test.false in
-    let each = rw whole at c.loop-index.invariant.each in
-    let counted = rw whole at c.loop-index.invariant.counted in
+    let entries : List Entry = c.args.row.now.entries in
+    let past : length entries ≤ c.loop-x.x-index = omega (arith, ap length c.entries-entries.ensures, c.loop-x-test.false) in
+    let whole : take c.loop-x.x-index entries ≡ entries = take_all c.loop-x.x-index entries past in
+    let each = rw whole at c.loop-x.invariant.each in
+    let counted = rw whole at c.loop-x.invariant.counted in
+    let count : length c.entries-entries.result.now ≡ length entries = ap length c.entries-entries.ensures in
     let more = ap (λ (k : ℕ). k + 1) counted in (
-      λ is. record { each = each; all = sym more ∙ eqb-true (c.loop-index.given + 1) (length entries) is },
-      λ given. eq-eqb (c.loop-index.given + 1) (length entries) (more ∙ given.all),
+      λ is. record { each = each; all = sym more ∙ (eqb-true (c.loop-x.given + 1) (length c.entries-entries.result.now) is ∙ count) },
+      λ given. eq-eqb (c.loop-x.given + 1) (length c.entries-entries.result.now) (more ∙ (given.all ∙ sym count)),
     )

@@ -10,7 +10,7 @@ use Rattle.bounded_search.proofs.row_check.try_arc.Goals as goal
 
 pub returns-2-clause-some : goal.returns-2-clause-some
 returns-2-clause-some c =
-    let entries = c.args.place.now.entries.now in
+    let entries = c.args.row.now.entries in
     let arc = c.args.arc in
     let at : ℕ = c.args.distance + arc.length in
     let found : entry_in entries arc.to.0 ≡ Some c.in_ok-found.found = search (rules, common_steps) in
@@ -20,16 +20,10 @@ returns-2-clause-some c =
       | in_default-via-in-Some+else-eq w ↦ grind (arith, nat_tests)
     ] in
     let test = rw (c.from.ensures, c.from-2.ensures) at c.compare.ensures.some in
-    let short : at ≤ c.args.place.now.bound = grind (arith, nat_tests) in (
+    let short : at ≤ c.args.bound = grind (arith, nat_tests) in (
       λ some ahead inside. by.0 (test.0 some),
       λ relaxed. test.1 (by.1 (relaxed forward short)),
     )
-
-pub find-requires-clause-rising : goal.find-requires-clause-rising
-find-requires-clause-rising c = c.requires.rising
-
-pub find-requires-clause-place : goal.find-requires-clause-place
-find-requires-clause-place c = c.requires.index
 
 pub returns-in_err-found-clause-given : goal.returns-in_err-found-clause-given
 returns-in_err-found-clause-given c = rw c.from_residual.ensures tt

@@ -3,6 +3,7 @@ use Rattle.std.proofs.lemmas.List.{take_at}
 use Rattle.std.proofs.lemmas.Result.{err_from_is_err_and}
 use Rattle.bounded_search.specs.declared.table_row.Entry.{Entry}
 use Rattle.bounded_search.proofs.FreePlaces.{items_still}
+use Rattle.bounded_search.proofs.found_entries.FoundEntries.take_nodes.Goals.{then-past-words, else-past-words}
 use Rattle.bounded_search.proofs.found_entries.FoundEntries.take_nodes.Goals as goal
 
 pub returns-in_err-make_places-clause-takes : goal.returns-in_err-make_places-clause-takes
@@ -11,29 +12,21 @@ returns-in_err-make_places-clause-takes c = let p = err_from_is_err_and c.from_r
 pub returns-in_err-make_places-clause-count : goal.returns-in_err-make_places-clause-count
 returns-in_err-make_places-clause-count c = refl
 
-pub take_nodes-self-inside-requires-clause-bound : goal.take_nodes-self-inside-requires-clause-bound
-take_nodes-self-inside-requires-clause-bound c = c.requires.bound
-
-pub take_nodes-self-inside-requires-clause-few : goal.take_nodes-self-inside-requires-clause-few
-take_nodes-self-inside-requires-clause-few c = c.requires.few
-
-pub invariant_of-self-2 : goal.invariant_of-self-2
-invariant_of-self-2 c =
-    let places : List Entry = c.make_places.new.places.items in
-    let new : List Entry = c.take_nodes-self-inside.new.places in
-    let back : take c.make_places.new.places.len (new ++ drop (length new) places) ≡ new = take_at new (drop (length new) places) c.make_places.new.places.len (c.take_nodes-self-inside.auto.places ∙ c.as_mut_slice.ensures.len) in
-    rw back c.take_nodes-self-inside.ensures.room
-
 pub returns-clause-takes : goal.returns-clause-takes
 returns-clause-takes c =
     let count : ℕ = c.self.inside.count in
     let old : List Entry = c.self.inside.places.items in
     let places : List Entry = c.make_places.new.places.items in
-    let new : List Entry = c.take_nodes-self-inside.new.places in
-    let back : take c.make_places.new.places.len (new ++ drop (length new) places) ≡ new = take_at new (drop (length new) places) c.make_places.new.places.len (c.take_nodes-self-inside.auto.places ∙ c.as_mut_slice.ensures.len) in
-    let start : take count c.as_mut_slice.result.now ≡ c.args.self.now = ap (take count) c.as_mut_slice.ensures.value ∙ items_still count old places c.args.self.now c.self.invariant c.make_places.ensures.same c.self.view_is in
-    let takes = rw start at c.take_nodes-self-inside.ensures.takes in
-    rw back takes
-
-pub returns-clause-count : goal.returns-clause-count
-returns-clause-count c = c.take_nodes-self-inside.auto.words
+    let start : take count c.as_mut_slice-places.result.now ≡ c.args.self.now = ap (take count) c.as_mut_slice-places.ensures.value ∙ items_still count old places c.args.self.now c.self.invariant c.make_places.ensures.same c.self.view_is in
+    elim c.if-past-words.branch [
+      | then-past-words w ↦
+          let new : List Entry = w.take_range-self-inside.new.places in
+          let back : take c.make_places.new.places.len (new ++ drop (length new) places) ≡ new = take_at new (drop (length new) places) c.make_places.new.places.len (w.take_range-self-inside.auto.places ∙ c.as_mut_slice-places.ensures.len) in
+          let takes = rw start at w.take_range-self-inside.ensures.takes in
+          rw (w.words-is, w.self-is, w.self-inside-is, back) takes
+      | else-past-words w ↦
+          let new : List Entry = w.take_range-self-inside-else-past-words.new.places in
+          let back : take c.make_places.new.places.len (new ++ drop (length new) places) ≡ new = take_at new (drop (length new) places) c.make_places.new.places.len (w.take_range-self-inside-else-past-words.auto.places ∙ c.as_mut_slice-places.ensures.len) in
+          let takes = rw start at w.take_range-self-inside-else-past-words.ensures.takes in
+          rw (w.words-is, w.self-is, w.self-inside-is, back) takes
+    ]

@@ -3,7 +3,9 @@ use Rattle.road_network.specs.Net.{HasNode}
 use Rattle.bounded_search.specs.Marked.{IsClean}
 use Rattle.bounded_search.specs.Table.{BoundedTable, IsRow}
 use Rattle.bounded_search.proofs.MarkedNodes.{sized_here}
-use Rattle.bounded_search.proofs.RowChecks.{rules_of_row}
+use Rattle.bounded_search.specs.Closed.{origin_label}
+use Rattle.bounded_search.specs.Finding.{IsPlaceOf}
+use Rattle.bounded_search.proofs.RowChecks.{found_some, rules_of_row}
 use Rattle.bounded_search.proofs.searcher.Searcher.row_from.Goals as goal
 
 pub entries-requires-clause-known : goal.entries-requires-clause-known
@@ -47,7 +49,13 @@ returns-in-Err-clause-same g c = ap (λ (k : ℕ). record { network = c.self.ins
 pub returns-in-Err-clause-row : goal.returns-in-Err-clause-row
 returns-in-Err-clause-row g c = tt
 
+pub unwrap-requires : goal.unwrap-requires
+unwrap-requires g c =
+    let listed = (rules_of_row c.self.inside.network.now c.self.inside.workspace.bound c.args.origin.0 (record { origin = c.args.origin.0; entries = c.in-Ok.entries.items }) c.invariants.ensures c.in-Ok.ensures.row).origin in
+    found_some c.in-Ok.entries.items c.args.origin.0 c.place_between.result origin_label (rw c.deref.ensures.value at c.place_between.ensures) listed
+
 pub invariant_of-result : goal.invariant_of-result
 invariant_of-result g c =
-    rw c.from_vec.ensures
-    (rules_of_row c.self.inside.network.now c.self.inside.workspace.bound c.args.origin.0 (record { origin = c.args.origin.0; entries = c.in-Ok.entries.items }) c.invariants.ensures c.in-Ok.ensures.row)
+    let rules = rules_of_row c.self.inside.network.now c.self.inside.workspace.bound c.args.origin.0 (record { origin = c.args.origin.0; entries = c.in-Ok.entries.items }) c.invariants.ensures c.in-Ok.ensures.row in
+    let middle : IsPlaceOf c.in-Ok.entries.items c.args.origin.0 c.unwrap.result = rw c.unwrap.ensures at (rw c.deref.ensures.value at c.place_between.ensures) in
+    rw c.from_vec.ensures (record { rules = rules; middle = middle })
