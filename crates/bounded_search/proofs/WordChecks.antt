@@ -1,5 +1,5 @@
 -- What the words of a row's labels tell of it.
-use Rattle.std.proofs.Common.{◌≡◌, ◌≢◌, ◌↔◌, ℕ, zero, suc, ◌+◌, ◌-◌, ◌/◌, ◌%◌, ◌^◌, ◌<◌, ◌≤◌, ◌==◌, true, false, inl, inr, List, [], ◌∷◌, ◌++◌, length, take, set, get_or, slice_index_or, Option, Some, None, refl, sym, ap, subst, ◌∙◌, arith}
+use Rattle.std.proofs.Common.{◌≡◌, ◌≢◌, ◌↔◌, ℕ, zero, suc, ◌+◌, ◌-◌, ◌/◌, ◌%◌, ◌^◌, ◌<◌, ◌≤◌, ◌==◌, true, inl, inr, List, [], ◌∷◌, ◌++◌, length, take, set, get_or, slice_index_or, Option, Some, None, refl, sym, ap, subst, ◌∙◌, arith}
 use Rattle.std.proofs.lemmas.Bool.{cases_eq, cases_lt, false_from_ne_true}
 use Rattle.std.proofs.lemmas.Bool.Decides.{eqb_tells}
 use Rattle.std.proofs.lemmas.List.{get_or_past, get_or-take, length-take-le, take_more}
@@ -11,13 +11,12 @@ use Rattle.road_network.specs.declared.EdgeId.{EdgeId}
 use Rattle.bounded_search.specs.declared.table_row.Entry.{Entry}
 use Rattle.bounded_search.specs.declared.table_row.Label.{Label}
 use Rattle.bounded_search.specs.Closed.{IsClosedAt, IsListedBy, IsReached, origin_label}
-use Rattle.bounded_search.specs.Given.{IsGiven, is_label_by, none_skipped}
+use Rattle.bounded_search.specs.Given.{IsGiven, is_label_by}
 use Rattle.bounded_search.specs.LabelWords.{label_at, label_in_word, last_in, no_label, word_at, word_by, word_of}
 use Rattle.bounded_search.specs.RowRules.{MeetsRowRules}
 use Rattle.bounded_search.specs.Spread.{FitsIn, HasLast, IsSpread}
 use Rattle.bounded_search.specs.Table.{RisesFrom, TableRow, entry_in, label_in, label_of}
 use Rattle.bounded_search.proofs.GivenLabels.{IsGivenLabel, label_tells}
-use Rattle.bounded_search.proofs.GivenRows.{SkipsStart}
 use Rattle.bounded_search.proofs.LabelWords.{cleared, distance_by, label_there, last_by, last_is, last_there, none_in, word_elsewhere, word_here, word_none, word_there}
 use Rattle.bounded_search.proofs.TakenLabels.{label_before, label_else}
 use Rattle.bounded_search.proofs.RowChecks.{entry_at, rises_apart}
@@ -163,14 +162,11 @@ none_left bound x xs words past left v none = elim (cases_eq v x.node.0) [
   | inr apart ↦ left v (elim (eqb_tells x.node.0 v) [ inl t ↦ absurd (apart (sym t.1)) | inr t ↦ rw t.0 none ])
 ]
 
-pub skips_none : (n : Net) → SkipsStart n none_skipped
-skips_none n last v h = absurd (let no : false ≡ true = h in cc)
-
 has_last : (n : Net) (last : Option EdgeId) (e : ℕ) → last ≡ Some (record { 0 = e }) → HasEdge n e → HasLast n last
 has_last n last e is has = subst (HasLast n) (sym is) has
 
 -- entries of a closed row fit
-pub closed_fits : (n : Net) (bound : ℕ) (row : TableRow) → MeetsRowRules row → IsGiven n bound none_skipped row.entries → All (λ x. IsClosedAt n bound row.origin (label_in row.entries) x.node.0 (label_of x)) row.entries → All (FitsIn n bound) row.entries
+pub closed_fits : (n : Net) (bound : ℕ) (row : TableRow) → MeetsRowRules row → IsGiven n bound row.entries → All (λ x. IsClosedAt n bound row.origin (label_in row.entries) x.node.0 (label_of x)) row.entries → All (FitsIn n bound) row.entries
 closed_fits n bound row rules given all k d lt =
     let x : Entry = slice_index_or row.entries k d in
     let at : IsClosedAt n bound row.origin (label_in row.entries) x.node.0 (label_of x) = all k d lt in

@@ -3,7 +3,8 @@
 ghost use Rattle.std.specs.Prelude.{◌≡◌, ◌<◌, ◌≤◌, ◌-◌, ◌^◌, ◌↔◌, length, None, IfSome, IsSome, IsTrue};
 ghost use Rattle.std.specs.List.{All, count_by};
 ghost use Rattle.road_network.specs.Net.{HasNode, leaving};
-ghost use Rattle.bounded_search.specs.Given.{IsGiven, IsRelaxedOrBack, LeavesRelaxedOrBack, arc_gives, gives, none_skipped};
+ghost use Rattle.bounded_search.specs.Closed.{LeavesRelaxed};
+ghost use Rattle.bounded_search.specs.Given.{IsArcRelaxed, IsGiven, arc_gives, gives};
 ghost use Rattle.bounded_search.specs.LabelWords.{label_at};
 ghost use Rattle.bounded_search.specs.Spread.{FitsIn, IsBlank, IsSpread, LabelsOnly, NoneLabelled, Spreads};
 ghost use Rattle.bounded_search.specs.Table.{IsRow, RisesFrom};
@@ -41,7 +42,7 @@ fn gives_all(net: &Network, bound: u32, words: &mut [u64], entries: &[Entry]) ->
     requires rising { RisesFrom 0 entries.now }
     requires blank { IsBlank (length net.now.nodes) bound words.old }
     ensures given { IsTrue result
-        ↔ (All (FitsIn net.now bound) entries.now × IsGiven net.now bound none_skipped entries.now) }
+        ↔ (All (FitsIn net.now bound) entries.now × IsGiven net.now bound entries.now) }
     ensures blank { IsBlank (length net.now.nodes) bound words.new }
 {
     let good = spread_and_count(net, bound, words, entries);
@@ -54,7 +55,7 @@ fn spread_and_count(net: &Network, bound: u32, words: &mut [u64], entries: &[Ent
     requires rising { RisesFrom 0 entries.now }
     requires blank { IsBlank (length net.now.nodes) bound words.old }
     ensures given { IsTrue result
-        ↔ (All (FitsIn net.now bound) entries.now × IsGiven net.now bound none_skipped entries.now) }
+        ↔ (All (FitsIn net.now bound) entries.now × IsGiven net.now bound entries.now) }
     ensures only { LabelsOnly bound entries.now words.new }
 {
     spread(net, bound, words, entries) && are_given(net, bound, words, entries)
@@ -82,7 +83,7 @@ fn are_given(net: &Network, bound: u32, words: &[u64], entries: &[Entry]) -> boo
     requires rising { RisesFrom 0 entries.now }
     requires fits { All (FitsIn net.now bound) entries.now }
     requires words { (length words.now ≡ length net.now.nodes) × IsSpread bound entries.now words.now }
-    ensures { IsTrue result ↔ IsGiven net.now bound none_skipped entries.now }
+    ensures { IsTrue result ↔ IsGiven net.now bound entries.now }
 {
     let mut given = 0;
     for (place, x) in entries.iter().enumerate() {
@@ -100,9 +101,9 @@ fn count_given(net: &Network, bound: u32, words: &[u64], x: &Entry) -> Option<us
     requires within { x.now.distance ≤ 10_000_000 }
     requires words { length words.now ≡ length net.now.nodes }
     ensures some { IsSome result
-        ↔ LeavesRelaxedOrBack net.now bound (label_at bound words.now) None x.now.node.0 x.now.distance }
+        ↔ LeavesRelaxed net.now bound (label_at bound words.now) x.now.node.0 x.now.distance }
     ensures count { IfSome result (λ count. count ≡ count_by
-        (λ e. gives net.now bound (label_at bound words.now) None x.now.distance e.0) (leaving net.now x.now.node.0)) }
+        (λ e. gives net.now bound (label_at bound words.now) x.now.distance e.0) (leaving net.now x.now.node.0)) }
 {
     net.invariants();
     let mut count = 0;
@@ -118,8 +119,8 @@ fn count_given(net: &Network, bound: u32, words: &[u64], x: &Entry) -> Option<us
 fn try_arc(bound: u32, words: &[u64], arc: Arc, distance: u32) -> Option<bool>
     requires end { (arc.to.0 < length words.now) × (arc.edge.0 < 2 ^ 32 - 1) }
     requires fits { (arc.length ≤ 100_000_000) × (distance ≤ 10_000_000) }
-    ensures some { IsSome result ↔ IsRelaxedOrBack bound (label_at bound words.now) None distance arc }
-    ensures given { IfSome result (λ given. given ≡ arc_gives bound (label_at bound words.now) None distance arc) }
+    ensures some { IsSome result ↔ IsArcRelaxed bound (label_at bound words.now) distance arc }
+    ensures given { IfSome result (λ given. given ≡ arc_gives bound (label_at bound words.now) distance arc) }
 {
     let at = distance + arc.length;
     if at > bound {

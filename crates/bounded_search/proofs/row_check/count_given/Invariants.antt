@@ -1,11 +1,11 @@
 use Rattle.std.proofs.Common.{◌≡◌, take}
 use Rattle.std.specs.List.{All, count_by}
-use Rattle.bounded_search.specs.Given.{IsRelaxedOrBack, arc_gives}
+use Rattle.bounded_search.specs.Given.{IsArcRelaxed, arc_gives}
 use Rattle.bounded_search.specs.Table.{label_in}
 use Rattle.bounded_search.proofs.row_check.count_given.Given as goal
 
 abbrev pub invariant-loop-arc : goal.invariant-loop-arc
 invariant-loop-arc l = record {
-  relaxed : All (IsRelaxedOrBack l.bound (label_in l.row.entries) l.before l.x.distance) (take l.arc-index l.arc-items);
-  counted : l.count ≡ count_by (arc_gives l.bound (label_in l.row.entries) l.before l.x.distance) (take l.arc-index l.arc-items);
+  relaxed : All (IsArcRelaxed l.bound (label_in l.row.entries) l.x.distance) (take l.arc-index l.arc-items);
+  counted : l.count ≡ count_by (arc_gives l.bound (label_in l.row.entries) l.x.distance) (take l.arc-index l.arc-items);
 }

@@ -20,10 +20,7 @@ count_given-requires c = omega (arith, c.if-x-node_count.false, c.node_count.ens
 
 pub returns-clause-some : goal.returns-clause-some
 returns-clause-some c =
-    let some = rw c.start_of-before.ensures at c.count_given.ensures.some in (
+    let some = c.count_given.ensures.some in (
       λ is. record { node = omega (arith, c.if-x-node_count.false, c.node_count.ensures); within = c.if-x-bound.false; relaxed = some.0 is },
       λ at. some.1 at.relaxed,
     )
-
-pub returns-clause-count : goal.returns-clause-count
-returns-clause-count c = rw c.start_of-before.ensures at c.count_given.ensures.count

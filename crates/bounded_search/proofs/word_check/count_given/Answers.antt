@@ -1,11 +1,11 @@
-use Rattle.std.proofs.Common.{◌≡◌, ◌<◌, ℕ, Bool, List, None, length, map, get_or, subst, sym, ap, ◌∙◌, arith, refl, true≢false}
+use Rattle.std.proofs.Common.{◌≡◌, ◌<◌, ℕ, Bool, List, length, map, get_or, subst, sym, ap, ◌∙◌, arith, refl, true≢false}
 use Rattle.std.proofs.lemmas.List.{take_all}
 use Rattle.std.proofs.lemmas.List.Elements.{All-more}
 use Rattle.std.proofs.lemmas.List.Sums.{count_by_more_no, count_by_more_yes}
 use Rattle.std.specs.List.{All, count_by}
 use Rattle.road_network.specs.Net.{Net, IsLawful, arc_of, leaving}
 use Rattle.road_network.specs.declared.Arc.{Arc}
-use Rattle.bounded_search.specs.Given.{IsRelaxedOrBack, arc_gives}
+use Rattle.bounded_search.specs.Given.{IsArcRelaxed, arc_gives}
 use Rattle.bounded_search.specs.LabelWords.{label_at}
 use Rattle.bounded_search.proofs.Arcs.{IsLeaving, arcs_are, count_arcs, known_arcs, nothing}
 use Rattle.bounded_search.proofs.word_check.count_given.Goals.{then-branch, else-branch}
@@ -33,10 +33,10 @@ loop-arc-preserved c =
     let arcs : List Arc = c.arcs-arc-items.result.now in
     let i : ℕ = c.loop-arc.arc-index in
     let lt : i < length arcs = omega arith in
-    let p : Arc → Bool = arc_gives c.args.bound table None distance in
+    let p : Arc → Bool = arc_gives c.args.bound table distance in
     let is : c.in_ok-try_arc.field-0 ≡ p (get_or arcs i nothing) = c.in_ok-try_arc.ensures.given in
     record {
-      relaxed = All-more (IsRelaxedOrBack c.args.bound table None distance) arcs i nothing lt c.loop-arc.invariant.relaxed (c.in_ok-try_arc.ensures.some.0 refl);
+      relaxed = All-more (IsArcRelaxed c.args.bound table distance) arcs i nothing lt c.loop-arc.invariant.relaxed (c.in_ok-try_arc.ensures.some.0 refl);
       counted = elim c.if-branch.branch [
         | then-branch w ↦
             let more = count_by_more_yes p arcs i nothing lt (sym is ∙ w.if-branch.true) in
@@ -51,7 +51,7 @@ pub returns-in_err-try_arc-clause-some : goal.returns-in_err-try_arc-clause-some
 returns-in_err-try_arc-clause-some c =
     let n = c.args.net.now in
     let table = label_at c.args.bound c.args.words.now in
-    let P : Arc → Type 0 = IsRelaxedOrBack c.args.bound table None c.args.x.now.distance in
+    let P : Arc → Type 0 = IsArcRelaxed c.args.bound table c.args.x.now.distance in
     let are = arcs_are n c.args.x.now.node.0 P in
     let none : P (get_or c.arcs-arc-items.result.now c.loop-arc.arc-index nothing) → ⊥ = λ at. true≢false (sym (c.in_err-try_arc.ensures.some.1 at)) in (
       λ some. absurd (true≢false (sym (rw c.from_residual.ensures at some))),
@@ -64,7 +64,7 @@ pub returns-clause-some : goal.returns-clause-some
 returns-clause-some c =
     let n = c.args.net.now in
     let table = label_at c.args.bound c.args.words.now in
-    let P : Arc → Type 0 = IsRelaxedOrBack c.args.bound table None c.args.x.now.distance in
+    let P : Arc → Type 0 = IsArcRelaxed c.args.bound table c.args.x.now.distance in
     let are = arcs_are n c.args.x.now.node.0 P in
     let arcs : List Arc = c.arcs-arc-items.result.now in
     let all : All P arcs = rw (take_all c.loop-arc.arc-index arcs (omega arith)) at c.loop-arc.invariant.relaxed in (
@@ -85,6 +85,6 @@ pub returns-clause-count : goal.returns-clause-count
 returns-clause-count c =
     let n = c.args.net.now in
     let arcs : List Arc = c.arcs-arc-items.result.now in
-    let p : Arc → Bool = arc_gives c.args.bound (label_at c.args.bound c.args.words.now) None c.args.x.now.distance in
+    let p : Arc → Bool = arc_gives c.args.bound (label_at c.args.bound c.args.words.now) c.args.x.now.distance in
     let counted = rw (take_all c.loop-arc.arc-index arcs c.loop-arc-test.false) at c.loop-arc.invariant.counted in
     counted ∙ (ap (count_by p) c.arcs-arc-items.ensures ∙ count_arcs n p (leaving n c.args.x.now.node.0))

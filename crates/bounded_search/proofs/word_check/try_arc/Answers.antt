@@ -17,7 +17,7 @@ returns-clause-some c =
     let at : get_or words v 0 ≡ word_at bound words v = get_or_default words v 0 (no_label bound) c.requires.end.0 in
     let le : word_at bound words v ≤ word_by d e = omega (arith, c.if-word-by.false, at, c.word_by-by.ensures) in
     let listed = (listed_where bound words v e d c.requires.end.1 (omega (arith, c.if-at-bound.false))).0 le in
-    (λ t forward short. listed, λ h. refl)
+    (λ t short. listed, λ h. refl)
 
 pub returns-clause-given : goal.returns-clause-given
 returns-clause-given c =
