@@ -2,6 +2,7 @@
 //! `program_run` is the whole program; `main` calls it with the real files and streams.
 #![tactic(auto)]
 
+use edge_io::StreamSink;
 use match_pool::OpenGate;
 use program_frame::Outside;
 use program_run::run_within;
@@ -9,7 +10,8 @@ use road_network::NetworkLimits;
 use std::process::ExitCode;
 
 fn main(rt: HostRuntime) -> ExitCode {
-    match Outside::open(rt, rt.stdout(), rt.stderr()) {
+    let mut err = StreamSink::new(rt.stderr());
+    match Outside::open(rt, rt.stdout(), &mut err) {
         Ok(mut to) => ExitCode::from(run_within(
             NetworkLimits::Large,
             &rt,
@@ -17,7 +19,7 @@ fn main(rt: HostRuntime) -> ExitCode {
             &to.words,
             &mut to.shelf,
             &mut to.out,
-            &mut to.err,
+            &mut err,
             &OpenGate,
         )),
         Err(status) => ExitCode::from(status),

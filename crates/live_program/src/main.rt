@@ -2,18 +2,19 @@
 //! calls it with the real files and streams.
 #![tactic(auto)]
 
+use edge_io::StreamSink;
 use live_pipeline::live;
 use program_frame::Outside;
 use std::process::ExitCode;
 
 fn main(rt: HostRuntime) -> ExitCode {
-    match Outside::open(rt, rt.stdout(), rt.stderr()) {
+    let mut err = StreamSink::new(rt.stderr());
+    match Outside::open(rt, rt.stdout(), &mut err) {
         Ok(
             Outside {
                 words,
                 shelf,
                 mut out,
-                mut err,
             },
         ) => {
             let (status, _) = live(&rt, rt.alloc(), &words, shelf, &mut out, &mut err);

@@ -2,20 +2,22 @@
 //! is the whole program; `main` calls it with the real files and streams.
 #![tactic(auto)]
 
+use edge_io::StreamSink;
 use match_pool::OpenGate;
 use program_frame::Outside;
 use program_run::run;
 use std::process::ExitCode;
 
 fn main(rt: HostRuntime) -> ExitCode {
-    match Outside::open(rt, rt.stdout(), rt.stderr()) {
+    let mut err = StreamSink::new(rt.stderr());
+    match Outside::open(rt, rt.stdout(), &mut err) {
         Ok(mut to) => ExitCode::from(run(
             &rt,
             rt.alloc(),
             &to.words,
             &mut to.shelf,
             &mut to.out,
-            &mut to.err,
+            &mut err,
             &OpenGate,
         )),
         Err(status) => ExitCode::from(status),

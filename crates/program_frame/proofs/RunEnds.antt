@@ -13,7 +13,7 @@ use Rattle.program_frame.specs.Stops.{stop_line, line_of, refusal_status, status
 use Rattle.program_frame.specs.Lines.{memory_line, write_line}
 use Rattle.program_frame.specs.Outcome.{Outcome, out_text}
 use Rattle.program_frame.specs.Performs.{IsWhole, IsPartial, IsQuiet, IsSaid, IsUnread, Leaves, Performs, RefusesWords}
-use Rattle.program_frame.specs.Promises.{Covers, IsSettled, IsOutcome, SaysAtMost, IsErrLine, SaysPartOfLine, faults_of, HasRisen, IsFaultless, IsAnswered, AreCountsSame, IsStarved, Promises}
+use Rattle.program_frame.specs.Promises.{Covers, IsSettled, IsOutcome, SaysAtMost, IsErrLine, SaysPartOfLine, faults_of, HasRisen, IsFaultless, IsAnswered, AreCountsSame, Promises}
 use Rattle.edge_io.specs.State.{ShelfState, SinkState}
 use Rattle.program_frame.specs.Plan.{Plan, AreRefused, IsFileOf, IsLineOf, outcome_of, plan_of}
 use Rattle.program_frame.specs.declared.stop.File.{File}
@@ -257,9 +257,3 @@ promises asked shelf shelf' out out' err err' (Ok tt) puts.All covers performs s
 promises asked shelf shelf' out out' err err' (Ok tt) puts.Failed covers performs said quiet = let same : puts.Failed ≡ puts.All = quiet refl in cc
 promises asked shelf shelf' out out' err err' (Ok tt) puts.NoMemory covers performs said quiet = let same : puts.NoMemory ≡ puts.All = quiet refl in cc
 promises asked shelf shelf' out out' err err' (Err stop) put covers performs said quiet = stopped asked shelf shelf' out out' err err' stop put covers performs said
-
--- where no work was begun
-pub begun_starved : (err err' : SinkState) (put : Put) → Puts err err' memory_line put → IsStarved err err' (status_after (Err NoMemory) put)
-begun_starved err err' puts.All said = inl (refl, inr said.0)
-begun_starved err err' puts.Failed said = inr (refl, said.2)
-begun_starved err err' puts.NoMemory said = inl (refl, inl said.0)

@@ -133,9 +133,3 @@ pub record Promises (lines : ℕ → List ℕ → Type 0) (asked : Result Plan (
   pub holds : shelf'.holds ≡ shelf.holds
   -- where nothing failed, the answer is the outcome's, or want of memory
   pub complete : IsFaultless asked shelf shelf' out out' err err' → IsAnswered asked shelf status
-
--- no work was begun for want of memory: the status says so, unless the put of its line failed
-abbrev pub IsStarved : SinkState → SinkState → ℕ → Type 0
-IsStarved err err' status =
-    ((status ≡ 1) × SaysAtMost memory_line err err')
-    ⊎ ((status ≡ 4) × Rose err.faults err'.faults)

@@ -63,6 +63,10 @@ pub record Reports (err err' : SinkState) (ended : Result (Unit {0}) Stop) (stat
   pub quiet : IsOk ended → put ≡ All
   pub is : status ≡ status_after ended put
 
+-- no work was begun for want of memory: its line was put on err, and this is the status
+abbrev pub IsStarved : SinkState → SinkState → ℕ → Type 0
+IsStarved err err' status = Reports err err' (Err NoMemory) status
+
 -- this refusal with this line, or want of memory
 abbrev pub IsRefusalOr : Refusal → List ℕ → Stop → Type 0
 IsRefusalOr refusal line (Refused r l) = (r ≡ refusal) × (l ≡ line)

@@ -1,7 +1,8 @@
-//! What a program reaches outside: its words, the real files and its two streams. Serves each program's `main`;
-//! decided by `AreUnused` and `EndsBeforeItsRun`.
-ghost use Rattle.std.specs.Prelude.{IfOk, IfErr};
-ghost use Rattle.program_frame.specs.Outside.{AreUnused, EndsBeforeItsRun};
+//! What a program reaches outside: its words, the real files and its output. Serves each program's `main`; decided
+//! by `AreUnused` and `IsStarved`.
+ghost use Rattle.std.specs.Prelude.{◌≡◌, IfOk, IfErr, OnOk};
+ghost use Rattle.program_frame.specs.Outside.{AreUnused};
+ghost use Rattle.program_frame.specs.Stops.{IsStarved};
 
 use crate::stop::end_without_memory;
 use edge_io::{FileShelf, Shelf, Sink, StreamSink};
@@ -10,39 +11,37 @@ use std::env::{self, Env};
 use std::io::{ErrorKind, Write};
 use std::rt::Files;
 
-/// The words after a program's name, the real files, and the streams of its output and its errors.
+/// The words after a program's name, the real files, and the stream of its output.
 #[derive(Drop)]
-pub struct Outside<R: Files + Drop, W: Write + Drop, E: Write + Drop> {
+pub struct Outside<R: Files + Drop, W: Write + Drop> {
     pub words: Vec<String>,
     pub shelf: FileShelf<R>,
     pub out: StreamSink<W>,
-    pub err: StreamSink<E>,
 }
 
-impl<R: Env + AllocGlobal + Files + Drop, W: Write + Drop, E: Write + Drop> Outside<R, W, E> {
-    /// What a program reaches through its runtime and these streams. Words that are not UTF-8 are none, which is
-    /// a faulty command line. `Err` has the status of a run that was out of memory before it began, and that
-    /// wrote its line.
-    pub fn open(rt: R, out: W, err: E) -> Result<Outside<R, W, E>, u8>
+impl<R: Env + AllocGlobal + Files + Drop, W: Write + Drop> Outside<R, W> {
+    /// What a program reaches through its runtime and this stream. Words that are not UTF-8 are none, which is a
+    /// faulty command line. `Err` has the status of a run that was out of memory before it began, after the put
+    /// of its line on the error output.
+    pub fn open<E: Sink>(rt: R, out: W, err: &mut E) -> Result<Outside<R, W>, u8>
         ensures ok { IfOk result (λ to. AreUnused (⟦<FileShelf<R> as Shelf>⟧.state to.shelf)
-            (⟦<StreamSink<W> as Sink>⟧.state to.out) (⟦<StreamSink<E> as Sink>⟧.state to.err)) }
-        ensures err { IfErr result EndsBeforeItsRun }
+            (⟦<StreamSink<W> as Sink>⟧.state to.out)) }
+        ensures quiet { OnOk result (err.new ≡ err.old) }
+        ensures err { IfErr result (IsStarved (E.state err.old) (E.state err.new)) }
     {
         let alloc = rt.alloc();
-        let mut err = StreamSink::new(err);
         let words = match env::args(&rt) {
             Ok(all) => all.skip(1).collect(alloc),
             Err(fault) if fault.kind() == ErrorKind::OutOfMemory => Err(AllocError),
             Err(_) => Ok(Vec::new(alloc)),
         };
         let Ok(words) = words else {
-            return Err(end_without_memory(&mut err));
+            return Err(end_without_memory(err));
         };
         Ok(Outside {
             words,
             shelf: FileShelf::new(alloc, rt),
             out: StreamSink::new(out),
-            err,
         })
     }
 }

@@ -1,8 +1,7 @@
 //! How the work of a command ends, and its error line. Serves `run`; decided by `Promises`.
 ghost use Rattle.std.specs.Prelude.{◌≡◌, IsOk};
 ghost use Rattle.edge_io.specs.Sink.{Puts};
-ghost use Rattle.program_frame.specs.Promises.{IsStarved};
-ghost use Rattle.program_frame.specs.Stops.{IsRefusalOr, Reports, line_of, refusal_status, status_after, stop_line, stop_status, stop_status_after};
+ghost use Rattle.program_frame.specs.Stops.{IsRefusalOr, IsStarved, Reports, line_of, refusal_status, status_after, stop_line, stop_status, stop_status_after};
 
 use edge_io::{Put, Sink};
 use polyline_geometry::List;
