@@ -60,15 +60,15 @@ impl TraceFault {
         ensures err { OnErr result (into.new ≡ into.old) }
     {
         let mut line = List::new(alloc);
-        self.append_to(&mut line)?;
+        self.append_line(&mut line)?;
         into.extend_from_slice(line.as_slice())
     }
 
     // Appends the error line, and after an error a part of it.
-    fn append_to(&self, line: &mut List<u8>) -> Result<(), AllocError>
+    fn append_line(&self, line: &mut List<u8>) -> Result<(), AllocError>
         ensures { OnOk result (line.new ≡ line.old ++ fault_line self.now) }
     {
-        self.place().append_to(line)?;
+        self.place().append_text(line)?;
         line.extend_from_slice(b": ")?;
         line.extend_from_slice(self.what().as_bytes())?;
         line.push(b'\n')
@@ -118,7 +118,7 @@ impl Place {
     ghost use Rattle.trace_reader.specs.Fault.{place_text};
 
     // Appends the error line up to the colon.
-    fn append_to(self, into: &mut List<u8>) -> Result<(), AllocError>
+    fn append_text(self, into: &mut List<u8>) -> Result<(), AllocError>
         ensures { OnOk result (into.new ≡ into.old ++ place_text self) }
     {
         match self {
