@@ -12,6 +12,14 @@ fn has_line(alloc: Global, fault: NetworkFault, line: &[u8]) -> bool {
     fault.write_line(alloc, &mut text).is_ok() && text.as_slice() == line
 }
 
+// Whether the fault shows as the end of this line, without its LF.
+fn shows_as(alloc: Global, fault: NetworkFault, line: &[u8]) -> bool {
+    match format!(in alloc; "{fault}\n") {
+        Ok(text) => line.ends_with(text.as_bytes()),
+        Err(_) => false,
+    }
+}
+
 // Whether the first fault of a file has this line.
 fn is_refused(alloc: Global, bytes: &[u8], line: &[u8]) -> bool {
     match read_network(alloc, bytes) {
@@ -102,5 +110,6 @@ static LINES: [(NetworkFault, &[u8]); 12] = [
 fn the_lines_of_the_faults(rt: HostRuntime) {
     for (fault, line) in &LINES {
         assert!(rt; has_line(rt.alloc(), *fault, line));
+        assert!(rt; shows_as(rt.alloc(), *fault, line));
     }
 }

@@ -6,7 +6,6 @@ ghost use Rattle.road_network.specs.FaultLine.{fault_line, fault_text, record_li
 use decimal_text::write_unsigned;
 use polyline_geometry::List;
 use std::alloc::{AllocError, AllocFailed, Global};
-use std::fmt::{self, Debug, Display, Formatter, Write};
 use thiserror::Error;
 
 /// The first fault of a network file. Records, fields and places are numbered from 1; the
@@ -14,39 +13,45 @@ use thiserror::Error;
 #[derive(Clone, Copy, Debug, Error)]
 pub enum NetworkFault {
     /// The first record is missing or is not the header.
+    #[error("bad header")]
     BadHeader,
     /// The record does not have four fields.
+    #[error("record {0}: wrong number of fields")]
     FieldCount(u32),
     /// A field of the record is misspelt.
+    #[error("record {0} field {1}: bad number")]
     BadNumber(u32, u32),
     /// A value of the record is out of range.
+    #[error("record {0} field {1}: out of range")]
     OutOfRange(u32, u32),
     /// An earlier record has this edge id.
+    #[error("record {0}: edge id repeated")]
     DuplicateEdge(u32),
     /// The line has one point.
+    #[error("record {0}: line too short")]
     ShortLine(u32),
     /// The point at this place of the line equals the one before it.
+    #[error("record {0} point {1}: point repeated")]
     RepeatedPoint(u32, u64),
     /// The edge is longer than 100,000,000 cm.
+    #[error("record {0}: edge too long")]
     EdgeTooLong(u32),
     /// The file has more edges than the limits allow.
+    #[error("record {0}: too many edges")]
     TooManyEdges(u32),
     /// The file has more nodes than the limits allow.
+    #[error("record {0}: too many nodes")]
     TooManyNodes(u32),
     /// The lines have more points together than the limits allow, or the record's line has more
     /// than 1,000,000.
+    #[error("record {0}: too many points")]
     TooManyPoints(u32),
     /// The file has more bytes than the limits allow.
+    #[error("file too long")]
     FileTooLong,
     /// Out of memory.
+    #[error("out of memory")]
     Memory,
-}
-
-// The program prints the line of `write_line`; the error trait shows the `Debug` text.
-impl Display for NetworkFault {
-    fn fmt<W: Write>(&self, f: &mut Formatter<W>) -> fmt::Result {
-        Debug::fmt(self, f)
-    }
 }
 
 impl From<AllocError> for NetworkFault {
