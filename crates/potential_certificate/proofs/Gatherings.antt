@@ -252,11 +252,11 @@ closed_read p g are is short =
     ap (certificate_of p) is ∙ certificates_read_back p (record { proofs = ps; rows = rs }) (record { proofs = are.each; rows = are.rising; few = few }) within
 
 -- the text so far is read as this certificate, where it is closed and within the limit
-pub finished : (p : Params) (text : List ℕ) (old g : Gathered) (count : ℕ) (proofs : List TraceProof) (rows : List TableRow) → proofs ≡ g.proofs.items → rows ≡ g.rows.items → text ≡ gathered_text old → count ≡ min (length (gathered_text old)) (2 ^ 64 - 1) → count ≤ text_limit
-    → Grows old [] g → gathered_text g ≡ certificate_text p (record { proofs = g.proofs.items; rows = g.rows.items }) → certificate_of p text ≡ Ok (record { proofs = proofs; rows = rows })
-finished p text old g count proofs rows proofs_are rows_are is counted few grows closes =
+pub finished : (p : Params) (text : List ℕ) (old g : Gathered) (count : ℕ) (c : Certificate) → c ≡ record { proofs = g.proofs.items; rows = g.rows.items } → text ≡ gathered_text old → count ≡ min (length (gathered_text old)) (2 ^ 64 - 1) → count ≤ text_limit
+    → Grows old [] g → gathered_text g ≡ certificate_text p (record { proofs = g.proofs.items; rows = g.rows.items }) → certificate_of p text ≡ Ok c
+finished p text old g count c c_is is counted few grows closes =
     let same : gathered_text g ≡ text = grows.text_is ∙ append-nil (gathered_text old) ∙ sym is in
     let long : length (gathered_text g) ≡ length (gathered_text old) = ap (λ (t : List ℕ). length t) (grows.text_is ∙ append-nil (gathered_text old)) in
     let short : length (gathered_text g) ≤ text_limit = omega (arith, counted, few, long) in
     ap (certificate_of p) (sym same) ∙ closed_read p g grows.are closes short
-    ∙ sym (λ i. let y : Result Certificate CertFault = Ok (record { proofs = proofs_are i; rows = rows_are i }) in y)
+    ∙ ap (λ (x : Certificate). let y : Result Certificate CertFault = Ok x in y) (sym c_is)

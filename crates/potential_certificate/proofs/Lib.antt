@@ -1,4 +1,5 @@
 pub mod WrittenLines
+pub mod KeptFronts
 pub mod WrittenTexts
 pub mod WordsOfLine
 pub mod CellWords

@@ -7,6 +7,7 @@ use Rattle.match_text.specs.MatchText.{end_line}
 use Rattle.match_text.specs.declared.matched.Routed.{Routed}
 use Rattle.match_text.specs.declared.place.Place.{Place}
 use Rattle.matching.specs.declared.parts.Cell.{Cell}
+use Rattle.potential_certificate.specs.AddedPoint.{with_last_point}
 use Rattle.potential_certificate.specs.Reading.{ProofRead, adding, fault_at, in_match, line_and_more, line_at, lines_at, lines_behind, no_points, proof_at, with_line}
 use Rattle.potential_certificate.specs.declared.proof.TraceProof.{TraceProof}
 use Rattle.potential_certificate.specs.declared.proof_line.ProofLine.{ProofLine}
@@ -120,122 +121,115 @@ lines_again whole (line ∷ lines) place rest (suc fuel) small continues fit eno
 
 -- ---- the loop over the lines of a proof
 
-abbrev pub front_proof : List (Option ℕ) → List (List Cell) → List Routed → TraceProof → TraceProof
-front_proof ranks tables pieces proof =
-    record { id = proof.id; ranks = ranks ++ proof.ranks; tables = tables ++ proof.tables; pieces = pieces ++ proof.pieces }
+-- the lists of one proof before those of another
+abbrev pub front_proof : TraceProof → TraceProof → TraceProof
+front_proof front proof =
+    record { id = proof.id; ranks = front.ranks ++ proof.ranks; tables = front.tables ++ proof.tables; pieces = front.pieces ++ proof.pieces }
 
-abbrev pub prepended : List (Option ℕ) → List (List Cell) → List Routed → ProofRead → ProofRead
-prepended ranks tables pieces (Ok read) = Ok (front_proof ranks tables pieces read.0, read.1)
-prepended ranks tables pieces (Err fault) = Err fault
+abbrev pub prepended : TraceProof → ProofRead → ProofRead
+prepended front (Ok read) = Ok (front_proof front read.0, read.1)
+prepended front (Err fault) = Err fault
 
 -- what the lines so far said and what those that are left say is what all say
-pub record GoesOn (whole : List ℕ) (id : ℕ) (text : List ℕ) (ranks : List (Option ℕ)) (tables : List (List Cell)) (pieces : List Routed) (place : Place) (left : List ℕ) : Type 0 where
+pub record GoesOn (whole : List ℕ) (id : ℕ) (text : List ℕ) (front : TraceProof) (place : Place) (left : List ℕ) : Type 0 where
   pub fuel : ℕ
   pub enough : length left < fuel
   pub id_is : place.id ≡ id
-  pub are : prepended ranks tables pieces (lines_at whole fuel place left) ≡ proof_at whole id text
+  pub own : front.id ≡ id
+  pub are : prepended front (lines_at whole fuel place left) ≡ proof_at whole id text
 
-prepended_none : (read : ProofRead) → prepended [] [] [] read ≡ read
-prepended_none (Ok read) = refl
-prepended_none (Err fault) = refl
+prepended_none : (id : ℕ) (read : ProofRead) → prepended (no_points id) read ≡ read
+prepended_none id (Ok read) = refl
+prepended_none id (Err fault) = refl
 
-pub begins : (whole : List ℕ) (id : ℕ) (text : List ℕ) → GoesOn whole id text [] [] [] (start id) text
-begins whole id text = record { fuel = length text + 1; enough = omega arith; id_is = refl; are = prepended_none (proof_at whole id text) }
+pub begins : (whole : List ℕ) (id : ℕ) (text : List ℕ) → GoesOn whole id text (no_points id) (start id) text
+begins whole id text = record { fuel = length text + 1; enough = omega arith; id_is = refl; own = refl; are = prepended_none id (proof_at whole id text) }
 
 -- the front with a line behind it
-abbrev pub ranks_with : List (Option ℕ) → ProofLine → List (Option ℕ)
-ranks_with ranks Missing = ranks ++ None ∷ []
-ranks_with ranks (Layer rank cells) = ranks ++ Some rank ∷ []
-ranks_with ranks (Piece piece) = ranks
-ranks_with ranks End = ranks
+abbrev pub with_last : TraceProof → ProofLine → TraceProof
+with_last front Missing = with_last_point front None []
+with_last front (Layer rank cells) = with_last_point front (Some rank) cells
+with_last front (Piece piece) = record { id = front.id; ranks = front.ranks; tables = front.tables; pieces = front.pieces ++ piece ∷ [] }
+with_last front End = front
 
-abbrev pub tables_with : List (List Cell) → ProofLine → List (List Cell)
-tables_with tables Missing = tables ++ [] ∷ []
-tables_with tables (Layer rank cells) = tables ++ cells ∷ []
-tables_with tables (Piece piece) = tables
-tables_with tables End = tables
+point_added : (front : TraceProof) (rank : Option ℕ) (cells : List Cell) (p : TraceProof) (rest : List ℕ)
+    → ◌≡◌ {A = ProofRead} (Ok (front_proof (with_last_point front rank cells) p, rest))
+    (Ok (record { id = p.id; ranks = front.ranks ++ rank ∷ p.ranks; tables = front.tables ++ cells ∷ p.tables; pieces = front.pieces ++ p.pieces }, rest))
+point_added front rank cells p rest =
+    let first = append_assoc front.ranks (rank ∷ []) p.ranks in
+    let second = append_assoc front.tables (cells ∷ []) p.tables in
+    λ i. Ok (record { id = p.id; ranks = first i; tables = second i; pieces = front.pieces ++ p.pieces }, rest)
 
-abbrev pub pieces_with : List Routed → ProofLine → List Routed
-pieces_with pieces Missing = pieces
-pieces_with pieces (Layer rank cells) = pieces
-pieces_with pieces (Piece piece) = pieces ++ piece ∷ []
-pieces_with pieces End = pieces
+piece_added : (front : TraceProof) (piece : Routed) (p : TraceProof) (rest : List ℕ)
+    → ◌≡◌ {A = ProofRead} (Ok (front_proof (with_last front (Piece piece)) p, rest))
+    (Ok (record { id = p.id; ranks = front.ranks ++ p.ranks; tables = front.tables ++ p.tables; pieces = front.pieces ++ piece ∷ p.pieces }, rest))
+piece_added front piece p rest =
+    let third = append_assoc front.pieces (piece ∷ []) p.pieces in
+    λ i. Ok (record { id = p.id; ranks = front.ranks ++ p.ranks; tables = front.tables ++ p.tables; pieces = third i }, rest)
 
-point_added : (ranks : List (Option ℕ)) (tables : List (List Cell)) (pieces : List Routed) (rank : Option ℕ) (cells : List Cell) (p : TraceProof) (rest : List ℕ)
-    → ◌≡◌ {A = ProofRead} (Ok (front_proof (ranks ++ rank ∷ []) (tables ++ cells ∷ []) pieces p, rest))
-    (Ok (record { id = p.id; ranks = ranks ++ rank ∷ p.ranks; tables = tables ++ cells ∷ p.tables; pieces = pieces ++ p.pieces }, rest))
-point_added ranks tables pieces rank cells p rest =
-    let first = append_assoc ranks (rank ∷ []) p.ranks in
-    let second = append_assoc tables (cells ∷ []) p.tables in
-    λ i. Ok (record { id = p.id; ranks = first i; tables = second i; pieces = pieces ++ p.pieces }, rest)
+line_added : (front : TraceProof) (line : ProofLine) (read : ProofRead) → ¬ IsEnd (in_match line) → prepended (with_last front line) read ≡ prepended front (adding line read)
+line_added front line (Err fault) other = refl
+line_added front Missing (Ok (p, rest)) other = point_added front None [] p rest
+line_added front (Layer rank cells) (Ok (p, rest)) other = point_added front (Some rank) cells p rest
+line_added front (Piece piece) (Ok (p, rest)) other = piece_added front piece p rest
+line_added front End (Ok (p, rest)) other = absurd (other tt)
 
-piece_added : (ranks : List (Option ℕ)) (tables : List (List Cell)) (pieces : List Routed) (piece : Routed) (p : TraceProof) (rest : List ℕ)
-    → ◌≡◌ {A = ProofRead} (Ok (front_proof ranks tables (pieces ++ piece ∷ []) p, rest))
-    (Ok (record { id = p.id; ranks = ranks ++ p.ranks; tables = tables ++ p.tables; pieces = pieces ++ piece ∷ p.pieces }, rest))
-piece_added ranks tables pieces piece p rest =
-    let third = append_assoc pieces (piece ∷ []) p.pieces in
-    λ i. Ok (record { id = p.id; ranks = ranks ++ p.ranks; tables = tables ++ p.tables; pieces = third i }, rest)
+same_front : (front : TraceProof) (line : ProofLine) → (with_last front line).id ≡ front.id
+same_front front Missing = refl
+same_front front (Layer rank cells) = refl
+same_front front (Piece piece) = refl
+same_front front End = refl
 
-line_added : (ranks : List (Option ℕ)) (tables : List (List Cell)) (pieces : List Routed) (line : ProofLine) (read : ProofRead) → ¬ IsEnd (in_match line)
-    → prepended (ranks_with ranks line) (tables_with tables line) (pieces_with pieces line) read ≡ prepended ranks tables pieces (adding line read)
-line_added ranks tables pieces line (Err fault) other = refl
-line_added ranks tables pieces Missing (Ok (p, rest)) other = point_added ranks tables pieces None [] p rest
-line_added ranks tables pieces (Layer rank cells) (Ok (p, rest)) other = point_added ranks tables pieces (Some rank) cells p rest
-line_added ranks tables pieces (Piece piece) (Ok (p, rest)) other = piece_added ranks tables pieces piece p rest
-line_added ranks tables pieces End (Ok (p, rest)) other = absurd (other tt)
-
-pub goes_on : (whole : List ℕ) (id : ℕ) (text : List ℕ) (ranks : List (Option ℕ)) (tables : List (List Cell)) (pieces : List Routed) (place : Place) (left : List ℕ) (line : ProofLine) (next : List ℕ)
-    → line_at place left ≡ Some (line, next) → ¬ IsEnd (in_match line) → GoesOn whole id text ranks tables pieces place left
-    → GoesOn whole id text (ranks_with ranks line) (tables_with tables line) (pieces_with pieces line) (place_after place (in_match line)) next
-goes_on whole id text ranks tables pieces place left line next first other so_far = by_fuel so_far.fuel so_far.enough so_far.are
+goes_on : (whole : List ℕ) (id : ℕ) (text : List ℕ) (front : TraceProof) (place : Place) (left : List ℕ) (line : ProofLine) (next : List ℕ)
+    → line_at place left ≡ Some (line, next) → ¬ IsEnd (in_match line) → GoesOn whole id text front place left
+    → GoesOn whole id text (with_last front line) (place_after place (in_match line)) next
+goes_on whole id text front place left line next first other so_far = by_fuel so_far.fuel so_far.enough so_far.are
   where
-    by_fuel : (fuel : ℕ) → length left < fuel → prepended ranks tables pieces (lines_at whole fuel place left) ≡ proof_at whole id text
-        → GoesOn whole id text (ranks_with ranks line) (tables_with tables line) (pieces_with pieces line) (place_after place (in_match line)) next
+    by_fuel : (fuel : ℕ) → length left < fuel → prepended front (lines_at whole fuel place left) ≡ proof_at whole id text
+        → GoesOn whole id text (with_last front line) (place_after place (in_match line)) next
     by_fuel zero enough are = absurd (omega (arith, enough))
     by_fuel (suc fuel) enough are = record {
       fuel = fuel;
       enough = omega (arith, enough, line_goes_down place left line next first);
       id_is = same_id place line ∙ so_far.id_is;
-      are = line_added ranks tables pieces line (lines_at whole fuel (place_after place (in_match line)) next) other
-          ∙ ap (prepended ranks tables pieces) (sym (ap (lines_behind (lines_at whole fuel) whole place left) first ∙ other_line whole fuel place line next other))
+      own = same_front front line ∙ so_far.own;
+      are = line_added front line (lines_at whole fuel (place_after place (in_match line)) next) other
+          ∙ ap (prepended front) (sym (ap (lines_behind (lines_at whole fuel) whole place left) first ∙ other_line whole fuel place line next other))
           ∙ are;
     }
 
--- the same, as the code knows it: the line is this one, and the parts and the place are those with it
-pub reads_on : (whole : List ℕ) (id : ℕ) (text : List ℕ) (ranks : List (Option ℕ)) (tables : List (List Cell)) (pieces : List Routed) (place : Place) (left : List ℕ) (line kind : ProofLine) (next : List ℕ)
-    (ranks' : List (Option ℕ)) (tables' : List (List Cell)) (pieces' : List Routed) (place' : Place)
-    → Some (line, next) ≡ line_at place left → line ≡ kind → ¬ IsEnd (in_match kind) → ranks' ≡ ranks_with ranks kind → tables' ≡ tables_with tables kind → pieces' ≡ pieces_with pieces kind
-    → place' ≡ place_after place (in_match line) → GoesOn whole id text ranks tables pieces place left → GoesOn whole id text ranks' tables' pieces' place' next
-reads_on whole id text ranks tables pieces place left line kind next ranks' tables' pieces' place' first is other ranks_are tables_are pieces_are place_is so_far =
+-- the same, as the code knows it: the line is this one, and the front and the place are those with it
+pub reads_on : (whole : List ℕ) (id : ℕ) (text : List ℕ) (front : TraceProof) (place : Place) (left : List ℕ) (line kind : ProofLine) (next : List ℕ) (front' : TraceProof) (place' : Place)
+    → Some (line, next) ≡ line_at place left → line ≡ kind → ¬ IsEnd (in_match kind) → front' ≡ with_last front kind
+    → place' ≡ place_after place (in_match line) → GoesOn whole id text front place left → GoesOn whole id text front' place' next
+reads_on whole id text front place left line kind next front' place' first is other front_is place_is so_far =
     let first_is : line_at place left ≡ Some (kind, next) = sym first ∙ ap (λ (l : ProofLine). let y : Option (ProofLine × List ℕ) = Some (l, next) in y) is in
     let same_place : place_after place (in_match kind) ≡ place' = ap (λ (l : ProofLine). place_after place (in_match l)) (sym is) ∙ sym place_is in
-    subst (λ (p : Place). GoesOn whole id text ranks' tables' pieces' p next) same_place
-    (subst (λ (x : List (Option ℕ)). GoesOn whole id text x tables' pieces' (place_after place (in_match kind)) next) (sym ranks_are)
-    (subst (λ (x : List (List Cell)). GoesOn whole id text (ranks_with ranks kind) x pieces' (place_after place (in_match kind)) next) (sym tables_are)
-    (subst (λ (x : List Routed). GoesOn whole id text (ranks_with ranks kind) (tables_with tables kind) x (place_after place (in_match kind)) next) (sym pieces_are)
-    (goes_on whole id text ranks tables pieces place left kind next first_is other so_far))))
+    subst (λ (p : Place). GoesOn whole id text front' p next) same_place
+    (subst (λ (x : TraceProof). GoesOn whole id text x (place_after place (in_match kind)) next) (sym front_is)
+    (goes_on whole id text front place left kind next first_is other so_far))
 
-pub fails : (whole : List ℕ) (id : ℕ) (text : List ℕ) (ranks : List (Option ℕ)) (tables : List (List Cell)) (pieces : List Routed) (place : Place) (left : List ℕ)
-    → line_at place left ≡ None → GoesOn whole id text ranks tables pieces place left → proof_at whole id text ≡ Err (fault_at whole left)
-fails whole id text ranks tables pieces place left none so_far = by_fuel so_far.fuel so_far.enough so_far.are
+pub fails : (whole : List ℕ) (id : ℕ) (text : List ℕ) (front : TraceProof) (place : Place) (left : List ℕ)
+    → line_at place left ≡ None → GoesOn whole id text front place left → proof_at whole id text ≡ Err (fault_at whole left)
+fails whole id text front place left none so_far = by_fuel so_far.fuel so_far.enough so_far.are
   where
-    by_fuel : (fuel : ℕ) → length left < fuel → prepended ranks tables pieces (lines_at whole fuel place left) ≡ proof_at whole id text → proof_at whole id text ≡ Err (fault_at whole left)
+    by_fuel : (fuel : ℕ) → length left < fuel → prepended front (lines_at whole fuel place left) ≡ proof_at whole id text → proof_at whole id text ≡ Err (fault_at whole left)
     by_fuel zero enough are = absurd (omega (arith, enough))
-    by_fuel (suc fuel) enough are = sym are ∙ ap (prepended ranks tables pieces) (ap (lines_behind (lines_at whole fuel) whole place left) none)
+    by_fuel (suc fuel) enough are = sym are ∙ ap (prepended front) (ap (lines_behind (lines_at whole fuel) whole place left) none)
 
-ended_proof : (id : ℕ) (ranks : List (Option ℕ)) (tables : List (List Cell)) (pieces : List Routed) (place : Place) (rest : List ℕ) → place.id ≡ id
-    → prepended ranks tables pieces (Ok (no_points place.id, rest)) ≡ Ok (record { id = id; ranks = ranks; tables = tables; pieces = pieces }, rest)
-ended_proof id ranks tables pieces place rest same =
-    let first = append-nil ranks in
-    let second = append-nil tables in
-    let third = append-nil pieces in
-    λ i. Ok (record { id = same i; ranks = first i; tables = second i; pieces = third i }, rest)
+ended_proof : (id : ℕ) (front : TraceProof) (place : Place) (rest : List ℕ) → place.id ≡ id → front.id ≡ id → prepended front (Ok (no_points place.id, rest)) ≡ Ok (front, rest)
+ended_proof id front place rest same own =
+    let first = append-nil front.ranks in
+    let second = append-nil front.tables in
+    let third = append-nil front.pieces in
+    let ids = same ∙ sym own in
+    λ i. Ok (record { id = ids i; ranks = first i; tables = second i; pieces = third i }, rest)
 
-pub ends : (whole : List ℕ) (id : ℕ) (text : List ℕ) (ranks : List (Option ℕ)) (tables : List (List Cell)) (pieces : List Routed) (place : Place) (left next : List ℕ)
-    → line_at place left ≡ Some (End, next) → GoesOn whole id text ranks tables pieces place left → proof_at whole id text ≡ Ok (record { id = id; ranks = ranks; tables = tables; pieces = pieces }, next)
-ends whole id text ranks tables pieces place left next end so_far = by_fuel so_far.fuel so_far.enough so_far.are
+pub ends : (whole : List ℕ) (id : ℕ) (text : List ℕ) (front : TraceProof) (place : Place) (left next : List ℕ)
+    → line_at place left ≡ Some (End, next) → GoesOn whole id text front place left → proof_at whole id text ≡ Ok (front, next)
+ends whole id text front place left next end so_far = by_fuel so_far.fuel so_far.enough so_far.are
   where
-    by_fuel : (fuel : ℕ) → length left < fuel → prepended ranks tables pieces (lines_at whole fuel place left) ≡ proof_at whole id text → proof_at whole id text ≡ Ok (record { id = id; ranks = ranks; tables = tables; pieces = pieces }, next)
+    by_fuel : (fuel : ℕ) → length left < fuel → prepended front (lines_at whole fuel place left) ≡ proof_at whole id text → proof_at whole id text ≡ Ok (front, next)
     by_fuel zero enough are = absurd (omega (arith, enough))
     by_fuel (suc fuel) enough are =
-        sym are ∙ ap (prepended ranks tables pieces) (ap (lines_behind (lines_at whole fuel) whole place left) end) ∙ ended_proof id ranks tables pieces place next so_far.id_is
+        sym are ∙ ap (prepended front) (ap (lines_behind (lines_at whole fuel) whole place left) end) ∙ ended_proof id front place next so_far.id_is so_far.own

@@ -6,3 +6,4 @@ pub mod Gathering
 pub mod ReaderInside
 pub mod Laws
 pub mod Faults
+pub mod AddedPoint

@@ -7,7 +7,7 @@ use crate::drawing::read_parts;
 use crate::fault::WriteFault;
 use crate::lines::{append_first, append_last};
 use crate::parts::{PartRead, last_item, next_item, read_part};
-use crate::proof::TraceProof;
+use crate::proof::{Certificate, TraceProof};
 use crate::writing::{append_proofs, append_rows};
 use bounded_search::Row;
 use cost_model::Params;
@@ -17,7 +17,6 @@ use std::mem;
 use std::thread::Threads;
 
 /// A text so far: its first line, proofs, rows, and the unread text after them.
-#[derive(Drop)]
 pub struct Gathered {
     pub alloc: Global,
     pub first: Vec<u8>,
@@ -26,6 +25,20 @@ pub struct Gathered {
     pub behind: Vec<u8>,
     /// Whether the text after them is not a further proof or row.
     pub is_stuck: bool,
+}
+
+// By hand, so that the functions that drop one call this.
+impl Drop for Gathered {
+    fn drop(self) {
+        let Gathered {
+            alloc: _,
+            first: _,
+            proofs: _,
+            rows: _,
+            behind: _,
+            is_stuck: _,
+        } = self;
+    }
 }
 
 // The least origin of a row after these.
@@ -169,12 +182,31 @@ impl Gathered {
         Ok(self.first.as_slice() == first.as_slice() && self.behind.as_slice() == last.as_slice())
     }
 
+    /// The certificate of the proofs and rows.
+    pub fn into_certificate(self) -> Certificate
+        ensures { result ≡ record { proofs = self.proofs.items; rows = self.rows.items } }
+    {
+        let Gathered {
+            alloc: _,
+            first: _,
+            proofs,
+            rows,
+            behind: _,
+            is_stuck: _,
+        } = self;
+        Certificate {
+            proofs: List::from_vec(proofs),
+            rows: List::from_vec(rows),
+        }
+    }
+
     /// The whole text, written out.
-    pub fn into_text(self) -> Result<List<u8>, WriteFault>
+    pub fn into_text(mut self) -> Result<List<u8>, WriteFault>
         ensures ok { IfOk result (λ text. text ≡ gathered_text self) }
         ensures too_long { IsErrOf result WriteFault.TooLong → text_limit < length (gathered_text self) }
     {
-        let mut text = List::from_vec(self.first);
+        let first = mem::replace(&mut self.first, Vec::new(self.alloc));
+        let mut text = List::from_vec(first);
         append_proofs(&self.proofs, 0, &mut text)?;
         append_rows(&self.rows, 0, &mut text)?;
         text.extend_from_slice(&self.behind)?;

@@ -1,11 +1,14 @@
 //! The parts of a certificate.
+ghost use Rattle.std.specs.Prelude.{◌≡◌, OnOk};
+ghost use Rattle.potential_certificate.specs.AddedPoint.{with_last_point};
+
 use bounded_search::Row;
 use match_text::Routed;
 use polyline_geometry::List;
+use std::alloc::AllocError;
 use trellis::Potentials;
 
 /// The evidence for the match of one trace, right or not.
-#[derive(Drop)]
 pub struct TraceProof {
     /// The id of the trace.
     pub id: u32,
@@ -15,6 +18,32 @@ pub struct TraceProof {
     pub tables: List<Potentials>,
     /// The pieces in order, with the ids of their edges.
     pub pieces: List<Routed>,
+}
+
+// By hand, so that the functions that drop one call this.
+impl Drop for TraceProof {
+    fn drop(self) {
+        let TraceProof {
+            id: _,
+            ranks: _,
+            tables: _,
+            pieces: _,
+        } = self;
+    }
+}
+
+impl TraceProof {
+    /// Adds a point with its rank and its cells. On `Err`, its rank alone may have been added.
+    pub(crate) fn add_point(
+        &mut self,
+        rank: Option<u32>,
+        table: Potentials,
+    ) -> Result<(), AllocError>
+        ensures { OnOk result (self.new ≡ with_last_point self.old rank table) }
+    {
+        self.ranks.push(rank)?;
+        self.tables.push(table)
+    }
 }
 
 /// The proofs of traces, in the order of the traces, and the rows of the bounded table.

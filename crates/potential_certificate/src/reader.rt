@@ -11,7 +11,6 @@ use crate::gathered::Gathered;
 use crate::proof::Certificate;
 use crate::reading::{known_options, read_certificate};
 use cost_model::Params;
-use polyline_geometry::List;
 use std::alloc::{AllocError, Global};
 use std::marker::Model;
 use std::thread::Threads;
@@ -95,10 +94,7 @@ impl CertificateReader {
         let alloc = gathered.alloc;
         gathered.settle()?;
         if count <= TEXT_LIMIT && gathered.is_closed(p)? {
-            return Ok(Certificate {
-                proofs: List::from_vec(gathered.proofs),
-                rows: List::from_vec(gathered.rows),
-            });
+            return Ok(gathered.into_certificate());
         }
         match gathered.into_text() {
             Ok(text) => read_certificate(alloc, p, text.as_slice()),

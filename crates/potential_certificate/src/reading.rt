@@ -168,9 +168,12 @@ fn read_proof<'a>(
     ensures err { IfErr result (λ fault. (fault ≡ Memory)
         ⊎ (proof_at whole.now id text.now ≡ Err fault)) }
 {
-    let mut ranks = List::new(alloc);
-    let mut tables = List::new(alloc);
-    let mut pieces = List::new(alloc);
+    let mut proof = TraceProof {
+        id,
+        ranks: List::new(alloc),
+        tables: List::new(alloc),
+        pieces: List::new(alloc),
+    };
     let mut place = Place {
         id,
         next: 0,
@@ -184,23 +187,10 @@ fn read_proof<'a>(
         place = place_after(place, &line);
         rest = next;
         match line {
-            ProofLine::Missing => {
-                ranks.push(None)?;
-                tables.push(Potentials::of(List::new(alloc)))?;
-            }
-            ProofLine::Layer { rank, cells } => {
-                ranks.push(Some(rank))?;
-                tables.push(cells)?;
-            }
-            ProofLine::Piece(piece) => pieces.push(piece)?,
-            ProofLine::End => break,
+            ProofLine::Missing => proof.add_point(None, Potentials::of(List::new(alloc)))?,
+            ProofLine::Layer { rank, cells } => proof.add_point(Some(rank), cells)?,
+            ProofLine::Piece(piece) => proof.pieces.push(piece)?,
+            ProofLine::End => return Ok((proof, rest)),
         }
     }
-    let proof = TraceProof {
-        id,
-        ranks,
-        tables,
-        pieces,
-    };
-    Ok((proof, rest))
 }

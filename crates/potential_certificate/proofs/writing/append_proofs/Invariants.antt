@@ -6,6 +6,5 @@ use Rattle.potential_certificate.proofs.writing.append_proofs.Given as goal
 abbrev pub invariant-loop-proof : goal.invariant-loop-proof
 invariant-loop-proof l = record {
   written : l.into ≡ l.fn.into ++ flat_map proof_text (take l.proof-index l.proofs);
-  kept : take (length l.fn.into) l.into ≡ l.fn.into;
   begun : l.start ≤ length l.into;
 }

@@ -6,6 +6,5 @@ use Rattle.potential_certificate.proofs.writing.append_rows.Given as goal
 abbrev pub invariant-loop-row : goal.invariant-loop-row
 invariant-loop-row l = record {
   written : l.into ≡ l.fn.into ++ flat_map row_line (take l.row-index l.rows);
-  kept : take (length l.fn.into) l.into ≡ l.fn.into;
   begun : l.start ≤ length l.into;
 }

@@ -4,5 +4,5 @@ use Rattle.potential_certificate.proofs.reader.CertificateReader.close.Goals as 
 
 pub returns-then-branch-clause-ok : goal.returns-then-branch-clause-ok
 returns-then-branch-clause-ok c =
-    finished c.args.p.now c.args.self c.self.inside.gathered c.settle.new.self c.self.inside.count c.from_vec.result c.from_vec-then-branch.result c.from_vec.ensures c.from_vec-then-branch.ensures
+    finished c.args.p.now c.args.self c.self.inside.gathered c.settle.new.self c.self.inside.count c.into_certificate.result c.into_certificate.ensures
     (sym c.self.view_is) c.self.invariant.counted (search (rules, c.if-count-le-TEXT_LIMIT.true)) c.in_ok-settle.ensures (c.in_ok-is_closed.ensures (search (rules, c.if-branch.true)))

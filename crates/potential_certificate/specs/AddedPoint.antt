@@ -1,0 +1,8 @@
+-- A proof with one more point.
+use Rattle.std.specs.Prelude.{ℕ, List, [], ◌∷◌, ◌++◌, Option}
+use Rattle.matching.specs.declared.parts.Cell.{Cell}
+use Rattle.potential_certificate.specs.declared.proof.TraceProof.{TraceProof}
+
+abbrev pub with_last_point : TraceProof → Option ℕ → List Cell → TraceProof
+with_last_point proof rank cells =
+    record { id = proof.id; ranks = proof.ranks ++ rank ∷ []; tables = proof.tables ++ cells ∷ []; pieces = proof.pieces }
