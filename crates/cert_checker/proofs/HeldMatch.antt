@@ -46,6 +46,9 @@ some_rank w (Some r) lt h = (r, refl)
 abbrev chosen_in : Case → Routed → List ℕ
 chosen_in c q = map (λ o. unwrap_or o 0) (from_to q.first q.last c.proof.ranks)
 
+same_rank : (x y : Option ℕ) → x ≡ y → (r : ℕ) × (y ≡ Some r) → (r : ℕ) × (x ≡ Some r)
+same_rank x y same (r, is) = (r, same ∙ is)
+
 ranks_are : (c : Case) (k : ℕ) → IsHeld c → k < length c.proof.pieces
     → from_to (piece_no c.proof.pieces k).first (piece_no c.proof.pieces k).last c.proof.ranks ≡ map (λ r. Some r) (chosen_in c (piece_no c.proof.pieces k))
 ranks_are c k h lt =
@@ -58,8 +61,8 @@ ranks_are c k h lt =
     (λ j j_in.
     let low : j < q.last + 1 - q.first = omega (arith, j_in, count) in
     let at = (h.each (q.first + j) (omega (arith, low, inside, filled))).candidates in
-    let r = some_rank (width c (q.first + j)) (rank c (q.first + j)) (held_filled c k (q.first + j) h lt (omega arith, omega (arith, low, filled))) at.1.1.0 in
-    (r.0, from_to_at q.first q.last j c.proof.ranks None low ∙ r.1))
+    same_rank (get_or (from_to q.first q.last c.proof.ranks) j None) (rank c (q.first + j)) (from_to_at q.first q.last j c.proof.ranks None low)
+    (some_rank (width c (q.first + j)) (rank c (q.first + j)) (held_filled c k (q.first + j) h lt (omega arith, omega (arith, low, filled))) at.1.1.0))
 
 chosen_at : (c : Case) (k j : ℕ) → IsHeld c → k < length c.proof.pieces → j ≤ (piece_no c.proof.pieces k).last - (piece_no c.proof.pieces k).first
     → (length (chosen_in c (piece_no c.proof.pieces k)) ≡ (piece_no c.proof.pieces k).last + 1 - (piece_no c.proof.pieces k).first)

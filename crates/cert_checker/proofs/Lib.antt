@@ -40,3 +40,4 @@ pub mod ProofTexts
 pub mod MatchTexts
 pub mod BatchLists
 pub mod RowParts
+pub mod PlainLayers

@@ -13,15 +13,22 @@ use road_network::{Candidate, Network};
 use std::alloc::{AllocError, Global};
 use trace_reader::Fix;
 
+/// The point of a position.
+fn place_of(fix: &Fix) -> Point
+    ensures { result ≡ place_of fix.now }
+{
+    Point { x: fix.x, y: fix.y }
+}
+
 /// The points of these positions.
 fn places(alloc: Global, fixes: &[Fix]) -> Result<List<Point>, AllocError>
     ensures { IfOk result (λ points. points ≡ map place_of fixes.now) }
 {
-    let mut points = Vec::with_capacity(alloc, fixes.len())?;
+    let mut points = List::from_vec(Vec::with_capacity(alloc, fixes.len())?);
     for fix in fixes {
-        points.push(Point { x: fix.x, y: fix.y })?;
+        points.push(place_of(fix))?;
     }
-    Ok(List::from_vec(points))
+    Ok(points)
 }
 
 /// Positions with these candidates.
@@ -35,16 +42,16 @@ fn with_candidates(
     requires { lists ≡ map (λ fix. candidates net.now p.now.k p.now.radius (place_of fix)) fixes.now }
     ensures { IfOk result (λ layers. layers ≡ map (layer_of net.now p.now) fixes.now) }
 {
-    let mut layers = Vec::with_capacity(alloc, fixes.len())?;
+    let mut layers = List::from_vec(Vec::with_capacity(alloc, fixes.len())?);
     for candidates in lists.into_vec() {
-        let fix = fixes[layers.len()];
+        let fix = &fixes[layers.len()];
         layers.push(Layer {
-            point: Point { x: fix.x, y: fix.y },
+            point: place_of(fix),
             candidates,
             time: fix.time,
         })?;
     }
-    Ok(List::from_vec(layers))
+    Ok(layers)
 }
 
 /// Positions with their candidates.

@@ -3,4 +3,4 @@ use Rattle.trace_match.specs.Match.{place_of}
 use Rattle.cert_checker.proofs.plain_layers.places.Given as goal
 
 abbrev pub invariant-loop-fix : goal.invariant-loop-fix
-invariant-loop-fix l = l.points.items ≡ map place_of (take l.fix-index l.fixes)
+invariant-loop-fix l = l.points ≡ map place_of (take l.fix-index l.fixes)
