@@ -1,13 +1,19 @@
 -- What trying the arcs of a node leaves, in a queue and beside other nodes that wait.
-use Rattle.std.proofs.Common.{◌≡◌, ℕ, ◌+◌, ◌<◌, ◌≤◌, Bool, true, false, cond, length, List, [], ◌∷◌, ◌++◌, take, drop, set, slice_get, slice_index_or, Some, refl, sym, ap, subst, ◌∙◌, arith, append_assoc}
+use Rattle.std.proofs.Common.{◌≡◌, ℕ, ◌+◌, ◌<◌, ◌≤◌, inl, inr, Bool, true, false, cond, length, List, [], ◌∷◌, ◌++◌, take, drop, set, get_or-set_same, slice_get, slice_index_or, Some, refl, sym, ap, subst, ◌∙◌, arith, append_assoc}
 use Rattle.std.proofs.lemmas.Grind.{common_steps}
 use Rattle.std.proofs.lemmas.List.{take-append-drop, take-set, take_more_set, drop_at, length-take-le}
+use Rattle.std.proofs.lemmas.Bool.{cases_lt, le-ltb}
+use Rattle.std.proofs.Math.Nat.{min-eq_left, min-eq_right}
+use Rattle.std.proofs.Math.ListN.{drop_of_length-le}
 use Rattle.std.proofs.lemmas.Option.{get_or_from_slice_get}
 use Rattle.std.proofs.lemmas.List.Sorted.{IsPermutation-append_comm, IsPermutation-middle}
 use Rattle.std.specs.List.Sorted.{IsPermutation}
 use Rattle.road_network.specs.declared.Arc.{Arc}
 use Rattle.bounded_search.specs.declared.queue.Waiting.{Waiting}
-use Rattle.bounded_search.specs.Underway.{SearchState, after_arc, after_arcs, is_nearer, item_by, with_item, words_after}
+use Rattle.std.specs.Prelude.{min}
+use Rattle.bounded_search.proofs.Arcs.{nothing}
+use Rattle.bounded_search.specs.Underway.{SearchState, after_arc, after_arcs, is_better, is_nearer, item_by, with_item, words_after}
+use Rattle.bounded_search.specs.LabelWords.{no_label, word_at, word_by}
 use Rattle.bounded_search.proofs.Gaining.{Gains, Tries}
 
 -- a queue gains what is put at its end
@@ -75,3 +81,49 @@ pub next_aside : (far near old new : List Waiting) (head : ℕ) (x : Waiting) �
 next_aside far near old new head x lt at same is =
     ap (λ (k : List Waiting). k ++ drop (head + 1) near) is
     ∙ (append_assoc far (x ∷ []) (drop (head + 1) near) ∙ (ap (λ (k : List Waiting). far ++ k) (sym (next_of near head x lt at)) ∙ same))
+
+-- an arc that was just tried gives nothing better
+again_by : (bound d : ℕ) (a : Arc) (words : List ℕ) (b : Bool) → is_better bound d a words ≡ b → a.to.0 < length words → is_better bound d a (words_after bound d a words) ≡ false
+again_by bound d a words true is lt =
+    let w : ℕ = word_by (d + a.length) a.edge.0 in
+    let here : word_at bound (words_after bound d a words) a.to.0 ≡ w = rw is (get_or-set_same words a.to.0 w (no_label bound) lt) in
+    rw here (le-ltb w w (omega arith))
+again_by bound d a words false is lt = rw is is
+
+-- so it changes nothing
+pub arc_again : (bound d : ℕ) (a : Arc) (state : SearchState) → a.to.0 < length state.words → after_arc bound d a (after_arc bound d a state) ≡ after_arc bound d a state
+arc_again bound d a state lt =
+    let not : is_better bound d a (words_after bound d a state.words) ≡ false = again_by bound d a state.words (is_better bound d a state.words) refl lt in
+    rw not refl
+
+-- what is kept while the arcs of a node are tried in order, and then the last one again
+pub record AreTried (bound d last i : ℕ) (arcs : List Arc) (start now : SearchState) : Type 0 where
+  pub tries : after_arcs bound d (drop i arcs) now ≡ after_arcs bound d arcs start
+  pub again : last < i → after_arc bound d (slice_index_or arcs last nothing) now ≡ now
+
+-- so it is after one more
+pub next_tried : (bound d last i : ℕ) (arcs : List Arc) (a : Arc) (start old new : SearchState) → last + 1 ≡ length arcs → a ≡ slice_index_or arcs (min i last) nothing → a.to.0 < length old.words → new ≡ after_arc bound d a old → AreTried bound d last i arcs start old → AreTried bound d last (i + 1) arcs start new
+next_tried bound d last i arcs a start old new count is lt step h = elim (cases_lt i (length arcs)) [
+  | inl inside ↦
+      let at : min i last ≡ i = min-eq_left (omega (arith, inside, count)) in
+      let here : a ≡ slice_index_or arcs i nothing = is ∙ ap (λ (k : ℕ). slice_index_or arcs k nothing) at in
+      let next : drop i arcs ≡ slice_index_or arcs i nothing ∷ drop (i + 1) arcs = grind (arith, common_steps) in
+      let first : after_arcs bound d (drop (i + 1) arcs) (after_arc bound d a old) ≡ after_arcs bound d (drop i arcs) old = ap (λ (k : Arc). after_arcs bound d (drop (i + 1) arcs) (after_arc bound d k old)) here ∙ ap (λ (k : List Arc). after_arcs bound d k old) (sym next) in
+      record {
+        tries = ap (after_arcs bound d (drop (i + 1) arcs)) step ∙ (first ∙ h.tries);
+        again = λ low.
+            let same : slice_index_or arcs last nothing ≡ a = ap (λ (k : ℕ). slice_index_or arcs k nothing) (omega (arith, low, inside, count)) ∙ sym here in
+            ap (λ (k : Arc). after_arc bound d k new) same ∙ (ap (after_arc bound d a) step ∙ (arc_again bound d a old lt ∙ sym step));
+      }
+  | inr past ↦
+      let at : min i last ≡ last = min-eq_right (omega (arith, past, count)) in
+      let here : a ≡ slice_index_or arcs last nothing = is ∙ ap (λ (k : ℕ). slice_index_or arcs k nothing) at in
+      let same : new ≡ old = step ∙ (ap (λ (k : Arc). after_arc bound d k old) here ∙ h.again (omega (arith, past, count))) in
+      let none : drop i arcs ≡ [] = drop_of_length-le arcs past in
+      let no_more : drop (i + 1) arcs ≡ [] = drop_of_length-le arcs (omega (arith, past)) in
+      let rest : drop (i + 1) arcs ≡ drop i arcs = no_more ∙ sym none in
+      record {
+        tries = ap (λ (k : List Arc). after_arcs bound d k new) rest ∙ (ap (after_arcs bound d (drop i arcs)) same ∙ h.tries);
+        again = λ low. subst (λ (k : SearchState). after_arc bound d (slice_index_or arcs last nothing) k ≡ k) (sym same) (h.again (omega (arith, past, count)));
+      }
+]

@@ -1,9 +1,10 @@
 //! A list of entries, to which those of labelled nodes are appended without a branch. Serves `Workspace::entries`;
 //! decided by `TakesNodes`.
-ghost use Rattle.std.specs.Prelude.{◌≡◌, ◌==◌, ◌<◌, ◌≤◌, ◌⊎◌, ◌+◌, [], length, not, slice_set, take, IfOk, OnOk};
+ghost use Rattle.std.specs.Prelude.{◌≡◌, ◌==◌, ◌<◌, ◌≤◌, ◌+◌, [], length, not, slice_set, take, IfOk, OnOk};
 ghost use Rattle.bounded_search.specs.LabelWords.{no_label, word_at};
 ghost use Rattle.bounded_search.specs.Labels.{entry_by};
 ghost use Rattle.bounded_search.specs.Marked.{TakesNodes};
+ghost use Rattle.bounded_search.specs.Octets.{IsOctet};
 
 use crate::free_places::make_places;
 use crate::label_words::{entry_by, no_label};
@@ -11,7 +12,6 @@ use crate::table_row::Entry;
 use road_network::NodeId;
 use std::alloc::{AllocError, Global};
 use std::marker::Model;
-use std::ops::Range;
 
 const FREE: Entry = Entry {
     node: NodeId(0),
@@ -62,30 +62,36 @@ fn take_node(words: &mut [u64], bound: u32, node: usize, place: &mut Entry) -> b
     word != no_label(bound)
 }
 
-/// Removes the labels of these nodes, which are eight or the last ones, and puts their entries behind the first
-/// `count` places. The result is how many entries there are then.
+/// Nodes next to each other by number: eight, or the last ones.
+#[derive(Clone, Copy)]
+struct Octet {
+    first: usize,
+    nodes: usize,
+}
+
+/// Removes the labels of an octet of nodes, and puts their entries behind the first `count` places. The result is
+/// how many entries there are then.
 ///
 /// Nothing branches on labels: the next entry overwrites that of a node without a label.
-// Inlined, so that a range of just eight nodes is no loop.
+// Inlined, so that an octet of just eight nodes is no loop.
 #[inline(always)]
-fn take_range(
+fn take_octet(
     words: &mut [u64],
     bound: u32,
-    nodes: Range<usize>,
+    octet: Octet,
     places: &mut [Entry],
     count: usize,
 ) -> usize
     requires words { (bound ≤ 10_000_000) × (length words.old ≤ 1_000_000_000) }
-    requires inside { (nodes.end ≤ length words.old) × (nodes.end ≤ nodes.start + 8) }
-    requires all { (nodes.end ≡ nodes.start + 8) ⊎ (nodes.end ≡ length words.old) }
+    requires octet { IsOctet (length words.old) octet }
     requires room { count + 8 ≤ length places.old }
-    ensures takes { TakesNodes bound nodes.start (nodes.start + 8)
+    ensures takes { TakesNodes bound octet.first (octet.first + 8)
         words.old (take count places.old) words.new (take result places.new) }
     ensures room { result ≤ length places.new }
 {
     let mut end = count;
-    for node in nodes.start..nodes.end {
-        let labelled = take_node(words, bound, node, &mut places[end]);
+    for k in 0..octet.nodes {
+        let labelled = take_node(words, bound, octet.first + k, &mut places[end]);
         end += usize::from(labelled);
     }
     end
@@ -118,11 +124,17 @@ impl FoundEntries {
     {
         make_places(&mut self.places, self.count.saturating_add(8), FREE)?;
         let places = self.places.as_mut_slice();
-        let past = first.saturating_add(8);
-        self.count = if past <= words.len() {
-            take_range(words, bound, first..past, places, self.count)
+        let left = words.len().saturating_sub(first);
+        self.count = if left >= 8 {
+            take_octet(words, bound, Octet { first, nodes: 8 }, places, self.count)
         } else {
-            take_range(words, bound, first..words.len(), places, self.count)
+            take_octet(
+                words,
+                bound,
+                Octet { first, nodes: left },
+                places,
+                self.count,
+            )
         };
         Ok(())
     }

@@ -49,8 +49,24 @@ impl Workspace {
         Ok(())
     }
 
-    /// Removes the labels and returns them as entries, by ascending node number. An area of 512 regions is looked at
-    /// only if it is marked.
+    /// Takes the labels of a block of 8 regions: those of its marked regions.
+    fn take_block(&mut self, block: usize) -> Result<(), AllocError>
+        requires block { (block + 1) * 8 ≤ length self.old.marks.regions.items }
+        requires sized { IsSized (length self.old.words.items) self.old }
+        ensures takes { OnOk result (Takes (block * 4_096) ((block + 1) * 4_096) self.old self.new) }
+        ensures sized { KeepsSizes self.old self.new }
+    {
+        if self.marks.no_region_in(block) {
+            return Ok(());
+        }
+        for region in block * 8..(block + 1) * 8 {
+            self.take_region(region)?;
+        }
+        Ok(())
+    }
+
+    /// Removes the labels and returns them as entries, by ascending node number. The 64 blocks of an area are looked
+    /// at only if it is marked.
     pub(crate) fn take_entries(&mut self, alloc: Global) -> Result<Vec<Entry>, AllocError>
         requires sized { IsSized (length self.old.words.items) self.old }
         requires marked { AllMarked self.old.bound self.old.words.items self.old.marks }
@@ -59,13 +75,13 @@ impl Workspace {
         ensures clean { EndsClean result self.old self.new }
     {
         self.found.clear();
-        let mut region = 0;
-        while region < self.marks.regions.len() {
-            if region % 512 == 0 && self.marks.areas[region / 512] == 0 {
-                region += 512;
+        let mut block = 0;
+        while block < self.marks.regions.len() / 8 {
+            if block % 64 == 0 && self.marks.areas[block / 64] == 0 {
+                block += 64;
             } else {
-                self.take_region(region)?;
-                region += 1;
+                self.take_block(block)?;
+                block += 1;
             }
         }
         self.marks.areas.fill(0);

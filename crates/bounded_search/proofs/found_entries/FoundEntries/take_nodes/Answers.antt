@@ -3,7 +3,7 @@ use Rattle.std.proofs.lemmas.List.{take_at}
 use Rattle.std.proofs.lemmas.Result.{err_from_is_err_and}
 use Rattle.bounded_search.specs.declared.table_row.Entry.{Entry}
 use Rattle.bounded_search.proofs.FreePlaces.{items_still}
-use Rattle.bounded_search.proofs.found_entries.FoundEntries.take_nodes.Goals.{then-past-words, else-past-words}
+use Rattle.bounded_search.proofs.found_entries.FoundEntries.take_nodes.Goals.{then-left-ge8, else-left-ge8}
 use Rattle.bounded_search.proofs.found_entries.FoundEntries.take_nodes.Goals as goal
 
 pub returns-in_err-make_places-clause-takes : goal.returns-in_err-make_places-clause-takes
@@ -18,15 +18,15 @@ returns-clause-takes c =
     let old : List Entry = c.self.inside.places.items in
     let places : List Entry = c.make_places.new.places.items in
     let start : take count c.as_mut_slice-places.result.now ≡ c.args.self.now = ap (take count) c.as_mut_slice-places.ensures.value ∙ items_still count old places c.args.self.now c.self.invariant c.make_places.ensures.same c.self.view_is in
-    elim c.if-past-words.branch [
-      | then-past-words w ↦
-          let new : List Entry = w.take_range-self-inside.new.places in
-          let back : take c.make_places.new.places.len (new ++ drop (length new) places) ≡ new = take_at new (drop (length new) places) c.make_places.new.places.len (w.take_range-self-inside.auto.places ∙ c.as_mut_slice-places.ensures.len) in
-          let takes = rw start at w.take_range-self-inside.ensures.takes in
+    elim c.if-left-ge8.branch [
+      | then-left-ge8 w ↦
+          let new : List Entry = w.take_octet-self-inside.new.places in
+          let back : take c.make_places.new.places.len (new ++ drop (length new) places) ≡ new = take_at new (drop (length new) places) c.make_places.new.places.len (w.take_octet-self-inside.auto.places ∙ c.as_mut_slice-places.ensures.len) in
+          let takes = rw start at w.take_octet-self-inside.ensures.takes in
           rw (w.words-is, w.self-is, w.self-inside-is, back) takes
-      | else-past-words w ↦
-          let new : List Entry = w.take_range-self-inside-else-past-words.new.places in
-          let back : take c.make_places.new.places.len (new ++ drop (length new) places) ≡ new = take_at new (drop (length new) places) c.make_places.new.places.len (w.take_range-self-inside-else-past-words.auto.places ∙ c.as_mut_slice-places.ensures.len) in
-          let takes = rw start at w.take_range-self-inside-else-past-words.ensures.takes in
+      | else-left-ge8 w ↦
+          let new : List Entry = w.take_octet-self-inside-else-left-ge8.new.places in
+          let back : take c.make_places.new.places.len (new ++ drop (length new) places) ≡ new = take_at new (drop (length new) places) c.make_places.new.places.len (w.take_octet-self-inside-else-left-ge8.auto.places ∙ c.as_mut_slice-places.ensures.len) in
+          let takes = rw start at w.take_octet-self-inside-else-left-ge8.ensures.takes in
           rw (w.words-is, w.self-is, w.self-inside-is, back) takes
     ]
