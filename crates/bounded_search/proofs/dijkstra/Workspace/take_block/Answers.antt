@@ -5,7 +5,7 @@ use Rattle.bounded_search.proofs.MarkedNodes.{block_skipped, keeps_both, keeps_n
 use Rattle.bounded_search.proofs.dijkstra.Workspace.take_block.Goals as goal
 
 pub returns-then-no_region_in-clause-takes : goal.returns-then-no_region_in-clause-takes
-returns-then-no_region_in-clause-takes c = block_skipped c.args.block c.args.self.now (c.no_region_in.ensures c.if-no_region_in.true)
+returns-then-no_region_in-clause-takes c = block_skipped c.args.block c.args.self.now (c.no_region_in.ensures.0 c.if-no_region_in.true)
 
 pub returns-then-no_region_in-clause-sized : goal.returns-then-no_region_in-clause-sized
 returns-then-no_region_in-clause-sized c = keeps_none c.args.self.now

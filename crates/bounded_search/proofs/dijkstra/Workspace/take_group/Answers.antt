@@ -6,7 +6,7 @@ use Rattle.bounded_search.proofs.MarkedNodes.{as_many, group_skipped, keeps_both
 use Rattle.bounded_search.proofs.dijkstra.Workspace.take_group.Goals as goal
 
 pub returns-then-none_in-clause-takes : goal.returns-then-none_in-clause-takes
-returns-then-none_in-clause-takes c = group_skipped c.args.group c.args.self.now (c.none_in.ensures c.if-none_in.true)
+returns-then-none_in-clause-takes c = group_skipped c.args.group c.args.self.now (c.none_in.ensures.0 c.if-none_in.true)
 
 pub returns-then-none_in-clause-sized : goal.returns-then-none_in-clause-sized
 returns-then-none_in-clause-sized c = keeps_none c.args.self.now
