@@ -1,10 +1,10 @@
-use Rattle.std.proofs.Common.{◌≡◌, ◌∷◌, ◌+◌, ℕ, List, [], drop, subst, sym, arith, slice_index_or, refl}
+use Rattle.std.proofs.Common.{◌≡◌, ◌∷◌, ◌+◌, ℕ, List, [], drop, subst, sym, arith, slice_index_or, refl, inl}
 use Rattle.std.proofs.lemmas.Grind.{common_steps}
 use Rattle.bounded_search.specs.declared.marks.Marks.{Marks}
 use Rattle.bounded_search.specs.declared.table_row.Entry.{Entry}
 use Rattle.bounded_search.specs.Merging.{MarksAlso, merged}
 use Rattle.bounded_search.proofs.LeftByMerging.{also_more, also_none}
-use Rattle.bounded_search.proofs.MarkedNodes.{no_entry}
+use Rattle.bounded_search.proofs.MarkedNodes.{no_entry, region_done}
 use Rattle.bounded_search.proofs.merging.merge_entries.Goals as goal
 
 pub loop-entry-init : goal.loop-entry-init
@@ -12,7 +12,7 @@ loop-entry-init c = record {
   sized = λ count sized. sized;
   words = λ bound. refl;
   marks = λ after h. h;
-  done = c.no_region-done.ensures;
+  done = inl c.no_region-done.ensures;
 }
 
 pub loop-entry-preserved : goal.loop-entry-preserved
@@ -30,7 +30,7 @@ loop-entry-preserved c =
       words = λ bound. subst (λ (k : List ℕ). merged bound d (drop (i + 1) row) k ≡ merged bound d row c.args.words.now) (sym (c.merge_entry.ensures.words bound))
           (subst (λ (k : List Entry). merged bound d k c.loop-entry.words ≡ merged bound d row c.args.words.now) next (inv.words bound));
       marks = λ after h. inv.marks after (subst (λ (k : List Entry). MarksAlso k old after) (sym next) (also_more x (drop (i + 1) row) old c.mark_after-done.new.self after e.marks h));
-      done = e.done;
+      done = region_done c.mark_after-done.new.self x.node.0 c.mark_after-done.result e.region e.marks.added;
     }
 
 pub returns-clause-words : goal.returns-clause-words
