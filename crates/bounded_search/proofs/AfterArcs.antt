@@ -11,7 +11,7 @@ use Rattle.std.specs.List.Sorted.{IsPermutation}
 use Rattle.road_network.specs.declared.Arc.{Arc}
 use Rattle.bounded_search.specs.declared.queue.Waiting.{Waiting}
 use Rattle.std.specs.Prelude.{min}
-use Rattle.bounded_search.proofs.Arcs.{nothing}
+use Rattle.bounded_search.proofs.Arcs.{no_arc}
 use Rattle.bounded_search.specs.Underway.{SearchState, after_arc, after_arcs, is_better, is_nearer, item_by, with_item, words_after}
 use Rattle.bounded_search.specs.LabelWords.{no_label, word_at, word_by}
 use Rattle.bounded_search.proofs.Gaining.{Gains, Tries}
@@ -82,7 +82,7 @@ next_aside far near old new head x lt at same is =
     ap (λ (k : List Waiting). k ++ drop (head + 1) near) is
     ∙ (append_assoc far (x ∷ []) (drop (head + 1) near) ∙ (ap (λ (k : List Waiting). far ++ k) (sym (next_of near head x lt at)) ∙ same))
 
--- an arc that was just tried gives nothing better
+-- an arc that was just tried gives no_arc better
 again_by : (bound d : ℕ) (a : Arc) (words : List ℕ) (b : Bool) → is_better bound d a words ≡ b → a.to.0 < length words → is_better bound d a (words_after bound d a words) ≡ false
 again_by bound d a words true is lt =
     let w : ℕ = word_by (d + a.length) a.edge.0 in
@@ -90,7 +90,7 @@ again_by bound d a words true is lt =
     rw here (le-ltb w w (omega arith))
 again_by bound d a words false is lt = rw is is
 
--- so it changes nothing
+-- so it changes no_arc
 pub arc_again : (bound d : ℕ) (a : Arc) (state : SearchState) → a.to.0 < length state.words → after_arc bound d a (after_arc bound d a state) ≡ after_arc bound d a state
 arc_again bound d a state lt =
     let not : is_better bound d a (words_after bound d a state.words) ≡ false = again_by bound d a state.words (is_better bound d a state.words) refl lt in
@@ -99,31 +99,31 @@ arc_again bound d a state lt =
 -- what is kept while the arcs of a node are tried in order, and then the last one again
 pub record AreTried (bound d last i : ℕ) (arcs : List Arc) (start now : SearchState) : Type 0 where
   pub tries : after_arcs bound d (drop i arcs) now ≡ after_arcs bound d arcs start
-  pub again : last < i → after_arc bound d (slice_index_or arcs last nothing) now ≡ now
+  pub again : last < i → after_arc bound d (slice_index_or arcs last no_arc) now ≡ now
 
 -- so it is after one more
-pub next_tried : (bound d last i : ℕ) (arcs : List Arc) (a : Arc) (start old new : SearchState) → last + 1 ≡ length arcs → a ≡ slice_index_or arcs (min i last) nothing → a.to.0 < length old.words → new ≡ after_arc bound d a old → AreTried bound d last i arcs start old → AreTried bound d last (i + 1) arcs start new
+pub next_tried : (bound d last i : ℕ) (arcs : List Arc) (a : Arc) (start old new : SearchState) → last + 1 ≡ length arcs → a ≡ slice_index_or arcs (min i last) no_arc → a.to.0 < length old.words → new ≡ after_arc bound d a old → AreTried bound d last i arcs start old → AreTried bound d last (i + 1) arcs start new
 next_tried bound d last i arcs a start old new count is lt step h = elim (cases_lt i (length arcs)) [
   | inl inside ↦
       let at : min i last ≡ i = min-eq_left (omega (arith, inside, count)) in
-      let here : a ≡ slice_index_or arcs i nothing = is ∙ ap (λ (k : ℕ). slice_index_or arcs k nothing) at in
-      let next : drop i arcs ≡ slice_index_or arcs i nothing ∷ drop (i + 1) arcs = grind (arith, common_steps) in
+      let here : a ≡ slice_index_or arcs i no_arc = is ∙ ap (λ (k : ℕ). slice_index_or arcs k no_arc) at in
+      let next : drop i arcs ≡ slice_index_or arcs i no_arc ∷ drop (i + 1) arcs = grind (arith, common_steps) in
       let first : after_arcs bound d (drop (i + 1) arcs) (after_arc bound d a old) ≡ after_arcs bound d (drop i arcs) old = ap (λ (k : Arc). after_arcs bound d (drop (i + 1) arcs) (after_arc bound d k old)) here ∙ ap (λ (k : List Arc). after_arcs bound d k old) (sym next) in
       record {
         tries = ap (after_arcs bound d (drop (i + 1) arcs)) step ∙ (first ∙ h.tries);
         again = λ low.
-            let same : slice_index_or arcs last nothing ≡ a = ap (λ (k : ℕ). slice_index_or arcs k nothing) (omega (arith, low, inside, count)) ∙ sym here in
+            let same : slice_index_or arcs last no_arc ≡ a = ap (λ (k : ℕ). slice_index_or arcs k no_arc) (omega (arith, low, inside, count)) ∙ sym here in
             ap (λ (k : Arc). after_arc bound d k new) same ∙ (ap (after_arc bound d a) step ∙ (arc_again bound d a old lt ∙ sym step));
       }
   | inr past ↦
       let at : min i last ≡ last = min-eq_right (omega (arith, past, count)) in
-      let here : a ≡ slice_index_or arcs last nothing = is ∙ ap (λ (k : ℕ). slice_index_or arcs k nothing) at in
+      let here : a ≡ slice_index_or arcs last no_arc = is ∙ ap (λ (k : ℕ). slice_index_or arcs k no_arc) at in
       let same : new ≡ old = step ∙ (ap (λ (k : Arc). after_arc bound d k old) here ∙ h.again (omega (arith, past, count))) in
       let none : drop i arcs ≡ [] = drop_of_length-le arcs past in
       let no_more : drop (i + 1) arcs ≡ [] = drop_of_length-le arcs (omega (arith, past)) in
       let rest : drop (i + 1) arcs ≡ drop i arcs = no_more ∙ sym none in
       record {
         tries = ap (λ (k : List Arc). after_arcs bound d k new) rest ∙ (ap (after_arcs bound d (drop i arcs)) same ∙ h.tries);
-        again = λ low. subst (λ (k : SearchState). after_arc bound d (slice_index_or arcs last nothing) k ≡ k) (sym same) (h.again (omega (arith, past, count)));
+        again = λ low. subst (λ (k : SearchState). after_arc bound d (slice_index_or arcs last no_arc) k ≡ k) (sym same) (h.again (omega (arith, past, count)));
       }
 ]

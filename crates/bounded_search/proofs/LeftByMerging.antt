@@ -17,9 +17,10 @@ use Rattle.bounded_search.specs.Searching.{AreMarkedOrWait, Leaves}
 use Rattle.bounded_search.specs.Table.{IsRow, RisesFrom, TableRow, entry_in, label_in, label_of}
 use Rattle.bounded_search.specs.Underway.{IsUnderway, NonePending, Waits}
 use Rattle.bounded_search.proofs.ClosedTables.{closed_of_table, none_some, some_there}
+use Rattle.bounded_search.proofs.Entries.{cases_Option, entry_with}
 use Rattle.bounded_search.proofs.Gaining.{front_or_rest}
 use Rattle.bounded_search.proofs.MarkedNodes.{sized_still}
-use Rattle.bounded_search.proofs.MergedRows.{IsMerge, Merges, by_edge, entry_or_none, entry_with, label_at_entry, merge_keeps, merges}
+use Rattle.bounded_search.proofs.MergedRows.{IsMerge, Merges, by_edge, label_at_entry, merge_keeps, merges}
 use Rattle.bounded_search.proofs.RowChecks.{entry_at}
 
 -- the entries of a row are of nodes of the network, within the bound
@@ -61,7 +62,7 @@ is_merge n x row old new h =
     }
 
 marked_after : (n : Net) (bound v d : ℕ) (row : List Entry) (old new : List ℕ) (before after : Marks) (queue : List Waiting) → IsMerge n bound v d row old new → MarksAlso row before after → AreMarkedOrWait bound old before (record { distance = d; node = v } ∷ queue) → AreMarkedOrWait bound new after queue
-marked_after n bound v d row old new before after queue h also marked u there = elim (entry_or_none (entry_in row u)) [
+marked_after n bound v d row old new before after queue h also marked u there = elim (cases_Option (entry_in row u)) [
   | inr some ↦ inr (also.listed u (some_there (entry_in row u) some.0 some.1))
   | inl none ↦
       let is : word_at bound new u ≡ word_at bound old u = h.merges.others u none in

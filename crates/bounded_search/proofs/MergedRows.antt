@@ -18,6 +18,7 @@ use Rattle.bounded_search.specs.Merging.{merged, merged_entry, merged_word}
 use Rattle.bounded_search.specs.Table.{RisesFrom, entry_in, label_in, label_of}
 use Rattle.bounded_search.specs.Underway.{IsHeld, IsTried, IsUnderway, NonePending, Waits}
 use Rattle.bounded_search.proofs.ClosedTables.{none_some}
+use Rattle.bounded_search.proofs.Entries.{IsEntryOf, cases_Option, entry_with, not_listed_below}
 use Rattle.bounded_search.proofs.Gaining.{front_or_rest}
 use Rattle.bounded_search.proofs.LabelWords.{distance_by, last_by, word_elsewhere, word_here}
 use Rattle.bounded_search.proofs.WrittenWords.{edge_small}
@@ -42,14 +43,6 @@ pub record Merges (bound d : ℕ) (row : List Entry) (old new : List ℕ) : Type
   pub others : (v : ℕ) → entry_in row v ≡ None → word_at bound new v ≡ word_at bound old v
   pub less : sum new ≤ sum old
 
--- a node below the first is not listed
-below : (b : ℕ) (row : List Entry) → RisesFrom b row → (v : ℕ) → v < b → entry_in row v ≡ None
-below b [] r v lt = refl
-below b (x ∷ row) r v lt = elim (eqb_tells x.node.0 v) [
-  | inl t ↦ absurd (omega (arith, t.1, r.0, lt))
-  | inr t ↦ rw t.0 (below (x.node.0 + 1) row r.1 v (omega (arith, r.0, lt)))
-]
-
 pub merges : (bound d b : ℕ) (row : List Entry) (words : List ℕ) → RisesFrom b row → AllByRecursion (λ x. x.node.0 < length words) row → Merges bound d row words (merged bound d row words)
 merges bound d b [] words r all = record {
   count = refl;
@@ -70,7 +63,7 @@ merges bound d b (x ∷ row) words r all =
       listed = λ v y at. elim (eqb_tells u v) [
         | inl t ↦
             let same : x ≡ y = same_Some x y (rw t.0 at at) in
-            let none : entry_in row v ≡ None = below (u + 1) row r.1 v (omega (arith, t.1)) in
+            let none : entry_in row v ≡ None = not_listed_below (u + 1) row r.1 v (omega (arith, t.1)) in
             let is : word_at bound (merged bound d row mid) v ≡ word = rec.others v none ∙ (ap (word_at bound mid) (sym t.1) ∙ word_here bound words u word all.0) in
             subst (λ (k : ℕ). IsLesser k (word_at bound words v) (merged_word d y)) (sym is)
             (subst (λ (k : ℕ). IsLesser word (word_at bound words k) (merged_word d y)) t.1 (subst (λ (k : Entry). IsLesser word (word_at bound words u) (merged_word d k)) same least))
@@ -87,24 +80,6 @@ merges bound d b (x ∷ row) words r all =
       ];
       less = omega (arith, rec.less, falls, least.low);
     }
-
--- a node is listed or not
-pub entry_or_none : (o : Option Entry) → (o ≡ None) ⊎ ((x : Entry) × (o ≡ Some x))
-entry_or_none None = inl refl
-entry_or_none (Some x) = inr (x, refl)
-
--- what a label tells of the entry
-pub record IsEntryOf (row : List Entry) (v : ℕ) (l : Label) : Type 0 where
-  pub entry : Entry
-  pub at : entry_in row v ≡ Some entry
-  pub label : label_of entry ≡ l
-
-pub entry_with : (row : List Entry) (v : ℕ) (l : Label) → label_in row v ≡ Some l → IsEntryOf row v l
-entry_with row v l h = from (entry_in row v) refl h
-  where
-    from : (o : Option Entry) → entry_in row v ≡ o → option_map label_of o ≡ Some l → IsEntryOf row v l
-    from None is h = absurd (none_some refl h)
-    from (Some x) is h = record { entry = x; at = is; label = same_Some (label_of x) l h }
 
 pub label_at_entry : (row : List Entry) (v : ℕ) (x : Entry) → entry_in row v ≡ Some x → label_in row v ≡ Some (label_of x)
 label_at_entry row v x at = ap (option_map label_of) at
@@ -140,7 +115,7 @@ low_small n bound v row lawful closed u x at = elim (cases_eq u v) [
 
 -- no word rises
 pub no_rise : (bound d : ℕ) (row : List Entry) (old new : List ℕ) → Merges bound d row old new → (v : ℕ) → word_at bound new v ≤ word_at bound old v
-no_rise bound d row old new m v = elim (entry_or_none (entry_in row v)) [
+no_rise bound d row old new m v = elim (cases_Option (entry_in row v)) [
   | inl none ↦ omega (arith, m.others v none)
   | inr some ↦ (m.listed v some.0 some.1).low
 ]
@@ -198,7 +173,7 @@ own_word n bound v d row old new h u x same at =
 held_after : (n : Net) (bound v d s : ℕ) (row : List Entry) (old new : List ℕ) → IsMerge n bound v d row old new → ((u : ℕ) → word_at bound old u ≤ no_label bound) → ((u : ℕ) → word_at bound old u ≢ no_label bound → u ≢ s → IsHeld n bound old u) → (u : ℕ) → word_at bound new u ≢ no_label bound → u ≢ s → IsHeld n bound new u
 held_after n bound v d s row old new h most held u there apart =
     let stays : word_at bound new u ≡ word_at bound old u → IsHeld n bound new u = λ is. held_same n bound d row old new h.merges u is (held u (λ none. there (is ∙ none)) apart) in
-    elim (entry_or_none (entry_in row u)) [
+    elim (cases_Option (entry_in row u)) [
       | inl none ↦ stays (h.merges.others u none)
       | inr some ↦ elim (cases_eq u v) [
         | inl same ↦ stays (own_word n bound v d row old new h u some.0 same some.1)
@@ -210,7 +185,7 @@ held_after n bound v d s row old new h most held u there apart =
     ]
 
 origin_after : (n : Net) (bound v d s : ℕ) (row : List Entry) (old new : List ℕ) → IsMerge n bound v d row old new → word_at bound old s ≡ origin_word → word_at bound new s ≡ origin_word
-origin_after n bound v d s row old new h origin = elim (entry_or_none (entry_in row s)) [
+origin_after n bound v d s row old new h origin = elim (cases_Option (entry_in row s)) [
   | inl none ↦ h.merges.others s none ∙ origin
   | inr some ↦ elim (cases_eq s v) [
     | inl same ↦ own_word n bound v d row old new h s some.0 same some.1 ∙ origin
@@ -260,7 +235,7 @@ seen_elsewhere n bound v d s row old new queue m under f has apart is short =
 seen_after : (n : Net) (bound v d s : ℕ) (row : List Entry) (old new : List ℕ) (queue : List Waiting) → IsMerge n bound v d row old new → IsUnderway n bound s (record { words = old; queue = record { distance = d; node = v } ∷ queue }) NonePending → (f : ℕ) → HasEdge n f → distance_at bound new (source n f) + span n f ≤ bound → Waits queue (source n f) (distance_at bound new (source n f)) ⊎ (NonePending f ⊎ IsTried n bound new f)
 seen_after n bound v d s row old new queue h under f has short =
     let u : ℕ = source n f in
-    elim (entry_or_none (entry_in row u)) [
+    elim (cases_Option (entry_in row u)) [
       | inl none ↦
           seen_elsewhere n bound v d s row old new queue h.merges under f has (λ same. none_some none (entry_with row u origin_label (ap (label_in row) same ∙ h.closed.origin)).at) (h.merges.others u none) short
       | inr some ↦ elim (cases_eq (distance_at bound new u) (d + some.0.distance)) [

@@ -13,7 +13,8 @@ use Rattle.bounded_search.specs.Labels.{entry_of}
 use Rattle.bounded_search.specs.RowValue.{adds_up, arrives, entries_from, first_arriving, label_within, or_edge, or_label, row_of}
 use Rattle.bounded_search.specs.Table.{IsRow, IsTable, RisesFrom, TableRow, label_in}
 use Rattle.bounded_search.proofs.ClosedTables.{table_of_closed, none_some}
-use Rattle.bounded_search.proofs.OneRow.{below, one_row}
+use Rattle.bounded_search.proofs.Entries.{no_label_below}
+use Rattle.bounded_search.proofs.OneRow.{one_row}
 
 -- what is first among the edges below k
 abbrev IsFirst : (ℕ → Bool) → ℕ → Option EdgeId → Type 0
@@ -198,7 +199,7 @@ entries_label table v (suc k) w from to =
     let rest : List Entry = entries_from table (v + 1) k in
     elim (cases_eq v w) [
       | inl same ↦
-          let none : label_in rest v ≡ None = below (v + 1) rest (entries_rise table (v + 1) k) v (omega arith) in
+          let none : label_in rest v ≡ None = no_label_below (v + 1) rest (entries_rise table (v + 1) k) v (omega arith) in
           subst (λ (x : ℕ). label_in (entry_of v (table v) ++ rest) x ≡ table x) same (label_front v (table v) rest none)
       | inr apart ↦ label_behind v w (table v) rest apart ∙ entries_label table (v + 1) k w (omega arith) (omega arith)
     ]

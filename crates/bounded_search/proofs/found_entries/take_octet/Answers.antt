@@ -1,6 +1,6 @@
-use Rattle.std.proofs.Common.{◌≡◌, ◌<◌, ◌≤◌, ◌⊎◌, ◌+◌, ◌∙◌, ℕ, Bool, List, cond, length, take, ap, sym, inl, inr, arith}
-use Rattle.std.proofs.lemmas.Bool.{cases_Bool}
+use Rattle.std.proofs.Common.{◌≡◌, ◌<◌, ◌≤◌, ◌⊎◌, ◌+◌, ◌∙◌, ℕ, Bool, List, cond, length, take, ap, inl, inr, arith}
 use Rattle.bounded_search.specs.declared.table_row.Entry.{Entry}
+use Rattle.bounded_search.proofs.BoolNumbers.{one_at_most, one_or_none}
 use Rattle.bounded_search.proofs.TakenLabels.{next_taken, none_more, none_yet}
 use Rattle.bounded_search.proofs.found_entries.take_octet.Goals as goal
 
@@ -22,8 +22,8 @@ loop-k-preserved c =
     let e = c.take_node-labelled.ensures in
     let b : Bool = c.take_node-labelled.result in
     let inside : end < length places = omega (arith, inv.room, c.loop-k-test.true, c.requires.octet.few, c.requires.room, c.loop-k.auto.places) in
-    let more : c.from-end.result ≡ cond b 1 0 = elim (cases_Bool b) [ inl is ↦ (rw is at c.from-end.ensures) ∙ ap (λ (k : Bool). cond k 1 0) (sym is) | inr isnt ↦ (rw isnt at c.from-end.ensures) ∙ ap (λ (k : Bool). cond k 1 0) (sym isnt) ] in
-    let one : c.from-end.result ≤ 1 = elim (cases_Bool b) [ inl is ↦ omega (arith, rw is at more) | inr isnt ↦ omega (arith, rw isnt at more) ] in
+    let more : c.from-end.result ≡ cond b 1 0 = one_or_none b c.from-end.result c.from-end.ensures in
+    let one : c.from-end.result ≤ 1 = one_at_most b c.from-end.result c.from-end.ensures in
     record {
       inside = omega (arith, c.loop-k-test.true);
       room = omega (arith, inv.room, one);

@@ -3,8 +3,9 @@ use Rattle.std.proofs.lemmas.Grind.{common_steps}
 use Rattle.bounded_search.specs.declared.marks.Marks.{Marks}
 use Rattle.bounded_search.specs.declared.table_row.Entry.{Entry}
 use Rattle.bounded_search.specs.Merging.{MarksAlso, merged}
+use Rattle.bounded_search.proofs.Entries.{no_entry}
 use Rattle.bounded_search.proofs.LeftByMerging.{also_more, also_none}
-use Rattle.bounded_search.proofs.MarkedNodes.{no_entry, region_done}
+use Rattle.bounded_search.proofs.MarkedNodes.{region_done}
 use Rattle.bounded_search.proofs.merging.merge_entries.Goals as goal
 
 pub loop-entry-init : goal.loop-entry-init

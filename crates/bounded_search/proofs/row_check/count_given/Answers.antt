@@ -7,7 +7,7 @@ use Rattle.road_network.specs.Net.{leaving}
 use Rattle.road_network.specs.declared.Arc.{Arc}
 use Rattle.bounded_search.specs.Given.{IsArcRelaxed, arc_gives}
 use Rattle.bounded_search.specs.Table.{label_in}
-use Rattle.bounded_search.proofs.Arcs.{arcs_are, count_arcs, nothing}
+use Rattle.bounded_search.proofs.Arcs.{arcs_are, count_arcs, no_arc}
 use Rattle.bounded_search.proofs.row_check.count_given.Goals.{then-branch, else-branch}
 use Rattle.bounded_search.proofs.row_check.count_given.Goals as goal
 
@@ -19,15 +19,15 @@ loop-arc-preserved c =
     let i : ℕ = c.loop-arc.arc-index in
     let lt : i < length arcs = omega arith in
     let p : Arc → Bool = arc_gives c.args.bound table distance in
-    let is : c.in_ok-try_arc.field-0 ≡ p (get_or arcs i nothing) = c.in_ok-try_arc.ensures.given in
+    let is : c.in_ok-try_arc.field-0 ≡ p (get_or arcs i no_arc) = c.in_ok-try_arc.ensures.given in
     record {
-      relaxed = All-more (IsArcRelaxed c.args.bound table distance) arcs i nothing lt c.loop-arc.invariant.relaxed (c.in_ok-try_arc.ensures.some.0 refl);
+      relaxed = All-more (IsArcRelaxed c.args.bound table distance) arcs i no_arc lt c.loop-arc.invariant.relaxed (c.in_ok-try_arc.ensures.some.0 refl);
       counted = elim c.if-branch.branch [
         | then-branch w ↦
-            let more = count_by_more_yes p arcs i nothing lt (sym is ∙ w.if-branch.true) in
+            let more = count_by_more_yes p arcs i no_arc lt (sym is ∙ w.if-branch.true) in
             omega (arith, w.count-is, c.loop-arc.invariant.counted, more)
         | else-branch w ↦
-            let same = count_by_more_no p arcs i nothing lt (sym is ∙ w.if-branch.false) in
+            let same = count_by_more_no p arcs i no_arc lt (sym is ∙ w.if-branch.false) in
             omega (arith, w.count-is, c.loop-arc.invariant.counted, same)
       ];
     }
@@ -38,11 +38,11 @@ returns-in_err-try_arc-clause-some c =
     let table = label_in c.args.row.now.entries in
     let P : Arc → Type 0 = IsArcRelaxed c.args.bound table c.args.x.now.distance in
     let are = arcs_are n c.args.x.now.node.0 P in
-    let none : P (get_or c.arcs-arc-items.result.now c.loop-arc.arc-index nothing) → ⊥ = λ at. true≢false (sym (c.in_err-try_arc.ensures.some.1 at)) in (
+    let none : P (get_or c.arcs-arc-items.result.now c.loop-arc.arc-index no_arc) → ⊥ = λ at. true≢false (sym (c.in_err-try_arc.ensures.some.1 at)) in (
       λ some. absurd (true≢false (sym (rw c.from_residual.ensures at some))),
       λ relaxed.
           let all : All P c.arcs-arc-items.result.now = rw c.arcs-arc-items.ensures (are.1 relaxed) in
-          absurd (none (all c.loop-arc.arc-index nothing c.loop-arc-test.true)),
+          absurd (none (all c.loop-arc.arc-index no_arc c.loop-arc-test.true)),
     )
 
 pub returns-clause-some : goal.returns-clause-some

@@ -1,4 +1,4 @@
-use Rattle.std.proofs.Common.{◌≡◌, ◌<◌, ◌+◌, ◌≤◌, ℕ, List, None, length, get_or, take, rules, arith, refl, sym, ap, ◌∙◌}
+use Rattle.std.proofs.Common.{◌≡◌, ◌<◌, ◌+◌, ◌≤◌, ℕ, List, length, get_or, take, rules, arith, refl, sym, ap, ◌∙◌}
 use Rattle.std.proofs.lemmas.Bool.{eq-eqb, eqb-true, false≢true}
 use Rattle.std.proofs.lemmas.List.{take_all}
 use Rattle.std.proofs.lemmas.List.Elements.{All-more}
@@ -7,11 +7,9 @@ use Rattle.std.specs.List.{sum_by}
 use Rattle.bounded_search.specs.declared.table_row.Entry.{Entry}
 use Rattle.bounded_search.specs.Given.{IsRelaxedAt, given_by}
 use Rattle.bounded_search.specs.Table.{label_in}
+use Rattle.bounded_search.proofs.Entries.{no_entry}
 use Rattle.bounded_search.proofs.GivenLabels.{given_few}
 use Rattle.bounded_search.proofs.row_check.gives_all.Goals as goal
-
-abbrev nothing : Entry
-nothing = record { node = record { 0 = 0 }; distance = 0; last = None }
 
 pub overflow_add-given : goal.overflow_add-given
 overflow_add-given c =
@@ -19,9 +17,9 @@ overflow_add-given c =
     let f : Entry → ℕ = given_by c.args.net.now c.args.bound entries in
     let place : ℕ = c.loop-x.x-index in
     let lt : place < length entries = omega (arith, ap length c.entries-entries.ensures, c.loop-x-test.true) in
-    let more : sum_by f (take place entries) + f (get_or entries place nothing) ≤ sum_by f entries = sum_by_more_le f entries place nothing lt in
+    let more : sum_by f (take place entries) + f (get_or entries place no_entry) ≤ sum_by f entries = sum_by_more_le f entries place no_entry lt in
     let few : sum_by f entries ≤ length entries = given_few c.args.net.now c.args.bound entries c.invariants.ensures.rising in
-    let count : c.in-Some.count ≡ f (get_or entries place nothing) = (rw c.entries-entries.ensures at c.in-Some.ensures.count) in
+    let count : c.in-Some.count ≡ f (get_or entries place no_entry) = (rw c.entries-entries.ensures at c.in-Some.ensures.count) in
     let given : c.loop-x.given ≡ sum_by f (take place entries) = c.loop-x.invariant.counted in
     let inside : c.loop-x.given + c.in-Some.count ≤ length entries = omega (arith, more, few, count, given) in
     search rules
@@ -35,10 +33,10 @@ loop-x-preserved c =
     let place : ℕ = c.loop-x.x-index in
     let lt : place < length entries = omega (arith, ap length c.entries-entries.ensures, c.loop-x-test.true) in
     record {
-      each = All-more (IsRelaxedAt n bound (label_in entries)) entries place nothing lt c.loop-x.invariant.each (rw c.entries-entries.ensures at (c.in-Some.ensures.some.0 refl));
+      each = All-more (IsRelaxedAt n bound (label_in entries)) entries place no_entry lt c.loop-x.invariant.each (rw c.entries-entries.ensures at (c.in-Some.ensures.some.0 refl));
       counted =
-          let count : c.in-Some.count ≡ f (get_or entries place nothing) = (rw c.entries-entries.ensures at c.in-Some.ensures.count) in
-          omega (arith, c.loop-x.invariant.counted, sum_by_more f entries place nothing lt, count);
+          let count : c.in-Some.count ≡ f (get_or entries place no_entry) = (rw c.entries-entries.ensures at c.in-Some.ensures.count) in
+          omega (arith, c.loop-x.invariant.counted, sum_by_more f entries place no_entry lt, count);
     }
 
 pub overflow_add-result : goal.overflow_add-result
@@ -58,7 +56,7 @@ pub returns-in_default : goal.returns-in_default
 returns-in_default c =
     let lt : c.loop-x.x-index < length c.args.row.now.entries = omega (arith, ap length c.entries-entries.ensures, c.loop-x-test.true) in
     let some = rw c.entries-entries.ensures at c.in_default.ensures.some in
-    (λ is. absurd (false≢true is), λ given. some.1 (given.each c.loop-x.x-index nothing lt))
+    (λ is. absurd (false≢true is), λ given. some.1 (given.each c.loop-x.x-index no_entry lt))
 
 pub returns : goal.returns
 returns c =

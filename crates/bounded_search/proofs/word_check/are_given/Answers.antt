@@ -1,4 +1,4 @@
-use Rattle.std.proofs.Common.{◌≡◌, ◌<◌, ◌+◌, ◌≤◌, ℕ, List, Option, None, sym, subst, length, get_or, take, rules, arith, refl, ap, ◌∙◌}
+use Rattle.std.proofs.Common.{◌≡◌, ◌<◌, ◌+◌, ◌≤◌, ℕ, List, Option, sym, subst, length, get_or, take, rules, arith, refl, ap, ◌∙◌}
 use Rattle.std.proofs.lemmas.Bool.{eq-eqb, eqb-true, false≢true}
 use Rattle.std.proofs.lemmas.List.{take_all}
 use Rattle.std.proofs.lemmas.List.Elements.{All-more}
@@ -13,11 +13,9 @@ use Rattle.bounded_search.specs.declared.table_row.Entry.{Entry}
 use Rattle.bounded_search.specs.Closed.{LeavesRelaxed}
 use Rattle.bounded_search.specs.Given.{IsRelaxedAt, given_by, gives}
 use Rattle.bounded_search.specs.Table.{label_in}
+use Rattle.bounded_search.proofs.Entries.{no_entry}
 use Rattle.bounded_search.proofs.GivenLabels.{given_few}
 use Rattle.bounded_search.proofs.word_check.are_given.Goals as goal
-
-abbrev nothing : Entry
-nothing = record { node = record { 0 = 0 }; distance = 0; last = None }
 
 -- what the words tell of an entry
 given_there : (n : Net) (bound : ℕ) (words : List ℕ) (entries : List Entry) (x : Entry) (count : ℕ) → IsSpread bound entries words → count ≡ count_by (λ e. gives n bound (label_at bound words) x.distance e.0) (leaving n x.node.0) → count ≡ given_by n bound entries x
@@ -39,9 +37,9 @@ overflow_add-given c =
     let f : Entry → ℕ = given_by c.args.net.now c.args.bound entries in
     let place : ℕ = c.loop-place.place in
     let lt : place < length entries = omega arith in
-    let more : sum_by f (take place entries) + f (get_or entries place nothing) ≤ sum_by f entries = sum_by_more_le f entries place nothing lt in
+    let more : sum_by f (take place entries) + f (get_or entries place no_entry) ≤ sum_by f entries = sum_by_more_le f entries place no_entry lt in
     let few : sum_by f entries ≤ length entries = given_few c.args.net.now c.args.bound entries c.requires.rising in
-    let count : c.in-Some.count ≡ f (get_or entries place nothing) = given_there c.args.net.now c.args.bound c.args.words.now entries (get_or entries place nothing) c.in-Some.count c.requires.words.1 c.in-Some.ensures.count in
+    let count : c.in-Some.count ≡ f (get_or entries place no_entry) = given_there c.args.net.now c.args.bound c.args.words.now entries (get_or entries place no_entry) c.in-Some.count c.requires.words.1 c.in-Some.ensures.count in
     let given : c.loop-place.given ≡ sum_by f (take place entries) = c.loop-place.invariant.counted in
     let inside : c.loop-place.given + c.in-Some.count ≤ length entries = omega (arith, more, few, count, given) in
     search rules
@@ -55,10 +53,10 @@ loop-place-preserved c =
     let place : ℕ = c.loop-place.place in
     let lt : place < length entries = omega arith in
     record {
-      each = All-more (IsRelaxedAt n bound (label_in entries)) entries place nothing lt c.loop-place.invariant.each (relaxed_there n bound c.args.words.now entries (get_or entries place nothing) c.requires.words.1 (c.requires.fits place nothing lt) (c.in-Some.ensures.some.0 refl));
+      each = All-more (IsRelaxedAt n bound (label_in entries)) entries place no_entry lt c.loop-place.invariant.each (relaxed_there n bound c.args.words.now entries (get_or entries place no_entry) c.requires.words.1 (c.requires.fits place no_entry lt) (c.in-Some.ensures.some.0 refl));
       counted =
-          let count : c.in-Some.count ≡ f (get_or entries place nothing) = given_there c.args.net.now c.args.bound c.args.words.now entries (get_or entries place nothing) c.in-Some.count c.requires.words.1 c.in-Some.ensures.count in
-          omega (arith, c.loop-place.invariant.counted, sum_by_more f entries place nothing lt, count);
+          let count : c.in-Some.count ≡ f (get_or entries place no_entry) = given_there c.args.net.now c.args.bound c.args.words.now entries (get_or entries place no_entry) c.in-Some.count c.requires.words.1 c.in-Some.ensures.count in
+          omega (arith, c.loop-place.invariant.counted, sum_by_more f entries place no_entry lt, count);
     }
 
 pub overflow_add-result : goal.overflow_add-result
@@ -78,10 +76,10 @@ pub bounds-entries-place : goal.bounds-entries-place
 bounds-entries-place c = c.loop-place-test.true
 
 pub count_given-requires-clause-node : goal.count_given-requires-clause-node
-count_given-requires-clause-node c = (c.requires.fits c.loop-place.place nothing c.loop-place-test.true).node
+count_given-requires-clause-node c = (c.requires.fits c.loop-place.place no_entry c.loop-place-test.true).node
 
 pub count_given-requires-clause-within : goal.count_given-requires-clause-within
-count_given-requires-clause-within c = let fits = c.requires.fits c.loop-place.place nothing c.loop-place-test.true in omega (arith, fits.within, c.requires.bound)
+count_given-requires-clause-within c = let fits = c.requires.fits c.loop-place.place no_entry c.loop-place-test.true in omega (arith, fits.within, c.requires.bound)
 
 pub count_given-requires-clause-words : goal.count_given-requires-clause-words
 count_given-requires-clause-words c = c.requires.words.0
@@ -91,7 +89,7 @@ returns-in_default c =
     let entries : List Entry = c.args.entries.now in
     let place : ℕ = c.loop-place.place in (
       λ is. absurd (false≢true is),
-      λ given. c.in_default.ensures.some.1 (back_there c.args.net.now c.args.bound c.args.words.now entries (get_or entries place nothing) c.requires.words.1 (given.each place nothing c.loop-place-test.true)),
+      λ given. c.in_default.ensures.some.1 (back_there c.args.net.now c.args.bound c.args.words.now entries (get_or entries place no_entry) c.requires.words.1 (given.each place no_entry c.loop-place-test.true)),
     )
 
 pub returns : goal.returns

@@ -11,22 +11,23 @@ use Rattle.road_network.specs.Net.{Net, IsLawful, arc_of, leaving}
 use Rattle.road_network.specs.declared.Arc.{Arc}
 use Rattle.bounded_search.specs.Given.{IsArcRelaxed, arc_gives}
 use Rattle.bounded_search.specs.LabelWords.{label_at}
-use Rattle.bounded_search.proofs.Arcs.{IsLeaving, arcs_are, count_arcs, known_arcs, nothing}
+use Rattle.bounded_search.proofs.Arcs.{IsLeaving, arcs_are, count_arcs, known_arcs, no_arc}
+use Rattle.bounded_search.proofs.BoolNumbers.{one_or_none}
 use Rattle.bounded_search.proofs.word_check.count_given.Goals.{then-given, else-given}
 use Rattle.bounded_search.proofs.word_check.count_given.Goals as goal
 
-leaves : (n : Net) (u : ℕ) (arcs : List Arc) (i : ℕ) → IsLawful n → arcs ≡ map (arc_of n) (leaving n u) → i < length arcs → IsLeaving n u (get_or arcs i nothing)
-leaves n u arcs i lawful is lt = subst (λ (k : List Arc). i < length k → IsLeaving n u (get_or k i nothing)) (sym is) (λ inside. known_arcs n u lawful i nothing inside) lt
+leaves : (n : Net) (u : ℕ) (arcs : List Arc) (i : ℕ) → IsLawful n → arcs ≡ map (arc_of n) (leaving n u) → i < length arcs → IsLeaving n u (get_or arcs i no_arc)
+leaves n u arcs i lawful is lt = subst (λ (k : List Arc). i < length k → IsLeaving n u (get_or k i no_arc)) (sym is) (λ inside. known_arcs n u lawful i no_arc inside) lt
 
 -- the arc that is looked at, in order or the last one again
-seen : (n : Net) (u i last place : ℕ) (arcs : List Arc) → IsLawful n → arcs ≡ map (arc_of n) (leaving n u) → last + 1 ≡ length arcs → place ≡ min i last → IsLeaving n u (get_or arcs place nothing)
+seen : (n : Net) (u i last place : ℕ) (arcs : List Arc) → IsLawful n → arcs ≡ map (arc_of n) (leaving n u) → last + 1 ≡ length arcs → place ≡ min i last → IsLeaving n u (get_or arcs place no_arc)
 seen n u i last place arcs lawful is count at = leaves n u arcs place lawful is (omega (arith, at, count))
 
 -- one more is counted, or none if all were
-counted_one : (p : Arc → Bool) (arcs : List Arc) (i count more : ℕ) → i < length arcs → more ≡ cond (p (get_or arcs i nothing)) 1 0 → count ≡ count_by p (take i arcs) → count + more ≡ count_by p (take (i + 1) arcs)
-counted_one p arcs i count more lt is counted = elim (cases_Bool (p (get_or arcs i nothing))) [
-  | inl gives ↦ omega (arith, rw gives at is, counted, count_by_more_yes p arcs i nothing lt gives)
-  | inr not ↦ omega (arith, rw not at is, counted, count_by_more_no p arcs i nothing lt not)
+counted_one : (p : Arc → Bool) (arcs : List Arc) (i count more : ℕ) → i < length arcs → more ≡ cond (p (get_or arcs i no_arc)) 1 0 → count ≡ count_by p (take i arcs) → count + more ≡ count_by p (take (i + 1) arcs)
+counted_one p arcs i count more lt is counted = elim (cases_Bool (p (get_or arcs i no_arc))) [
+  | inl gives ↦ omega (arith, rw gives at is, counted, count_by_more_yes p arcs i no_arc lt gives)
+  | inr not ↦ omega (arith, rw not at is, counted, count_by_more_no p arcs i no_arc lt not)
 ]
 
 pub loop-tried-init : goal.loop-tried-init
@@ -44,19 +45,19 @@ loop-tried-preserved c =
     let P : Arc → Type 0 = IsArcRelaxed c.args.bound table distance in
     let count : last + 1 ≡ length arcs = omega (arith, c.in-Some.ensures) in
     let f : Bool = c.if-given.from in
-    let more : c.from.result ≡ cond f 1 0 = elim (cases_Bool f) [ inl is ↦ (rw is at c.from.ensures) ∙ ap (λ (k : Bool). cond k 1 0) (sym is) | inr not ↦ (rw not at c.from.ensures) ∙ ap (λ (k : Bool). cond k 1 0) (sym not) ] in
+    let more : c.from.result ≡ cond f 1 0 = one_or_none f c.from.result c.from.ensures in
     elim (cases_lt i (length arcs)) [
       | inl lt ↦
           let at : c.min.result ≡ i = c.min.ensures ∙ min-eq_left (omega (arith, lt, count)) in
           let low : nat_le i last ≡ true = elim (leb_tells i last) [ inl t ↦ t.0 | inr t ↦ absurd (omega (arith, t.1, lt, count)) ] in
-          let gives : c.in_ok-given.given ≡ p (get_or arcs i nothing) = c.in_ok-given.ensures.given ∙ ap (λ (k : ℕ). p (get_or arcs k nothing)) at in
-          let is : f ≡ p (get_or arcs i nothing) = elim c.if-given.branch [
+          let gives : c.in_ok-given.given ≡ p (get_or arcs i no_arc) = c.in_ok-given.ensures.given ∙ ap (λ (k : ℕ). p (get_or arcs k no_arc)) at in
+          let is : f ≡ p (get_or arcs i no_arc) = elim c.if-given.branch [
             | then-given w ↦ w.from-is ∙ (low ∙ (sym w.if-given.true ∙ gives))
             | else-given w ↦ w.from-is ∙ gives
           ] in
-          let here : P (get_or arcs i nothing) = subst (λ (k : ℕ). P (get_or arcs k nothing)) at (c.in_ok-given.ensures.some.0 refl) in
+          let here : P (get_or arcs i no_arc) = subst (λ (k : ℕ). P (get_or arcs k no_arc)) at (c.in_ok-given.ensures.some.0 refl) in
           record {
-            relaxed = All-more P arcs i nothing lt inv.relaxed here;
+            relaxed = All-more P arcs i no_arc lt inv.relaxed here;
             counted = counted_one p arcs i c.loop-tried.count c.from.result lt (more ∙ ap (λ (k : Bool). cond k 1 0) is) inv.counted;
           }
       | inr past ↦
@@ -89,12 +90,12 @@ returns-in_err-given-clause-some c =
     let P : Arc → Type 0 = IsArcRelaxed c.args.bound table c.args.x.now.distance in
     let are = arcs_are n c.args.x.now.node.0 P in
     let arcs : List Arc = c.arcs-arcs.result.now in
-    let none : P (get_or arcs c.min.result nothing) → ⊥ = λ at. true≢false (sym (c.in_err-given.ensures.some.1 at)) in
+    let none : P (get_or arcs c.min.result no_arc) → ⊥ = λ at. true≢false (sym (c.in_err-given.ensures.some.1 at)) in
     let low : c.min.result < length arcs = omega (arith, c.min.ensures, c.in-Some.ensures) in (
       λ some. absurd (true≢false (sym (rw c.from_residual.ensures at some))),
       λ relaxed.
           let all : All P arcs = rw c.arcs-arcs.ensures (are.1 relaxed) in
-          absurd (none (all c.min.result nothing low)),
+          absurd (none (all c.min.result no_arc low)),
     )
 
 pub returns-in_default-clause-some : goal.returns-in_default-clause-some

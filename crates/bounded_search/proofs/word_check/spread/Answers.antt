@@ -1,4 +1,4 @@
-use Rattle.std.proofs.Common.{◌≡◌, ◌<◌, Bool, ℕ, List, Some, None, true, false, true≢false, ap, sym, length, get_or, refl, subst, ◌∙◌, rules, arith}
+use Rattle.std.proofs.Common.{◌≡◌, ◌<◌, Bool, ℕ, List, Some, true, false, true≢false, ap, sym, length, get_or, refl, subst, ◌∙◌, rules, arith}
 use Rattle.std.proofs.lemmas.List.{take_all}
 use Rattle.std.proofs.lemmas.List.Elements.{All-more, All-nil}
 use Rattle.std.specs.List.{All}
@@ -7,11 +7,9 @@ use Rattle.bounded_search.specs.declared.table_row.Entry.{Entry}
 use Rattle.bounded_search.specs.LabelWords.{label_in_word}
 use Rattle.bounded_search.specs.Spread.{FitsIn, IsSpread}
 use Rattle.bounded_search.specs.Table.{label_of}
+use Rattle.bounded_search.proofs.Entries.{no_entry}
 use Rattle.bounded_search.proofs.WordChecks.{label_of_word, none_else, none_spread, spread_next}
 use Rattle.bounded_search.proofs.word_check.spread.Goals as goal
-
-abbrev nothing : Entry
-nothing = record { node = record { 0 = 0 }; distance = 0; last = None }
 
 pub loop-x-init : goal.loop-x-init
 loop-x-init c = record {
@@ -25,7 +23,7 @@ returns-then-not-fits c =
     let entries : List Entry = c.args.entries.now in
     let i : ℕ = c.loop-x.x-index in
     let lt : i < length entries = omega arith in
-    let unfit : All (FitsIn c.args.net.now c.args.bound) entries → false ≡ true = λ all. subst (λ (k : Bool). IsTrue k) c.if-not-fits.true (c.fits.ensures.1 (all i nothing lt)) in
+    let unfit : All (FitsIn c.args.net.now c.args.bound) entries → false ≡ true = λ all. subst (λ (k : Bool). IsTrue k) c.if-not-fits.true (c.fits.ensures.1 (all i no_entry lt)) in
     record {
       fits_all = (λ t. absurd (true≢false (sym t)), unfit);
       words = λ t. absurd (true≢false (sym t));
@@ -38,13 +36,13 @@ loop-x-preserved c =
     let entries : List Entry = c.args.entries.now in
     let i : ℕ = c.loop-x.x-index in
     let lt : i < length entries = omega arith in
-    let x : Entry = get_or entries i nothing in
+    let x : Entry = get_or entries i no_entry in
     let fits : FitsIn c.args.net.now c.args.bound x = c.fits.ensures.0 (search rules) in
     let inside : x.node.0 < length c.loop-x.words = omega (arith, fits.node, c.requires.blank.words_count) in
     let is : label_in_word c.args.bound c.word_of.result ≡ Some (label_of x) = ap (label_in_word c.args.bound) c.word_of.ensures ∙ label_of_word c.args.net.now c.args.bound x.distance x.last c.invariants.ensures fits.within fits.last in
     record {
-      spread = spread_next c.args.bound entries i nothing c.loop-x.words c.word_of.result c.requires.rising lt inside is inv.spread;
-      fits = All-more (FitsIn c.args.net.now c.args.bound) entries i nothing lt inv.fits fits;
+      spread = spread_next c.args.bound entries i no_entry c.loop-x.words c.word_of.result c.requires.rising lt inside is inv.spread;
+      fits = All-more (FitsIn c.args.net.now c.args.bound) entries i no_entry lt inv.fits fits;
     }
 
 pub returns : goal.returns

@@ -4,12 +4,10 @@ use Rattle.std.proofs.lemmas.Grind.{common_steps}
 use Rattle.bounded_search.specs.declared.table_row.Entry.{Entry}
 use Rattle.bounded_search.specs.LabelWords.{no_label, word_at}
 use Rattle.bounded_search.specs.Table.{entry_in}
+use Rattle.bounded_search.proofs.Entries.{no_entry}
 use Rattle.bounded_search.proofs.WordChecks.{less_left, none_left}
 use Rattle.bounded_search.proofs.word_check.take_away.Goals.{then-node-words, else-node-words}
 use Rattle.bounded_search.proofs.word_check.take_away.Goals as goal
-
-abbrev nothing : Entry
-nothing = record { node = record { 0 = 0 }; distance = 0; last = None }
 
 pub returns : goal.returns
 returns c v =
@@ -22,7 +20,7 @@ loop-x-preserved c =
     let words : List ℕ = c.loop-x.words in
     let i : ℕ = c.loop-x.x-index in
     let lt : i < length entries = c.loop-x-test.true in
-    let x : Entry = get_or entries i nothing in
+    let x : Entry = get_or entries i no_entry in
     let rest : List Entry = drop (i + 1) entries in
     let next : drop i entries ≡ x ∷ rest = grind (arith, common_steps) in
     let bound : ℕ = c.args.bound in
