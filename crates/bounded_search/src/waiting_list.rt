@@ -66,12 +66,12 @@ fn relax(words: &mut [u64], distance: u32, arc: Arc, item: &mut Waiting) -> bool
 }
 
 /// So many arcs of a node are tried at least: a loop that mostly takes equally many turns is well predicted.
-pub const TRIES: usize = 4;
+pub const LEAST_TRIES: usize = 4;
 
 /// Tries arcs from a distance in cm. The nodes that become nearer are appended to the first `count` places, and
 /// the result is how many items there are then.
 ///
-/// Where there are fewer than [`TRIES`] arcs, the last one is tried again, which changes nothing.
+/// Where there are fewer than [`LEAST_TRIES`] arcs, the last one is tried again, which changes nothing.
 fn try_arcs(
     words: &mut [u64],
     distance: u32,
@@ -81,7 +81,7 @@ fn try_arcs(
 ) -> usize
     requires arcs { All (IsTriable (length words.old)) arcs.now }
     requires distance { distance ≤ 10_000_000 }
-    requires room { (count + length arcs.now ≤ length places.old) × (count + 4 ≤ length places.old) }
+    requires room { (count + length arcs.now ≤ length places.old) × (count + LEAST_TRIES ≤ length places.old) }
     ensures tries { (bound : ℕ) → record { words = words.new; queue = take result places.new }
         ≡ after_arcs bound distance arcs.now (record { words = words.old; queue = take count places.old }) }
     ensures sizes { (length words.new ≡ length words.old) × (count ≤ result) × (result ≤ length places.new) }
@@ -90,7 +90,7 @@ fn try_arcs(
         return count;
     };
     let mut end = count;
-    for tried in 0..arcs.len().max(TRIES) {
+    for tried in 0..arcs.len().max(LEAST_TRIES) {
         let arc = arcs[tried.min(last)];
         let nearer = relax(words, distance, arc, &mut places[end]);
         end += usize::from(nearer);
@@ -149,7 +149,11 @@ impl WaitingList {
         ensures count { length words.new ≡ length words.old }
         ensures more { length self.old ≤ length self.new }
     {
-        make_places(&mut self.places, self.count + arcs.len().max(TRIES), FREE)?;
+        make_places(
+            &mut self.places,
+            self.count + arcs.len().max(LEAST_TRIES),
+            FREE,
+        )?;
         self.count = try_arcs(
             words,
             distance,

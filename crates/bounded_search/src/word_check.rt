@@ -11,7 +11,7 @@ ghost use Rattle.bounded_search.specs.Table.{IsRow, RisesFrom};
 
 use crate::label_words::{no_label, word_by, word_of};
 use crate::table_row::{Entry, Row};
-use crate::waiting_list::TRIES;
+use crate::waiting_list::LEAST_TRIES;
 use road_network::{Arc, Network, NodeId};
 
 /// Whether a row is the row of an origin, with an array of words that is blank before and after. Allocates nothing.
@@ -97,7 +97,7 @@ fn are_given(net: &Network, bound: u32, words: &[u64], entries: &[Entry]) -> boo
 }
 
 /// How many labels the edges out of an entry's node give, where they are relaxed. Where there are fewer than
-/// [`TRIES`] edges, the last one is looked at again, which does not count.
+/// [`LEAST_TRIES`] edges, the last one is looked at again, which does not count.
 fn count_given(net: &Network, bound: u32, words: &[u64], x: &Entry) -> Option<usize>
     requires node { HasNode net.now x.now.node.0 }
     requires within { x.now.distance ≤ 10_000_000 }
@@ -113,7 +113,7 @@ fn count_given(net: &Network, bound: u32, words: &[u64], x: &Entry) -> Option<us
         return Some(0);
     };
     let mut count = 0;
-    for tried in 0..arcs.len().max(TRIES) {
+    for tried in 0..arcs.len().max(LEAST_TRIES) {
         let given = try_arc(bound, words, arcs[tried.min(last)], x.distance)?;
         count += usize::from(given && tried <= last);
     }
