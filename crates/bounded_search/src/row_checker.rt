@@ -14,6 +14,9 @@ use std::marker::Model;
 ///
 /// It keeps an array over many rows, and leaves it blank: a check costs what the row lists, whatever the size of
 /// the network.
+///
+/// Whoever searches as well takes [`Searcher::check`](crate::Searcher::check), which needs no second array. A checker
+/// has that array alone, without the marks and lists of a search.
 pub struct RowChecker<'n> {
     network: &'n Network,
     bound: u32,
