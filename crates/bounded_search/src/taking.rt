@@ -49,23 +49,23 @@ impl Workspace {
         Ok(())
     }
 
-    /// Takes the labels of a block of 8 regions: those of its marked regions.
-    fn take_block(&mut self, block: usize) -> Result<(), AllocError>
-        requires block { (block + 1) * 8 ≤ length self.old.marks.regions.items }
+    /// Takes the labels of a sector of 8 regions: those of its marked regions.
+    fn take_sector(&mut self, sector: usize) -> Result<(), AllocError>
+        requires sector { (sector + 1) * 8 ≤ length self.old.marks.regions.items }
         requires sized { IsSized (length self.old.words.items) self.old }
-        ensures takes { OnOk result (Takes (block * 4_096) ((block + 1) * 4_096) self.old self.new) }
+        ensures takes { OnOk result (Takes (sector * 4_096) ((sector + 1) * 4_096) self.old self.new) }
         ensures sized { KeepsSizes self.old self.new }
     {
-        if self.marks.no_region_in(block) {
+        if self.marks.no_region_in(sector) {
             return Ok(());
         }
-        for region in block * 8..(block + 1) * 8 {
+        for region in sector * 8..(sector + 1) * 8 {
             self.take_region(region)?;
         }
         Ok(())
     }
 
-    /// Removes the labels and returns them as entries, by ascending node number. The 64 blocks of an area are looked
+    /// Removes the labels and returns them as entries, by ascending node number. The 64 sectors of an area are looked
     /// at only if it is marked.
     pub(crate) fn take_entries(&mut self, alloc: Global) -> Result<Vec<Entry>, AllocError>
         requires sized { IsSized (length self.old.words.items) self.old }
@@ -75,13 +75,13 @@ impl Workspace {
         ensures clean { EndsClean result self.old self.new }
     {
         self.found.clear();
-        let mut block = 0;
-        while block < self.marks.regions.len() / 8 {
-            if block % 64 == 0 && self.marks.areas[block / 64] == 0 {
-                block += 64;
+        let mut sector = 0;
+        while sector < self.marks.regions.len() / 8 {
+            if sector % 64 == 0 && self.marks.areas[sector / 64] == 0 {
+                sector += 64;
             } else {
-                self.take_block(block)?;
-                block += 1;
+                self.take_sector(sector)?;
+                sector += 1;
             }
         }
         self.marks.areas.fill(0);

@@ -1,11 +1,11 @@
 use Rattle.std.proofs.Common.{◌≡◌, ◌≤◌, ◌+◌, ◌*◌, ℕ, List}
 use Rattle.bounded_search.specs.Marked.{IsTaken, KeepsSizes}
-use Rattle.bounded_search.proofs.dijkstra.Workspace.take_block.Given as goal
+use Rattle.bounded_search.proofs.dijkstra.Workspace.take_sector.Given as goal
 
 abbrev pub invariant-loop-region : goal.invariant-loop-region
 invariant-loop-region l = record {
-  inside : l.region ≤ (l.block + 1) * 8;
+  inside : l.region ≤ (l.sector + 1) * 8;
   sized : KeepsSizes l.fn.self l.self;
-  taken : (before : List ℕ) → IsTaken before (l.block * 4_096) l.fn.self → IsTaken before (l.region * 512) l.self;
+  taken : (before : List ℕ) → IsTaken before (l.sector * 4_096) l.fn.self → IsTaken before (l.region * 512) l.self;
   queue : l.self.queue ≡ l.fn.self.queue;
 }
