@@ -2,8 +2,7 @@ use Rattle.std.proofs.Common.{◌≡◌, ◌<◌, ◌+◌, ◌≤◌, ℕ, List,
 use Rattle.std.proofs.lemmas.Bool.{eq-eqb, eqb-true, false≢true}
 use Rattle.std.proofs.lemmas.List.{take_all}
 use Rattle.std.proofs.lemmas.List.Elements.{All-more}
-use Rattle.std.proofs.lemmas.List.Sums.{sum_by-take-le, sum_by_more, sum_by_more_le}
-use Rattle.std.specs.List.{count_by, sum_by}
+use Rattle.std.specs.List.{count_by}
 use mathlib.Core.Path.{fun_ext}
 use Rattle.road_network.specs.Net.{Net, leaving}
 use Rattle.bounded_search.specs.declared.table_row.Label.{Label}
@@ -14,7 +13,7 @@ use Rattle.bounded_search.specs.Closed.{LeavesRelaxed}
 use Rattle.bounded_search.specs.Given.{IsRelaxedAt, given_by, gives}
 use Rattle.bounded_search.specs.Table.{label_in}
 use Rattle.bounded_search.proofs.Entries.{no_entry}
-use Rattle.bounded_search.proofs.GivenLabels.{given_few}
+use Rattle.bounded_search.proofs.GivenLabels.{counted_few, counted_next}
 use Rattle.bounded_search.proofs.word_check.are_given.Goals as goal
 
 -- what the words tell of an entry
@@ -33,15 +32,13 @@ back_there n bound words entries x spread at = subst (λ (t : ℕ → Option Lab
 
 pub overflow_add-given : goal.overflow_add-given
 overflow_add-given c =
+    let n = c.args.net.now in
+    let bound = c.args.bound in
     let entries : List Entry = c.args.entries.now in
-    let f : Entry → ℕ = given_by c.args.net.now c.args.bound entries in
     let place : ℕ = c.loop-place.place in
-    let lt : place < length entries = omega arith in
-    let more : sum_by f (take place entries) + f (get_or entries place no_entry) ≤ sum_by f entries = sum_by_more_le f entries place no_entry lt in
-    let few : sum_by f entries ≤ length entries = given_few c.args.net.now c.args.bound entries c.requires.rising in
-    let count : c.in-Some.count ≡ f (get_or entries place no_entry) = given_there c.args.net.now c.args.bound c.args.words.now entries (get_or entries place no_entry) c.in-Some.count c.requires.words.1 c.in-Some.ensures.count in
-    let given : c.loop-place.given ≡ sum_by f (take place entries) = c.loop-place.invariant.counted in
-    let inside : c.loop-place.given + c.in-Some.count ≤ length entries = omega (arith, more, few, count, given) in
+    let count = given_there n bound c.args.words.now entries (get_or entries place no_entry) c.in-Some.count c.requires.words.1 c.in-Some.ensures.count in
+    let next = counted_next n bound place c.loop-place.given c.in-Some.count entries (omega arith) c.loop-place.invariant.counted count in
+    let inside : c.loop-place.given + c.in-Some.count ≤ length entries = counted_few n bound (place + 1) (c.loop-place.given + c.in-Some.count) entries c.requires.rising next in
     search rules
 
 pub loop-place-preserved : goal.loop-place-preserved
@@ -49,24 +46,18 @@ loop-place-preserved c =
     let n = c.args.net.now in
     let bound = c.args.bound in
     let entries : List Entry = c.args.entries.now in
-    let f : Entry → ℕ = given_by n bound entries in
     let place : ℕ = c.loop-place.place in
     let lt : place < length entries = omega arith in
+    let x : Entry = get_or entries place no_entry in
     record {
-      each = All-more (IsRelaxedAt n bound (label_in entries)) entries place no_entry lt c.loop-place.invariant.each (relaxed_there n bound c.args.words.now entries (get_or entries place no_entry) c.requires.words.1 (c.requires.fits place no_entry lt) (c.in-Some.ensures.some.0 refl));
-      counted =
-          let count : c.in-Some.count ≡ f (get_or entries place no_entry) = given_there c.args.net.now c.args.bound c.args.words.now entries (get_or entries place no_entry) c.in-Some.count c.requires.words.1 c.in-Some.ensures.count in
-          omega (arith, c.loop-place.invariant.counted, sum_by_more f entries place no_entry lt, count);
+      each = All-more (IsRelaxedAt n bound (label_in entries)) entries place no_entry lt c.loop-place.invariant.each (relaxed_there n bound c.args.words.now entries x c.requires.words.1 (c.requires.fits place no_entry lt) (c.in-Some.ensures.some.0 refl));
+      counted = counted_next n bound place c.loop-place.given c.in-Some.count entries lt c.loop-place.invariant.counted (given_there n bound c.args.words.now entries x c.in-Some.count c.requires.words.1 c.in-Some.ensures.count);
     }
 
 pub overflow_add-result : goal.overflow_add-result
 overflow_add-result c =
     let entries : List Entry = c.args.entries.now in
-    let f : Entry → ℕ = given_by c.args.net.now c.args.bound entries in
-    let part : sum_by f (take c.loop-place.place entries) ≤ sum_by f entries = sum_by-take-le f entries c.loop-place.place in
-    let few : sum_by f entries ≤ length entries = given_few c.args.net.now c.args.bound entries c.requires.rising in
-    let given : c.loop-place.given ≡ sum_by f (take c.loop-place.place entries) = c.loop-place.invariant.counted in
-    let inside : c.loop-place.given ≤ length entries = omega (arith, part, few, given) in
+    let inside : c.loop-place.given ≤ length entries = counted_few c.args.net.now c.args.bound c.loop-place.place c.loop-place.given entries c.requires.rising c.loop-place.invariant.counted in
     search rules
 
 pub loop-place-init : goal.loop-place-init
