@@ -29,7 +29,9 @@ pub fn transition(p: &Params, route: u32, straight: u32) -> u64
     u64::from(route.abs_diff(straight)) * 1000 / u64::from(p.beta)
 }
 
-/// A law, with nothing to run: one point adds at most 7,900,000,000,000 to the cost of a sequence.
+/// A law, with nothing to run: one point adds at most 7,900,000,000,000 to the cost of a sequence, if its
+/// candidate is within the radius, its route at most 210,000,000 and its straight distance at most
+/// 2,828,427,124.
 pub fn point_cost_is_bounded()
     ensures { PointCostIsBounded }
 {}

@@ -29,7 +29,7 @@ pub(crate) fn shifted(z: i32) -> u32
 }
 
 impl Cells {
-    /// The cells that the box of the segment from a to b meets.
+    /// At least the cells that the box of the segment from a to b meets.
     pub(crate) fn of_box(a: Point, b: Point, side: u32) -> Cells
         requires a_in { InRange a }
         requires b_in { InRange b }
@@ -48,7 +48,7 @@ impl Cells {
         }
     }
 
-    /// The cells that the square around p with half side `reach` meets.
+    /// At least the cells that the square around p with half side `reach` meets.
     pub(crate) fn of_square(p: Point, reach: u32, side: u32) -> Cells
         requires p_in { InRange p }
         requires side { 1 ≤ side }

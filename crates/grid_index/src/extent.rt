@@ -15,9 +15,9 @@ const MOST: i32 = 1_000_000_000;
 /// Two opposite corners of a box, with coordinates in cm.
 #[derive(Clone, Copy)]
 pub struct Extent {
-    /// The least x and the least y, in cm.
+    /// The corner of lesser x and y, in cm.
     pub low: Point,
-    /// The greatest x and the greatest y, in cm.
+    /// The corner of greater x and y, in cm.
     pub high: Point,
 }
 
@@ -57,7 +57,7 @@ impl Extent {
         extent
     }
 
-    /// The least extent that contains the lines of a network; empty if the network has no line.
+    /// An extent that contains the lines of a network.
     pub(crate) fn of(net: &Network) -> Extent
         ensures { IsExtentOf net.now (length net.now.edges) result }
     {

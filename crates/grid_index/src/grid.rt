@@ -119,7 +119,7 @@ impl<'n> Grid<'n> {
     }
 
     /// Runs near a point: at least one for each segment whose box has a point inside the square with half
-    /// side `reach` and within `far2`, and no run whose box is farther than that.
+    /// side `reach` and within `far2`.
     fn hits(&self, alloc: Global, p: Point, reach: u32, far2: u64) -> Result<Vec<Run>, AllocError>
         requires p_in { InRange p }
         requires reach { reach ≤ self.now.side }
@@ -142,7 +142,7 @@ impl<'n> Grid<'n> {
         self.extent.is_apart(p, reach)
     }
 
-    /// The columns and rows of the cells that the square around a point with half side `reach` meets.
+    /// The columns and rows of at least the cells that the square around a point with half side `reach` meets.
     pub fn cells_near(&self, p: Point, reach: u32) -> Cells
         requires p_in { InRange p }
         requires reach { reach ≤ self.now.side }
@@ -168,7 +168,7 @@ impl<'n> Grid<'n> {
         shifted(p.y) / self.table.layout.side
     }
 
-    /// The runs at the cell in a column and a row: all runs whose box meets the cell, and maybe others.
+    /// The runs at the cell in a column and a row. Each segment whose box meets the cell has a run there, or a wide one.
     pub fn runs_at(&self, column: u32, row: u32) -> &[Run]
         ensures { result.now ≡ runs_at self.now column row }
     {

@@ -15,7 +15,7 @@
 //! The cells are in a table of `width` by `width` slots, which repeats over the plane: cell (column,
 //! row) has the slot given by the remainders of both. Two distant cells may share a slot, so a visit
 //! may see further runs. Read first the clause `complete` of [`Grid::near`] (no edge within reach is
-//! missed) and the clause of [`Grid::known`].
+//! missed) and the clause of [`Grid::invariants`].
 #![tactic(auto)]
 
 mod cells;

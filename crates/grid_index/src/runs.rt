@@ -141,7 +141,7 @@ impl Run {
         self.high.x.abs_diff(self.low.x) <= WIDEST && self.high.y.abs_diff(self.low.y) <= WIDEST
     }
 
-    /// The longest small run that begins with a segment, or that segment alone.
+    /// A run that begins with a segment: as many segments as stay small together, or that one alone.
     pub(crate) fn from(edge: EdgeId, twin: Option<EdgeId>, line: &[Point], first: usize) -> Run
         requires line { IsLine line.now }
         requires few { length line.now ≤ 1_000_000 }

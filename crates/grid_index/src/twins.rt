@@ -26,7 +26,7 @@ fn is_turned(line: &[Point], turned: &[Point]) -> bool
     true
 }
 
-/// The twin of an edge with the least number above its own, among the first arcs out of its end node.
+/// A twin of an edge with a number above its own, found among the first arcs out of its end node.
 fn twin_of(net: &Network, edge: EdgeId) -> Option<EdgeId>
     requires { HasEdge net.now edge.0 }
     ensures { IsTwin net.now edge.0 result × IsNumberedAbove edge.0 result }
