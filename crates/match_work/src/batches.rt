@@ -14,7 +14,7 @@ use std::thread::Threads;
 use trace_match::Matcher;
 use trace_reader::Trace;
 
-/// An empty store for the rows of the network within the bound of the options.
+/// A store for the rows of the network within the bound of the options.
 pub fn open_store<'n>(alloc: Global, matcher: &Matcher<'n>) -> Result<RowStore<'n>, AllocError>
     ensures { IfOk result (IsStoreFor matcher.now) }
 {

@@ -1,5 +1,5 @@
 -- The rows of a text, read one after the other.
-use Rattle.std.proofs.Common.{◌≡◌, ℕ, zero, suc, ◌+◌, ◌<◌, ◌≤◌, ◌⊎◌, inl, inr, Bool, true, false, cond, List, [], ◌∷◌, ◌++◌, length, Option, Some, None, Result, Ok, Err, refl, sym, ap, subst, ◌∙◌, append_assoc, arith, length-append}
+use Rattle.std.proofs.Common.{◌≡◌, ℕ, zero, suc, ◌+◌, ◌<◌, ◌≤◌, true, List, [], ◌∷◌, ◌++◌, length, Option, Some, None, Result, Ok, Err, refl, sym, ap, subst, ◌∙◌, append_assoc, arith, length-append}
 use Rattle.std.proofs.lemmas.List.{append-nil}
 use Rattle.std.proofs.lemmas.Option.{some_pair_parts}
 use Rattle.bounded_search.specs.Table.{TableRow}
@@ -12,7 +12,7 @@ use Rattle.row_text.proofs.RowLines.{rows_have_one_line}
 use Rattle.table_file.specs.Reading.{fault_at, if_allowed, is_row_allowed, row_allowed_at, rows_at, rows_behind, rows_of, rows_to_end, with_first}
 use Rattle.table_file.specs.TableText.{end_line, text_limit}
 use Rattle.table_file.specs.declared.fault.TableFault.{TableFault}
-use Rattle.table_file.specs.declared.fault.TableFault.TheVariants.{BadLine, Cut}
+use Rattle.table_file.specs.declared.fault.TableFault.TheVariants.{BadLine}
 use Rattle.table_file.specs.declared.reading.Counts.{Counts}
 
 -- what an allowed row at the front is

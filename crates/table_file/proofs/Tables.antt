@@ -1,11 +1,10 @@
 -- A table and its text.
-use Rattle.std.proofs.Common.{◌≡◌, ℕ, zero, suc, ◌+◌, ◌<◌, ◌≤◌, Bool, true, false, cond, ltb, ◌&&◌, List, [], ◌∷◌, ◌++◌, length, Option, Some, None, Result, Ok, Err, refl, sym, ap, subst, ◌∙◌, append_assoc, arith, rules, length-append}
+use Rattle.std.proofs.Common.{◌≡◌, ℕ, zero, suc, ◌+◌, ◌<◌, ◌≤◌, Bool, true, false, cond, ◌&&◌, List, [], ◌∷◌, ◌++◌, length, Option, Some, None, Result, Ok, Err, refl, sym, ap, subst, ◌∙◌, append_assoc, arith, rules, length-append}
 use Rattle.std.specs.Prelude.{nat_le, nat_lt}
 use Rattle.std.specs.List.{AllByRecursion, list_all}
 use Rattle.std.specs.Option.{IfSome}
 use Rattle.std.proofs.lemmas.List.{append-nil}
 use Rattle.std.proofs.lemmas.Bool.{lt-ltb}
-use Rattle.std.proofs.lemmas.Grind.{common_steps}
 use Rattle.bounded_search.specs.Table.{TableRow}
 use Rattle.bounded_search.specs.declared.table_row.Entry.{Entry}
 use Rattle.match_text.specs.Reading.{after_bytes}
@@ -14,7 +13,7 @@ use Rattle.road_network.specs.declared.EdgeId.{EdgeId}
 use Rattle.row_text.specs.RowLine.{row_line}
 use Rattle.row_text.proofs.RowLines.{rows_read_back}
 use Rattle.table_file.specs.Laws.{AreRowsFrom, IsEntryBelow, IsTableRow, IsTableText, TablesHaveOneText, TablesReadBack}
-use Rattle.table_file.specs.Reading.{behind_first, fault_at, if_allowed, is_edge_below, is_entry_below, is_row_allowed, row_allowed_at, rows_at, rows_behind, rows_to_end, table_of, with_first}
+use Rattle.table_file.specs.Reading.{behind_first, if_allowed, is_edge_below, is_entry_below, is_row_allowed, row_allowed_at, rows_at, rows_behind, rows_to_end, with_first}
 use Rattle.table_file.specs.TableText.{end_line, first_line, row_lines, table_text, text_limit}
 use Rattle.table_file.specs.declared.fault.TableFault.{TableFault}
 use Rattle.table_file.specs.declared.fault.TableFault.TheVariants.{TooLong}

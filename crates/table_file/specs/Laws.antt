@@ -1,5 +1,5 @@
 -- A table and its text: each gives the other.
-use Rattle.std.specs.Prelude.{ℕ, ◌≡◌, ◌+◌, ◌<◌, ◌≤◌, ◌^◌, List, [], ◌∷◌, ◌++◌, length, fold, Ok, IfSome}
+use Rattle.std.specs.Prelude.{ℕ, ◌≡◌, ◌+◌, ◌<◌, ◌≤◌, List, [], ◌∷◌, ◌++◌, length, fold, Ok, IfSome}
 use Rattle.std.specs.List.{AllByRecursion}
 use Rattle.bounded_search.specs.Table.{TableRow}
 use Rattle.bounded_search.specs.declared.table_row.Entry.{Entry}

@@ -1,5 +1,5 @@
 -- What a writer is made of.
-use Rattle.std.specs.Prelude.{ℕ, ◌≤◌, length}
+use Rattle.std.specs.Prelude.{◌≤◌, length}
 use Rattle.table_file.specs.Draft.{Draft}
 use Rattle.table_file.specs.TableText.{text_limit}
 use Rattle.table_file.specs.declared.writing.TableWriter.TheInside.{Inside}

@@ -55,6 +55,6 @@ MayFollow put (parts.Fault fault) = ⊤
 MayFollow put parts.ReadFailed = ⊤
 MayFollow put parts.NoMemory = ⊤
 
--- at one moment of the call the last n of the parts that were put had not been taken
+-- at least n parts were put: the last n of them may have been waiting at one moment of the call
 abbrev pub WereWaiting : ℕ → List Part → Type 0
 WereWaiting n put = (waiting : List Part) × (length waiting ≡ n) × (taken : List Part) × (put ≡ taken ++ waiting)

@@ -4,7 +4,7 @@
 //! [`Relay::open`] returns the relay and its two passes: the owner of the [`PutPass`] may put, and the
 //! owner of the [`TakePass`] may take. Contracts see a pass as the list of the parts that were put or
 //! taken with it. [`Relay::close`] consumes both, and states that what was taken is a prefix of what was
-//! put; if a last part was taken, it is everything.
+//! put.
 //!
 //! The rule of the queue states this at each of its steps (`Relayed` in `specs/Order.antt`), and that the
 //! traces that were put are lawful and no more than a file has, so whoever takes them knows it.

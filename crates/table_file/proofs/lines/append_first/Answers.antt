@@ -3,8 +3,8 @@ use Rattle.std.proofs.lemmas.Result.{on_ok_weaker}
 use Rattle.table_file.proofs.FirstLines.{first_written, worded}
 use Rattle.table_file.proofs.lines.append_first.Goals as goal
 
-pub returns : goal.returns
-returns c =
+pub returns-clause-ok : goal.returns-clause-ok
+returns-clause-ok c =
     let old = c.args.into.now in
     let a = c.write_worded.new.into in
     let b = c.write_worded-2.new.into in

@@ -1,4 +1,4 @@
-use Rattle.std.proofs.Common.{◌≡◌, ◌+◌, arith, ap, eq-eqb, inr, length, sym, ◌∙◌}
+use Rattle.std.proofs.Common.{◌≡◌, ◌+◌, ap, eq-eqb, inr, length, sym, ◌∙◌}
 use Rattle.std.proofs.lemmas.Bool.{eqb-true}
 use Rattle.table_file.proofs.RowsOfText.{begins, read_fails, read_more, read_past_end, read_whole, row_goes_down}
 use Rattle.table_file.proofs.reading.read_rows.Goals as goal
