@@ -3,7 +3,8 @@
 ghost use Rattle.std.specs.Prelude.{◌≡◌, ◌<◌, ◌^◌, All, IfOk, length, map};
 ghost use Rattle.polyline_geometry.specs.Plane.{InRange};
 ghost use Rattle.road_network.specs.Near.{candidates};
-ghost use Rattle.trace_match.specs.Match.{layer_of, place_of};
+ghost use Rattle.trace_reader.specs.Trace.{point_of};
+ghost use Rattle.trace_match.specs.Match.{layer_of};
 
 use crate::ground::Ground;
 use cost_model::Params;
@@ -13,20 +14,13 @@ use road_network::{Candidate, Network};
 use std::alloc::{AllocError, Global};
 use trace_reader::Fix;
 
-/// The point of a position.
-fn place_of(fix: &Fix) -> Point
-    ensures { result ≡ place_of fix.now }
-{
-    Point { x: fix.x, y: fix.y }
-}
-
 /// The points of these positions.
 fn places(alloc: Global, fixes: &[Fix]) -> Result<List<Point>, AllocError>
-    ensures { IfOk result (λ points. points ≡ map place_of fixes.now) }
+    ensures { IfOk result (λ points. points ≡ map point_of fixes.now) }
 {
     let mut points = List::from_vec(Vec::with_capacity(alloc, fixes.len())?);
     for fix in fixes {
-        points.push(place_of(fix))?;
+        points.push(fix.point())?;
     }
     Ok(points)
 }
@@ -39,14 +33,14 @@ fn with_candidates(
     fixes: &[Fix],
     lists: List<List<Candidate>>,
 ) -> Result<List<Layer>, AllocError>
-    requires { lists ≡ map (λ fix. candidates net.now p.now.k p.now.radius (place_of fix)) fixes.now }
+    requires { lists ≡ map (λ fix. candidates net.now p.now.k p.now.radius (point_of fix)) fixes.now }
     ensures { IfOk result (λ layers. layers ≡ map (layer_of net.now p.now) fixes.now) }
 {
     let mut layers = List::from_vec(Vec::with_capacity(alloc, fixes.len())?);
     for candidates in lists.into_vec() {
         let fix = &fixes[layers.len()];
         layers.push(Layer {
-            point: place_of(fix),
+            point: fix.point(),
             candidates,
             time: fix.time,
         })?;
@@ -60,7 +54,7 @@ pub fn plain_layers(
     ground: &Ground,
     fixes: &[Fix],
 ) -> Result<List<Layer>, AllocError>
-    requires places { All (λ fix. InRange (place_of fix)) fixes.now }
+    requires places { All (λ fix. InRange (point_of fix)) fixes.now }
     requires few { length fixes.now < 2 ^ 32 }
     ensures { IfOk result (λ layers.
         layers ≡ map (layer_of ground.now.net.now ground.now.params.now) fixes.now) }

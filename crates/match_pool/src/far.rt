@@ -2,24 +2,23 @@
 //! decided by `unmatched`.
 ghost use Rattle.std.specs.Prelude.{◌≡◌, All, IfOk, IsTrue};
 ghost use Rattle.polyline_geometry.specs.Plane.{InRange};
-ghost use Rattle.trace_match.specs.Match.{place_of};
-ghost use Rattle.trace_reader.specs.Trace.{IsLawfulTrace};
+ghost use Rattle.trace_reader.specs.Trace.{IsLawfulTrace, point_of};
 ghost use Rattle.match_pool.specs.Unmatched.{LiesFar, unmatched};
 
 use crate::batch::Batch;
 use candidate_search::candidates;
 use match_text::{Label, MatchedTrace};
-use polyline_geometry::{List, Point};
+use polyline_geometry::List;
 use std::alloc::{AllocError, Global};
 use trace_reader::{Fix, Trace};
 
 /// Whether a position is so far from the whole network that it has no candidate.
 fn fix_lies_far(batch: &Batch, fix: &Fix) -> Result<bool, AllocError>
-    requires { InRange (place_of fix.now) }
+    requires { InRange (point_of fix.now) }
     ensures { IfOk result (λ far. IsTrue far
         → LiesFar batch.now.net.now batch.now.params.now fix.now) }
 {
-    let at = Point { x: fix.x, y: fix.y };
+    let at = fix.point();
     if !batch.grid.is_far(at, batch.params.radius) {
         return Ok(false);
     }

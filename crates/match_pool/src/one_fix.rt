@@ -2,8 +2,8 @@
 ghost use Rattle.std.specs.Prelude.{◌≡◌, ◌*◌, ◌≤◌, [], ◌∷◌, IfOk, length};
 ghost use Rattle.polyline_geometry.specs.Plane.{InRange};
 ghost use Rattle.road_network.specs.Net.{HasEdge};
-ghost use Rattle.trace_match.specs.Match.{match_of, place_of};
-ghost use Rattle.trace_reader.specs.Trace.{IsLawfulTrace};
+ghost use Rattle.trace_match.specs.Match.{match_of};
+ghost use Rattle.trace_reader.specs.Trace.{IsLawfulTrace, point_of};
 ghost use Rattle.match_pool.specs.OneFix.{nearest_edge, on_edge};
 
 use crate::batch::Batch;
@@ -11,7 +11,7 @@ use crate::far::unmatched;
 use candidate_search::candidates;
 use cost_model::{Params, emission};
 use match_text::{MatchedTrace, Routed};
-use polyline_geometry::{List, Point};
+use polyline_geometry::List;
 use road_network::Candidate;
 use std::alloc::{AllocError, Global};
 use trace_match::label_on;
@@ -19,11 +19,11 @@ use trace_reader::{Fix, Trace};
 
 /// The edge nearest to a position, if one is within the radius.
 fn nearest_edge(batch: &Batch, fix: &Fix) -> Result<Option<Candidate>, AllocError>
-    requires { InRange (place_of fix.now) }
+    requires { InRange (point_of fix.now) }
     ensures { IfOk result (λ found.
         found ≡ nearest_edge batch.now.net.now batch.now.params.now fix.now) }
 {
-    let at = Point { x: fix.x, y: fix.y };
+    let at = fix.point();
     let one = Params {
         k: 1,
         ..*batch.params

@@ -1,13 +1,13 @@
 -- The match of a trace: its fixes with their candidates, the longest pieces, the best sequence of
 -- each piece, and its route.
 use Rattle.std.specs.Prelude.{ℕ, Bool, List, [], ◌∷◌, map, Option, Some, None}
-use Rattle.polyline_geometry.specs.declared.plane.Point.{Point}
 use Rattle.cost_model.specs.declared.params.Params.{Params}
 use Rattle.road_network.specs.declared.Candidate.{Candidate}
 use Rattle.road_network.specs.Net.{Net, edge_name}
 use Rattle.road_network.specs.Near.{candidates}
 use Rattle.trace_reader.specs.declared.trace.Fix.{Fix}
 use Rattle.trace_reader.specs.declared.trace.Trace.{Trace}
+use Rattle.trace_reader.specs.Trace.{point_of}
 use Rattle.matching.specs.declared.parts.Layer.{Layer}
 use Rattle.matching.specs.declared.parts.Piece.{Piece}
 use Rattle.matching.specs.Layers.{candidate_of_rank, end_of, trellis}
@@ -20,15 +20,11 @@ use Rattle.match_text.specs.declared.matched.Label.TheVariants.{Missing, On}
 use Rattle.match_text.specs.declared.matched.Routed.{Routed}
 use Rattle.match_text.specs.declared.matched.MatchedTrace.{MatchedTrace}
 
--- where a fix was measured
-abbrev pub place_of : Fix → Point
-place_of fix = record { x = fix.x; y = fix.y }
-
 -- a fix with its candidates
 abbrev pub layer_of : Net → Params → Fix → Layer
 layer_of n p fix = record {
-  point = place_of fix;
-  candidates = candidates n p.k p.radius (place_of fix);
+  point = point_of fix;
+  candidates = candidates n p.k p.radius (point_of fix);
   time = fix.time;
 }
 

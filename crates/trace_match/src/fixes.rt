@@ -2,13 +2,14 @@
 ghost use Rattle.std.specs.Prelude.{◌≡◌, All, IfOk, map};
 ghost use Rattle.polyline_geometry.specs.Plane.{InRange};
 ghost use Rattle.trace_match.specs.Ground.{IsGridFor};
-ghost use Rattle.trace_match.specs.Match.{layer_of, place_of};
+ghost use Rattle.trace_reader.specs.Trace.{point_of};
+ghost use Rattle.trace_match.specs.Match.{layer_of};
 
 use candidate_search::candidates;
 use cost_model::Params;
 use grid_index::Grid;
 use matching::Layer;
-use polyline_geometry::{List, Point};
+use polyline_geometry::List;
 use road_network::Network;
 use std::alloc::{AllocError, Global};
 use trace_reader::Fix;
@@ -22,10 +23,10 @@ pub fn layer(
     fix: &Fix,
 ) -> Result<Layer, AllocError>
     requires ground { IsGridFor net.now p.now grid.now }
-    requires place { InRange (place_of fix.now) }
+    requires place { InRange (point_of fix.now) }
     ensures { IfOk result (λ layer. layer ≡ layer_of net.now p.now fix.now) }
 {
-    let point = Point { x: fix.x, y: fix.y };
+    let point = fix.point();
     Ok(Layer {
         point,
         candidates: candidates(alloc, net, grid, p, point)?,
@@ -42,7 +43,7 @@ pub fn layers(
     fixes: &[Fix],
 ) -> Result<List<Layer>, AllocError>
     requires ground { IsGridFor net.now p.now grid.now }
-    requires places { All (λ fix. InRange (place_of fix)) fixes.now }
+    requires places { All (λ fix. InRange (point_of fix)) fixes.now }
     ensures { IfOk result (λ layers. layers ≡ map (layer_of net.now p.now) fixes.now) }
 {
     let mut found = Vec::with_capacity(alloc, fixes.len())?;

@@ -1,5 +1,8 @@
 //! The content of a trace file.
-use polyline_geometry::List;
+ghost use Rattle.std.specs.Prelude.{◌≡◌};
+ghost use Rattle.trace_reader.specs.Trace.{point_of};
+
+use polyline_geometry::{List, Point};
 
 /// A measured position in centimetres, and its time in seconds (0 under a header without times).
 #[derive(Clone, Copy, Debug, PartialEq, Eq)]
@@ -7,6 +10,18 @@ pub struct Fix {
     pub x: i32,
     pub y: i32,
     pub time: u32,
+}
+
+impl Fix {
+    /// Where the position was measured.
+    pub fn point(self) -> Point
+        ensures { result ≡ point_of self }
+    {
+        Point {
+            x: self.x,
+            y: self.y,
+        }
+    }
 }
 
 /// The positions of consecutive rows with one id.
