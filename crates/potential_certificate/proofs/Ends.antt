@@ -1,10 +1,9 @@
 -- The end of a certificate that is read.
-use Rattle.std.proofs.Common.{◌≡◌, ◌⊎◌, inl, inr, ℕ, ◌<◌, List, [], ◌∷◌, length, Option, Some, None, Result, Ok, Err, sym, ap, ◌∙◌, arith}
+use Rattle.std.proofs.Common.{◌≡◌, ℕ, ◌<◌, List, [], ◌∷◌, length, Option, Some, None, Result, Ok, Err, sym, ap, ◌∙◌, arith}
 use Rattle.match_text.specs.Reading.{after_bytes}
-use Rattle.potential_certificate.specs.CertificateText.{last_line}
-use Rattle.potential_certificate.specs.Reading.{certificate_ended, ended, fault_at, line_number}
+use Rattle.potential_certificate.specs.Reading.{ended, fault_at, line_number}
 use Rattle.potential_certificate.specs.declared.fault.CertFault.{CertFault}
-use Rattle.potential_certificate.specs.declared.fault.CertFault.TheVariants.{BadLine, Memory}
+use Rattle.potential_certificate.specs.declared.fault.CertFault.TheVariants.{BadLine}
 use Rattle.potential_certificate.specs.declared.proof.Certificate.{Certificate}
 
 -- `last` is the last line that was looked for
@@ -22,12 +21,3 @@ module _ (whole left line last : List ℕ) (is : last ≡ line) (c : Certificate
   pub goes_past : (behind : List ℕ) (n : ℕ) → Some behind ≡ after_bytes last left → 0 < length behind → n ≡ line_number whole behind → ended whole c left (after_bytes line left) ≡ Err (BadLine n)
   goes_past [] n found some n_is = absurd (omega (arith, some))
   goes_past (b ∷ bs) n found some n_is = by_end (Some (b ∷ bs)) found ∙ sym (λ i. let y : Result Certificate CertFault = Err (BadLine (n_is i)) in y)
-
--- the last line has the counts of the certificate
-pub counted : (whole : List ℕ) (c : Certificate) (left : List ℕ) (proofs rows : ℕ) → proofs ≡ length c.proofs → rows ≡ length c.rows → certificate_ended whole c left ≡ ended whole c left (after_bytes (last_line proofs rows) left)
-counted whole c left proofs rows first second = sym (λ i. ended whole c left (after_bytes (last_line (first i) (second i)) left))
-
--- a fault of the end is that of the text
-pub fault_of_end : (fault : CertFault) (text : Result Certificate CertFault) (end : Certificate → Result Certificate CertFault) (c : Certificate) → text ≡ end c → (fault ≡ Memory) ⊎ ((c : Certificate) → end c ≡ Err fault) → (fault ≡ Memory) ⊎ (text ≡ Err fault)
-fault_of_end fault text end c is (inl memory) = inl memory
-fault_of_end fault text end c is (inr e) = inr (is ∙ e c)

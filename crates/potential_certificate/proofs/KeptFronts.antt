@@ -1,5 +1,5 @@
 -- What was there stays at the front.
-use Rattle.std.proofs.Common.{◌≡◌, ℕ, ◌+◌, ◌≤◌, List, ◌++◌, length, take, min, Result, Ok, Err, ap, subst, sym, ◌∙◌, arith, length-take}
+use Rattle.std.proofs.Common.{◌≡◌, ℕ, ◌≤◌, List, ◌++◌, length, take, Result, Ok, Err, ap, subst, sym, ◌∙◌, arith, length-take}
 use Rattle.std.specs.Prelude.{OnErr}
 use Rattle.std.proofs.lemmas.List.{take-take}
 use Rattle.match_text.proofs.Kept.{kept, kept_longer}

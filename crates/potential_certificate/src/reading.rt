@@ -1,13 +1,11 @@
 //! The text of a certificate, read line by line. Serves all who take one; decided by `certificate_of`.
 ghost use Rattle.std.specs.Prelude.{◌≡◌, ◌⊎◌, ◌<◌, ◌+◌, ◌^◌, ◌==◌, ℕ, length, IfErr, IfOk, IsErrOf, OnOk, Ok, Err};
 ghost use Rattle.std.specs.List.{count_by, list_any};
-ghost use Rattle.match_text.specs.Reading.{after_bytes};
 ghost use Rattle.row_text.specs.LineFaults.{IsCutOf, IsFirstBadLineOf};
-ghost use Rattle.potential_certificate.specs.CertificateText.{last_line, text_limit};
+ghost use Rattle.potential_certificate.specs.CertificateText.{text_limit};
 ghost use Rattle.potential_certificate.specs.Faults.{IsCertificate, OptionsFit};
-ghost use Rattle.potential_certificate.specs.Reading.{all_rows_at, certificate_of, ended, fault_at, line_count, line_number, proof_at, proofs_at, rows_and_end};
+ghost use Rattle.potential_certificate.specs.Reading.{all_rows_at, certificate_ended, certificate_of, fault_at, line_count, line_number, proof_at, proofs_at, rows_and_end};
 ghost use Rattle.potential_certificate.specs.declared.fault.CertFault.TheVariants.{Memory};
-ghost use Rattle.potential_certificate.specs.declared.proof.Certificate.{Certificate};
 
 use crate::TEXT_LIMIT;
 use crate::fault::CertFault;
@@ -54,8 +52,9 @@ fn read_text(alloc: Global, p: &Params, text: &[u8]) -> Result<Certificate, Cert
 {
     let (proofs, rest) = read_front(alloc, p, text)?;
     let (rows, rest) = read_rows(alloc, rest)?;
-    check_end(alloc, text, proofs.len() as u64, rows.len() as u64, rest)?;
-    Ok(Certificate { proofs, rows })
+    let certificate = Certificate { proofs, rows };
+    check_end(alloc, text, &certificate, rest)?;
+    Ok(certificate)
 }
 
 // The proofs after the first line, and the text after them.
@@ -80,19 +79,19 @@ fn read_front<'a>(
     read_proofs(alloc, text, rest)
 }
 
-// Whether the rest is the last line of a certificate with so many proofs and rows.
+// Whether the rest is the last line of this certificate.
 fn check_end(
     alloc: Global,
     whole: &[u8],
-    proofs: u64,
-    rows: u64,
+    certificate: &Certificate,
     left: &[u8],
 ) -> Result<(), CertFault>
-    ensures ok { OnOk result ((c : Certificate) → ended whole.now c left.now
-        (after_bytes (last_line proofs rows) left.now) ≡ Ok c) }
-    ensures err { IfErr result (λ fault. (fault ≡ Memory) ⊎ ((c : Certificate) → ended whole.now c left.now
-        (after_bytes (last_line proofs rows) left.now) ≡ Err fault)) }
+    ensures ok { OnOk result (certificate_ended whole.now certificate.now left.now ≡ Ok certificate.now) }
+    ensures err { IfErr result (λ fault. (fault ≡ Memory)
+        ⊎ (certificate_ended whole.now certificate.now left.now ≡ Err fault)) }
 {
+    let proofs = certificate.proofs.len() as u64;
+    let rows = certificate.rows.len() as u64;
     let mut last = List::new(alloc);
     append_last(proofs, rows, &mut last)?;
     let Some(behind) = after(left, last.as_slice()) else {
