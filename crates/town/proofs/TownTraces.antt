@@ -1,5 +1,5 @@
 -- The traces of a town, and that its trace file says them.
-use Rattle.std.proofs.Common.{◌≡◌, ◌≢◌, ◌⊎◌, ℕ, zero, suc, ◌+◌, ◌-◌, ◌*◌, ◌%◌, ◌<◌, ◌≤◌, ◌^◌, ◌==◌, Bool, true, false, cond, List, [], ◌∷◌, ◌++◌, All, length, ℤ, pos, ◌-ℤ◌, nat_abs, Ok, Some, None, Option, option_to_list, IfSome, codes, refl, sym, ap, ap₂, ◌∙◌, subst, inl, inr, arith, append_assoc, length-append}
+use Rattle.std.proofs.Common.{◌≡◌, ℕ, zero, suc, ◌+◌, ◌*◌, ◌<◌, ◌≤◌, ◌^◌, ◌==◌, true, false, cond, List, [], ◌∷◌, ◌++◌, All, length, pos, ◌-ℤ◌, nat_abs, Ok, Some, None, Option, option_to_list, IfSome, codes, refl, sym, ap, ap₂, ◌∙◌, subst, inl, inr, arith, append_assoc, length-append}
 use Rattle.std.specs.List.{flat_map}
 use Rattle.std.proofs.lemmas.Bool.{cases_Bool, eqb-true, leb-false, leb-true, lt-leb, ne_eqb}
 use Rattle.std.proofs.lemmas.Int.{ints}
@@ -7,9 +7,9 @@ use Rattle.std.proofs.lemmas.List.{append-nil}
 use Rattle.std.proofs.lemmas.List.Elements.{All-append, All-cons, All-from_recursion, All-head, All-nil, All-tail, All-weaker}
 use Rattle.std.proofs.lemmas.List.Sums.{fold-append}
 use Rattle.polyline_geometry.specs.Plane.{InRange}
-use Rattle.trace_reader.specs.Content.{Content, begin_trace, extend_trace, no_content, point_limit, read_line}
-use Rattle.trace_reader.specs.Reading.{Outcome, Reading, end_line, end_read, end_reading, file_fault, file_traces, nothing_read, read_byte, read_bytes, reading_of, reads}
-use Rattle.trace_reader.specs.Trace.{IsLawfulTrace}
+use Rattle.trace_reader.specs.Content.{Content, extend_trace, no_content}
+use Rattle.trace_reader.specs.Reading.{Outcome, end_line, end_read, end_reading, file_fault, file_traces, nothing_read, read_byte, read_bytes, reading_of, reads}
+use Rattle.trace_reader.specs.Trace.{point_of}
 use Rattle.trace_reader.specs.declared.row.Header.TheVariants.{Untimed}
 use Rattle.trace_reader.specs.declared.trace.Fix.{Fix}
 use Rattle.trace_reader.specs.declared.trace.Trace.{Trace}
@@ -21,7 +21,7 @@ use Rattle.town.specs.declared.corner.Spot.{Spot}
 use Rattle.town.specs.Corners.{IsInTown, along, heading_of, is_border, next_corner, opposite, turned}
 use Rattle.town.specs.declared.corner.Heading.TheVariants.{East, North, West, South}
 use Rattle.town.specs.Draws.{draw, state_after}
-use Rattle.town.specs.Laws.{AreTownTraces, IsTownTrace, SaysTraces, TracesAreLawful}
+use Rattle.town.specs.Laws.{IsTownTrace, SaysTraces, TracesAreLawful}
 use Rattle.town.specs.Traces.{fix_line, fix_near, start_corner, street_fixes, town_trace, town_trace_list, trace_lines, traces_from, traces_text, walk_fixes, way_from}
 use Rattle.town.proofs.TraceLines.{IsPlainFix, between_lines, content-read, line-brings, line_part, part-length, row_with}
 
@@ -253,7 +253,7 @@ lawful trace plain =
       lawful = record {
         some = omega (arith, count);
         few = omega (arith, count);
-        in_range = All-weaker IsPlainFix (λ fix. InRange (record { x = fix.x; y = fix.y })) (λ fix h. record { x_abs = h.x_small; y_abs = h.y_small }) trace.fixes plain.each;
+        in_range = All-weaker IsPlainFix (λ fix. InRange (point_of fix)) (λ fix h. record { x_abs = h.x_small; y_abs = h.y_small }) trace.fixes plain.each;
       };
       fixes = count;
     }
