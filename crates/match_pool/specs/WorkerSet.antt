@@ -6,7 +6,7 @@ use Rattle.match_pool.specs.declared.worker_set.WorkerSet.{WorkerSet}
 use Rattle.match_pool.specs.declared.worker_set.Worker.{Worker}
 use Rattle.match_pool.specs.declared.turn.Partition.{Partition}
 use Rattle.match_pool.specs.declared.turn.Turn.{Turn}
-use Rattle.match_pool.specs.Turns.{IsOver, IsPartitionOf, IsTaken}
+use Rattle.match_pool.specs.Turns.{IsPartitionOf, IsTaken}
 use Rattle.match_pool.specs.Working.{IsReaderFor, Job, ReadsWithin}
 
 abbrev pub reader_of : Worker → Reading

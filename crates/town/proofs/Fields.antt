@@ -1,5 +1,5 @@
 -- What `csv` and the network reader make of the fields of an edge.
-use Rattle.std.proofs.Common.{◌≡◌, ◌⊎◌, ◌≢◌, ℕ, zero, suc, ◌+◌, ◌*◌, ◌<◌, ◌≤◌, ◌^◌, ◌==◌, false, true, List, [], ◌∷◌, ◌++◌, All, length, pos, Ok, Result, Some, None, map, codes, refl, sym, ap, ◌∙◌, inl, inr, ⊎_elim, arith, append_assoc, length-append}
+use Rattle.std.proofs.Common.{◌≡◌, ◌⊎◌, ℕ, zero, suc, ◌*◌, ◌<◌, ◌≤◌, ◌^◌, ◌==◌, false, List, [], ◌∷◌, ◌++◌, All, length, pos, Ok, map, codes, refl, ap, ◌∙◌, inl, inr, ⊎_elim, arith, append_assoc}
 use Rattle.std.specs.List.{list_any, slice_split, before_first, after_first}
 use Rattle.std.proofs.lemmas.Bool.{ne_eqb}
 use Rattle.std.proofs.lemmas.List.{append-nil}
@@ -13,11 +13,10 @@ use Rattle.csv.specs.declared.parser.State.TheVariants as st
 use Rattle.csv.proofs.RoundTrip.{read-write}
 use Rattle.decimal_text.specs.Blank.{is_blank, trim}
 use Rattle.decimal_text.specs.Number.{decimal, signed_within}
-use Rattle.decimal_text.proofs.Laws.{length-decimal, signed_within-signed_decimal, unsigned_within-decimal}
-use Rattle.polyline_geometry.specs.declared.plane.Point.{Point}
+use Rattle.decimal_text.proofs.Laws.{length-decimal, signed_within-signed_decimal}
 use Rattle.road_network.specs.NetworkFile.{both, line_of, make_point, point_of, points_of}
 use Rattle.town.specs.declared.corner.Corner.{Corner}
-use Rattle.town.specs.Network.{Street, edge_line, line_text, place_of, place_text, street_lines}
+use Rattle.town.specs.Network.{edge_line, line_text, place_of, place_text}
 use Rattle.town.specs.Corners.{node_id}
 use Rattle.town.proofs.Numerals.{IsNumeralByte, after-blank, before-blank, in-decimal, trim-number, trim-two}
 

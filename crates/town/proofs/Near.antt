@@ -1,5 +1,5 @@
 -- Corners that are neighbours, and the lines between them.
-use Rattle.std.proofs.Common.{◌≡◌, ◌⊎◌, ℕ, zero, suc, ◌+◌, ◌*◌, ◌<◌, ◌≤◌, ◌&&◌, Bool, true, false, List, [], ◌∷◌, length, ℤ, pos, refl, sym, ap, ap₂, ◌∙◌, inl, inr, ⊎_elim, arith, ◌-ℤ◌}
+use Rattle.std.proofs.Common.{◌≡◌, ℕ, ◌+◌, ◌*◌, ◌≤◌, ◌&&◌, Bool, true, false, ℤ, pos, refl, ap, ap₂, ◌∙◌, inl, inr, arith, ◌-ℤ◌}
 use Rattle.std.specs.Int.RustNames.{unsigned_abs}
 use Rattle.std.specs.Ordering.{int_eq}
 use Rattle.std.proofs.lemmas.Bool.{cases_Bool}

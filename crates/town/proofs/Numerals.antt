@@ -1,12 +1,12 @@
 -- The bytes of numbers.
-use Rattle.std.proofs.Common.{◌≡◌, ◌⊎◌, ℕ, zero, suc, ◌+◌, ◌-◌, ◌<◌, ◌≤◌, ◌^◌, ◌==◌, ◌||◌, false, List, [], ◌∷◌, ◌++◌, All, length, take, drop, get_or, ℤ, pos, negsuc, nat_abs, reverse, refl, sym, ap, ◌∙◌, inl, inr, ⊎_elim, subst, arith, length-append, append_assoc}
+use Rattle.std.proofs.Common.{◌≡◌, ◌⊎◌, ℕ, suc, ◌+◌, ◌-◌, ◌<◌, ◌≤◌, ◌^◌, ◌==◌, false, List, [], ◌∷◌, ◌++◌, All, length, take, drop, get_or, ℤ, pos, negsuc, nat_abs, reverse, refl, sym, ap, ◌∙◌, ⊎_elim, arith, length-append}
 use Rattle.std.specs.Int.{IsInRange}
 use Rattle.std.specs.List.{position_or_len, before_first, after_first}
 use Rattle.std.proofs.Math.Seq.{get_or-append_seam, take-append_seam, drop-append-add}
 use Rattle.std.proofs.lemmas.Bool.{ne_eqb}
 use Rattle.std.proofs.lemmas.List.Sums.{position_or_len_is}
 use Rattle.std.proofs.lemmas.List.{take_all, take_more, reverse-reverse, reverse-append, get_or_append_left, get_or-append-add}
-use Rattle.std.proofs.lemmas.List.Elements.{All-append, All-cons, All-from_get_or, All-get_or, All-weaker}
+use Rattle.std.proofs.lemmas.List.Elements.{All-cons, All-from_get_or, All-weaker}
 use Rattle.decimal_text.specs.Blank.{is_blank, trim, trim_start, trim_end}
 use Rattle.decimal_text.specs.Number.{decimal, signed_decimal}
 use Rattle.decimal_text.proofs.Laws.{digit_in-decimal, length-decimal}

@@ -1,8 +1,7 @@
 -- The network file of a town: its text is that of its records, and they are read back.
-use Rattle.std.proofs.Common.{◌≡◌, ◌⊎◌, ℕ, zero, suc, ◌+◌, ◌*◌, ◌/◌, ◌%◌, ◌<◌, ◌≤◌, ◌^◌, Bool, true, false, cond, List, [], ◌∷◌, ◌++◌, All, length, Ok, Err, Result, map, codes, refl, sym, ap, ap₂, ◌∙◌, subst, inl, inr, arith, add-one, append_assoc, length-append, mul-le-mul, div-le_self}
-use Rattle.std.specs.Prelude.{nat_lt}
-use Rattle.std.specs.List.{flat_map, fold}
-use Rattle.std.proofs.lemmas.Bool.{cases_Bool, le-ltb, leb-false}
+use Rattle.std.proofs.Common.{◌≡◌, ◌⊎◌, ℕ, zero, suc, ◌+◌, ◌*◌, ◌/◌, ◌%◌, ◌<◌, ◌≤◌, ◌^◌, cond, List, [], ◌∷◌, ◌++◌, All, length, Ok, Err, map, codes, refl, sym, ap, ap₂, ◌∙◌, subst, inl, inr, arith, add-one, append_assoc, length-append, mul-le-mul, div-le_self}
+use Rattle.std.specs.List.{fold}
+use Rattle.std.proofs.lemmas.Bool.{cases_Bool, le-ltb}
 use Rattle.std.proofs.lemmas.List.Elements.{All-append, All-cons, All-head, All-nil, All-tail}
 use Rattle.csv.specs.Reading.{default_config, records, records_from, strip_bom}
 use Rattle.csv.specs.Writing.{default_writer, fields_text, is_blank as is_blank_record, read_back, row_text}
@@ -10,19 +9,17 @@ use Rattle.csv.specs.declared.parser.State.TheVariants as st
 use Rattle.decimal_text.specs.Number.{decimal}
 use Rattle.decimal_text.proofs.Laws.{length-decimal}
 use Rattle.road_network.specs.declared.limits.NetworkLimits.TheVariants.{Standard}
-use Rattle.road_network.specs.Net.{Net}
 use Rattle.road_network.specs.NetworkFile.{add_records, header, network_of, network_of_records, no_net, with_row}
-use Rattle.road_network.specs.declared.fault.NetworkFault.{NetworkFault}
 use Rattle.road_network.specs.declared.fault.NetworkFault.TheVariants as fault
 use Rattle.town.specs.declared.corner.Corner.{Corner}
 use Rattle.town.specs.declared.corner.Heading.{Heading}
 use Rattle.town.specs.declared.corner.Heading.TheVariants.{East, North}
 use Rattle.town.specs.Corners.{corner_at, is_border, next_corner, node_id}
 use Rattle.town.specs.Laws.{NetworkIsLawful}
-use Rattle.town.specs.Network.{Street, edge_line, line_text, network_text, place_text, street_lines, street_rows, street_to, streets, streets_below, streets_from, town_net}
+use Rattle.town.specs.Network.{Street, edge_line, line_text, place_text, street_lines, street_rows, street_to, streets, streets_below, streets_from}
 use Rattle.town.proofs.Fields.{IsNear, edge-row_text, edge_fields, records-back, text_of_records}
 use Rattle.town.proofs.Lines.{few_to, streets_more}
-use Rattle.town.proofs.Near.{joined_back, joined_east, joined_north}
+use Rattle.town.proofs.Near.{joined_east, joined_north}
 use Rattle.town.proofs.TownNet.{IsAt, IsStreet, records_added, street_records}
 
 -- the records of streets are their lines

@@ -1,18 +1,17 @@
 -- The records of a town's network file, read one after the other.
-use Rattle.std.proofs.Common.{◌≡◌, ◌⊎◌, ℕ, zero, suc, ◌+◌, ◌*◌, ◌<◌, ◌≤◌, ◌^◌, ◌==◌, Bool, true, false, List, [], ◌∷◌, ◌++◌, All, length, pos, Ok, Result, Some, None, map, refl, sym, ap, ap₂, ◌∙◌, inl, inr, arith, length-append}
-use Rattle.std.specs.Prelude.{nat_eq, nat_lt}
+use Rattle.std.proofs.Common.{◌≡◌, ℕ, ◌+◌, ◌*◌, ◌<◌, ◌≤◌, ◌^◌, ◌==◌, true, false, List, [], ◌∷◌, All, length, Ok, None, refl, sym, ap, ◌∙◌, arith, length-append}
+use Rattle.std.specs.Prelude.{nat_eq}
 use Rattle.std.specs.List.{fold, list_any}
-use Rattle.std.proofs.lemmas.Bool.{lt-ltb, le-ltb, ne_eqb}
+use Rattle.std.proofs.lemmas.Bool.{le-ltb, ne_eqb}
 use Rattle.std.proofs.lemmas.List.Elements.{All-head, All-push, All-tail, All-weaker}
 use Rattle.std.proofs.lemmas.List.Folds.{list_any_none}
 use Rattle.std.proofs.lemmas.List.Sums.{sum_by-append}
-use Rattle.csv.specs.Writing.{read_back}
 use Rattle.decimal_text.specs.Number.{decimal}
 use Rattle.decimal_text.proofs.Laws.{unsigned_within-decimal}
 use Rattle.polyline_geometry.specs.Plane.{line_length}
 use Rattle.road_network.specs.declared.limits.NetworkLimits.TheVariants.{Standard}
 use Rattle.road_network.specs.Net.{Edge, Net, point_count}
-use Rattle.road_network.specs.NetworkFile.{Row, add_record, add_records, add_row, first_fault, has_name, limit_faults, line_faults, next, nodes_with, row_of, with_node, with_row}
+use Rattle.road_network.specs.NetworkFile.{Row, add_record, add_records, add_row, first_fault, limit_faults, line_faults, next, nodes_with, row_of, with_node, with_row}
 use Rattle.road_network.proofs.Growing.{accepted}
 use Rattle.road_network.proofs.Names.{mentioned, nodes-grow-little, stays}
 use Rattle.road_network.proofs.RowsRead.{row-read}

@@ -1,26 +1,24 @@
 -- The lines of a trace file, read one after the other.
-use Rattle.std.proofs.Common.{◌≡◌, ◌≢◌, ◌⊎◌, ℕ, zero, suc, ◌+◌, ◌*◌, ◌<◌, ◌≤◌, ◌^◌, ◌==◌, Bool, true, false, List, [], ◌∷◌, ◌++◌, All, length, get_or, ◌-◌, ℤ, nat_abs, Ok, Err, Result, Some, None, Option, codes, refl, sym, ap, ap₂, ◌∙◌, subst, inl, inr, arith, append_assoc, length-append}
-use Rattle.std.specs.List.{flat_map, list_all, slice_split}
+use Rattle.std.proofs.Common.{◌≡◌, ◌⊎◌, ℕ, ◌+◌, ◌<◌, ◌≤◌, ◌^◌, ◌==◌, false, List, [], ◌∷◌, ◌++◌, All, length, get_or, ◌-◌, ℤ, nat_abs, Ok, Result, Some, codes, refl, sym, ap, ◌∙◌, inl, arith, append_assoc, length-append}
+use Rattle.std.specs.List.{list_all, slice_split}
 use Rattle.std.proofs.lemmas.Bool.{ne_eqb}
-use Rattle.std.proofs.lemmas.List.{append-nil, get_or_append_left, get_or-append-add}
-use Rattle.std.proofs.lemmas.List.Elements.{All-append, All-cons, All-head, All-nil, All-tail, All-weaker}
+use Rattle.std.proofs.lemmas.List.{get_or_append_left, get_or-append-add}
+use Rattle.std.proofs.lemmas.List.Elements.{All-append, All-cons, All-nil}
 use Rattle.std.proofs.lemmas.List.Splits.{slice_split_at, slice_split_none}
-use Rattle.std.proofs.lemmas.List.Sums.{fold-append}
-use Rattle.decimal_text.specs.Blank.{is_blank, trim}
+use Rattle.decimal_text.specs.Blank.{is_blank}
 use Rattle.decimal_text.specs.Number.{decimal, signed_decimal, signed_within, unsigned_within}
 use Rattle.decimal_text.proofs.Laws.{length-decimal, signed_within-signed_decimal, unsigned_within-decimal}
-use Rattle.trace_reader.specs.Content.{Content, add_read, add_row, begin_trace, extend_trace, point_limit, read_line, without_return}
-use Rattle.trace_reader.specs.Reading.{Progress, Reading, end_line, file_limit, line_limit, read_byte, read_bytes, reads}
-use Rattle.trace_reader.specs.Row.{coordinate_of, fields_of, numbers_of, row_of, u32_of}
+use Rattle.trace_reader.specs.Content.{Content, add_row, read_line, without_return}
+use Rattle.trace_reader.specs.Reading.{Progress, Reading, end_line, read_bytes, reads}
+use Rattle.trace_reader.specs.Row.{coordinate_of, fields_of, row_of, u32_of}
 use Rattle.trace_reader.specs.declared.row.Header.TheVariants.{Untimed}
 use Rattle.trace_reader.specs.declared.row.Row.{Row}
 use Rattle.trace_reader.specs.declared.trace.Fix.{Fix}
-use Rattle.trace_reader.specs.declared.trace.Trace.{Trace}
 use Rattle.trace_reader.specs.declared.fault.TraceFault.{TraceFault}
-use Rattle.trace_reader.proofs.Lines.{add_first, add_longer, add_next, row_line}
+use Rattle.trace_reader.proofs.Lines.{row_line}
 use Rattle.trace_reader.proofs.Unended.{read_ended, with_part}
-use Rattle.town.specs.Traces.{fix_line, trace_lines}
-use Rattle.town.proofs.Numerals.{IsNumeralByte, in-decimal, in-signed, length-signed, none-is, solid-at, trim-number}
+use Rattle.town.specs.Traces.{fix_line}
+use Rattle.town.proofs.Numerals.{in-decimal, in-signed, length-signed, none-is, solid-at, trim-number}
 
 -- a fix whose line can be read back: under the header without times
 pub record IsPlainFix (fix : Fix) : Type 0 where

@@ -1,5 +1,5 @@
 -- The network file of a town.
-use Rattle.std.specs.Prelude.{ℕ, ◌+◌, ◌*◌, List, [], ◌∷◌, ◌++◌, codes, pos, nat_le, if◌then◌else◌}
+use Rattle.std.specs.Prelude.{ℕ, ◌+◌, ◌*◌, List, [], ◌∷◌, ◌++◌, codes, pos, if◌then◌else◌}
 use Rattle.std.specs.List.{flat_map, fold, range_with_len}
 use Rattle.decimal_text.specs.Number.{decimal}
 use Rattle.polyline_geometry.specs.declared.plane.Point.{Point}

@@ -13,7 +13,6 @@ use Rattle.trace_match.proofs.TraceLayers.{matchable}
 use Rattle.trace_reader.specs.declared.trace.Fix.{Fix}
 use Rattle.trace_reader.specs.Trace.{IsLawfulTrace, point_of}
 use Rattle.matching.specs.declared.parts.Layer.{Layer}
-use Rattle.matching.proofs.CommittedValues.{whole}
 use Rattle.online_commit.specs.declared.items.Item.{Item}
 use Rattle.online_commit.specs.Items.{handed}
 use Rattle.trace_sessions.specs.declared.sessions.SessionFault.{SessionFault}

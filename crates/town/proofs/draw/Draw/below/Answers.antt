@@ -1,4 +1,4 @@
-use Rattle.std.proofs.Common.{◌≡◌, ◌%◌, ◌/◌, ◌^◌, ap}
+use Rattle.std.proofs.Common.{◌%◌, ◌/◌, ◌^◌, ap}
 use Rattle.town.proofs.States.{one_step}
 use Rattle.town.proofs.draw.Draw.below.Goals as goal
 
