@@ -9,7 +9,7 @@ use Rattle.cost_model.specs.declared.params.Params.{Params}
 use Rattle.road_network.specs.Net.{Net}
 use Rattle.trace_reader.specs.declared.trace.Fix.{Fix}
 use Rattle.trace_reader.specs.declared.trace.Trace.{Trace}
-use Rattle.trace_reader.specs.Trace.{IsLawfulTrace, point_of}
+use Rattle.trace_reader.specs.Trace.{IsLawfulTrace, point_of_fix}
 use Rattle.bounded_search.specs.Table.{TableRow}
 use Rattle.potential_certificate.specs.declared.proof.TraceProof.{TraceProof}
 use Rattle.matching.specs.declared.parts.Layer.{Layer}
@@ -111,10 +111,10 @@ fixes_few (t ∷ traces) h =
     let rest = fixes_few traces (λ k d lt. h (suc k) d (omega (arith, lt))) in
     omega (arith, few, rest, length-append t.fixes (flat_map (λ u. u.fixes) traces))
 
-pub fixes_in_range : (traces : List Trace) → All IsLawfulTrace traces → All (λ (fix : Fix). InRange (point_of fix)) (flat_map (λ t. t.fixes) traces)
-fixes_in_range [] h = All-nil (λ (fix : Fix). InRange (point_of fix))
+pub fixes_in_range : (traces : List Trace) → All IsLawfulTrace traces → All (λ (fix : Fix). InRange (point_of_fix fix)) (flat_map (λ t. t.fixes) traces)
+fixes_in_range [] h = All-nil (λ (fix : Fix). InRange (point_of_fix fix))
 fixes_in_range (t ∷ traces) h =
-    All-append (λ (fix : Fix). InRange (point_of fix)) t.fixes (flat_map (λ u. u.fixes) traces) (h 0 t (omega arith)).in_range
+    All-append (λ (fix : Fix). InRange (point_of_fix fix)) t.fixes (flat_map (λ u. u.fixes) traces) (h 0 t (omega arith)).in_range
     (fixes_in_range traces (λ k d lt. h (suc k) d (omega (arith, lt))))
 
 -- where the fixes of a trace stand among those of all

@@ -3,7 +3,7 @@
 ghost use Rattle.std.specs.Prelude.{◌≡◌, ◌<◌, ◌^◌, All, IfOk, length, map};
 ghost use Rattle.polyline_geometry.specs.Plane.{InRange};
 ghost use Rattle.road_network.specs.Near.{candidates};
-ghost use Rattle.trace_reader.specs.Trace.{point_of};
+ghost use Rattle.trace_reader.specs.Trace.{point_of_fix};
 ghost use Rattle.trace_match.specs.Match.{layer_of};
 
 use crate::ground::Ground;
@@ -16,7 +16,7 @@ use trace_reader::Fix;
 
 /// The points of these positions.
 fn places(alloc: Global, fixes: &[Fix]) -> Result<List<Point>, AllocError>
-    ensures { IfOk result (λ points. points ≡ map point_of fixes.now) }
+    ensures { IfOk result (λ points. points ≡ map point_of_fix fixes.now) }
 {
     let mut points = List::from_vec(Vec::with_capacity(alloc, fixes.len())?);
     for fix in fixes {
@@ -33,7 +33,7 @@ fn with_candidates(
     fixes: &[Fix],
     lists: List<List<Candidate>>,
 ) -> Result<List<Layer>, AllocError>
-    requires { lists ≡ map (λ fix. candidates net.now p.now.k p.now.radius (point_of fix)) fixes.now }
+    requires { lists ≡ map (λ fix. candidates net.now p.now.k p.now.radius (point_of_fix fix)) fixes.now }
     ensures { IfOk result (λ layers. layers ≡ map (layer_of net.now p.now) fixes.now) }
 {
     let mut layers = List::from_vec(Vec::with_capacity(alloc, fixes.len())?);
@@ -54,7 +54,7 @@ pub fn plain_layers(
     ground: &Ground,
     fixes: &[Fix],
 ) -> Result<List<Layer>, AllocError>
-    requires places { All (λ fix. InRange (point_of fix)) fixes.now }
+    requires places { All (λ fix. InRange (point_of_fix fix)) fixes.now }
     requires few { length fixes.now < 2 ^ 32 }
     ensures { IfOk result (λ layers.
         layers ≡ map (layer_of ground.now.net.now ground.now.params.now) fixes.now) }

@@ -33,7 +33,7 @@ use Rattle.route_rebuild.specs.Routes.{route_of}
 use Rattle.trace_match.specs.Match.{asks, layer_of, match_of, matched_of, solution_of}
 use Rattle.trace_reader.specs.declared.trace.Fix.{Fix}
 use Rattle.trace_reader.specs.declared.trace.Trace.{Trace}
-use Rattle.trace_reader.specs.Trace.{IsLawfulTrace, point_of}
+use Rattle.trace_reader.specs.Trace.{IsLawfulTrace, point_of_fix}
 use Rattle.match_pool.specs.OneFix.{nearest_edge, on_edge}
 use Rattle.match_pool.specs.Unmatched.{LiesFar, unmatched}
 use Rattle.match_pool.proofs.Unmatched.{unmatched_is}
@@ -89,17 +89,17 @@ solution_one t l some least =
     ∙ ap (λ (b : Option Priced). with_piece 0 1 (unwrap_or b (record { cost = 0; ranks = [] })) (tables_of t (l ∷ []) 1) no_points) (best-value t (l ∷ []) (t.emission l 0) (0 ∷ []) (least_first t l some least))
 
 -- the candidates of a fix do not cost less, the later they stand
-costs_rise : (n : Net) (p : Params) (fix : Fix) (j : ℕ) → IsAccepted p → j < length (candidates n p.k p.radius (point_of fix))
+costs_rise : (n : Net) (p : Params) (fix : Fix) (j : ℕ) → IsAccepted p → j < length (candidates n p.k p.radius (point_of_fix fix))
     → (trellis n p).emission (layer_of n p fix) 0 ≤ (trellis n p).emission (layer_of n p fix) j
 costs_rise n p fix zero accepted inside = omega arith
 costs_rise n p fix (suc j) accepted inside =
-    let list = candidates n p.k p.radius (point_of fix) in
-    let before = is_before_of (get_or list 0 no_candidate) (get_or list (suc j) no_candidate) ((are_nearest n p.k p.radius (point_of fix)).rises 0 (suc j) no_candidate (omega arith) inside) in
+    let list = candidates n p.k p.radius (point_of_fix fix) in
+    let before = is_before_of (get_or list 0 no_candidate) (get_or list (suc j) no_candidate) ((are_nearest n p.k p.radius (point_of_fix fix)).rises 0 (suc j) no_candidate (omega arith) inside) in
     emission_rises p (get_or list 0 no_candidate).d2 (get_or list (suc j) no_candidate).d2 accepted
     (⊎_elim (λ less. omega (arith, less)) (λ tie. omega (arith, tie.0)) before)
 
-one_matched : (n : Net) (p : Params) (id : ℕ) (fix : Fix) → IsAccepted p → 0 < length (candidates n p.k p.radius (point_of fix))
-    → match_of n p (record { id = id; fixes = fix ∷ [] }) ≡ on_edge n p id (get_or (candidates n p.k p.radius (point_of fix)) 0 no_candidate)
+one_matched : (n : Net) (p : Params) (id : ℕ) (fix : Fix) → IsAccepted p → 0 < length (candidates n p.k p.radius (point_of_fix fix))
+    → match_of n p (record { id = id; fixes = fix ∷ [] }) ≡ on_edge n p id (get_or (candidates n p.k p.radius (point_of_fix fix)) 0 no_candidate)
 unfolding match_of route_of
 one_matched n p id fix accepted some =
     ap (matched_of n p id (layer_of n p fix ∷ [])) (solution_one (trellis n p) (layer_of n p fix) some (λ j inside. costs_rise n p fix j accepted inside))
@@ -114,7 +114,7 @@ pub matched_one : (n : Net) (p : Params) (trace : Trace) (fixes : List Fix) (d :
     → nearest_edge n p (get_or fixes 0 d) ≡ Some c → on_edge n p trace.id c ≡ match_of n p trace
 matched_one n p trace fixes d c accepted same one first =
     let fix = get_or fixes 0 d in
-    let list = candidates n p.k p.radius (point_of fix) in
+    let list = candidates n p.k p.radius (point_of_fix fix) in
     let is : fix ∷ [] ≡ trace.fixes = sym (alone fixes d (ap length same ∙ one)) ∙ same in
     ap (on_edge n p trace.id) (sym (first_is list c no_candidate first))
     ∙ sym (one_matched n p trace.id fix accepted (first_inside list c first))
@@ -123,7 +123,7 @@ matched_one n p trace fixes d c accepted same one first =
 -- and of one that has none
 none_all : (n : Net) (p : Params) (fixes : List Fix) (d : Fix) → length fixes ≡ 1 → nearest_edge n p (get_or fixes 0 d) ≡ None → All (LiesFar n p) fixes
 none_all n p [] d one none = absurd (omega (arith, one))
-none_all n p (fix ∷ []) d one none = All-cons (LiesFar n p) fix [] (first_none (candidates n p.k p.radius (point_of fix)) none) (All-nil (LiesFar n p))
+none_all n p (fix ∷ []) d one none = All-cons (LiesFar n p) fix [] (first_none (candidates n p.k p.radius (point_of_fix fix)) none) (All-nil (LiesFar n p))
 none_all n p (fix ∷ next ∷ fixes) d one none = absurd (omega (arith, one))
 
 pub missing_one : (n : Net) (p : Params) (trace : Trace) (fixes : List Fix) (d : Fix) → IsAccepted p → IsLawfulTrace trace → fixes ≡ trace.fixes → length trace.fixes ≡ 1
@@ -132,9 +132,9 @@ missing_one n p trace fixes d accepted lawful same one none =
     unmatched_is n p trace accepted lawful (subst (All (LiesFar n p)) same (none_all n p fixes d (ap length same ∙ one) none))
 
 -- the first candidate is an edge within the radius
-pub nearest_within : (n : Net) (p : Params) (fixes : List Fix) (d : Fix) (c : Candidate) → nearest_edge n p (get_or fixes 0 d) ≡ Some c → IsWithin n p.radius (point_of (get_or fixes 0 d)) c
+pub nearest_within : (n : Net) (p : Params) (fixes : List Fix) (d : Fix) (c : Candidate) → nearest_edge n p (get_or fixes 0 d) ≡ Some c → IsWithin n p.radius (point_of_fix (get_or fixes 0 d)) c
 nearest_within n p fixes d c first =
-    let at = point_of (get_or fixes 0 d) in
+    let at = point_of_fix (get_or fixes 0 d) in
     let list = candidates n p.k p.radius at in
     subst (IsWithin n p.radius at) (first_is list c no_candidate first) ((are_nearest n p.k p.radius at).each 0 no_candidate (first_inside list c first))
 

@@ -8,11 +8,11 @@ use Rattle.road_network.specs.Net.{Net, edge_name}
 use Rattle.road_network.specs.Near.{candidates}
 use Rattle.trace_match.specs.Match.{label_on}
 use Rattle.trace_reader.specs.declared.trace.Fix.{Fix}
-use Rattle.trace_reader.specs.Trace.{point_of}
+use Rattle.trace_reader.specs.Trace.{point_of_fix}
 
 -- the first candidate of a fix, if it has any
 abbrev pub nearest_edge : Net → Params → Fix → Option Candidate
-nearest_edge n p fix = slice_get (candidates n p.k p.radius (point_of fix)) 0
+nearest_edge n p fix = slice_get (candidates n p.k p.radius (point_of_fix fix)) 0
 
 -- the match of a trace of this id whose one fix has this candidate first
 abbrev pub on_edge : Net → Params → ℕ → Candidate → MatchedTrace

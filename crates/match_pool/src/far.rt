@@ -2,7 +2,7 @@
 //! decided by `unmatched`.
 ghost use Rattle.std.specs.Prelude.{◌≡◌, All, IfOk, IsTrue};
 ghost use Rattle.polyline_geometry.specs.Plane.{InRange};
-ghost use Rattle.trace_reader.specs.Trace.{IsLawfulTrace, point_of};
+ghost use Rattle.trace_reader.specs.Trace.{IsLawfulTrace, point_of_fix};
 ghost use Rattle.match_pool.specs.Unmatched.{LiesFar, unmatched};
 
 use crate::batch::Batch;
@@ -14,7 +14,7 @@ use trace_reader::{Fix, Trace};
 
 /// Whether a position is so far from the whole network that it has no candidate.
 fn fix_lies_far(batch: &Batch, fix: &Fix) -> Result<bool, AllocError>
-    requires { InRange (point_of fix.now) }
+    requires { InRange (point_of_fix fix.now) }
     ensures { IfOk result (λ far. IsTrue far
         → LiesFar batch.now.net.now batch.now.params.now fix.now) }
 {

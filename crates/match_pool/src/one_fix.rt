@@ -3,7 +3,7 @@ ghost use Rattle.std.specs.Prelude.{◌≡◌, ◌*◌, ◌≤◌, [], ◌∷◌
 ghost use Rattle.polyline_geometry.specs.Plane.{InRange};
 ghost use Rattle.road_network.specs.Net.{HasEdge};
 ghost use Rattle.trace_match.specs.Match.{match_of};
-ghost use Rattle.trace_reader.specs.Trace.{IsLawfulTrace, point_of};
+ghost use Rattle.trace_reader.specs.Trace.{IsLawfulTrace, point_of_fix};
 ghost use Rattle.match_pool.specs.OneFix.{nearest_edge, on_edge};
 
 use crate::batch::Batch;
@@ -19,7 +19,7 @@ use trace_reader::{Fix, Trace};
 
 /// The edge nearest to a position, if one is within the radius.
 fn nearest_edge(batch: &Batch, fix: &Fix) -> Result<Option<Candidate>, AllocError>
-    requires { InRange (point_of fix.now) }
+    requires { InRange (point_of_fix fix.now) }
     ensures { IfOk result (λ found.
         found ≡ nearest_edge batch.now.net.now batch.now.params.now fix.now) }
 {

@@ -2,7 +2,7 @@
 ghost use Rattle.std.specs.Prelude.{◌↔◌, IsTrue};
 ghost use Rattle.std.specs.List.{All};
 ghost use Rattle.polyline_geometry.specs.Plane.{InRange};
-ghost use Rattle.trace_reader.specs.Trace.{IsLawfulTrace, point_of};
+ghost use Rattle.trace_reader.specs.Trace.{IsLawfulTrace, point_of_fix};
 
 use trace_reader::{Fix, Trace};
 
@@ -17,7 +17,7 @@ pub fn is_in_range(x: i32, y: i32) -> bool
 }
 
 fn are_in_range(fixes: &[Fix]) -> bool
-    ensures { IsTrue result ↔ All (λ fix. InRange (point_of fix)) fixes.now }
+    ensures { IsTrue result ↔ All (λ fix. InRange (point_of_fix fix)) fixes.now }
 {
     fixes.iter().all(|fix| is_in_range(fix.x, fix.y))
 }

@@ -11,7 +11,7 @@ use Rattle.bounded_search.specs.Rows.{AreRowsOf, RowsState}
 use Rattle.bounded_search.proofs.Asking.{still_of}
 use Rattle.program_frame.specs.Jobs.{IsBounded, points_of}
 use Rattle.program_frame.proofs.PointCounts.{points-append}
-use Rattle.trace_reader.specs.Trace.{IsLawfulTrace, point_of}
+use Rattle.trace_reader.specs.Trace.{IsLawfulTrace, point_of_fix}
 use Rattle.trace_reader.specs.declared.trace.Fix.{Fix}
 use Rattle.trace_reader.specs.declared.trace.Trace.{Trace}
 use Rattle.trace_sessions.specs.declared.sessions.SessionFault.{SessionFault}
@@ -35,12 +35,12 @@ points-length (trace ∷ traces) =
     omega (arith, one, both, sum, rest)
 
 -- they lie in range
-pub places-in : (traces : List Trace) → All IsLawfulTrace traces → All (λ (x : Point). InRange (point_of x.1)) (points_in traces)
+pub places-in : (traces : List Trace) → All IsLawfulTrace traces → All (λ (x : Point). InRange (point_of_fix x.1)) (points_in traces)
 places-in [] lawful = λ i d lt. absurd (omega (arith, lt))
 places-in (trace ∷ traces) lawful =
-    let own : All (λ (x : Point). InRange (point_of x.1)) (fragment_points trace) =
-    All-map (λ (x : Point). InRange (point_of x.1)) (λ (fix : Fix). (trace.id, fix)) trace.fixes (All-head IsLawfulTrace trace traces lawful).in_range in
-    All-append (λ (x : Point). InRange (point_of x.1)) (fragment_points trace) (points_in traces) own (places-in traces (All-tail IsLawfulTrace trace traces lawful))
+    let own : All (λ (x : Point). InRange (point_of_fix x.1)) (fragment_points trace) =
+    All-map (λ (x : Point). InRange (point_of_fix x.1)) (λ (fix : Fix). (trace.id, fix)) trace.fixes (All-head IsLawfulTrace trace traces lawful).in_range in
+    All-append (λ (x : Point). InRange (point_of_fix x.1)) (fragment_points trace) (points_in traces) own (places-in traces (All-tail IsLawfulTrace trace traces lawful))
 
 -- the first of them have no more points
 first-points : (traces : List Trace) (i : ℕ) → points_of (take i traces) ≤ points_of traces

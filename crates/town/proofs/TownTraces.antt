@@ -9,7 +9,7 @@ use Rattle.std.proofs.lemmas.List.Sums.{fold-append}
 use Rattle.polyline_geometry.specs.Plane.{InRange}
 use Rattle.trace_reader.specs.Content.{Content, extend_trace, no_content}
 use Rattle.trace_reader.specs.Reading.{Outcome, end_line, end_read, end_reading, file_fault, file_traces, nothing_read, read_byte, read_bytes, reading_of, reads}
-use Rattle.trace_reader.specs.Trace.{point_of}
+use Rattle.trace_reader.specs.Trace.{point_of_fix}
 use Rattle.trace_reader.specs.declared.row.Header.TheVariants.{Untimed}
 use Rattle.trace_reader.specs.declared.trace.Fix.{Fix}
 use Rattle.trace_reader.specs.declared.trace.Trace.{Trace}
@@ -253,7 +253,7 @@ lawful trace plain =
       lawful = record {
         some = omega (arith, count);
         few = omega (arith, count);
-        in_range = All-weaker IsPlainFix (λ fix. InRange (point_of fix)) (λ fix h. record { x_abs = h.x_small; y_abs = h.y_small }) trace.fixes plain.each;
+        in_range = All-weaker IsPlainFix (λ fix. InRange (point_of_fix fix)) (λ fix h. record { x_abs = h.x_small; y_abs = h.y_small }) trace.fixes plain.each;
       };
       fixes = count;
     }

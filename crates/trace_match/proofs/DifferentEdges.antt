@@ -12,7 +12,7 @@ use Rattle.road_network.specs.declared.Candidate.{Candidate}
 use Rattle.road_network.specs.Net.{Net, IsLawful, edge_name}
 use Rattle.road_network.specs.Near.{candidate_at, candidates, in_order, is_before, placed, within}
 use Rattle.trace_match.specs.Laws.{LabelsAgreeAsRanks}
-use Rattle.trace_reader.specs.Trace.{point_of}
+use Rattle.trace_reader.specs.Trace.{point_of_fix}
 use Rattle.trace_match.specs.Match.{label_of, label_on, layer_of}
 
 -- no candidate lies on edge e
@@ -125,6 +125,6 @@ pub labels_agree : LabelsAgreeAsRanks
 labels_agree n p fix a b lawful in_range among among2 =
     let l = layer_of n p fix in
     let layer : IsLayer n p l = layer_of_candidates n p l in_range refl in (
-      ranks_agree n p l a b lawful layer (candidates_apart n p.k p.radius (point_of fix)) among among2,
+      ranks_agree n p l a b lawful layer (candidates_apart n p.k p.radius (point_of_fix fix)) among among2,
       (λ same. ap (label_of n l) same),
     )

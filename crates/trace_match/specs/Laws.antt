@@ -11,7 +11,7 @@ use Rattle.polyline_geometry.specs.Plane.{InRange}
 use Rattle.road_network.specs.Net.{Net, IsLawful as IsLawfulNet}
 use Rattle.trace_reader.specs.declared.trace.Fix.{Fix}
 use Rattle.trace_reader.specs.declared.trace.Trace.{Trace}
-use Rattle.trace_reader.specs.Trace.{IsLawfulTrace, point_of}
+use Rattle.trace_reader.specs.Trace.{IsLawfulTrace, point_of_fix}
 use Rattle.trace_match.specs.Match.{label_of, labels_of, layer_of, layers_of, match_of}
 
 -- the match of a trace can be written, and has a label for each fix and no more pieces than fixes
@@ -33,7 +33,7 @@ IsRankOf n p fix rank = IfSome rank (λ r. r < length (layer_of n p fix).candida
 abbrev pub LabelsAgreeAsRanks : Type 0
 LabelsAgreeAsRanks =
     (n : Net) (p : Params) (fix : Fix) (a b : Option ℕ)
-    → IsLawfulNet n → InRange (point_of fix) → IsRankOf n p fix a → IsRankOf n p fix b
+    → IsLawfulNet n → InRange (point_of_fix fix) → IsRankOf n p fix a → IsRankOf n p fix b
     → (label_of n (layer_of n p fix) a ≡ label_of n (layer_of n p fix) b) ↔ (a ≡ b)
 
 -- the first labels depend on the first layers and ranks alone

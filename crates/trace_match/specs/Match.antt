@@ -7,7 +7,7 @@ use Rattle.road_network.specs.Net.{Net, edge_name}
 use Rattle.road_network.specs.Near.{candidates}
 use Rattle.trace_reader.specs.declared.trace.Fix.{Fix}
 use Rattle.trace_reader.specs.declared.trace.Trace.{Trace}
-use Rattle.trace_reader.specs.Trace.{point_of}
+use Rattle.trace_reader.specs.Trace.{point_of_fix}
 use Rattle.matching.specs.declared.parts.Layer.{Layer}
 use Rattle.matching.specs.declared.parts.Piece.{Piece}
 use Rattle.matching.specs.Layers.{candidate_of_rank, end_of, trellis}
@@ -23,8 +23,8 @@ use Rattle.match_text.specs.declared.matched.MatchedTrace.{MatchedTrace}
 -- a fix with its candidates
 abbrev pub layer_of : Net → Params → Fix → Layer
 layer_of n p fix = record {
-  point = point_of fix;
-  candidates = candidates n p.k p.radius (point_of fix);
+  point = point_of_fix fix;
+  candidates = candidates n p.k p.radius (point_of_fix fix);
   time = fix.time;
 }
 

@@ -2,7 +2,7 @@
 ghost use Rattle.std.specs.Prelude.{◌≡◌, All, IfOk, map};
 ghost use Rattle.polyline_geometry.specs.Plane.{InRange};
 ghost use Rattle.trace_match.specs.Ground.{IsGridFor};
-ghost use Rattle.trace_reader.specs.Trace.{point_of};
+ghost use Rattle.trace_reader.specs.Trace.{point_of_fix};
 ghost use Rattle.trace_match.specs.Match.{layer_of};
 
 use candidate_search::candidates;
@@ -23,7 +23,7 @@ pub fn layer(
     fix: &Fix,
 ) -> Result<Layer, AllocError>
     requires ground { IsGridFor net.now p.now grid.now }
-    requires place { InRange (point_of fix.now) }
+    requires place { InRange (point_of_fix fix.now) }
     ensures { IfOk result (λ layer. layer ≡ layer_of net.now p.now fix.now) }
 {
     let point = fix.point();
@@ -43,7 +43,7 @@ pub fn layers(
     fixes: &[Fix],
 ) -> Result<List<Layer>, AllocError>
     requires ground { IsGridFor net.now p.now grid.now }
-    requires places { All (λ fix. InRange (point_of fix)) fixes.now }
+    requires places { All (λ fix. InRange (point_of_fix fix)) fixes.now }
     ensures { IfOk result (λ layers. layers ≡ map (layer_of net.now p.now) fixes.now) }
 {
     let mut found = Vec::with_capacity(alloc, fixes.len())?;

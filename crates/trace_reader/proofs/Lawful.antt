@@ -11,7 +11,7 @@ use Rattle.decimal_text.specs.declared.number.NumberFault.{NumberFault}
 use Rattle.trace_reader.specs.Row.{header_of, fields_of, row_of, numbers_of, u32_of, time_of, coordinate_of}
 use Rattle.trace_reader.specs.Content.{Content, add_to, add_row, add_header, add_read, add_text, read_line, without_return, begin_trace, extend_trace, point_limit}
 use Rattle.trace_reader.specs.Reading.{Progress, Reading, reads, refused, read_byte, read_bytes, reading_of, nothing_read, end_line, closed, closed_of, end_content, end_read, end_reading, file_traces, file_limit, line_limit}
-use Rattle.trace_reader.specs.Trace.{IsLawfulTrace, point_of}
+use Rattle.trace_reader.specs.Trace.{IsLawfulTrace, point_of_fix}
 use Rattle.trace_reader.specs.declared.row.Header.{Header}
 use Rattle.trace_reader.specs.declared.row.Header.TheVariants.{Untimed, Timed}
 use Rattle.trace_reader.specs.declared.row.Row.{Row}
@@ -21,7 +21,7 @@ use Rattle.trace_reader.specs.declared.fault.TraceFault.{TraceFault}
 
 -- the coordinates of a fix are in range
 abbrev pub HasPlace : Fix → Type 0
-HasPlace fix = InRange (point_of fix)
+HasPlace fix = InRange (point_of_fix fix)
 
 numbers-place : (line : ℕ) (id time : Result ℕ NumberFault) (x y : Result ℤ NumberFault) (a b : List ℕ) (row : Row) → x ≡ coordinate_of a → y ≡ coordinate_of b
     → numbers_of line id x y time ≡ Ok row → HasPlace row.fix

@@ -1,6 +1,6 @@
 //! The content of a trace file.
 ghost use Rattle.std.specs.Prelude.{◌≡◌};
-ghost use Rattle.trace_reader.specs.Trace.{point_of};
+ghost use Rattle.trace_reader.specs.Trace.{point_of_fix};
 
 use polyline_geometry::{List, Point};
 
@@ -15,7 +15,7 @@ pub struct Fix {
 impl Fix {
     /// Where the position was measured.
     pub fn point(self) -> Point
-        ensures { result ≡ point_of self }
+        ensures { result ≡ point_of_fix self }
     {
         Point {
             x: self.x,

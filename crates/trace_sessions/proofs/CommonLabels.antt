@@ -25,7 +25,7 @@ use Rattle.trace_match.specs.Match.{label_of, labels_of, layer_of, layers_of, ma
 use Rattle.trace_match.proofs.DifferentEdges.{labels_agree}
 use Rattle.trace_match.proofs.FirstLabels.{first_labels}
 use Rattle.trace_reader.specs.declared.trace.Fix.{Fix}
-use Rattle.trace_reader.specs.Trace.{point_of}
+use Rattle.trace_reader.specs.Trace.{point_of_fix}
 use Rattle.trace_sessions.specs.CommonLabels.{CommittedIsCommonPrefix, IsLongestCommonPrefix, lists_from}
 use Rattle.trace_sessions.proofs.BestEnds.{AllIn, IsEnd, all-among, among-all, among-mapped, best-end, end-in, end-length, ends-have, ends-told, some_of}
 
@@ -50,14 +50,14 @@ AreTelling : Net → Params → List Layer → Type 0
 AreTelling n p [] = Unit {0}
 AreTelling n p (l ∷ layers) = IsTelling n p l × AreTelling n p layers
 
-telling-fixes : (n : Net) (p : Params) (fixes : List Fix) → IsLawful n → All (λ (fix : Fix). InRange (point_of fix)) fixes → AreTelling n p (map (layer_of n p) fixes)
+telling-fixes : (n : Net) (p : Params) (fixes : List Fix) → IsLawful n → All (λ (fix : Fix). InRange (point_of_fix fix)) fixes → AreTelling n p (map (layer_of n p) fixes)
 unfolding AreTelling IsTelling
 telling-fixes n p [] lawful places = tt
 telling-fixes n p (fix ∷ fixes) lawful places = (
   λ x y lx ly same.
-      let e : ◌≡◌ {A = Option ℕ} (Some x) (Some y) = (labels_agree n p fix (Some x) (Some y) lawful (All-head (λ (f : Fix). InRange (point_of f)) fix fixes places) lx ly).0 same in
+      let e : ◌≡◌ {A = Option ℕ} (Some x) (Some y) = (labels_agree n p fix (Some x) (Some y) lawful (All-head (λ (f : Fix). InRange (point_of_fix f)) fix fixes places) lx ly).0 same in
       cc,
-  telling-fixes n p fixes lawful (All-tail (λ (f : Fix). InRange (point_of f)) fix fixes places),
+  telling-fixes n p fixes lawful (All-tail (λ (f : Fix). InRange (point_of_fix f)) fix fixes places),
 )
 
 telling-drop : (n : Net) (p : Params) (k : ℕ) (layers : List Layer) → AreTelling n p layers → AreTelling n p (drop k layers)

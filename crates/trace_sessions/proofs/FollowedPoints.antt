@@ -10,7 +10,7 @@ use Rattle.cost_model.specs.Options.{IsAccepted}
 use Rattle.road_network.specs.Net.{Net, IsLawful}
 use Rattle.trace_reader.specs.declared.trace.Fix.{Fix}
 use Rattle.trace_reader.specs.declared.trace.Trace.{Trace}
-use Rattle.trace_reader.specs.Trace.{IsLawfulTrace, point_of}
+use Rattle.trace_reader.specs.Trace.{IsLawfulTrace, point_of_fix}
 use Rattle.matching.specs.declared.parts.Layer.{Layer}
 use Rattle.matching.specs.CommittedValue.{closed_pieces}
 use Rattle.matching.specs.Layers.{trellis}
@@ -60,7 +60,7 @@ next_layers n p trace i fix low is =
     take_more (layers_of n p trace) i (layer_of n p fix) (omega (arith, low, count))
     ∙ ap (λ (l : Layer). first_layers n p trace i ++ l ∷ []) (get_or-map (layer_of n p) trace.fixes i fix (layer_of n p fix) low ∙ ap (layer_of n p) (sym is))
 
-pub fed_layer : (n : Net) (p : Params) (fix : Fix) → IsAccepted p → InRange (point_of fix) → IsFedLayer n p (layer_of n p fix)
+pub fed_layer : (n : Net) (p : Params) (fix : Fix) → IsAccepted p → InRange (point_of_fix fix) → IsFedLayer n p (layer_of n p fix)
 fed_layer n p fix accepted place = record {
   layer = layer_of_candidates n p (layer_of n p fix) place refl;
   few = candidates_narrow n p (layer_of n p fix) accepted refl;
@@ -220,7 +220,7 @@ turned n p trace fixes i d layer s new pieces items lawful accepted trace_lawful
 pub can_feed : (n : Net) (p : Params) (trace : Trace) (fixes : List Fix) (i : ℕ) (d : Fix) (layer : Layer) (s : Session) (pieces : ℕ) → IsAccepted p → IsLawfulTrace trace → fixes ≡ trace.fixes → i < length fixes
     → layer ≡ layer_of n p (get_or fixes i d) → HasFollowed n p trace i s pieces → CanFeed s layer
 can_feed n p trace fixes i d layer s pieces accepted lawful all low is has =
-    let places = subst (λ (fs : List Fix). All (λ (f : Fix). InRange (point_of f)) fs) (sym all) lawful.in_range in
+    let places = subst (λ (fs : List Fix). All (λ (f : Fix). InRange (point_of_fix f)) fs) (sym all) lawful.in_range in
     let here = fed_layer n p (get_or fixes i d) accepted (places i d low) in
     let within : i < length trace.fixes = subst (λ (fs : List Fix). i < length fs) all low in
     let count = fed_count n p trace i s pieces has (omega (arith, within)) in

@@ -9,7 +9,7 @@ use Rattle.cost_model.specs.Options.{IsAccepted}
 use Rattle.bounded_search.specs.Rows.{RowsState, AreRowsOf}
 use Rattle.bounded_search.proofs.Asking.{still_of}
 use Rattle.trace_reader.specs.declared.trace.Fix.{Fix}
-use Rattle.trace_reader.specs.Trace.{IsLawfulTrace, point_of}
+use Rattle.trace_reader.specs.Trace.{IsLawfulTrace, point_of_fix}
 use Rattle.trace_reader.specs.declared.trace.Trace.{Trace}
 use Rattle.trace_sessions.specs.declared.sessions.SessionFault.{SessionFault}
 use Rattle.trace_sessions.specs.Sessions.{Keeps, Pair, SessionsState}
@@ -59,9 +59,9 @@ points-parts trace fixes i d all low =
 pub all-points : (trace : Trace) (fixes : List Fix) (i : ℕ) → fixes ≡ trace.fixes → length fixes ≤ i → first_points trace i ≡ fragment_points trace
 all-points trace fixes i all over = ap (map (λ fix. (trace.id, fix))) (take_all i trace.fixes (subst (λ (fs : List Fix). length fs ≤ i) all over))
 
-pub places-of : (trace : Trace) (i : ℕ) → IsLawfulTrace trace → All (λ (x : Point). InRange (point_of x.1)) (first_points trace i)
+pub places-of : (trace : Trace) (i : ℕ) → IsLawfulTrace trace → All (λ (x : Point). InRange (point_of_fix x.1)) (first_points trace i)
 places-of trace i lawful =
-    All-map (λ (x : Point). InRange (point_of x.1)) (λ (fix : Fix). (trace.id, fix)) (take i trace.fixes) (All-take (λ (fix : Fix). InRange (point_of fix)) i trace.fixes lawful.in_range)
+    All-map (λ (x : Point). InRange (point_of_fix x.1)) (λ (fix : Fix). (trace.id, fix)) (take i trace.fixes) (All-take (λ (fix : Fix). InRange (point_of_fix fix)) i trace.fixes lawful.in_range)
 
 pub streamed-can : (s0 s : SessionsState) (trace : Trace) (fixes : List Fix) (i : ℕ) (t0 t : List ℕ) (rows0 rows : RowsState) (pieces : ℕ) → fixes ≡ trace.fixes → i < length fixes → IsLawfulTrace trace
     → CanStream s0 (length trace.fixes) → HasStreamed s0 s trace i t0 t rows0 rows pieces → CanStream s 1

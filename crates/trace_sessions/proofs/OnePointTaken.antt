@@ -11,7 +11,7 @@ use Rattle.road_network.specs.Net.{Net, IsLawful}
 use Rattle.trace_match.specs.Match.{layer_of}
 use Rattle.trace_match.proofs.TraceLayers.{matchable}
 use Rattle.trace_reader.specs.declared.trace.Fix.{Fix}
-use Rattle.trace_reader.specs.Trace.{IsLawfulTrace, point_of}
+use Rattle.trace_reader.specs.Trace.{IsLawfulTrace, point_of_fix}
 use Rattle.matching.specs.declared.parts.Layer.{Layer}
 use Rattle.online_commit.specs.declared.items.Item.{Item}
 use Rattle.online_commit.specs.Items.{handed}
@@ -143,18 +143,18 @@ point-refused old new pairs id fix fault text keeps (inr full) same =
 
 -- ---- lawful pairs stay lawful
 
-pub lawful-with : (pairs : List Pair) (id : ℕ) (fix : Fix) → AreLawful pairs → InRange (point_of fix) → length (fixes_of pairs id) < 100_000 → IsLawfulTrace (trace_of (id, fixes_and pairs id fix))
+pub lawful-with : (pairs : List Pair) (id : ℕ) (fix : Fix) → AreLawful pairs → InRange (point_of_fix fix) → length (fixes_of pairs id) < 100_000 → IsLawfulTrace (trace_of (id, fixes_and pairs id fix))
 lawful-with pairs id fix are place low =
     let sound = sound-at id pairs are in
     let count = length-append (fixes_of pairs id) (fix ∷ []) in
     record {
       some = omega (arith, count);
       few = omega (arith, count, low);
-      in_range = All-append (λ (f : Fix). InRange (point_of f)) (fixes_of pairs id) (fix ∷ []) sound.in-range (All-cons (λ (f : Fix). InRange (point_of f)) fix [] place (λ i d lt. absurd (omega (arith, lt))));
+      in_range = All-append (λ (f : Fix). InRange (point_of_fix f)) (fixes_of pairs id) (fix ∷ []) sound.in-range (All-cons (λ (f : Fix). InRange (point_of_fix f)) fix [] place (λ i d lt. absurd (omega (arith, lt))));
     }
 
 -- the items of a point are items of the network
-pub items-lie : (n : Net) (p : Params) (pairs : List Pair) (id : ℕ) (fix : Fix) (items : List Item) → IsLawful n → IsAccepted p → AreLawful pairs → InRange (point_of fix)
+pub items-lie : (n : Net) (p : Params) (pairs : List Pair) (id : ℕ) (fix : Fix) (items : List Item) → IsLawful n → IsAccepted p → AreLawful pairs → InRange (point_of_fix fix)
     → length (fixes_of pairs id) < 100_000 → handed n p (layers n p (fixes_and pairs id fix)) ≡ handed n p (layers n p (fixes_of pairs id)) ++ items → AreItemsOf n items
 items-lie n p pairs id fix items lawful accepted are place low grown =
     let trace = trace_of (id, fixes_and pairs id fix) in

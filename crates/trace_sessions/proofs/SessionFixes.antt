@@ -14,7 +14,7 @@ use Rattle.road_network.specs.Net.{Net}
 use Rattle.bounded_search.specs.Rows.{RowsState, AreRowsOf, AsksOnly}
 use Rattle.bounded_search.proofs.Asking.{asks_nothing, keeps_itself}
 use Rattle.trace_reader.specs.declared.trace.Fix.{Fix}
-use Rattle.trace_reader.specs.Trace.{point_of}
+use Rattle.trace_reader.specs.Trace.{point_of_fix}
 use Rattle.matching.specs.declared.parts.Layer.{Layer}
 use Rattle.matching.proofs.CandidateLayers.{candidates_narrow, layer_of_candidates}
 use Rattle.trace_match.specs.Match.{layer_of}
@@ -35,7 +35,7 @@ state n p es = record { network = n; params = p; sessions = es }
 abbrev layers : Net → Params → List Fix → List Layer
 layers n p fixes = map (layer_of n p) fixes
 
-pub fed-layer : (n : Net) (p : Params) (fix : Fix) → IsAccepted p → InRange (point_of fix) → IsFedLayer n p (layer_of n p fix)
+pub fed-layer : (n : Net) (p : Params) (fix : Fix) → IsAccepted p → InRange (point_of_fix fix) → IsFedLayer n p (layer_of n p fix)
 fed-layer n p fix accepted place = record {
   layer = layer_of_candidates n p (layer_of n p fix) place refl;
   few = candidates_narrow n p (layer_of n p fix) accepted refl;
@@ -108,7 +108,7 @@ rows-fed rows n p id es d are is rows-are =
     let at = at_id n p id es d are is in
     carry (λ (m : Net) (q : Params). AreRowsOf rows m q.bound) (sym at.0) (sym at.1) rows-are
 
-pub layer-fed : (n : Net) (p : Params) (id : ℕ) (es : List (ℕ × Session)) (d : Session) (fix : Fix) (l : Layer) → AreOf n p es → d ≡ no_points_of n p → IsAccepted p → InRange (point_of fix)
+pub layer-fed : (n : Net) (p : Params) (id : ℕ) (es : List (ℕ × Session)) (d : Session) (fix : Fix) (l : Layer) → AreOf n p es → d ≡ no_points_of n p → IsAccepted p → InRange (point_of_fix fix)
     → l ≡ layer_of n p fix → IsFedLayer (session_at es id d).network (session_at es id d).params l
 layer-fed n p id es d fix l are is accepted place same =
     let at = at_id n p id es d are is in

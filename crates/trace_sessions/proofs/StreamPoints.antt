@@ -11,7 +11,7 @@ use Rattle.polyline_geometry.specs.Plane.{InRange}
 use Rattle.cost_model.specs.declared.params.Params.{Params}
 use Rattle.road_network.specs.Net.{Net}
 use Rattle.trace_reader.specs.declared.trace.Fix.{Fix}
-use Rattle.trace_reader.specs.Trace.{IsLawfulTrace, point_of}
+use Rattle.trace_reader.specs.Trace.{IsLawfulTrace, point_of_fix}
 use Rattle.trace_sessions.specs.Sessions.{Pair, fixes_and, fixes_of, with_fix}
 use Rattle.trace_sessions.specs.StreamText.{Point, fixes_among, full_id, has_room, led_by, lines_of_fix, stream_lines, trace_of, with_points, with_taken}
 use Rattle.trace_sessions.specs.Streaming.{AreLawful, fixes_in}
@@ -220,7 +220,7 @@ fixes_in-behind pairs (x ∷ more) =
 -- fixes of a lawful trace, but there may be none
 pub record AreSound (fixes : List Fix) : Type 0 where
   pub few : length fixes ≤ 100_000
-  pub in-range : All (λ (fix : Fix). InRange (point_of fix)) fixes
+  pub in-range : All (λ (fix : Fix). InRange (point_of_fix fix)) fixes
 
 abbrev L : Pair → Type 0
 L q = IsLawfulTrace (trace_of q)

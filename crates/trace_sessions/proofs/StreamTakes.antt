@@ -11,7 +11,7 @@ use Rattle.bounded_search.specs.Rows.{RowsState, AsksOnly}
 use Rattle.bounded_search.proofs.Asking.{asks_nothing, keeps_itself, keeps_then, only_by, only_then}
 use Rattle.trace_match.specs.Match.{layer_of}
 use Rattle.trace_reader.specs.declared.trace.Fix.{Fix}
-use Rattle.trace_reader.specs.Trace.{point_of}
+use Rattle.trace_reader.specs.Trace.{point_of_fix}
 use Rattle.matching.specs.Layers.{trellis}
 use Rattle.matching.proofs.CommittedValues.{whole}
 use Rattle.online_commit.specs.Session.{AsksPoints, no_points_of, points_of}
@@ -218,12 +218,12 @@ asks-no-points s rows result = record {
     on_any (Err e) h = tt
 
 -- pairs stay lawful
-pub lawful-behind : (pairs : List Pair) (points : List Point) → AreLawful pairs → All (λ (x : Point). InRange (point_of x.1)) points → full_id pairs points ≡ None → AreLawful (with_points pairs points)
+pub lawful-behind : (pairs : List Pair) (points : List Point) → AreLawful pairs → All (λ (x : Point). InRange (point_of_fix x.1)) points → full_id pairs points ≡ None → AreLawful (with_points pairs points)
 lawful-behind pairs [] are places room = are
 lawful-behind pairs (x ∷ more) are places room =
     step (has_room pairs x.0) refl room (λ low is. lawful-behind (with_fix pairs x.0 x.1) more
-    (lawful-insert x.0 (fixes_and pairs x.0 x.1) pairs are (lawful-with pairs x.0 x.1 are (All-head (λ (y : Point). InRange (point_of y.1)) x more places) low))
-    (All-tail (λ (y : Point). InRange (point_of y.1)) x more places) is)
+    (lawful-insert x.0 (fixes_and pairs x.0 x.1) pairs are (lawful-with pairs x.0 x.1 are (All-head (λ (y : Point). InRange (point_of_fix y.1)) x more places) low))
+    (All-tail (λ (y : Point). InRange (point_of_fix y.1)) x more places) is)
   where
     step : (b : Bool) → has_room pairs x.0 ≡ b → cond b (full_id (with_fix pairs x.0 x.1) more) (Some x.0) ≡ None
         → (length (fixes_of pairs x.0) < 100_000 → full_id (with_fix pairs x.0 x.1) more ≡ None → AreLawful (with_points (with_fix pairs x.0 x.1) more)) → AreLawful (with_points (with_fix pairs x.0 x.1) more)

@@ -6,7 +6,7 @@ ghost use Rattle.bounded_search.specs.Rows.{AreRowsOf};
 ghost use Rattle.cost_model.specs.Options.{IsAccepted};
 ghost use Rattle.road_network.specs.Net.{IsLawful};
 ghost use Rattle.trace_match.specs.Ground.{IsGridFor};
-ghost use Rattle.trace_reader.specs.Trace.{point_of};
+ghost use Rattle.trace_reader.specs.Trace.{point_of_fix};
 ghost use Rattle.online_commit.specs.Session.{AsksFed, AsksFinished, CanFeed, Session, points_of};
 ghost use Rattle.trace_sessions.specs.declared.sessions.SessionFault.TheVariants.{Memory, NotOpen};
 ghost use Rattle.trace_sessions.specs.Sessions.{AsksClosed, AsksFedTo, Closes, IsCloseFault, Keeps, Pair, RefusesFix, TakesFix, length_of};
@@ -219,7 +219,7 @@ impl<'n> Sessions<'n> {
         rows: &mut R,
     ) -> Result<List<Item>, SessionFault>
         requires rows { AreRowsOf (R.state rows.old) self.old.network self.old.params.bound }
-        requires place { InRange (point_of fix) }
+        requires place { InRange (point_of_fix fix) }
         ensures fed { IfOk result (TakesFix self.old id fix self.new) }
         ensures refused { IfErr result (RefusesFix self.old id self.new) }
         ensures asks { AsksFedTo self.old id fix (R.state rows.old) result (R.state rows.new) }

@@ -5,7 +5,7 @@ ghost use Rattle.std.specs.List.{concat};
 ghost use Rattle.polyline_geometry.specs.Plane.{InRange};
 ghost use Rattle.bounded_search.specs.Rows.{AreRowsOf, AsksOnly};
 ghost use Rattle.online_commit.specs.Session.{AsksFinished};
-ghost use Rattle.trace_reader.specs.Trace.{IsLawfulTrace, point_of};
+ghost use Rattle.trace_reader.specs.Trace.{IsLawfulTrace, point_of_fix};
 ghost use Rattle.trace_sessions.specs.ItemText.{AddsPrefix, AreItemsOf};
 ghost use Rattle.trace_sessions.specs.Sessions.{IsSessionOf, Keeps, Pair};
 ghost use Rattle.trace_sessions.specs.StreamText.{fragment_points, led_by};
@@ -55,7 +55,7 @@ impl<'n> Sessions<'n> {
         into: &mut List<u8>,
     ) -> Result<u64, SessionFault>
         requires rows { AreRowsOf (R.state rows.old) self.old.network self.old.params.bound }
-        requires place { InRange (point_of fix) }
+        requires place { InRange (point_of_fix fix) }
         requires can { CanStream self.old 1 }
         ensures streams { (pairs : ListOf Pair) → Keeps self.old pairs
             → Streams self.old pairs ((id, fix) ∷ []) self.new into.old into.new result }

@@ -2,7 +2,7 @@ use Rattle.std.proofs.Common.{◌≡◌, ◌<◌, ◌+◌, List, All, drop, get_
 use Rattle.std.specs.List.{flat_map}
 use Rattle.trace_reader.specs.declared.trace.Fix.{Fix}
 use Rattle.trace_reader.specs.declared.trace.Trace.{Trace}
-use Rattle.trace_reader.specs.Trace.{IsLawfulTrace, point_of}
+use Rattle.trace_reader.specs.Trace.{IsLawfulTrace, point_of_fix}
 use Rattle.potential_certificate.specs.declared.proof.TraceProof.{TraceProof}
 use Rattle.std.proofs.lemmas.List.{get_or_default, length-map}
 use Rattle.polyline_geometry.specs.Plane.{InRange}
@@ -17,7 +17,7 @@ use Rattle.cert_checker.proofs.batch_check.verdict_on_batch.Goals as goal
 
 pub plain_layers-requires-clause-places : goal.plain_layers-requires-clause-places
 plain_layers-requires-clause-places c =
-    subst (λ (fixes : List Fix). All (λ fix. InRange (point_of fix)) fixes) (sym (c.as_slice.ensures ∙ c.in_ok-fixes.ensures)) (fixes_in_range c.args.batch.now.traces.now c.args.batch.now.lawful)
+    subst (λ (fixes : List Fix). All (λ fix. InRange (point_of_fix fix)) fixes) (sym (c.as_slice.ensures ∙ c.in_ok-fixes.ensures)) (fixes_in_range c.args.batch.now.traces.now c.args.batch.now.lawful)
 
 pub plain_layers-requires-clause-few : goal.plain_layers-requires-clause-few
 plain_layers-requires-clause-few c =

@@ -2,7 +2,7 @@ use Rattle.std.proofs.Common.{get_or, ap, subst, ◌∙◌, arith}
 use Rattle.std.specs.Prelude.{pos}
 use Rattle.std.specs.Vec.Iter.{into_iter_items}
 use Rattle.trace_reader.specs.declared.trace.Fix.{Fix}
-use Rattle.trace_reader.specs.Trace.{point_of}
+use Rattle.trace_reader.specs.Trace.{point_of_fix}
 use Rattle.cert_checker.proofs.PlainLayers.{AreMade, all_made, begins, next_inside, next_made}
 use Rattle.cert_checker.proofs.plain_layers.with_candidates.Goals as goal
 
@@ -23,7 +23,7 @@ pub loop-candidates-preserved : goal.loop-candidates-preserved
 loop-candidates-preserved c =
     let are = subst (AreMade c.args.net.now c.args.p.now c.args.fixes.now c.loop-candidates.layers) c.in-Some.ensures.steps.0 c.loop-candidates.invariant in
     next_made c.args.net.now c.args.p.now c.args.fixes.now c.loop-candidates.layers c.push.new.self c.in-Some.candidates (into_iter_items c.next.new.self)
-    _ none are (λ i. record { point = (c.point.ensures ∙ ap (λ k. point_of (get_or c.args.fixes.now k none)) c.len.ensures) i; candidates = c.in-Some.candidates; time = (get_or c.args.fixes.now (c.len.ensures i) none).time })
+    _ none are (λ i. record { point = (c.point.ensures ∙ ap (λ k. point_of_fix (get_or c.args.fixes.now k none)) c.len.ensures) i; candidates = c.in-Some.candidates; time = (get_or c.args.fixes.now (c.len.ensures i) none).time })
     c.in_ok-push.ensures.ok
 
 pub returns : goal.returns

@@ -11,7 +11,7 @@ use Rattle.viterbi.specs.Asking.{AsksLayers}
 use Rattle.match_pool.proofs.Found.{all_both, answered, asked_both, asked_matched, asked_routes}
 use Rattle.polyline_geometry.specs.Plane.{InRange}
 use Rattle.trace_reader.specs.declared.trace.Fix.{Fix}
-use Rattle.trace_reader.specs.Trace.{point_of}
+use Rattle.trace_reader.specs.Trace.{point_of_fix}
 use Rattle.match_pool.proofs.answer.match_one.Goals as goal
 
 pub match_trace-requires-clause-layers : goal.match_trace-requires-clause-layers
@@ -107,7 +107,7 @@ pub layers-requires-clause-ground : goal.layers-requires-clause-ground
 layers-requires-clause-ground g c = c.requires.ground
 
 pub layers-requires-clause-places : goal.layers-requires-clause-places
-layers-requires-clause-places g c = subst (All (λ (f : Fix). InRange (point_of f))) (sym c.as_slice.ensures) c.requires.trace.in_range
+layers-requires-clause-places g c = subst (All (λ (f : Fix). InRange (point_of_fix f))) (sym c.as_slice.ensures) c.requires.trace.in_range
 
 pub match_trace-requires-clause-rows : goal.match_trace-requires-clause-rows
 match_trace-requires-clause-rows g c = c.requires.rows
