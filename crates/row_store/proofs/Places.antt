@@ -5,14 +5,15 @@ use native.Mathlib.Decide.{ℕ_discrete}
 use mathlib.Core.Logic.{dite}
 use Rattle.std.specs.declared.alloc.Global.{Global as Heap}
 use Rattle.once_cell.specs.Once.{cell_name, Agrees}
-use Rattle.bounded_search.specs.Table.{TableRow}
+use Rattle.road_network.specs.Net.{Net}
+use Rattle.bounded_search.specs.Table.{TableRow, IsRow}
 use Rattle.bounded_search.specs.Known.{Extends, Adds, known_nodes}
 use Rattle.bounded_search.specs.Rows.{AsksAll}
 use Rattle.bounded_search.proofs.KnownNodes.{adds, get_set, get_set_else, inside}
 use Rattle.row_store.specs.declared.place.Place.{Place}
 use Rattle.row_store.specs.declared.place.Seen.{Seen}
-use Rattle.row_store.specs.declared.place.Seen.TheVariants.{Nothing}
-use Rattle.row_store.specs.Places.{Fits, IsCheckedFor, KeepsSight, StaysBlind, row_in}
+use Rattle.row_store.specs.declared.place.Seen.TheVariants.{Nothing, Right, Foreign, Replaced}
+use Rattle.row_store.specs.Places.{Fits, IsCheckedFor, IsReady, KeepsSight, StaysBlind, row_in}
 use Rattle.row_store.specs.ReaderInside.{AllFit, reading}
 use Rattle.row_store.specs.Store.{Stored, Reading, IsKnown, Sees, knows, rows_state}
 
@@ -179,6 +180,15 @@ pub name_at : (cells : List (Heap × ℕ)) (i : ℕ) (x : Heap × ℕ) → i < l
 name_at [] i x h e = absurd (omega arith)
 name_at (y ∷ ys) zero x h e = ap cell_name e
 name_at (y ∷ ys) (suc i) x h e = name_at ys i x (omega arith) e
+
+-- where the known row is the row of the node, that row is at hand
+pub right_ready : (net : Net) (bound v : ℕ) (s : Seen) (row : TableRow) → IsCheckedFor net bound v s → row_in s ≡ Some row → IsRow net bound v row → IsReady s
+right_ready net bound v Nothing row checked e right = tt
+right_ready net bound v (Right r) row checked e right = tt
+right_ready net bound v (Foreign r) row checked e right =
+    let same : r.now ≡ row = cc in
+    checked (subst (IsRow net bound v) (sym same) right)
+right_ready net bound v (Replaced b) row checked e right = tt
 
 -- writing a place back changes nothing
 pub same_fit : (store : Stored) (places : List Place) (n : ℕ) (x q : Place) → AllFit store places → n < length places → x ≡ get_or places n x → q ≡ x → AllFit store (set places n q)

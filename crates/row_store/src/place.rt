@@ -141,7 +141,8 @@ impl<'s> Place<'s> {
         Ok(())
     }
 
-    /// Makes the node's row, if the cell contains another and it was not made yet.
+    /// Makes the node's row, if the cell contains another and it was not made yet. Otherwise the call is Ok
+    /// and changes nothing.
     pub fn make_own(
         &mut self,
         store: &'s RowStore<'s>,
@@ -152,8 +153,7 @@ impl<'s> Place<'s> {
         ensures place { IsPlaceOf store.now n.0 searcher.new self.new }
         ensures same { self.new.note.known ≡ self.old.note.known }
         ensures ready { OnOk result (IsReady self.new.seen) }
-        ensures again { IfSome self.old.note.known
-            (λ row. IsRow store.now.network store.now.bound n.0 row → IsOk result) }
+        ensures again { IsReady self.old.seen → IsOk result × (self.new ≡ self.old) }
     {
         if let Seen::Foreign(foreign) = self.seen {
             let own = searcher.row(n)?;

@@ -174,7 +174,7 @@ impl<'s> Reader<'s> {
     /// The row that the cell of n contains for good, and whether it is the row of n. An empty cell is
     /// first filled with that row.
     ///
-    /// `Err` means out of memory. At a known node nothing is allocated.
+    /// `Err` means out of memory. At a known node the call is Ok, even if memory is refused.
     pub fn look(&mut self, n: NodeId) -> Result<Sight<'s>, AllocError>
         requires { HasNode self.old.store.network n.0 }
         ensures seen { IfOk result (λ s. Sees self.old n.0 (row_seen s) self.new) }
@@ -190,8 +190,8 @@ impl<'s> Reader<'s> {
     /// Offers a row to the cell of n. Returns the row that the cell contains for good, which is another
     /// one if the cell was set before.
     ///
-    /// The row may be wrong, with any numbers in it. `Err` means out of memory. At a known node nothing is
-    /// allocated.
+    /// The row may be wrong, with any numbers in it. `Err` means out of memory. At a known node the call is
+    /// Ok, even if memory is refused.
     pub fn offer(&mut self, n: NodeId, row: Row) -> Result<&'s Row, AllocError>
         requires node { HasNode self.old.store.network n.0 }
         requires origin { row.origin ≡ n.0 }
@@ -206,7 +206,7 @@ impl<'s> Reader<'s> {
     /// Offers the row of n, which is known to be right, to the cell of n. It is not checked again. Returns
     /// the row that the cell contains for good, which is another one if the cell was set before.
     ///
-    /// `Err` means out of memory. At a known node nothing is allocated.
+    /// `Err` means out of memory. At a known node the call is Ok, even if memory is refused.
     pub fn offer_right(&mut self, n: NodeId, row: Row) -> Result<&'s Row, AllocError>
         requires node { HasNode self.old.store.network n.0 }
         requires right { IsRow self.old.store.network self.old.store.bound n.0 row }
@@ -247,8 +247,9 @@ pub fn agree<'s>(a: &mut Reader<'s>, b: &mut Reader<'s>, n: NodeId) -> &'s Row
 impl<'s> Rows for Reader<'s> {
     ghost state = { λ r. rows_state r };
 
-    /// If the cell contains another row, the reader makes the row of n for itself, and keeps it. If the
-    /// known row is the row of n, the call is Ok.
+    /// If the cell contains another row, the reader makes the row of n for itself. It keeps this row for
+    /// later calls, which the clauses do not promise. If the known row is the row of n, the call is Ok,
+    /// even if memory is refused.
     fn row(&mut self, n: NodeId) -> Result<&Row, AllocError>
         requires { HasNode self.old.store.network n.0 }
         ensures value { IfOk result (λ row. IsRow self.old.store.network self.old.store.bound n.0 row.now) }

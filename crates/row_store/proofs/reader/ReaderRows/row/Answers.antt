@@ -5,7 +5,7 @@ use Rattle.bounded_search.proofs.Asking.{asks_done, asks_err}
 use Rattle.row_store.specs.Store.{Stored, Reading, rows_state}
 use Rattle.row_store.specs.declared.place.Place.{Place}
 use Rattle.std.proofs.lemmas.Result.{IfOk-from_err}
-use Rattle.row_store.proofs.Places.{sees_asks, some_is, read_back, within, all_fit, fits_at, same_reading, known_there, known_here, known_as}
+use Rattle.row_store.proofs.Places.{sees_asks, some_is, read_back, within, all_fit, fits_at, same_reading, known_there, known_here, known_as, right_ready}
 use Rattle.row_store.proofs.reader.ReaderRows.row.Goals as goal
 
 pub make_own-requires : goal.make_own-requires
@@ -60,8 +60,9 @@ returns-in_err-make_own c =
             let is = subst (λ (y : TableRow). IsRow c.args.self.now.store.network c.args.self.now.store.bound n y) (sym (s.1.stays known.0 known.1)) known.2 in
             let store = ap (λ (y : Reading). y.store) c.self.view_is ∙ s.1.store in
             let row = subst (λ (y : Stored). IsRow y.network y.bound n s.0) (sym store) is in
-            let again = rw some at c.in_err-make_own.ensures.again in
-            absurd (true≢false (sym (again row)));
+            let fits = fits_at _ _ n _ i.fit h c.index_mut.ensures.value in
+            let ready = right_ready _ _ n _ s.0 fits.checked (sym fits.known ∙ some) row in
+            absurd (true≢false (sym (c.in_err-make_own.ensures.again ready).0));
         after = tt;
       },
     )
