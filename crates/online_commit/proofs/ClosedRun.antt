@@ -10,7 +10,7 @@ use Rattle.route_rebuild.specs.Chosen.{IsChosenRun}
 use Rattle.road_network.specs.declared.EdgeId.{EdgeId}
 use Rattle.matching.specs.declared.parts.Cell.{Cell}
 use Rattle.route_rebuild.specs.Numbers.{numbers}
-use Rattle.route_rebuild.specs.Routes.{IsChosenEnd, IsRouteOf, route_of}
+use Rattle.route_rebuild.specs.Routes.{IsRouteOf, IsWalkStart, route_of}
 use Rattle.route_rebuild.proofs.RouteValue.{route_of-is}
 use Rattle.online_commit.specs.declared.items.Item.{Item}
 use Rattle.online_commit.specs.declared.items.Item.TheVariants.{Closed}
@@ -46,12 +46,12 @@ run-made s last c ranks ls some read el es =
     (subst (λ rs. IsChosenRun s.network s.params s.layers rs (whole_piece (length s.layers) c)) (sym es) (own-run s last c ranks read))
 
 pub end-asks : {old new : RowsState} (s : KeptSession) (last : Cell) (c : ℕ) (ranks : List ℕ) (ls : List Layer) (some : List (Option ℕ)) → IsEndRead s last c ranks → ls ≡ s.layers → some ≡ as_ranks ranks
-    → AsksOnly old new (IsChosenEnd s.network ls some (whole_piece (length s.layers) c)) → AsksOnly old new (AsksIn s.network s.params s.layers s.tables)
+    → AsksOnly old new (IsWalkStart s.network s.params ls some (whole_piece (length s.layers) c)) → AsksOnly old new (AsksIn s.network s.params s.layers s.tables)
 end-asks s last c ranks ls some read el es asks =
     only_by asks
-    (λ v end. own-asked s last c ranks v read
-    (subst (λ xs. IsChosenEnd s.network xs (as_ranks ranks) (whole_piece (length s.layers) c) v) el
-    (subst (λ rs. IsChosenEnd s.network ls rs (whole_piece (length s.layers) c) v) es end)))
+    (λ v start. own-asked s last c ranks v read
+    (subst (λ xs. IsWalkStart s.network s.params xs (as_ranks ranks) (whole_piece (length s.layers) c) v) el
+    (subst (λ rs. IsWalkStart s.network s.params ls rs (whole_piece (length s.layers) c) v) es start)))
 
 ids-of-numbers : (es : List EdgeId) → edge_ids (numbers es) ≡ es
 ids-of-numbers [] = refl

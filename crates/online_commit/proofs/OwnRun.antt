@@ -19,7 +19,7 @@ use Rattle.matching.proofs.Matches.{match_all, match_none, match_piece, solved_f
 use Rattle.matching.proofs.WholePiece.{IsFollowed, in_asked, piece_from}
 use Rattle.trellis.specs.declared.parts.Solved.{Solved}
 use Rattle.route_rebuild.specs.Chosen.{IsChosenRun, IsSolved}
-use Rattle.route_rebuild.specs.Routes.{IsChosenEnd}
+use Rattle.route_rebuild.specs.Routes.{IsWalkStart}
 use Rattle.route_rebuild.proofs.ChosenEnds.{chosen_asked}
 use Rattle.route_rebuild.proofs.ChosenRun.{chosen_run}
 use Rattle.online_commit.specs.Steps.{IsSession, KeptSession, as_ranks, whole_piece}
@@ -80,16 +80,16 @@ one-of : (q x : Piece) → Contains (q ∷ []) x → x ≡ q
 one-of q x (zero, lt, e) = sym e
 one-of q x (suc k, lt, e) = absurd (omega (arith, lt))
 
--- the points of the open piece ask for the end of each chosen edge but the last
-pub own-asked : (s : KeptSession) (last : Cell) (c : ℕ) (ranks : List ℕ) (v : ℕ) → IsEndRead s last c ranks → IsChosenEnd s.network s.layers (as_ranks ranks) (whole_piece (length s.layers) c) v
+-- the points of the open piece ask for each node where a walk of its route starts
+pub own-asked : (s : KeptSession) (last : Cell) (c : ℕ) (ranks : List ℕ) (v : ℕ) → IsEndRead s last c ranks → IsWalkStart s.network s.params s.layers (as_ranks ranks) (whole_piece (length s.layers) c) v
     → AsksIn s.network s.params s.layers s.tables v
-own-asked s last c ranks v h end =
+own-asked s last c ranks v h start =
     let n = s.network in
     let p = s.params in
     let q = whole_piece (length s.layers) c in
     let solved : Solved = record { ranks = as_ranks ranks; pieces = q ∷ []; tables = s.tables } in
     let count = h.session.tables_count in
-    let asked = chosen_asked n p s.layers solved 0 h.lawful (own-solved s last c ranks h) (omega arith) v end in
+    let asked = chosen_asked n p s.layers solved 0 h.lawful (own-solved s last c ranks h) (omega arith) v start in
     let only : asked.0 ≡ q = one-of q asked.0 asked.1 in
     in_asked n p s.layers 0 s.tables q v (h.session.open_is h.some).so_far.run refl (omega (arith, count)) (subst (λ x. IsAskedNodeIn (trellis n p) (end_of n) s.layers x v) only asked.2)
 

@@ -1,4 +1,4 @@
--- The trace asks for the end of the edge of each chosen candidate before a piece's last point.
+-- The trace asks for each node where a walk of a piece's route starts.
 use Rattle.std.proofs.Common.{◌≡◌, ℕ, zero, suc, ◌+◌, ◌-◌, ◌<◌, ◌≤◌, IsTrue, List, [], ◌∷◌, ◌++◌, Some, None, sym, ap, ◌∙◌, subst, arith, length, take, drop, reverse, get_or}
 use Rattle.std.specs.Prelude.{unwrap_or}
 use Rattle.std.proofs.lemmas.List.{length-drop, length-reverse, reverse-append, take-append-drop, take-take}
@@ -16,7 +16,7 @@ use Rattle.matching.specs.Pieces.{AreNear, ArePieces, IsPiece}
 use Rattle.matching.specs.Sequences.{Trellis, IsRankReached, cost}
 use Rattle.matching.proofs.Costs.{cost-length, cost-parts}
 use Rattle.route_rebuild.specs.Chosen.{IsChosenPoint, IsSolved}
-use Rattle.route_rebuild.specs.Routes.{IsChosenEnd, no_layer, piece_at}
+use Rattle.route_rebuild.specs.Routes.{IsWalkStart, no_layer, piece_at}
 use Rattle.route_rebuild.proofs.ChosenRun.{IsInPiece, between, chosen_run, length_between, pieces_within, point_rank}
 use Rattle.trellis.specs.declared.parts.Solved.{Solved}
 
@@ -97,12 +97,12 @@ chosen_reached t layers s piece i m count place =
           (subst (λ rs. cost t (drop q back) rs ≡ Some earlier.0) ranks_are earlier.1),
     )
 
--- the trace asks for the end of each chosen edge of this piece, but for its last point's
+-- the trace asks for each node where a walk of this piece starts
 abbrev pub EndsAreAsked : Net → Params → List Layer → Solved → ℕ → Type 0
-EndsAreAsked n p layers s k = (v : ℕ) → IsChosenEnd n layers s.ranks (piece_at s.pieces k) v → AsksTrace n p layers s.pieces v
+EndsAreAsked n p layers s k = (v : ℕ) → IsWalkStart n p layers s.ranks (piece_at s.pieces k) v → AsksTrace n p layers s.pieces v
 
 pub chosen_asked : (n : Net) (p : Params) (layers : List Layer) (s : Solved) (k : ℕ) → IsLawful n → IsSolved n p layers s → k < length s.pieces → EndsAreAsked n p layers s k
-chosen_asked n p layers s k lawful is lt v (i, ge, less, end) =
+chosen_asked n p layers s k lawful is lt v (i, ge, less, long, end) =
     let t : Trellis Layer = trellis n p in
     let none : Piece = record { first = 0; last = 0; cost = 0 } in
     let piece : Piece = piece_at s.pieces k in

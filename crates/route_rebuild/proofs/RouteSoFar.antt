@@ -1,6 +1,10 @@
 -- The route over the first points of a piece, and how it goes on.
-use Rattle.std.proofs.Common.{◌≡◌, ℕ, suc, ◌+◌, ◌-◌, ◌^◌, ◌<◌, ◌≤◌, ◌++◌, List, [], ◌∷◌, reverse, refl, sym, ap, subst, ◌∙◌, inl, inr, arith, append_assoc}
+use Rattle.std.proofs.Common.{◌≡◌, ℕ, suc, ◌+◌, ◌-◌, ◌^◌, ◌<◌, ◌≤◌, ◌++◌, List, [], ◌∷◌, ◌⊎◌, Result, reverse, refl, sym, ap, subst, ◌∙◌, inl, inr, ⊎_elim, arith, append_assoc}
+use native.Mathlib.Decide.{ℕ_discrete}
+use mathlib.Core.Logic.{dite}
 use Rattle.std.proofs.lemmas.List.{append-nil, reverse-reverse}
+use Rattle.bounded_search.specs.Rows.{RowsState, AsksFor}
+use Rattle.bounded_search.proofs.Asking.{asks_by}
 use Rattle.road_network.specs.declared.Candidate.{Candidate}
 use Rattle.road_network.specs.declared.EdgeId.{EdgeId}
 use Rattle.road_network.specs.Net.{Net, HasEdge, IsLawful, source, target}
@@ -9,7 +13,7 @@ use Rattle.matching.specs.Routes.{Route, Direct, Over, IsRoute, IsTheRoute}
 use Rattle.matching.proofs.Routes.{direct_route, over_route}
 use Rattle.route_rebuild.specs.Numbers.{numbers}
 use Rattle.route_rebuild.specs.Routes.{AreLegs, edges_of}
-use Rattle.route_rebuild.specs.Runs.{HasWalk, IsLegAdded, IsRouteOfRun, chosen_in}
+use Rattle.route_rebuild.specs.Runs.{HasWalk, IsDirectLeg, IsLegAdded, IsRouteOfRun, IsWalkStartAt, IsWalkStartOf, chosen_in}
 use Rattle.route_rebuild.specs.declared.run.Run.{Run}
 use Rattle.route_rebuild.proofs.RouteValue.{route_found}
 
@@ -63,6 +67,34 @@ least_route n bound back a b w found none least =
     let within : walk_length n w ≤ bound = elim (least.least found.0 found.1) [ inl lt ↦ omega (arith, lt, found.2) | inr p ↦ omega (arith, p.0, found.2) ] in
     over_route n bound back a b w none least within
 
+-- v is the node where the walk of a leg before point i starts
+abbrev pub IsWalkStartBefore : Run → ℕ → ℕ → Type 0
+IsWalkStartBefore run i v = (k : ℕ) × (run.piece.first ≤ k) × (k < i) × IsWalkStartAt run k v
+
+pub start_more : (run : Run) (i v : ℕ) → run.piece.first ≤ i → IsWalkStartBefore run i v ⊎ IsWalkStartAt run i v → IsWalkStartBefore run (i + 1) v
+start_more run i v ge h = ⊎_elim
+    (λ (before : IsWalkStartBefore run i v). (before.0, before.1, omega (arith, before.2), before.3))
+    (λ (here : IsWalkStartAt run i v). (i, ge, omega arith, here)) h
+
+pub start_split : (run : Run) (i v : ℕ) → IsWalkStartBefore run (i + 1) v → IsWalkStartBefore run i v ⊎ IsWalkStartAt run i v
+start_split run i v (k, ge, less, at) = dite (ℕ_discrete k i)
+    (λ (same : k ≡ i). inr (subst (λ j. IsWalkStartAt run j v) same at))
+    (λ ne. inl (k, ge, omega (arith, less, ne), at))
+
+pub start_of : (run : Run) (i v : ℕ) → i ≤ run.piece.last → IsWalkStartBefore run i v → IsWalkStartOf run v
+start_of run i v le (k, ge, less, at) = (k, ge, omega (arith, less, le), at.0, at.1)
+
+pub start_all : (run : Run) (i v : ℕ) → i ≡ run.piece.last → IsWalkStartOf run v → IsWalkStartBefore run i v
+start_all run i v at (k, ge, less, none, here) = (k, ge, omega (arith, less, at), (none, here))
+
+-- asking for the row of the node where the first edge ends is asking for where this leg's walk starts
+pub asks_walk : {A E : Type 0} {s0 s1 : RowsState} {result : Result A E} (run : Run) (i v : ℕ) (a b : Candidate) → a ≡ chosen_in run i → b ≡ chosen_in run (i + 1)
+    → (IsRoute run.net.now run.params.now.bound run.params.now.back a b Direct → ⊥) → v ≡ target run.net.now a.edge.0 → AsksFor s0 (λ w. w ≡ v) result s1 → AsksFor s0 (IsWalkStartAt run i) result s1
+asks_walk run i v a b a_is b_is none is asks =
+    let long : IsDirectLeg run i → ⊥ = rw (a_is, b_is) at none in
+    let start : v ≡ target run.net.now (chosen_in run i).edge.0 = rw a_is at is in
+    asks_by asks (λ w same. (long, same ∙ start)) (λ w walk. walk.1 ∙ sym start)
+
 numbers_append : (xs ys : List EdgeId) → numbers (xs ++ ys) ≡ numbers xs ++ numbers ys
 numbers_append [] ys = refl
 numbers_append (x ∷ xs) ys = ap (λ (k : List ℕ). x.0 ∷ k) (numbers_append xs ys)
@@ -74,11 +106,7 @@ appended b edges walk after is =
     ∙ (append_assoc (numbers edges) (numbers walk) (b.edge.0 ∷ [])
     ∙ ap (λ (k : List ℕ). numbers edges ++ (k ++ b.edge.0 ∷ [])) (sym (reverse-reverse (numbers walk))))))
 
--- there is a direct route from point i to the next
-abbrev pub IsDirect : Run → ℕ → Type 0
-IsDirect run i = IsRoute run.net.now run.params.now.bound run.params.now.back (chosen_in run i) (chosen_in run (i + 1)) Direct
-
-pub direct_leg : (run : Run) (i : ℕ) (es : List ℕ) → IsDirect run i → IsLegAdded run i es es
+pub direct_leg : (run : Run) (i : ℕ) (es : List ℕ) → IsDirectLeg run i → IsLegAdded run i es es
 direct_leg run i es is = record {
   route = Direct;
   is = direct_route run.net.now run.params.now.bound run.params.now.back (chosen_in run i) (chosen_in run (i + 1)) is;
@@ -96,7 +124,7 @@ offset_fits run i lawful ge lt =
     omega (arith, b.offset, lawful.not_long (chosen_in run (i + 1)).edge.0 b.edge, run.is.options.back)
 
 -- where there is none, there is a walk from point i to the next
-pub leg_walk : (run : Run) (i : ℕ) → IsLawful run.net.now → run.piece.first ≤ i → i < run.piece.last → (IsDirect run i → ⊥) → HasWalk run.net.now run.params.now.bound (chosen_in run i).edge.0 (chosen_in run (i + 1)).edge.0
+pub leg_walk : (run : Run) (i : ℕ) → IsLawful run.net.now → run.piece.first ≤ i → i < run.piece.last → (IsDirectLeg run i → ⊥) → HasWalk run.net.now run.params.now.bound (chosen_in run i).edge.0 (chosen_in run (i + 1)).edge.0
 leg_walk run i lawful ge lt none =
     let n = run.net.now in
     let bound = run.params.now.bound in
@@ -105,7 +133,7 @@ leg_walk run i lawful ge lt none =
     walk_of n bound back (chosen_in run i) (chosen_in run (i + 1)) found.0 found.2.route none
 
 -- the walk and the next edge, as they are appended
-pub walk_leg : (run : Run) (i : ℕ) (edges walk after : List EdgeId) → HasWalk run.net.now run.params.now.bound (chosen_in run i).edge.0 (chosen_in run (i + 1)).edge.0 → (IsDirect run i → ⊥)
+pub walk_leg : (run : Run) (i : ℕ) (edges walk after : List EdgeId) → HasWalk run.net.now run.params.now.bound (chosen_in run i).edge.0 (chosen_in run (i + 1)).edge.0 → (IsDirectLeg run i → ⊥)
     → IsLeastWalk run.net.now (target run.net.now (chosen_in run i).edge.0) (reverse (numbers walk)) (source run.net.now (chosen_in run (i + 1)).edge.0)
     → after ≡ (edges ++ walk) ++ (chosen_in run (i + 1)).edge ∷ [] → IsLegAdded run i (numbers edges) (numbers after)
 walk_leg run i edges walk after found none least added =

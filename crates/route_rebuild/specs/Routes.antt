@@ -8,6 +8,7 @@ use Rattle.matching.specs.Routes.{Route, Direct, Over, IsTheRoute}
 use Rattle.matching.specs.RouteBetween.{route_between}
 use Rattle.road_network.specs.Net.{Net, target}
 use Rattle.road_network.specs.declared.Candidate.{Candidate}
+use Rattle.trellis.specs.Links.{IsDirect}
 
 -- the edges that a route to candidate b adds: none where it is direct, and else its walk and the
 -- edge of b
@@ -58,11 +59,13 @@ route_of n p layers ranks piece =
     (chosen_at layers ranks piece.first).edge.0
     ∷ legs n p.bound p.back (chosen_at layers ranks) piece.first (piece.last - piece.first)
 
--- v is the node at the end of the edge of a chosen candidate before the piece's last point
-abbrev pub IsChosenEnd : Net → List Layer → List (Option ℕ) → Piece → ℕ → Type 0
-IsChosenEnd n layers ranks piece v =
+-- v is the end of the edge of a chosen candidate before the piece's last point, from which there is no
+-- direct route to the next chosen candidate: the walk of this leg starts at v
+abbrev pub IsWalkStart : Net → Params → List Layer → List (Option ℕ) → Piece → ℕ → Type 0
+IsWalkStart n p layers ranks piece v =
     (k : ℕ) × (piece.first ≤ k)
     × (k < piece.last)
+    × (IsDirect p.back (chosen_at layers ranks k) (chosen_at layers ranks (k + 1)) → ⊥)
     × (v ≡ target n (chosen_at layers ranks k).edge.0)
 
 -- the piece of this number

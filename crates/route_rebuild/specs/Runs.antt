@@ -6,7 +6,8 @@ use Rattle.road_network.specs.Net.{Net, source, target}
 use Rattle.road_network.specs.Walk.{IsWalk, walk_length}
 use Rattle.road_network.specs.declared.Candidate.{Candidate}
 use Rattle.route_rebuild.specs.declared.run.Run.{Run}
-use Rattle.route_rebuild.specs.Routes.{IsChosenEnd, IsRouteOf, chosen_at, edges_of}
+use Rattle.route_rebuild.specs.Routes.{IsRouteOf, IsWalkStart, chosen_at, edges_of}
+use Rattle.trellis.specs.Links.{IsDirect}
 
 -- they are the rows that the run asks for
 abbrev pub AreRowsForRun : RowsState → Run → Type 0
@@ -21,9 +22,18 @@ abbrev pub IsRouteOfRun : Run → List ℕ → Type 0
 IsRouteOfRun run es =
     IsRouteOf run.net.now run.params.now run.layers.now run.ranks.now run.piece es
 
--- v is the end of a chosen edge before the run's last point
-abbrev pub EndsLeg : Run → ℕ → Type 0
-EndsLeg run v = IsChosenEnd run.net.now run.layers.now run.ranks.now run.piece v
+-- there is a direct route from point i to the next
+abbrev pub IsDirectLeg : Run → ℕ → Type 0
+IsDirectLeg run i = IsDirect run.params.now.back (chosen_in run i) (chosen_in run (i + 1))
+
+-- there is none, and v is the node where the walk to the next point starts
+abbrev pub IsWalkStartAt : Run → ℕ → ℕ → Type 0
+IsWalkStartAt run i v = (IsDirectLeg run i → ⊥) × (v ≡ target run.net.now (chosen_in run i).edge.0)
+
+-- v is such a node of the run
+abbrev pub IsWalkStartOf : Run → ℕ → Type 0
+IsWalkStartOf run v =
+    IsWalkStart run.net.now run.params.now run.layers.now run.ranks.now run.piece v
 
 -- the edges of the route from point i to the next were appended
 pub record IsLegAdded (run : Run) (i : ℕ) (old new : List ℕ) : Type 0 where

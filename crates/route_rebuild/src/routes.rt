@@ -1,12 +1,11 @@
 //! The route of a piece. Serves `route`; decided by `IsRouteOf`.
 ghost use Rattle.std.specs.Prelude.{◌≡◌, ◌<◌, ◌≤◌, IfOk, OnOk, length};
-ghost use Rattle.bounded_search.specs.Rows.{AreRowsOf, AsksOnly};
-ghost use Rattle.road_network.specs.Net.{target};
+ghost use Rattle.bounded_search.specs.Rows.{AreRowsOf, AsksFor};
 ghost use Rattle.route_rebuild.specs.Chosen.{IsChosenRun, IsSolved};
 ghost use Rattle.route_rebuild.specs.Laws.{IsJoinedRoute};
 ghost use Rattle.route_rebuild.specs.Numbers.{numbers};
-ghost use Rattle.route_rebuild.specs.Routes.{IsChosenEnd, IsRouteOf, piece_at};
-ghost use Rattle.route_rebuild.specs.Runs.{AreRowsForRun, EndsLeg, IsLegAdded, IsRouteOfRun, chosen_in};
+ghost use Rattle.route_rebuild.specs.Routes.{IsRouteOf, IsWalkStart, piece_at};
+ghost use Rattle.route_rebuild.specs.Runs.{AreRowsForRun, IsLegAdded, IsRouteOfRun, IsWalkStartAt, IsWalkStartOf};
 
 use crate::run::{Run, chosen};
 use crate::walks::walk;
@@ -23,7 +22,8 @@ use trellis::Solved;
 /// next point's edge.
 ///
 /// It asks for the row of the end node of a chosen candidate's edge if the next leg is not direct,
-/// and for no other row, even on `Err`. `solved` is the match of these layers with the same options.
+/// and for no other row: after Ok each of these nodes is known, and even on `Err` no other node became
+/// known. `solved` is the match of these layers with the same options.
 pub fn route<R: Rows>(
     alloc: Global,
     net: &Network,
@@ -38,8 +38,8 @@ pub fn route<R: Rows>(
     requires piece { piece < length solved.now.pieces }
     ensures route { IfOk result (λ es. IsJoinedRoute net.now p.now layers.now solved.now.ranks
         (piece_at solved.now.pieces piece) (numbers es)) }
-    ensures asks { AsksOnly (R.state rows.old) (R.state rows.new)
-        (IsChosenEnd net.now layers.now solved.now.ranks (piece_at solved.now.pieces piece)) }
+    ensures asks { AsksFor (R.state rows.old) (IsWalkStart net.now p.now layers.now solved.now.ranks
+        (piece_at solved.now.pieces piece)) result (R.state rows.new) }
 {
     net.invariants();
     let piece = solved.pieces.as_slice()[piece as usize];
@@ -61,8 +61,8 @@ pub fn route_over<R: Rows>(
     requires run { IsChosenRun net.now p.now layers.now ranks.now piece }
     ensures route { IfOk result
         (λ es. IsRouteOf net.now p.now layers.now ranks.now piece (numbers es)) }
-    ensures asks { AsksOnly (R.state rows.old) (R.state rows.new)
-        (IsChosenEnd net.now layers.now ranks.now piece) }
+    ensures asks { AsksFor (R.state rows.old) (IsWalkStart net.now p.now layers.now ranks.now piece)
+        result (R.state rows.new) }
 {
     let run = Run {
         net,
@@ -78,7 +78,7 @@ pub fn route_over<R: Rows>(
 fn follow<R: Rows>(alloc: Global, rows: &mut R, run: &Run) -> Result<List<EdgeId>, AllocError>
     requires { AreRowsForRun (R.state rows.old) run.now }
     ensures route { IfOk result (λ es. IsRouteOfRun run.now (numbers es)) }
-    ensures asks { AsksOnly (R.state rows.old) (R.state rows.new) (EndsLeg run.now) }
+    ensures asks { AsksFor (R.state rows.old) (IsWalkStartOf run.now) result (R.state rows.new) }
 {
     let first = run.piece.first as usize;
     let last = run.piece.last as usize;
@@ -102,8 +102,7 @@ fn append_leg<R: Rows>(
     requires rows { AreRowsForRun (R.state rows.old) run.now }
     requires point { (run.now.piece.first ≤ i) × (i < run.now.piece.last) }
     ensures leg { OnOk result (IsLegAdded run.now i (numbers edges.old) (numbers edges.new)) }
-    ensures asks { AsksOnly (R.state rows.old) (R.state rows.new)
-        (λ v. v ≡ target run.now.net.now (chosen_in run.now i).edge.0) }
+    ensures asks { AsksFor (R.state rows.old) (IsWalkStartAt run.now i) result (R.state rows.new) }
 {
     run.net.invariants();
     let a = chosen(run, i);

@@ -23,21 +23,21 @@ overflow_cast-at g c =
 pub returns-in_err-edges-clause-asks : goal.returns-in_err-edges-clause-asks
 returns-in_err-edges-clause-asks g c =
     only_then c.loop-number.invariant.asks
-    (only_by c.route.ensures.asks (chosen_asked c.args.found.now.net.now c.args.found.now.params.now c.args.found.now.layers.now c.args.found.now.solved.now c.loop-number.number c.invariants.ensures c.requires.solved
+    (only_by c.route.ensures.asks.only (chosen_asked c.args.found.now.net.now c.args.found.now.params.now c.args.found.now.layers.now c.args.found.now.solved.now c.loop-number.number c.invariants.ensures c.requires.solved
     (let low = c.loop-number-test.true in let end = c.len-number-end.ensures in omega arith)))
     (λ v h. ⊎_elim (λ a. a) (λ a. a) h)
 
 pub returns-in_err-routed-clause-asks : goal.returns-in_err-routed-clause-asks
 returns-in_err-routed-clause-asks g c =
     only_then c.loop-number.invariant.asks
-    (only_by c.route.ensures.asks (chosen_asked c.args.found.now.net.now c.args.found.now.params.now c.args.found.now.layers.now c.args.found.now.solved.now c.loop-number.number c.invariants.ensures c.requires.solved
+    (only_by c.route.ensures.asks.only (chosen_asked c.args.found.now.net.now c.args.found.now.params.now c.args.found.now.layers.now c.args.found.now.solved.now c.loop-number.number c.invariants.ensures c.requires.solved
     (let low = c.loop-number-test.true in let end = c.len-number-end.ensures in omega arith)))
     (λ v h. ⊎_elim (λ a. a) (λ a. a) h)
 
 pub returns-in_err-push-clause-asks : goal.returns-in_err-push-clause-asks
 returns-in_err-push-clause-asks g c =
     only_then c.loop-number.invariant.asks
-    (only_by c.route.ensures.asks (chosen_asked c.args.found.now.net.now c.args.found.now.params.now c.args.found.now.layers.now c.args.found.now.solved.now c.loop-number.number c.invariants.ensures c.requires.solved
+    (only_by c.route.ensures.asks.only (chosen_asked c.args.found.now.net.now c.args.found.now.params.now c.args.found.now.layers.now c.args.found.now.solved.now c.loop-number.number c.invariants.ensures c.requires.solved
     (let low = c.loop-number-test.true in let end = c.len-number-end.ensures in omega arith)))
     (λ v h. ⊎_elim (λ a. a) (λ a. a) h)
 
@@ -66,7 +66,7 @@ loop-number-preserved g c =
           ∙ ap (λ x. map f (take i s.pieces) ++ x ∷ []) made
           ∙ sym (map_more f s.pieces i (record { first = 0; last = 0; cost = 0 }) (omega arith));
       asks = only_then c.loop-number.invariant.asks
-          (only_by c.route.ensures.asks (chosen_asked c.args.found.now.net.now c.args.found.now.params.now c.args.found.now.layers.now c.args.found.now.solved.now c.loop-number.number c.invariants.ensures c.requires.solved
+          (only_by c.route.ensures.asks.only (chosen_asked c.args.found.now.net.now c.args.found.now.params.now c.args.found.now.layers.now c.args.found.now.solved.now c.loop-number.number c.invariants.ensures c.requires.solved
           (let low = c.loop-number-test.true in let end = c.len-number-end.ensures in omega arith)))
           (λ v h. ⊎_elim (λ a. a) (λ a. a) h);
     }

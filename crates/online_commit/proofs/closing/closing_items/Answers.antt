@@ -3,7 +3,7 @@ use Rattle.bounded_search.proofs.Asking.{asks_nothing}
 use Rattle.bounded_search.specs.Rows.{AsksOnly}
 use Rattle.route_rebuild.specs.Chosen.{IsChosenRun}
 use Rattle.route_rebuild.specs.Numbers.{numbers}
-use Rattle.route_rebuild.specs.Routes.{IsChosenEnd, IsRouteOf}
+use Rattle.route_rebuild.specs.Routes.{IsRouteOf, IsWalkStart}
 use Rattle.online_commit.specs.declared.items.Item.TheVariants.{Closed}
 use Rattle.online_commit.specs.Pieces.{session_of}
 use Rattle.online_commit.specs.Steps.{as_ranks, piece_from, rank_in, ranked_items, whole_piece}
@@ -57,8 +57,8 @@ returns-in_err-route-clause-asks g c =
     let all : c.deref-3.result.now ≡ as_ranks ranks = c.deref-3.ensures.value ∙ c.in_ok-some.ensures ∙ ap (λ rs. as_ranks rs) taken in
     let read = end-read s c.as_slice-tables.result.now c.index-tables-end.result c.as_slice.result.now last c.unwrap_or.result ranks c.invariants.ensures c.requires.session some c.as_slice-tables.ensures.value
     (c.index-tables-end.is ∙ ap (λ k. get_or c.as_slice-tables.result.now (k - 1) c.index-tables-end.result) len) c.as_slice.ensures c.least_cell-last.ensures c.unwrap_or.ensures c.in_ok-ranks.ensures in
-    let asked : AsksOnly (g.R.Rows.state c.args.rows.now) (g.R.Rows.state c.route_over.new.rows) (IsChosenEnd s.network c.deref-2.result.now c.deref-3.result.now (whole_piece (length s.layers) c.unwrap_or.result)) =
-    subst (λ k. AsksOnly (g.R.Rows.state c.args.rows.now) (g.R.Rows.state c.route_over.new.rows) (IsChosenEnd s.network c.deref-2.result.now c.deref-3.result.now (whole_piece k c.unwrap_or.result))) len c.route_over.ensures.asks in
+    let asked : AsksOnly (g.R.Rows.state c.args.rows.now) (g.R.Rows.state c.route_over.new.rows) (IsWalkStart s.network s.params c.deref-2.result.now c.deref-3.result.now (whole_piece (length s.layers) c.unwrap_or.result)) =
+    subst (λ k. AsksOnly (g.R.Rows.state c.args.rows.now) (g.R.Rows.state c.route_over.new.rows) (IsWalkStart s.network s.params c.deref-2.result.now c.deref-3.result.now (whole_piece k c.unwrap_or.result))) len c.route_over.ensures.asks.only in
     end-asks s last c.unwrap_or.result ranks c.deref-2.result.now c.deref-3.result.now read c.deref-2.ensures.value all asked
 
 pub returns-in_err-push-clause-asks : goal.returns-in_err-push-clause-asks
@@ -72,8 +72,8 @@ returns-in_err-push-clause-asks g c =
     let all : c.deref-3.result.now ≡ as_ranks ranks = c.deref-3.ensures.value ∙ c.in_ok-some.ensures ∙ ap (λ rs. as_ranks rs) taken in
     let read = end-read s c.as_slice-tables.result.now c.index-tables-end.result c.as_slice.result.now last c.unwrap_or.result ranks c.invariants.ensures c.requires.session some c.as_slice-tables.ensures.value
     (c.index-tables-end.is ∙ ap (λ k. get_or c.as_slice-tables.result.now (k - 1) c.index-tables-end.result) len) c.as_slice.ensures c.least_cell-last.ensures c.unwrap_or.ensures c.in_ok-ranks.ensures in
-    let asked : AsksOnly (g.R.Rows.state c.args.rows.now) (g.R.Rows.state c.route_over.new.rows) (IsChosenEnd s.network c.deref-2.result.now c.deref-3.result.now (whole_piece (length s.layers) c.unwrap_or.result)) =
-    subst (λ k. AsksOnly (g.R.Rows.state c.args.rows.now) (g.R.Rows.state c.route_over.new.rows) (IsChosenEnd s.network c.deref-2.result.now c.deref-3.result.now (whole_piece k c.unwrap_or.result))) len c.route_over.ensures.asks in
+    let asked : AsksOnly (g.R.Rows.state c.args.rows.now) (g.R.Rows.state c.route_over.new.rows) (IsWalkStart s.network s.params c.deref-2.result.now c.deref-3.result.now (whole_piece (length s.layers) c.unwrap_or.result)) =
+    subst (λ k. AsksOnly (g.R.Rows.state c.args.rows.now) (g.R.Rows.state c.route_over.new.rows) (IsWalkStart s.network s.params c.deref-2.result.now c.deref-3.result.now (whole_piece k c.unwrap_or.result))) len c.route_over.ensures.asks.only in
     end-asks s last c.unwrap_or.result ranks c.deref-2.result.now c.deref-3.result.now read c.deref-2.ensures.value all asked
 
 pub returns-clause-asks : goal.returns-clause-asks
@@ -87,8 +87,8 @@ returns-clause-asks g c =
     let all : c.deref-3.result.now ≡ as_ranks ranks = c.deref-3.ensures.value ∙ c.in_ok-some.ensures ∙ ap (λ rs. as_ranks rs) taken in
     let read = end-read s c.as_slice-tables.result.now c.index-tables-end.result c.as_slice.result.now last c.unwrap_or.result ranks c.invariants.ensures c.requires.session some c.as_slice-tables.ensures.value
     (c.index-tables-end.is ∙ ap (λ k. get_or c.as_slice-tables.result.now (k - 1) c.index-tables-end.result) len) c.as_slice.ensures c.least_cell-last.ensures c.unwrap_or.ensures c.in_ok-ranks.ensures in
-    let asked : AsksOnly (g.R.Rows.state c.args.rows.now) (g.R.Rows.state c.route_over.new.rows) (IsChosenEnd s.network c.deref-2.result.now c.deref-3.result.now (whole_piece (length s.layers) c.unwrap_or.result)) =
-    subst (λ k. AsksOnly (g.R.Rows.state c.args.rows.now) (g.R.Rows.state c.route_over.new.rows) (IsChosenEnd s.network c.deref-2.result.now c.deref-3.result.now (whole_piece k c.unwrap_or.result))) len c.route_over.ensures.asks in
+    let asked : AsksOnly (g.R.Rows.state c.args.rows.now) (g.R.Rows.state c.route_over.new.rows) (IsWalkStart s.network s.params c.deref-2.result.now c.deref-3.result.now (whole_piece (length s.layers) c.unwrap_or.result)) =
+    subst (λ k. AsksOnly (g.R.Rows.state c.args.rows.now) (g.R.Rows.state c.route_over.new.rows) (IsWalkStart s.network s.params c.deref-2.result.now c.deref-3.result.now (whole_piece k c.unwrap_or.result))) len c.route_over.ensures.asks.only in
     end-asks s last c.unwrap_or.result ranks c.deref-2.result.now c.deref-3.result.now read c.deref-2.ensures.value all asked
 
 pub returns-clause-some : goal.returns-clause-some

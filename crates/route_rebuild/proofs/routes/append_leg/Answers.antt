@@ -1,16 +1,16 @@
-use Rattle.std.proofs.Common.{◌≡◌, ◌≤◌, ◌+◌, ◌++◌, ◌∷◌, [], List, Result, Ok, Err, OnOk, ap, reverse, sym, subst, ◌∙◌, arith}
+use Rattle.std.proofs.Common.{◌≤◌, ◌+◌, ◌++◌, ◌∷◌, [], List, Result, Ok, Err, OnOk, ap, reverse, sym, subst, ◌∙◌, arith}
 use Rattle.std.proofs.lemmas.Bool.{eqb-true}
 use Rattle.std.proofs.lemmas.Bool.Decides.{nat_tests}
 use Rattle.bounded_search.specs.Table.{entry_in, label_of}
-use Rattle.bounded_search.proofs.Asking.{asks_nothing, only_by}
+use Rattle.bounded_search.proofs.Asking.{asks_done, asks_err, asks_known, asks_ok}
 use Rattle.matching.specs.Routes.{Direct, IsRoute}
 use Rattle.road_network.specs.Net.{HasEdge, source, target}
 use Rattle.road_network.specs.Walk.{IsLeastWalk, IsWalk, walk_length}
 use Rattle.road_network.specs.declared.Candidate.{Candidate}
 use Rattle.road_network.specs.declared.EdgeId.{EdgeId}
 use Rattle.route_rebuild.specs.Numbers.{numbers}
-use Rattle.route_rebuild.specs.Runs.{HasWalk, chosen_in}
-use Rattle.route_rebuild.proofs.RouteSoFar.{IsDirect, direct_leg, leg_edges, leg_walk, offset_fits, walk_leg}
+use Rattle.route_rebuild.specs.Runs.{HasWalk, IsDirectLeg}
+use Rattle.route_rebuild.proofs.RouteSoFar.{asks_walk, direct_leg, leg_edges, leg_walk, offset_fits, walk_leg}
 use Rattle.route_rebuild.proofs.StepsBack.{is_there}
 use Rattle.route_rebuild.proofs.routes.append_leg.Goals as goal
 use Rattle.route_rebuild.proofs.routes.append_leg.Goals.{else-eq-via-then-eq+else-a-b, else-eq-via-else-eq}
@@ -31,7 +31,11 @@ returns-then-a-b-clause-leg g c =
     direct_leg run c.args.i (numbers c.args.edges.now) (rw (c.chosen-a.ensures, c.chosen-b.ensures) at is)
 
 pub returns-then-a-b-clause-asks : goal.returns-then-a-b-clause-asks
-returns-then-a-b-clause-asks g c = asks_nothing (g.R.Rows.state c.args.rows.now) (λ v. v ≡ target c.args.run.now.net.now (chosen_in c.args.run.now c.args.i).edge.0)
+returns-then-a-b-clause-asks g c =
+    let run = c.args.run.now in
+    let is : IsRoute run.net.now run.params.now.bound run.params.now.back c.chosen-a.result c.chosen-b.result Direct = (eqb-true c.chosen-a.result.edge.0 c.chosen-b.result.edge.0 (sym c.if-eq.ensures), c.if-a-b.true) in
+    let direct : IsDirectLeg run c.args.i = rw (c.chosen-a.ensures, c.chosen-b.ensures) at is in
+    asks_done (asks_known (λ v start. absurd (start.0 direct)))
 
 pub to-requires : goal.to-requires
 to-requires g c = rw c.chosen-a.ensures (leg_edges c.args.run.now c.args.i c.requires.point.0 c.requires.point.1).0
@@ -47,7 +51,7 @@ row-requires g c =
 pub walk-requires-clause-listed : goal.walk-requires-clause-listed
 walk-requires-clause-listed g c =
     let run = c.args.run.now in
-    let none : IsDirect run c.args.i → ⊥ = λ direct.
+    let none : IsDirectLeg run c.args.i → ⊥ = λ direct.
     let is : IsRoute run.net.now run.params.now.bound run.params.now.back c.chosen-a.result c.chosen-b.result Direct = rw (c.chosen-a.ensures, c.chosen-b.ensures) direct in
     elim c.else-eq.branch [ else-eq-via-then-eq+else-a-b w ↦ omega (arith, is.1) | else-eq-via-else-eq w ↦ let same = is.0 in grind (arith, nat_tests) ] in
     let found : HasWalk run.net.now (g.R.Rows.state c.args.rows.now).bound c.chosen-a.result.edge.0 c.chosen-b.result.edge.0 =
@@ -63,15 +67,24 @@ walk-requires-clause-listed g c =
 
 pub returns-in_err-row-clause-asks : goal.returns-in_err-row-clause-asks
 returns-in_err-row-clause-asks g c =
-    only_by c.row.follows.holds-at-none.only (λ v same. same ∙ c.to.ensures ∙ ap (λ (x : Candidate). target c.args.run.now.net.now x.edge.0) c.chosen-a.ensures)
+    let run = c.args.run.now in
+    let none : IsRoute run.net.now run.params.now.bound run.params.now.back c.chosen-a.result c.chosen-b.result Direct → ⊥ = λ is.
+    elim c.else-eq.branch [ else-eq-via-then-eq+else-a-b w ↦ omega (arith, is.1) | else-eq-via-else-eq w ↦ let same = is.0 in grind (arith, nat_tests) ] in
+    asks_err (asks_walk run c.args.i _ _ _ c.chosen-a.ensures c.chosen-b.ensures none c.to.ensures c.row.follows.holds-at-none).only c.from_residual.ensures.0
 
 pub returns-in_err-between-clause-asks : goal.returns-in_err-between-clause-asks
 returns-in_err-between-clause-asks g c =
-    only_by c.row.follows.holds-at-none.only (λ v same. same ∙ c.to.ensures ∙ ap (λ (x : Candidate). target c.args.run.now.net.now x.edge.0) c.chosen-a.ensures)
+    let run = c.args.run.now in
+    let none : IsRoute run.net.now run.params.now.bound run.params.now.back c.chosen-a.result c.chosen-b.result Direct → ⊥ = λ is.
+    elim c.else-eq.branch [ else-eq-via-then-eq+else-a-b w ↦ omega (arith, is.1) | else-eq-via-else-eq w ↦ let same = is.0 in grind (arith, nat_tests) ] in
+    asks_err (asks_walk run c.args.i _ _ _ c.chosen-a.ensures c.chosen-b.ensures none c.to.ensures c.row.follows.holds-at-none).only c.from_residual-in_err-between.ensures.0
 
 pub returns-in_err-extend_from_slice-clause-asks : goal.returns-in_err-extend_from_slice-clause-asks
 returns-in_err-extend_from_slice-clause-asks g c =
-    only_by c.row.follows.holds-at-none.only (λ v same. same ∙ c.to.ensures ∙ ap (λ (x : Candidate). target c.args.run.now.net.now x.edge.0) c.chosen-a.ensures)
+    let run = c.args.run.now in
+    let none : IsRoute run.net.now run.params.now.bound run.params.now.back c.chosen-a.result c.chosen-b.result Direct → ⊥ = λ is.
+    elim c.else-eq.branch [ else-eq-via-then-eq+else-a-b w ↦ omega (arith, is.1) | else-eq-via-else-eq w ↦ let same = is.0 in grind (arith, nat_tests) ] in
+    asks_err (asks_walk run c.args.i _ _ _ c.chosen-a.ensures c.chosen-b.ensures none c.to.ensures c.row.follows.holds-at-none).only c.from_residual-in_err-extend_from_slice.ensures.0
 
 on_by : {A E P Q : Type 0} (r : Result A E) → OnOk r P → (P → Q) → OnOk r Q
 on_by (Ok x) p f = f p
@@ -83,7 +96,7 @@ returns-clause-leg g c =
     let i = c.args.i in
     let edges = c.args.edges.now in
     let walk : List EdgeId = c.in_ok-between.between in
-    let none : IsDirect run i → ⊥ = λ direct.
+    let none : IsDirectLeg run i → ⊥ = λ direct.
     let is : IsRoute run.net.now run.params.now.bound run.params.now.back c.chosen-a.result c.chosen-b.result Direct = rw (c.chosen-a.ensures, c.chosen-b.ensures) direct in
     elim c.else-eq.branch [ else-eq-via-then-eq+else-a-b w ↦ omega (arith, is.1) | else-eq-via-else-eq w ↦ let same = is.0 in grind (arith, nat_tests) ] in
     let n = run.net.now in
@@ -99,4 +112,7 @@ returns-clause-leg g c =
 
 pub returns-clause-asks : goal.returns-clause-asks
 returns-clause-asks g c =
-    only_by c.row.follows.holds-at-none.only (λ v same. same ∙ c.to.ensures ∙ ap (λ (x : Candidate). target c.args.run.now.net.now x.edge.0) c.chosen-a.ensures)
+    let run = c.args.run.now in
+    let none : IsRoute run.net.now run.params.now.bound run.params.now.back c.chosen-a.result c.chosen-b.result Direct → ⊥ = λ is.
+    elim c.else-eq.branch [ else-eq-via-then-eq+else-a-b w ↦ omega (arith, is.1) | else-eq-via-else-eq w ↦ let same = is.0 in grind (arith, nat_tests) ] in
+    asks_done (asks_ok (asks_walk run c.args.i _ _ _ c.chosen-a.ensures c.chosen-b.ensures none c.to.ensures c.row.follows.holds-at-none) c.in_ok-row.was)

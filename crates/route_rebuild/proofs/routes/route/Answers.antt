@@ -1,5 +1,5 @@
 use Rattle.std.proofs.lemmas.Result.{IfOk-weaker}
-use Rattle.bounded_search.proofs.Asking.{only_by}
+use Rattle.bounded_search.proofs.Asking.{asks_by}
 use Rattle.route_rebuild.specs.Numbers.{numbers}
 use Rattle.route_rebuild.specs.Routes.{piece_at}
 use Rattle.route_rebuild.proofs.ChosenRun.{chosen_run}
@@ -21,4 +21,6 @@ returns-clause-route g c =
     joined_route n p layers s.ranks (piece_at s.pieces c.args.piece) (numbers es) run (rw (c.as_slice.ensures, c.as_slice-2.ensures) at is)) c.route_over.ensures.route
 
 pub returns-clause-asks : goal.returns-clause-asks
-returns-clause-asks g c = only_by c.route_over.ensures.asks (λ v end. rw (c.as_slice.ensures, c.as_slice-2.ensures) at end)
+returns-clause-asks g c =
+    asks_by c.route_over.ensures.asks (λ v start. rw (c.as_slice.ensures, c.as_slice-2.ensures) at start)
+    (λ v start. rw (c.as_slice.ensures, c.as_slice-2.ensures) start)
