@@ -1,4 +1,4 @@
-//! A memory of lookups in rows, so that a pair of nodes is not looked up again. Serves `arrival_cost`;
+//! A memory of lookups in rows, which saves repeated lookups of a pair of nodes. Serves `arrival_cost`;
 //! decided by `distance_in`.
 ghost use Rattle.std.specs.Prelude.{◌≡◌, IfSome};
 ghost use Rattle.bounded_search.specs.Table.{IsRow};
@@ -61,7 +61,8 @@ impl<'n> PairMemory<'n> {
         }
     }
 
-    /// Allocates the room, if there is none yet.
+    /// Makes room for the pairs, if there is none yet. The clause promises only that the memory is still of
+    /// the same network and bound: room saves lookups, and changes no distance.
     pub fn make_room(&mut self, alloc: Global) -> Result<(), AllocError>
         ensures { self.new ≡ self.old }
     {
