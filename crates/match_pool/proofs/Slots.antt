@@ -3,7 +3,7 @@ use Rattle.std.proofs.Common.{◌≡◌, ◌⊎◌, inl, inr, ℕ, zero, suc, �
 use Rattle.std.specs.Prelude.{slice_get, slice_index_or}
 use Rattle.std.specs.List.{range_with_len, sum_by}
 use Rattle.std.proofs.lemmas.Bool.{cases_eq}
-use Rattle.std.proofs.lemmas.List.Elements.{All-map, All-nil, All-push, All-weaker, Contains-push_cases}
+use Rattle.std.proofs.lemmas.List.Elements.{All-contains, All-map, All-nil, All-push, All-weaker, Contains-append_left, Contains-push, Contains-push_cases}
 use Rattle.std.proofs.lemmas.List.Sums.{sum_by-cons}
 use Rattle.match_text.specs.declared.matched.MatchedTrace.{MatchedTrace}
 use Rattle.bounded_search.proofs.KnownNodes.{get_set, get_set_else}
@@ -20,15 +20,20 @@ use Rattle.match_pool.proofs.Yields.{last_by}
 
 -- before the first answer
 fills_none : (matched : ℕ → MatchedTrace) (slots : List (Option MatchedTrace)) → Fills matched [] slots slots
-fills_none matched slots k low = inr (refl, λ c. let lt = c.1 in omega arith)
+fills_none matched slots k low = inr ((λ c. let lt = c.1 in omega arith), refl)
 
 -- one more answer in its slot
 fills_one : (matched : ℕ → MatchedTrace) (numbers : List ℕ) (x : ℕ) (old mid : List (Option MatchedTrace)) → Fills matched numbers old mid → x < length mid → Fills matched (numbers ++ x ∷ []) old (set mid x (Some (matched x)))
 fills_one matched numbers x old mid f low k lt = elim (cases_eq k x) [
-  | inl same ↦ inl (subst (λ y. slice_get (set mid x (Some (matched x))) y ≡ Some (Some (matched y))) (sym same) (get_set mid x (Some (matched x)) low))
+  | inl same ↦ inl (
+    subst (Contains (numbers ++ x ∷ [])) (sym same) (Contains-push numbers x),
+    subst (λ y. slice_get (set mid x (Some (matched x))) y ≡ Some (Some (matched y))) (sym same) (get_set mid x (Some (matched x)) low),
+  )
   | inr apart ↦
       let there = get_set_else mid x k (Some (matched x)) apart in
-      ⊎_elim (λ e. inl (there ∙ e)) (λ r. inr (there ∙ r.0, λ c. ⊎_elim r.1 (λ e. apart (sym e)) (Contains-push_cases numbers x k c))) (f k lt)
+      ⊎_elim (λ l. inl (Contains-append_left numbers (x ∷ []) k l.0, there ∙ l.1))
+      (λ r. inr ((λ c. ⊎_elim r.0 (λ e. apart (sym e)) (Contains-push_cases numbers x k c)), there ∙ r.1))
+      (f k lt)
 ]
 
 pub fills_start : (first : ℕ) (matched : ℕ → MatchedTrace) (numbers : List ℕ) (slots : List (Option MatchedTrace)) → [] ≡ map (done_by first matched) numbers → Fills matched numbers slots slots
@@ -52,22 +57,23 @@ fills_more first matched yielded answer old mid fills low numbers e =
 abbrev pub no_match : Option MatchedTrace
 no_match = None
 
--- the answers of some turns are put into their slots
+-- the answers of some turns at the partition are put into their slots
 abbrev pub Holds : Job → List ℕ → List Turn → List (Option MatchedTrace) → List (Option MatchedTrace) → Type 0
 Holds j partition turns old new =
-    (k : ℕ) → k < length old → (slice_get new k ≡ Some (Some (matched_at j k)))
+    (k : ℕ) → k < length old → (Contains partition k × (slice_get new k ≡ Some (Some (matched_at j k))))
     ⊎ ((slice_get new k ≡ slice_get old k) × ((rank : ℕ) → rank < length partition → number_at partition rank ≡ k → All (λ (t : Turn). Contains t.ticket.numbers rank → ⊥) turns))
 
 pub holds_none : (j : Job) (partition : List ℕ) (slots : List (Option MatchedTrace)) → Holds j partition [] slots slots
 holds_none j partition slots k low = inr (refl, λ rank inside is. All-nil (λ (t : Turn). Contains t.ticket.numbers rank → ⊥))
 
 -- the places of a turn's answers are among those of the slots
-pub places_inside : (j : Job) (partition drawn : List ℕ) (done : List Done) → AnswersFor j partition drawn done → All (λ (d : Done). (j.first ≤ d.place) × (d.place < j.first + length j.traces)) done
-places_inside j partition drawn done a =
+pub places_inside : (j : Job) (partition drawn : List ℕ) (done : List Done) → All (λ k. k < length j.traces) partition → AnswersFor j partition drawn done → All (λ (d : Done). (j.first ≤ d.place) × (d.place < j.first + length j.traces)) done
+places_inside j partition drawn done low a =
     let count = length j.traces in
     subst (All (λ (d : Done). (j.first ≤ d.place) × (d.place < j.first + count))) (sym a.are)
     (All-map (λ (d : Done). (j.first ≤ d.place) × (d.place < j.first + count)) (done_by j.first (matched_at j)) a.numbers
-    (All-weaker (λ k. k < count) (λ k. (j.first ≤ j.first + k) × (j.first + k < j.first + count)) (λ k low. (omega arith, omega arith)) a.numbers a.below))
+    (All-weaker (Contains partition) (λ k. (j.first ≤ j.first + k) × (j.first + k < j.first + count))
+    (λ k c. let lt : k < count = All-contains (λ m. m < count) partition k low c in (omega arith, omega arith)) a.numbers a.inside))
 
 -- one more turn
 pub holds_more : (j : Job) (partition : List ℕ) (turns : List Turn) (turn : Turn) (old mid new : List (Option MatchedTrace))
@@ -75,12 +81,12 @@ pub holds_more : (j : Job) (partition : List ℕ) (turns : List Turn) (turn : Tu
     → ((numbers : List ℕ) → turn.done ≡ map (done_by j.first (matched_at j)) numbers → Fills (matched_at j) numbers mid new)
     → Holds j partition (turns ++ turn ∷ []) old new
 holds_more j partition turns turn old mid new a long h fills k low =
-    ⊎_elim (λ e. inl e)
-    (λ r. ⊎_elim (λ e. inl (r.0 ∙ e))
+    ⊎_elim (λ l. inl (All-contains (Contains partition) a.numbers k a.inside l.0, l.1))
+    (λ r. ⊎_elim (λ l. inl (l.0, r.1 ∙ l.1))
     (λ s. inr (
-      r.0 ∙ s.0,
+      r.1 ∙ s.0,
       λ rank inside is. All-push (λ (t : Turn). Contains t.ticket.numbers rank → ⊥) turns turn (s.1 rank inside is)
-          (λ c. r.1 (subst (λ (m : ℕ). Contains a.numbers m) is (a.all rank inside c))),
+          (λ c. r.0 (subst (λ (m : ℕ). Contains a.numbers m) is (a.all rank inside c))),
     ))
     (h k low))
     (fills a.numbers a.are k (omega arith))
@@ -112,13 +118,13 @@ some_ticket k (turn ∷ turns) some = elim (cases_eq (times k turn.ticket.number
 pub partition_filled : (j : Job) (partition : List ℕ) (turns : List Turn) (old new : List (Option MatchedTrace)) → Holds j partition turns old new
     → ((rank : ℕ) → rank < length partition → Any (λ (t : Turn). Contains t.ticket.numbers rank) turns) → Fills (matched_at j) partition old new
 partition_filled j partition turns old new h drawn k low =
-    ⊎_elim (λ e. inl e)
+    ⊎_elim (λ l. inl l)
     (λ r. inr (
-      r.0,
-      λ c.
+      (λ c.
           let at : number_at partition c.0 ≡ k = default_same partition c.0 0 k c.1 ∙ c.2 in
           let d = drawn c.0 c.1 in
-          subst (λ (t : Turn). Contains t.ticket.numbers c.0 → ⊥) d.3 (r.1 c.0 c.1 at d.0 d.1 d.2) d.4,
+          subst (λ (t : Turn). Contains t.ticket.numbers c.0 → ⊥) d.3 (r.1 c.0 c.1 at d.0 d.1 d.2) d.4),
+      r.0,
     ))
     (h k low)
 
@@ -137,8 +143,8 @@ any_last P (z ∷ xs) x (suc k, y, lt, e, p) = ⊎_elim (λ r. inl (suc r.0, r.1
 
 pub more_in : (j : Job) (partitions : List Partition) (partition : Partition) (old new : List (Option MatchedTrace)) → length old ≡ length j.traces → AreIn j partitions old → Fills (matched_at j) partition.numbers old new → AreIn j (partitions ++ partition ∷ []) new
 more_in j partitions partition old new long are fills k low any =
-    ⊎_elim (λ e. e)
-    (λ r. ⊎_elim (λ before. r.0 ∙ are k low before) (λ here. absurd (r.1 here)) (any_last (λ (s : Partition). Contains s.numbers k) partitions partition any))
+    ⊎_elim (λ l. l.1)
+    (λ r. ⊎_elim (λ before. r.1 ∙ are k low before) (λ here. absurd (r.0 here)) (any_last (λ (s : Partition). Contains s.numbers k) partitions partition any))
     (fills k (omega arith))
 
 read_of : {A : Type 0} (l : List A) (k : ℕ) (d x : A) → slice_get l k ≡ Some x → slice_index_or l k d ≡ x

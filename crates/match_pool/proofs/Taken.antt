@@ -11,6 +11,7 @@ use Rattle.match_pool.specs.declared.worker.Done.{Done}
 use Rattle.match_pool.specs.Drawing.{WorksOn, number_at}
 use Rattle.match_pool.specs.Turns.{IsOver, IsPartitionOf, Learns}
 use Rattle.match_pool.specs.Working.{Job, asks_at}
+use Rattle.match_pool.proofs.Lists.{default_same}
 
 late_last : (n last : ℕ) (xs : List ℕ) → n ≤ last → Any (λ x. n ≤ x) (xs ++ last ∷ [])
 late_last n last [] late = (0, last, omega arith, refl, late)
@@ -26,9 +27,11 @@ drawn_below j partition reader ticket done reader' ticket' w fresh k low c =
     let here : Contains (w.ranks ++ w.last ∷ []) k = subst (λ (l : List ℕ). Contains l k) whole c in
     ⊎_elim (λ inside. inside) (λ (same : w.last ≡ k). let above = w.above in absurd (omega (arith, same))) (Contains-push_cases w.ranks w.last k here)
 
-numbers_inside : (j : Job) (partition ranks : List ℕ) → All (λ k. k < length j.traces) partition → All (λ k. k < length partition) ranks → All (λ k. k < length j.traces) (map (number_at partition) ranks)
-numbers_inside j partition ranks inside below =
-    All-map (λ k. k < length j.traces) (number_at partition) ranks (All-weaker (λ k. k < length partition) (λ k. number_at partition k < length j.traces) (λ k low. inside k 0 low) ranks below)
+numbers_inside : (partition ranks : List ℕ) → All (λ k. k < length partition) ranks → All (Contains partition) (map (number_at partition) ranks)
+numbers_inside partition ranks below =
+    All-map (Contains partition) (number_at partition) ranks
+    (All-weaker (λ k. k < length partition) (λ k. Contains partition (number_at partition k))
+    (λ k low. (k, low, default_same partition k (number_at partition k) 0 low)) ranks below)
 
 pub turn_over : (j : Job) (partition : Partition) (reader : Reading) (ticket : Drawn) (turn : Turn) (reader' : Reading) → IsPartitionOf j partition → ticket ≡ fresh_ticket partition.claims.name → turn.ticket.claims ≡ ticket.claims
     → WorksOn j partition.numbers reader ticket turn.done reader' turn.ticket → IsOver j partition turn
@@ -42,7 +45,7 @@ turn_over j partition reader ticket turn reader' is fresh claims w =
       answers = record {
         numbers = map (number_at partition.numbers) w.ranks;
         are = w.answers;
-        below = numbers_inside j partition.numbers w.ranks is.inside w.below;
+        inside = numbers_inside partition.numbers w.ranks w.below;
         all = λ rank low c. contains_map (number_at partition.numbers) w.ranks rank (drawn_below j partition.numbers reader ticket turn.done reader' turn.ticket w none rank low c);
       };
     }

@@ -17,7 +17,8 @@ pub record AreTurnsOver (j : Job) (partition : Partition) (turns : List Turn) : 
 abbrev pub Fills : (ℕ → MatchedTrace) → List ℕ → List (Option MatchedTrace) → List (Option MatchedTrace) → Type 0
 Fills matched numbers old new =
     (k : ℕ) → k < length old
-    → (slice_get new k ≡ Some (Some (matched k))) ⊎ ((slice_get new k ≡ slice_get old k) × (Contains numbers k → ⊥))
+    → (Contains numbers k × (slice_get new k ≡ Some (Some (matched k))))
+    ⊎ ((Contains numbers k → ⊥) × (slice_get new k ≡ slice_get old k))
 
 -- answers stand in the slots of their places, whichever numbers and matches they are of
 abbrev pub PlacesAnswers : ℕ → List Done → (old new : List (Option MatchedTrace)) → Type 0

@@ -13,11 +13,11 @@ pub record IsPartitionOf (j : Job) (partition : Partition) : Type 0 where
   pub inside : All (λ k. k < length j.traces) partition.numbers
   pub all : partition.claims.count ≡ length partition.numbers
 
--- the matches of some traces of the job, among them all of the partition whose ranks were drawn
+-- the matches of some traces of the partition, among them all whose ranks were drawn
 pub record AnswersFor (j : Job) (partition drawn : List ℕ) (done : List Done) : Type 0 where
   pub numbers : List ℕ
   pub are : done ≡ map (done_by j.first (matched_at j)) numbers
-  pub below : All (λ k. k < length j.traces) numbers
+  pub inside : All (Contains partition) numbers
   pub all : (rank : ℕ) → rank < length partition → Contains drawn rank → Contains numbers (number_at partition rank)
 
 -- the turn is over: its ticket is of the partition's claims and has ended, and what it drew is answered

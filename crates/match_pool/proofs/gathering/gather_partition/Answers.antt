@@ -33,7 +33,7 @@ place-requires c =
     let j = job_of c.args.batch.now in
     let P = IsOver j c.args.partition in
     let mine = All-head P turn (into_iter_items c.next.new.self) (subst (All P) c.in-Some.ensures.steps.0 i.over) in
-    subst (λ (n : ℕ). All (λ (d : Done). (j.first ≤ d.place) × (d.place < j.first + n)) turn.done) (sym (i.count ∙ c.requires.slots)) (places_inside j c.args.partition.numbers turn.ticket.numbers turn.done mine.answers)
+    subst (λ (n : ℕ). All (λ (d : Done). (j.first ≤ d.place) × (d.place < j.first + n)) turn.done) (sym (i.count ∙ c.requires.slots)) (places_inside j c.args.partition.numbers turn.ticket.numbers turn.done c.requires.turns.is_partition.inside mine.answers)
 
 pub loop-turn-preserved : goal.loop-turn-preserved
 loop-turn-preserved c =
