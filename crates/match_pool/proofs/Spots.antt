@@ -1,13 +1,15 @@
 -- Spots of traces, and the partitions that they are put into.
-use Rattle.std.proofs.Common.{◌≡◌, ℕ, zero, suc, ◌+◌, ◌<◌, ◌≤◌, List, [], ◌∷◌, ◌++◌, length, length-append, length-set, set, replicate, All, Any, Contains, refl, sym, ap, ◌∙◌, subst, inl, inr, arith}
+use Rattle.std.proofs.Common.{◌≡◌, ℕ, zero, suc, ◌+◌, ◌<◌, List, [], ◌∷◌, ◌++◌, length, length-append, length-set, set, replicate, All, Any, Contains, refl, sym, ap, ◌∙◌, subst, inl, inr, arith}
 use Rattle.std.specs.Prelude.{slice_index_or}
-use Rattle.std.specs.List.{range_with_len}
+use Rattle.std.specs.List.{range_with_len, sum_by}
 use Rattle.std.specs.List.Sorted.{IsPermutation}
 use Rattle.std.proofs.lemmas.Bool.{cases_eq}
 use Rattle.std.proofs.lemmas.List.Elements.{All-cons, All-nil, All-push, All-replicate, All-set, All-weaker, Contains-append_left, Contains-push}
+use Rattle.std.proofs.lemmas.List.Folds.{sum_by-replicate}
 use Rattle.std.proofs.lemmas.List.FromFn.{get_or-range_with_len, length-range_with_len}
 use Rattle.std.proofs.lemmas.List.Quantifiers.{Any-push, any-set}
 use Rattle.std.proofs.lemmas.List.Sorted.{All-permutation, Contains-permutation, length_permutation}
+use Rattle.std.proofs.lemmas.List.Sums.{sum_by-cons, sum_by-set}
 use Rattle.match_pool.specs.declared.partitions.Spot.{Spot}
 use Rattle.match_pool.specs.Partitions.{AreSpotsOf, ArePartitionsOf}
 use Rattle.match_pool.proofs.Lists.{default_same}
@@ -70,22 +72,22 @@ all_below n i d low =
 pub one_partition : (n : ℕ) → ArePartitionsOf n (range_with_len 0 n ∷ [])
 one_partition n = record {
   inside = All-cons (λ (l : List ℕ). All (λ k. k < n) l) (range_with_len 0 n) [] (all_below n) (All-nil (λ (l : List ℕ). All (λ k. k < n) l));
-  short = All-cons (λ (l : List ℕ). length l ≤ n) (range_with_len 0 n) [] (let l = length-range_with_len 0 n in omega arith) (All-nil (λ (l : List ℕ). length l ≤ n));
   whole = λ k low.
       let at : slice_index_or (range_with_len 0 n) k k ≡ k = get_or-range_with_len 0 n k k low ∙ omega arith in
       (0, range_with_len 0 n, omega arith, refl, (k, (let l = length-range_with_len 0 n in omega arith), at));
+  once = (let all = sum_by-cons (λ (l : List ℕ). length l) (range_with_len 0 n) [] in let l = length-range_with_len 0 n in omega (arith, all, l));
 }
 
 -- the first spots are put into partitions
 pub record Cutting (n : ℕ) (spots : List Spot) (rank : ℕ) (partitions : List (List ℕ)) : Type 0 where
   pub inside : All (λ (l : List ℕ). All (λ k. k < n) l) partitions
-  pub short : All (λ (l : List ℕ). length l ≤ rank) partitions
+  pub count : sum_by (λ (l : List ℕ). length l) partitions ≡ rank
   pub placed : (i : ℕ) (d : Spot) → i < rank → Any (λ (l : List ℕ). Contains l (slice_index_or spots i d).number) partitions
 
 pub cut_none : (n count : ℕ) (spots : List Spot) → Cutting n spots 0 (replicate count [])
 cut_none n count spots = record {
   inside = All-replicate (λ (l : List ℕ). All (λ k. k < n) l) count [] (All-nil (λ k. k < n));
-  short = All-replicate (λ (l : List ℕ). length l ≤ 0) count [] (omega arith);
+  count = (let none = sum_by-replicate (λ (l : List ℕ). length l) count [] in omega (arith, none));
   placed = λ i d low. absurd (omega arith);
 }
 
@@ -96,8 +98,11 @@ cut_more n rank spots partitions s x low lt is cut =
     let new = old ++ x ∷ [] in
     record {
       inside = All-set (λ (l : List ℕ). All (λ k. k < n) l) partitions s new (All-push (λ k. k < n) old x (cut.inside s [] low) lt) cut.inside;
-      short = All-set (λ (l : List ℕ). length l ≤ rank + 1) partitions s new (let long = length-append old (x ∷ []) in let few = cut.short s [] low in omega arith)
-          (All-weaker (λ (l : List ℕ). length l ≤ rank) (λ (l : List ℕ). length l ≤ rank + 1) (λ l few. omega arith) partitions cut.short);
+      count =
+          let all = sum_by-set (λ (l : List ℕ). length l) partitions s new [] low in
+          let long = length-append old (x ∷ []) in
+          let was = cut.count in
+          omega (arith, all, long, was);
       placed = λ i d before. elim (cases_eq i rank) [
         | inl same ↦ any-set (λ (l : List ℕ). Contains l (slice_index_or spots i d).number) partitions s new low
             (subst (λ (m : ℕ). Contains new m) (sym (ap (λ (j : ℕ). (slice_index_or spots j d).number) same ∙ is d)) (Contains-push old x))
@@ -110,10 +115,10 @@ cut_more n rank spots partitions s x low lt is cut =
 pub cut_all : (n : ℕ) (spots : List Spot) (partitions : List (List ℕ)) → AreSpotsOf n spots → Cutting n spots (length spots) partitions → ArePartitionsOf n partitions
 cut_all n spots partitions are cut = record {
   inside = cut.inside;
-  short = subst (λ (m : ℕ). All (λ (l : List ℕ). length l ≤ m) partitions) are.long cut.short;
   whole = λ k low.
       let a = are.whole k low in
       subst (λ (m : ℕ). Any (λ (l : List ℕ). Contains l m) partitions) (ap (λ (s : Spot). s.number) a.3 ∙ a.4) (cut.placed a.0 a.1 a.2);
+  once = cut.count ∙ are.long;
 }
 
 pub range_more : (a n : ℕ) → range_with_len a (n + 1) ≡ range_with_len a n ++ (a + n) ∷ []

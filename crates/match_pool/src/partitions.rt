@@ -92,12 +92,14 @@ fn one_partition(alloc: Global, count: usize) -> Result<Vec<List<usize>>, AllocE
     Ok(partitions)
 }
 
-/// The numbers of the traces in `count` partitions by area. A single partition has them in
-/// order.
+/// The numbers of the traces in `count` partitions by area, each number in one. A single partition has
+/// them in order.
 pub fn cut(alloc: Global, traces: &[Trace], count: usize) -> Result<Vec<List<usize>>, AllocError>
     requires count { 1 ≤ count }
     ensures count { IfOk result (λ partitions. length partitions.items ≡ count) }
     ensures partitions { IfOk result (λ partitions. ArePartitionsOf (length traces.now) partitions.items) }
+    ensures single { count ≡ 1
+        → IfOk result (λ partitions. partitions.items ≡ range_with_len 0 (length traces.now) ∷ []) }
 {
     if count == 1 {
         return one_partition(alloc, traces.len());

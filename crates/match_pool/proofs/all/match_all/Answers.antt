@@ -1,8 +1,8 @@
-use Rattle.std.proofs.Common.{◌≡◌, ◌≤◌, ◌^◌, [], ◌∷◌, ℕ, List, All, length, map, vec_capacity, sym, ap, subst, ◌∙◌, arith}
+use Rattle.std.proofs.Common.{◌≡◌, [], ◌∷◌, ℕ, List, All, length, map, vec_capacity, sym, ap, subst, ◌∙◌, arith}
 use Rattle.std.proofs.lemmas.Result.{on_ok_weaker}
 use Rattle.std.specs.List.{AllZip}
 use Rattle.std.proofs.lemmas.List.{length-map}
-use Rattle.std.proofs.lemmas.List.Elements.{All-weaker}
+use Rattle.std.proofs.lemmas.List.Sums.{get_or-le-sum_by}
 use Rattle.std.proofs.lemmas.Slice.Zip.{AllZip-long}
 use Rattle.row_store.specs.Store.{Reading}
 use Rattle.match_pool.specs.WorkerSet.{CanDrawFrom, Ran, reader_of}
@@ -25,7 +25,8 @@ unmoved j (r ∷ rs) = (reads_none j r, unmoved j rs)
 pub deal-requires-clause-cuts : goal.deal-requires-clause-cuts
 deal-requires-clause-cuts g c =
     let few = c.requires.can.traces.few in
-    All-weaker (λ (l : List ℕ). length l ≤ length c.args.traces.now) (λ (l : List ℕ). length l ≤ 2 ^ 32) (λ l short. omega (arith, few)) c.in_ok-cuts.cuts.items c.in_ok-cuts.ensures.partitions.short
+    let once = c.in_ok-cuts.ensures.partitions.once in
+    λ i d low. (let some = get_or-le-sum_by (λ (l : List ℕ). length l) c.in_ok-cuts.cuts.items i d low in omega (arith, few, once, some))
 
 pub start-requires : goal.start-requires
 start-requires g c = c.in_ok-partitions.ensures.count ∙ c.len-workers.ensures

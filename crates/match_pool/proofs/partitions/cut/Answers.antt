@@ -58,6 +58,12 @@ index_mut-requires c =
 pub index-requires : goal.index-requires
 index-requires c = (let test = c.loop-rank-test.true in let end = c.len-rank-end.ensures in omega (arith, test, end))
 
+pub returns-clause-single : goal.returns-clause-single
+returns-clause-single c one = absurd (c.if-count-eq1.false one)
+
+pub returns-then-count-eq1-clause-single : goal.returns-then-count-eq1-clause-single
+returns-then-count-eq1-clause-single c one = c.one_partition.ensures
+
 pub returns-clause-count : goal.returns-clause-count
 returns-clause-count c = c.loop-rank.invariant.count
 
