@@ -27,7 +27,8 @@ use trace_reader::Trace;
 /// There are 1 to 64 readers. The traces are divided into as many partitions by area, so that a worker
 /// mostly meets rows that it found itself. Each worker takes the traces of its own partition, then helps with
 /// the other partitions, with its own reader, in a thread of its own if one is available. `first` is the index
-/// of the first trace in the file, from 0, which the gate receives. `Err` means out of memory; even then
+/// of the first trace in the file, from 0, and the gate gets the indices from there on. Only tests show
+/// how the work is divided, and with what the gate is called. `Err` means out of memory; even then
 /// each reader knows what it knew, and nothing more but rows that the traces ask for.
 pub fn match_all<'s, R: Threads + Sync, G: Gate>(
     rt: &R,

@@ -13,7 +13,8 @@ use std::alloc::AllocError;
 use tickets::{Claims, Ticket};
 
 /// Matches each trace of a partition whose rank in it the ticket draws, until none is left. `numbers`
-/// are the numbers of the partition's traces in the batch.
+/// are the numbers of the partition's traces in the batch. The gate is called before and after each trace
+/// with the place of its answer, which only tests show.
 pub fn work_on<'s, G: Gate>(
     batch: &Batch,
     numbers: &[usize],

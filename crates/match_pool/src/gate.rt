@@ -5,7 +5,10 @@ use row_store::RowStore;
 /// Is called before and after each trace is matched. Both calls return.
 ///
 /// `trace` is the index of the trace in the file, from 0, and `store` is the store of the worker's rows.
-/// A gate may make its own readers on it, and look and offer through them.
+/// No contract says when a gate is called, and with which index and store. The tests in `program_tests`
+/// show it, with gates of their own.
+///
+/// A gate may make its own readers on the store, and look and offer through them.
 pub trait Gate: Sync {
     fn begin(&self, trace: u64, store: &RowStore<'_>);
 

@@ -7,10 +7,10 @@
 //!   draws from its own partition until none is left, and then from the others. No call waits.
 //! - [`work_on`] is what each worker does with each partition, and [`work`] the same with all traces as
 //!   one partition.
-//! - A [`Gate`] is called for each trace.
+//! - A [`Gate`] is called for each trace, which only tests show.
 //!
-//! These match a trace of one position to its nearest edge, and a trace far from the whole network to
-//! nothing, without the layers and cells of [`match_one`].
+//! For a trace of one position, or one far from the whole network, the code of [`match_all`],
+//! [`work_on`] and [`work`] makes no layers or cells. That saves time; no contract claims it.
 //!
 //! `match_of` in trace_match's `specs/Match.antt` defines the match, and `asks` there which rows a trace
 //! asks for: exactly those become known. Read first the clauses `answer` and `asks` of [`match_one`], and

@@ -26,8 +26,9 @@ pub struct Done {
 /// Matches each trace whose number the ticket draws, until none is left. `first` is the index of the
 /// first trace in the file, from 0.
 ///
-/// The rows are those of the reader. The gate is called before and after each trace. `Err` means out
-/// of memory.
+/// After `Ok` the reader knows the rows that it knew before, and those that these traces ask for. No
+/// contract says that the matches are computed from them: each match is the same from any rows. The gate
+/// is called before and after each trace, which only tests show. `Err` means out of memory.
 pub fn work<'s, G: Gate>(
     alloc: Global,
     net: &Network,
