@@ -6,6 +6,7 @@ ghost use Rattle.polyline_geometry.specs.Plane.{InRange};
 ghost use Rattle.bounded_search.specs.Rows.{AreRowsOf, AsksOnly};
 ghost use Rattle.online_commit.specs.Session.{AsksFinished};
 ghost use Rattle.trace_reader.specs.Trace.{IsLawfulTrace, point_of_fix};
+ghost use Rattle.trace_sessions.specs.Calls.{IsEmpty};
 ghost use Rattle.trace_sessions.specs.ItemText.{AddsPrefix, AreItemsOf};
 ghost use Rattle.trace_sessions.specs.Sessions.{IsSessionOf, Keeps, Pair};
 ghost use Rattle.trace_sessions.specs.StreamText.{fragment_points, led_by};
@@ -97,8 +98,8 @@ impl<'n> Sessions<'n> {
     }
 
     /// Ends all traces, in order of first appearance: appends their last lines, and returns how many
-    /// pieces they closed. Afterwards there are no sessions, even on `Err`. On `Err`, a prefix of the lines
-    /// is appended. Takes the time of the items of each trace.
+    /// pieces they closed. Afterwards there are no sessions, even on `Err`; network and options stay.
+    /// On `Err`, a prefix of the lines is appended. Takes the time of the items of each trace.
     pub fn close_all<R: Rows>(
         &mut self,
         rows: &mut R,
@@ -108,7 +109,7 @@ impl<'n> Sessions<'n> {
         requires can { CanStream self.old 0 }
         ensures ends { (pairs : ListOf Pair) → Keeps self.old pairs
             → Ends self.old pairs into.old into.new result }
-        ensures none { Keeps self.new [] }
+        ensures none { IsEmpty self.old.network self.old.params self.new }
         ensures asks { (pairs : ListOf Pair) → Keeps self.old pairs
             → AsksOnly (R.state rows.old) (R.state rows.new) (AsksSome self.old pairs) }
     {
