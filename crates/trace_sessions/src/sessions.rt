@@ -27,7 +27,8 @@ use trace_reader::Fix;
 
 mod streaming;
 
-/// Why a call of [`Sessions`] changed nothing.
+/// Why a call of [`Sessions`] did not do all of its work. `feed` and `close` changed nothing then;
+/// `stream` may have taken some points.
 #[derive(Clone, Copy, Debug, PartialEq, Eq)]
 pub enum SessionFault {
     /// The id already has 100,000 points.
