@@ -14,18 +14,20 @@ pub fn written_lines_stay()
     ensures { WrittenLinesStay }
 {}
 
-/// The lines of an id in a stream, without the id, are the follow text of its points alone.
+/// The lines of an id in a stream, without the id, are the follow text of its points alone, if no id is
+/// full and all ids are below 2^32.
 pub fn ids_are_followed_alone()
     ensures { IdsAreFollowedAlone }
 {}
 
 /// In the text of a stream, the lines that begin with an id and a space are, without these, the follow
-/// text of its points alone.
+/// text of its points alone, if no id is full and all ids are below 2^32.
 pub fn ids_have_follow_texts()
     ensures { IdsHaveFollowTexts }
 {}
 
-/// What calls of `feed` and `close` return for an id is what its own calls alone return.
+/// If all calls of `feed` and `close` in a list are `Ok`, and those of one id are `Ok` without the others,
+/// that id's calls return the same items in both.
 pub fn ids_are_answered_alone()
     ensures { IdsAreAnsweredAlone }
 {}

@@ -16,8 +16,9 @@
 //! [`Sessions::close`] return depends only on the positions of their id.
 //!
 //! [`Sessions::stream`] takes the points of a fragment and appends their lines, and [`Sessions::close_all`]
-//! those of the end. [`ids_are_followed_alone`] says that the lines of an id are the follow text of its
-//! points alone, [`ids_have_follow_texts`] says so of the bytes, and [`ids_are_answered_alone`] of calls.
+//! those of the end. If no id is full and all ids are below 2^32, the lines of an id are the follow text of
+//! its points alone: [`ids_are_followed_alone`] says so, and [`ids_have_follow_texts`] of the bytes.
+//! [`ids_are_answered_alone`] compares the calls of an id among others and alone, if all of them are `Ok`.
 //!
 //! Read first: `item_lines` in `specs/ItemText.antt`, then `follow_lines` and `FollowIsMatch`; and
 //! `Keeps`, `TakesFix` and `Closes`; `stream_lines` and `closing_lines` in `specs/StreamText.antt`.
