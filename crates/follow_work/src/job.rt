@@ -1,6 +1,6 @@
 //! The job of `follow`. Serves the programs that follow traces; decided by `follow_job`.
 ghost use Rattle.std.specs.Prelude.{◌≡◌, ◌++◌, [], true, IfOk, OnErr, OnOk};
-ghost use Rattle.bounded_search.specs.Rows.{AreRowsOf, AsksAs};
+ghost use Rattle.bounded_search.specs.Rows.{AreRowsOf, AsksFor};
 ghost use Rattle.cost_model.specs.Options.{IsAccepted};
 ghost use Rattle.trace_match.specs.Asked.{AsksTraces};
 ghost use Rattle.program_frame.specs.Counts.{ArePieces};
@@ -54,8 +54,8 @@ fn follow_one<'n>(
     ensures followed { IfOk result
         (IsFollowed matcher.now.network matcher.now.params trace.now into.old into.new) }
     ensures err { OnErr result (into.new ≡ into.old) }
-    ensures asks { AsksAs rows.old
-        (λ _ v. asks matcher.now.network matcher.now.params trace.now v ≡ true) result rows.new }
+    ensures asks { AsksFor rows.old
+        (λ v. asks matcher.now.network matcher.now.params trace.now v ≡ true) result rows.new }
 {
     let on = Basis {
         net: matcher.network(),

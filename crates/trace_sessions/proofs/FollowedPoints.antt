@@ -194,6 +194,14 @@ all_counted n p trace i s pieces count items accepted lawful has over left count
 
 -- ---- one turn, in the words of the loop over the points
 
+pub turn_layers : (n : Net) (p : Params) (trace : Trace) (fixes : List Fix) (i : ℕ) (d : Fix) (layer : Layer) → fixes ≡ trace.fixes → i < length fixes → layer ≡ layer_of n p (get_or fixes i d)
+    → first_layers n p trace (i + 1) ≡ first_layers n p trace i ++ layer ∷ []
+turn_layers n p trace fixes i d layer all low is =
+    let fix = get_or fixes i d in
+    let within : i < length trace.fixes = subst (λ (fs : List Fix). i < length fs) all low in
+    let here : fix ≡ get_or trace.fixes i fix = get_or_default fixes i d fix low ∙ ap (λ (fs : List Fix). get_or fs i fix) all in
+    next_layers n p trace i fix within here ∙ ap (λ (l : Layer). first_layers n p trace i ++ l ∷ []) (sym is)
+
 -- a point was fed, and these items were handed out
 pub record IsTurn (n : Net) (p : Params) (trace : Trace) (i : ℕ) (layer : Layer) (new : Session) (pieces : ℕ) (items : List Item) : Type 0 where
   pub layers : first_layers n p trace (i + 1) ≡ first_layers n p trace i ++ layer ∷ []
@@ -210,7 +218,7 @@ turned n p trace fixes i d layer s new pieces items lawful accepted trace_lawful
     let own = subst (λ (l : Layer). IsFed s l new items) is fed in
     let next = next_handed n p trace i fix s new pieces items has within here own in
     record {
-      layers = next_layers n p trace i fix within here ∙ ap (λ (l : Layer). first_layers n p trace i ++ l ∷ []) (sym is);
+      layers = turn_layers n p trace fixes i d layer all low is;
       next = next;
       lies = next_lies n p trace i items lawful accepted trace_lawful next;
       followed = λ count counted. next_followed n p trace i fix s new pieces count items has within here own counted;

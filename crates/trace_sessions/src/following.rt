@@ -1,7 +1,7 @@
 //! A trace that is followed point by point. Serves `follow`; decided by `follow_text`.
 ghost use Rattle.std.specs.Prelude.{◌≡◌, ◌++◌, true, IfOk, OnOk, OnErr};
 ghost use Rattle.std.specs.List.{concat};
-ghost use Rattle.bounded_search.specs.Rows.{AreRowsOf, AsksAs};
+ghost use Rattle.bounded_search.specs.Rows.{AreRowsOf, AsksFor};
 ghost use Rattle.trace_match.specs.Match.{asks};
 ghost use Rattle.trace_reader.specs.Trace.{IsLawfulTrace};
 ghost use Rattle.trace_sessions.specs.FollowText.{fix_line};
@@ -21,7 +21,7 @@ use trace_match::layer;
 use trace_reader::Trace;
 
 /// Appends the follow text of a trace, and returns the number of pieces of its match. Exactly the rows
-/// that the trace asks for become known.
+/// that the trace asks for become known; on `Err`, only some of them.
 ///
 /// `rows` are of this network and the bound of these options. Each point is matched as it comes: the
 /// candidates are found for one point at a time, and kept for the points of the open piece. `Err` means
@@ -38,8 +38,8 @@ pub fn follow_trace<R: Rows>(
     ensures followed { IfOk result
         (IsFollowed on.now.net.now on.now.params.now trace.now into.old into.new) }
     ensures err { OnErr result (into.new ≡ into.old) }
-    ensures asks { AsksAs (R.state rows.old)
-        (λ _ v. asks on.now.net.now on.now.params.now trace.now v ≡ true) result (R.state rows.new) }
+    ensures asks { AsksFor (R.state rows.old)
+        (λ v. asks on.now.net.now on.now.params.now trace.now v ≡ true) result (R.state rows.new) }
 {
     let len = into.len();
     let followed = append_followed(alloc, on, rows, trace, into);
@@ -62,8 +62,8 @@ fn append_followed<R: Rows>(
     ensures followed { IfOk result
         (IsFollowed on.now.net.now on.now.params.now trace.now into.old into.new) }
     ensures err { OnErr result (Stays into.old into.new) }
-    ensures asks { AsksAs (R.state rows.old)
-        (λ _ v. asks on.now.net.now on.now.params.now trace.now v ≡ true) result (R.state rows.new) }
+    ensures asks { AsksFor (R.state rows.old)
+        (λ v. asks on.now.net.now on.now.params.now trace.now v ≡ true) result (R.state rows.new) }
 {
     on.net.invariants();
     write_trace(trace.id, into)?;

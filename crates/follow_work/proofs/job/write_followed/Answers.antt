@@ -1,5 +1,6 @@
 use Rattle.std.proofs.Common.{◌≡◌, ◌++◌, refl, sym, subst, append-nil, arith}
 use Rattle.std.proofs.lemmas.List.{take_all}
+use Rattle.bounded_search.proofs.Asking.{asks_ok}
 use Rattle.follow_work.specs.Follow.{followed_of}
 use Rattle.trace_match.specs.Asked.{AsksTraces}
 use Rattle.program_frame.specs.Counts.{ArePieces}
@@ -21,7 +22,7 @@ loop-trace-preserved c =
     record {
       text = followed_next c.args.matcher.now c.args.traces.now c.loop-trace.trace-index c.trace-item.result c.args.into.now c.loop-trace.into c.follow_one.new.into c.loop-trace-test.true c.trace-item.is inv.text c.in_ok-count.ensures.followed.written;
       pieces = pieces_followed c.args.matcher.now c.args.traces.now c.loop-trace.trace-index c.trace-item.result c.loop-trace.pieces c.in_ok-count.count c.loop-trace-test.true c.trace-item.is c.in_ok-count.ensures.followed.pieces inv.pieces;
-      asks = asks_next c.args.matcher.now c.args.traces.now c.loop-trace.trace-index c.trace-item.result c.args.rows.now c.loop-trace.rows c.follow_one.new.rows c.loop-trace-test.true c.trace-item.is inv.asks c.in_ok-count.ensures.asks.asks;
+      asks = asks_next c.args.matcher.now c.args.traces.now c.loop-trace.trace-index c.trace-item.result c.args.rows.now c.loop-trace.rows c.follow_one.new.rows c.loop-trace-test.true c.trace-item.is inv.asks (asks_ok c.follow_one.ensures.asks c.in_ok-count.was);
     }
 
 pub returns-clause-text : goal.returns-clause-text

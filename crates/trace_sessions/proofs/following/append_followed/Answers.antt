@@ -1,13 +1,13 @@
-use Rattle.std.proofs.Common.{◌≤◌, ◌+◌, ◌∙◌, sym, ap, subst, arith, length}
+use Rattle.std.proofs.Common.{◌≡◌, ◌≤◌, ◌+◌, true, ◌∙◌, sym, ap, subst, arith, length}
 use Rattle.std.proofs.lemmas.List.{length-map}
 use Rattle.bounded_search.specs.Rows.{AsksAll}
-use Rattle.bounded_search.proofs.Asking.{keeps_err, keeps_itself, keeps_then}
-use Rattle.trace_match.specs.Match.{layer_of}
+use Rattle.bounded_search.proofs.Asking.{asks_done, asks_err, asks_nothing}
+use Rattle.trace_match.specs.Match.{asks, layer_of}
 use Rattle.online_commit.specs.Session.{AsksPoints}
 use Rattle.trace_sessions.specs.Following.{pieces_among}
 use Rattle.trace_sessions.specs.ItemText.{AreItemsOf}
 use Rattle.trace_sessions.proofs.FollowedPoints.{all_counted, all_fed, all_layers, can_feed, fed_count, few_followed, first_layers, last_left, left_lies, none_followed, turned}
-use Rattle.trace_sessions.proofs.FollowedRows.{all_asked, next_asked, none_asked, session_rows}
+use Rattle.trace_sessions.proofs.FollowedRows.{all_asked, fed_asked, first_asked, last_asked, next_asked, none_asked, session_rows}
 use Rattle.trace_sessions.proofs.FollowedText.{text_begins, text_ends, text_next}
 use Rattle.trace_sessions.proofs.SessionFixes.{on-err}
 use Rattle.trace_sessions.proofs.Written.{adds-stays, stays-behind, stays-itself}
@@ -41,10 +41,13 @@ pub returns-in_err-write_rest-clause-err : goal.returns-in_err-write_rest-clause
 returns-in_err-write_rest-clause-err g c = on-err c.from_residual-in_err-write_rest.result (stays-behind c.args.into.now _ c.loop-fix.into c.write_rest.new.into c.loop-fix.invariant.text (adds-stays c.loop-fix.into _ c.write_rest.new.into c.in_err-write_rest.ensures.err))
 
 pub returns-in_err-write_trace-clause-asks : goal.returns-in_err-write_trace-clause-asks
-returns-in_err-write_trace-clause-asks g c = keeps_err (keeps_itself (g.R.Rows.state c.args.rows.now)) c.from_residual.ensures.0
+returns-in_err-write_trace-clause-asks g c =
+    let first = g.R.Rows.state c.args.rows.now in
+    asks_err (asks_nothing first (λ v. asks c.args.on.now.net.now c.args.on.now.params.now c.args.trace.now v ≡ true)) c.from_residual.ensures.0
 
 pub returns-in_err-layer-clause-asks : goal.returns-in_err-layer-clause-asks
-returns-in_err-layer-clause-asks g c = keeps_err c.loop-fix.invariant.asked.only.keeps c.from_residual-in_err-layer.ensures.0
+returns-in_err-layer-clause-asks g c =
+    asks_err (first_asked c.args.on.now.net.now c.args.on.now.params.now c.args.trace.now c.loop-fix.fix-index c.loop-fix.invariant.asked.only) c.from_residual-in_err-layer.ensures.0
 
 pub feed-requires-clause-rows : goal.feed-requires-clause-rows
 feed-requires-clause-rows g c =
@@ -56,13 +59,27 @@ finish-requires g c = record {
 }
 
 pub returns-in_err-items-2-clause-asks : goal.returns-in_err-items-2-clause-asks
-returns-in_err-items-2-clause-asks g c = keeps_err (keeps_then c.loop-fix.invariant.asked.only.keeps c.finish.ensures.asks.keeps) c.from_residual-in_err-items-2.ensures.0
+returns-in_err-items-2-clause-asks g c =
+    let inv = c.loop-fix.invariant in
+    let i = c.loop-fix.fix-index in
+    asks_err (last_asked c.args.on.now.net.now c.args.on.now.params.now c.args.trace.now i c.loop-fix.session inv.followed.network inv.followed.params inv.followed.stands inv.asked c.finish.ensures.asks)
+    c.from_residual-in_err-items-2.ensures.0
 
 pub returns-in_err-write_rest-clause-asks : goal.returns-in_err-write_rest-clause-asks
-returns-in_err-write_rest-clause-asks g c = keeps_err (keeps_then c.loop-fix.invariant.asked.only.keeps c.finish.ensures.asks.keeps) c.from_residual-in_err-write_rest.ensures.0
+returns-in_err-write_rest-clause-asks g c =
+    let inv = c.loop-fix.invariant in
+    let i = c.loop-fix.fix-index in
+    asks_err (last_asked c.args.on.now.net.now c.args.on.now.params.now c.args.trace.now i c.loop-fix.session inv.followed.network inv.followed.params inv.followed.stands inv.asked c.finish.ensures.asks)
+    c.from_residual-in_err-write_rest.ensures.0
 
 pub returns-in_err-items-clause-asks : goal.returns-in_err-items-clause-asks
-returns-in_err-items-clause-asks g c = keeps_err (keeps_then c.loop-fix.invariant.asked.only.keeps c.feed.ensures.asks.keeps) c.from_residual-in_err-items.ensures.0
+returns-in_err-items-clause-asks g c =
+    let n = c.args.on.now.net.now in
+    let p = c.args.on.now.params.now in
+    let inv = c.loop-fix.invariant in
+    let fixes = c.as_slice-fix-items.ensures in
+    asks_err (fed_asked n p c.args.trace.now c.as_slice-fix-items.result.now c.loop-fix.fix-index _ c.in_ok-layer.layer c.loop-fix.session fixes c.loop-fix-test.true c.in_ok-layer.ensures
+    inv.followed.network inv.followed.params inv.followed.stands inv.asked c.feed.ensures.asks) c.from_residual-in_err-items.ensures.0
 
 pub write_step-requires : goal.write_step-requires
 write_step-requires g c =
@@ -71,7 +88,13 @@ write_step-requires g c =
     subst (AreItemsOf c.args.on.now.net.now) (sym c.as_slice.ensures) turn.lies
 
 pub returns-in_err-write_step-clause-asks : goal.returns-in_err-write_step-clause-asks
-returns-in_err-write_step-clause-asks g c = keeps_err (keeps_then c.loop-fix.invariant.asked.only.keeps c.feed.ensures.asks.keeps) c.from_residual-in_err-write_step.ensures.0
+returns-in_err-write_step-clause-asks g c =
+    let n = c.args.on.now.net.now in
+    let p = c.args.on.now.params.now in
+    let inv = c.loop-fix.invariant in
+    let fixes = c.as_slice-fix-items.ensures in
+    asks_err (fed_asked n p c.args.trace.now c.as_slice-fix-items.result.now c.loop-fix.fix-index _ c.in_ok-layer.layer c.loop-fix.session fixes c.loop-fix-test.true c.in_ok-layer.ensures
+    inv.followed.network inv.followed.params inv.followed.stands inv.asked c.feed.ensures.asks) c.from_residual-in_err-write_step.ensures.0
 
 pub overflow_add-pieces : goal.overflow_add-pieces
 overflow_add-pieces g c =
@@ -155,4 +178,4 @@ returns-clause-asks g c =
     let first = g.R.Rows.state c.args.rows.now in
     let before = subst (λ ls. AsksAll first (g.R.Rows.state c.loop-fix.rows) (AsksPoints n p ls)) (all_layers n p trace i over) inv.asked in
     let all = all_asked n p trace c.loop-fix.session inv.followed.network inv.followed.params (all_fed n p trace i c.loop-fix.session c.loop-fix.pieces inv.followed over) before c.finish.ensures.asks in
-    record { keeps = all.only.keeps; asks = all }
+    asks_done all
