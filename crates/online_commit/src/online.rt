@@ -121,8 +121,8 @@ impl<'n> Online<'n> {
     /// Takes the next point, and returns the items that it commits, in the order of the points.
     /// `Err` means out of memory; then the point was not taken.
     ///
-    /// The rows of the previous point become known if the new point may follow it, and those
-    /// of the route of a piece that is closed.
+    /// Only rows that the points with this one ask for become known, even on `Err`. On `Ok`, all of them
+    /// are known that the points without this one do not ask for.
     pub fn feed<R: Rows>(&mut self, layer: Layer, rows: &mut R) -> Result<List<Item>, AllocError>
         requires rows { AreRowsOf (R.state rows.old) self.old.network self.old.params.bound }
         requires layer { CanFeed self.old layer }
@@ -139,7 +139,8 @@ impl<'n> Online<'n> {
     }
 
     /// Ends the trace, and returns the remaining items. Then the session is as newly opened. `Err` means
-    /// out of memory; then the session is unchanged.
+    /// out of memory; then the session is unchanged. Only rows that the points ask for become known, even
+    /// on `Err`.
     pub fn finish<R: Rows>(&mut self, rows: &mut R) -> Result<List<Item>, AllocError>
         requires rows { AreRowsOf (R.state rows.old) self.old.network self.old.params.bound }
         ensures finished { IfOk result (IsFinished self.old self.new) }
