@@ -26,7 +26,7 @@ use Rattle.trace_sessions.specs.Streaming.{AreLawful, AsksSome, AsksStream, CanS
 use Rattle.trace_sessions.proofs.FollowedRows.{none_asked}
 use Rattle.trace_sessions.proofs.StreamLines.{told-few}
 use Rattle.trace_sessions.proofs.StreamPoints.{fixes_in-behind, full-append, lines-append, with-append}
-use Rattle.trace_sessions.proofs.StreamTakes.{asks-grow, lawful-behind}
+use Rattle.trace_sessions.proofs.StreamTakes.{among-some, asks-grow, lawful-behind}
 use Rattle.trace_match.specs.Setting.{Setting}
 use Rattle.stream_work.specs.Streams.{pairs_of, streams_job, too_long_line}
 use Rattle.stream_work.specs.StreamsDone.{HasStreamed, KnowsSome, StopsAtFault}
@@ -141,7 +141,7 @@ asked-more s s' before more rows rows' pieces network params keeps knows asks =
     (λ v. (
       λ has.
           asks-same s s' (with_points pairs points) v (sym network) (sym params)
-          (⊎_elim (λ old. asks-grow s pairs points v ((knows v).0 old)) (λ asked. asked) ((asks.only pairs keeps).nothing_else v has)),
+          (⊎_elim (λ old. asks-grow s pairs points v ((knows v).0 old)) (λ asked. among-some s pairs points v asked) ((asks.only pairs keeps).nothing_else v has)),
       λ asked.
           ⊎_elim (λ old. asks.keeps.known v ((knows v).1 old)) (λ known. known)
           (asks.all pairs v keeps (asks-same s' s (with_points pairs points) v network params asked)),

@@ -1,13 +1,13 @@
 -- What taking points of a stream leaves: one point, and more behind others.
 use Rattle.std.proofs.Common.{◌≡◌, ◌⊎◌, inl, inr, ⊎_elim, ℕ, ◌+◌, ◌<◌, Bool, true, false, cond, List, [], ◌∷◌, ◌++◌, Some, None, Result, Ok, Err, OnOk, IsErr, refl, sym, ap, ◌∙◌, subst, arith, length, map, nat_eq}
 use Rattle.std.specs.Prelude.{Contains}
-use Rattle.std.specs.List.{All, concat}
+use Rattle.std.specs.List.{All, concat, filter}
 use Rattle.std.proofs.lemmas.Bool.Decides.{nat_tests}
-use Rattle.std.proofs.lemmas.List.{append_assoc, append-nil, map-append}
-use Rattle.std.proofs.lemmas.List.Elements.{All-head, All-tail}
+use Rattle.std.proofs.lemmas.List.{append_assoc, append-nil, length-append, map-append}
+use Rattle.std.proofs.lemmas.List.Elements.{All-head, All-tail, filter-append}
 use Rattle.std.proofs.lemmas.List.Folds.{concat-append}
 use Rattle.polyline_geometry.specs.Plane.{InRange}
-use Rattle.bounded_search.specs.Rows.{RowsState, AsksOnly}
+use Rattle.bounded_search.specs.Rows.{RowsState}
 use Rattle.bounded_search.proofs.Asking.{asks_nothing, keeps_itself, keeps_then, only_by, only_then}
 use Rattle.trace_match.specs.Match.{layer_of}
 use Rattle.trace_reader.specs.declared.trace.Fix.{Fix}
@@ -22,7 +22,7 @@ use Rattle.trace_sessions.specs.ItemText.{AddsPrefix}
 use Rattle.trace_sessions.specs.Sessions.{AsksFedTo, AsksFixes, Keeps, Pair, SessionsState, fixes_and, fixes_of, with_fix}
 use Rattle.trace_sessions.specs.SessionsInside.{session_at, session_in}
 use Rattle.trace_sessions.specs.StreamText.{Point, fixes_among, full_id, has_room, stream_lines, with_points}
-use Rattle.trace_sessions.specs.Streaming.{AreLawful, AsksSome, AsksStream, Streams, TakesPoints, pieces_told}
+use Rattle.trace_sessions.specs.Streaming.{AreLawful, AsksAmong, AsksSome, AsksStream, Streams, TakesPoints, pieces_told}
 use Rattle.trace_sessions.proofs.SessionFixes.{count_of, no-ok, opened-is, stands-in}
 use Rattle.trace_sessions.proofs.StreamPoints.{fixes-behind, fixes-with, full-append, full-stays, lawful-insert, lines-append, taken-append, taken-stays, with-append}
 use Rattle.trace_sessions.proofs.OnePointTaken.{add_assoc, lawful-with, layers, of_state}
@@ -133,14 +133,39 @@ fixes-other pairs id k fix other =
     fixes-with pairs id k fix ∙ ap (λ b. fixes_of pairs id ++ map (λ (y : Point). y.1) (cond b ((k, fix) ∷ []) [])) other ∙ append-nil (fixes_of pairs id)
 
 -- more points ask for no less
-pub asks-grow : (s : SessionsState) (pairs : List Pair) (more : List Point) (v : ℕ) → AsksSome s pairs v → AsksSome s (with_points pairs more) v
-asks-grow s pairs more v (id, asked) =
+fixes-grow : (s : SessionsState) (pairs : List Pair) (more : List Point) (id v : ℕ) → AsksFixes s (fixes_of pairs id) v → AsksFixes s (fixes_of (with_points pairs more) id) v
+fixes-grow s pairs more id v asked =
     let n = s.network in
     let p = s.params in
     let later = fixes_among id more in
     let all : layers n p (fixes_of pairs id) ++ layers n p later ≡ layers n p (fixes_of (with_points pairs more) id) =
     sym (map-append (layer_of n p) (fixes_of pairs id) later) ∙ ap (layers n p) (sym (fixes-behind pairs more id)) in
-    (id, subst (λ ls. AsksPoints n p ls v) all (asks-more n p (layers n p (fixes_of pairs id)) (layers n p later) (whole (trellis n p) (layers n p (fixes_of pairs id))) v asked))
+    subst (λ ls. AsksPoints n p ls v) all (asks-more n p (layers n p (fixes_of pairs id)) (layers n p later) (whole (trellis n p) (layers n p (fixes_of pairs id))) v asked)
+
+pub asks-grow : (s : SessionsState) (pairs : List Pair) (more : List Point) (v : ℕ) → AsksSome s pairs v → AsksSome s (with_points pairs more) v
+asks-grow s pairs more v (id, asked) = (id, fixes-grow s pairs more id v asked)
+
+pub among-some : (s : SessionsState) (pairs : List Pair) (points : List Point) (v : ℕ) → AsksAmong s pairs points v → AsksSome s (with_points pairs points) v
+among-some s pairs points v (id, some, asked) = (id, asked)
+
+among-count : (id : ℕ) (front back : List Point) → length (fixes_among id (front ++ back)) ≡ length (fixes_among id front) + length (fixes_among id back)
+among-count id front back =
+    let own = filter (λ (y : Point). nat_eq id y.0) front in
+    let other = filter (λ (y : Point). nat_eq id y.0) back in
+    let fix : Point → Fix = λ y. y.1 in
+    ap (λ ps. length (map fix ps)) (filter-append (λ (y : Point). nat_eq id y.0) front back)
+    ∙ ap length (map-append fix own other)
+    ∙ length-append (map fix own) (map fix other)
+
+among-front : (s : SessionsState) (pairs : List Pair) (front back : List Point) (v : ℕ) → AsksAmong s pairs front v → AsksAmong s pairs (front ++ back) v
+among-front s pairs front back v (id, some, asked) =
+    let count = among-count id front back in
+    (id, omega (arith, some, count), subst (λ qs. AsksFixes s (fixes_of qs id) v) (sym (with-append pairs front back)) (fixes-grow s (with_points pairs front) back id v asked))
+
+among-one : (id : ℕ) (fix : Fix) → length (fixes_among id ((id, fix) ∷ [])) ≡ 1
+among-one id fix =
+    let own : nat_eq id id ≡ true = grind (arith, nat_tests) in
+    ap (λ b. length (map (λ (y : Point). y.1) (cond b ((id, fix) ∷ []) []))) own
 
 point_all : (s : SessionsState) (pairs : List Pair) (id : ℕ) (fix : Fix) (v : ℕ) (K : Type 0) → (AsksFixes s (fixes_and pairs id fix) v → AsksFixes s (fixes_of pairs id) v ⊎ K)
     → AsksSome s (with_fix pairs id fix) v → AsksSome s pairs v ⊎ K
@@ -157,7 +182,9 @@ pub point-asks : {A E B F : Type 0} (s : SessionsState) (id : ℕ) (fix : Fix) (
     → ((P : Type 0) → OnOk result P → OnOk told P) → AsksStream s ((id, fix) ∷ []) rows told new
 point-asks s id fix rows new result told asks on = record {
   keeps = asks.keeps;
-  only = λ pairs h. only_by (asks.only pairs h) (λ v asked. (id, subst (λ fixes. AsksFixes s fixes v) (sym (fixes-own pairs id fix)) asked));
+  only = λ pairs h.
+      let one = among-one id fix in
+      only_by (asks.only pairs h) (λ v asked. (id, omega (arith, one), subst (λ fixes. AsksFixes s fixes v) (sym (fixes-own pairs id fix)) asked));
   all = on _ (on_ok result (λ all pairs v h asked. point_all s pairs id fix v (Contains new.known v) (all pairs v h) asked) asks.all);
 }
   where
@@ -166,6 +193,17 @@ point-asks s id fix rows new result told asks on = record {
     on_ok (Err e) f h = tt
 
 -- of sessions of the same network and options
+among-back : (s0 s1 : SessionsState) (pairs : List Pair) (front back : List Point) (v : ℕ) → s1.network ≡ s0.network → s1.params ≡ s0.params
+    → AsksAmong s1 (with_points pairs front) back v → AsksAmong s0 pairs (front ++ back) v
+among-back s0 s1 pairs front back v network params (id, some, asked) =
+    let count = among-count id front back in
+    let fixes = fixes_of (with_points (with_points pairs front) back) id in (
+      id,
+      omega (arith, some, count),
+      subst (λ qs. AsksFixes s0 (fixes_of qs id) v) (sym (with-append pairs front back))
+          (of_state (λ m q. AsksPoints m q (map (layer_of m q) fixes) v) network params asked),
+    )
+
 of_names : (s0 s1 : SessionsState) (pairs : List Pair) (v : ℕ) → s1.network ≡ s0.network → s1.params ≡ s0.params → AsksSome s1 pairs v → AsksSome s0 pairs v
 of_names s0 s1 pairs v network params (id, asked) =
     (id, of_state (λ m q. AsksPoints m q (map (layer_of m q) (fixes_of pairs id)) v) network params asked)
@@ -181,10 +219,8 @@ pub asks-then : {A E B F : Type 0} {x : B} (s0 s1 : SessionsState) (front back :
 asks-then s0 s1 front back r0 r1 r2 result network params stands one two = record {
   keeps = keeps_then one.keeps two.keeps;
   only = λ pairs h.
-      let all = with-append pairs front back in
-      subst (λ qs. AsksOnly r0 r2 (AsksSome s0 qs)) (sym all)
-      (only_then (one.only pairs h) (two.only (with_points pairs front) (stands pairs h))
-      (λ v either. ⊎_elim (λ asked. asks-grow s0 (with_points pairs front) back v asked) (λ asked. of_names s0 s1 (with_points (with_points pairs front) back) v network params asked) either));
+      only_then (one.only pairs h) (two.only (with_points pairs front) (stands pairs h))
+      (λ v either. ⊎_elim (λ asked. among-front s0 pairs front back v asked) (λ asked. among-back s0 s1 pairs front back v network params asked) either);
   all = on_ok result (λ all pairs v h asked.
       ⊎_elim
       (λ earlier. ⊎_elim (λ old. inl old) (λ known. inr (two.keeps.known v known)) (one.all pairs v h (of_names s0 s1 (with_points pairs front) v network params earlier)))
@@ -202,7 +238,7 @@ pub asks-wider : {A E B F : Type 0} (s : SessionsState) (front rest : List Point
     → AsksStream s (front ++ rest) rows told new
 asks-wider s front rest rows new result told asks failed = record {
   keeps = asks.keeps;
-  only = λ pairs h. subst (λ qs. AsksOnly rows new (AsksSome s qs)) (sym (with-append pairs front rest)) (only_by (asks.only pairs h) (λ v asked. asks-grow s (with_points pairs front) rest v asked));
+  only = λ pairs h. only_by (asks.only pairs h) (λ v asked. among-front s pairs front rest v asked);
   all = no-ok told _ failed;
 }
 

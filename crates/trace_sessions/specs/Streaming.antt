@@ -15,7 +15,7 @@ use Rattle.trace_sessions.specs.declared.sessions.SessionFault.TheVariants.{Memo
 use Rattle.trace_sessions.specs.Following.{pieces_among}
 use Rattle.trace_sessions.specs.ItemText.{AddsPrefix}
 use Rattle.trace_sessions.specs.Sessions.{AsksFixes, IsSessionOf, Keeps, Pair, SessionsState, fixes_of}
-use Rattle.trace_sessions.specs.StreamText.{Point, closing_lines, full_id, lines_at_end, stream_lines, trace_of, with_points, with_taken}
+use Rattle.trace_sessions.specs.StreamText.{Point, closing_lines, fixes_among, full_id, lines_at_end, stream_lines, trace_of, with_points, with_taken}
 
 -- how many fixes the ids have
 abbrev pub fixes_in : List Pair → ℕ
@@ -33,6 +33,11 @@ pieces_of_all n p pairs =
 -- the match of the fixes of some id asks for the row of node v
 abbrev pub AsksSome : SessionsState → List Pair → ℕ → Type 0
 AsksSome s pairs v = (id : ℕ) × AsksFixes s (fixes_of pairs id) v
+
+-- the match of an id of these points, with all its fixes up to them, asks for the row of node v
+abbrev pub AsksAmong : SessionsState → List Pair → List Point → ℕ → Type 0
+AsksAmong s pairs points v =
+    (id : ℕ) × (0 < length (fixes_among id points)) × AsksFixes s (fixes_of (with_points pairs points) id) v
 
 -- the fixes of each id are those of a lawful trace
 abbrev pub AreLawful : List Pair → Type 0
@@ -89,13 +94,13 @@ Streams old pairs points new text text' (Err (TooLong id)) =
 Streams old pairs points new text text' (Err (NotOpen id)) = ⊥
 Streams old pairs points new text text' (Err Memory) = TakesUntilMemory old pairs points new text text'
 
--- what taking points leaves of the rows: nothing became known but what some id asks for with them, and
--- after Ok all that it asks for is known and was not asked for before
+-- what taking points leaves of the rows: nothing became known but what an id of these points asks
+-- for with them, and after Ok all that some id asks for is known or was asked for before
 pub record AsksStream {A E : Type 0} (old : SessionsState) (points : List Point) (rows : RowsState)
     (result : Result A E) (new : RowsState) : Type 0 where
   pub keeps : KeepsRows rows new
   pub only : (pairs : List Pair) → Keeps old pairs
-      → AsksOnly rows new (AsksSome old (with_points pairs points))
+      → AsksOnly rows new (AsksAmong old pairs points)
   pub all : OnOk result ((pairs : List Pair) (v : ℕ) → Keeps old pairs
       → AsksSome old (with_points pairs points) v → AsksSome old pairs v ⊎ Contains new.known v)
 
