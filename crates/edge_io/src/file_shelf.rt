@@ -1,6 +1,8 @@
 //! The files of a runtime. Serves the program's `main`; decided by the clauses of `Shelf::read`,
 //! which do not specify a real file's bytes.
 ghost use Rattle.std.specs.Prelude.{◌≡◌, ◌+◌, ◌≤◌, ◌^◌, None, length, take, IfOk, IfErr};
+ghost use Rattle.std.specs.Io.{ReadsAtMost};
+ghost use Rattle.std.specs.Io.KnownBytes.{ReadConsumes};
 ghost use Rattle.edge_io.specs.State.{new_shelf};
 
 use crate::noting::fail_read;
@@ -112,9 +114,11 @@ impl<R: Files + Drop> FileShelf<R> {
     }
 }
 
-/// Reads once, and again if a signal interrupted the read. Returns how many bytes came.
+/// Reads once, and again if a signal interrupted the read, which took no bytes then. Returns how many
+/// bytes came.
 pub fn read_again<F: Read>(file: &mut F, buffer: &mut [u8]) -> io::Result<usize>
-    ensures { IfOk result (λ count. count ≤ length buffer.old) }
+    ensures bound { ReadsAtMost result buffer.new }
+    ensures bytes { ReadConsumes (F.remaining file.old) (F.remaining file.new) result buffer.new }
 {
     for _ in 0..u64::MAX {
         match file.read(buffer) {
