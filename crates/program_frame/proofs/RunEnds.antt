@@ -7,6 +7,7 @@ use Rattle.std.proofs.lemmas.Slice.Eq.{bytes_eq-Decides}
 use Rattle.std.proofs.lemmas.List.Sums.{fold-append}
 use Rattle.edge_io.proofs.KnownBytes.{prefix_whole}
 use Rattle.edge_io.specs.Sink.{AppendsPrefix, Puts, Rose}
+use Rattle.edge_io.proofs.Counts.{rose_counted}
 use Rattle.edge_io.specs.declared.sink.Put.{Put}
 use Rattle.edge_io.specs.declared.sink.Put.TheVariants as puts
 use Rattle.program_frame.specs.Stops.{stop_line, line_of, refusal_status, status_after, unread_line}
@@ -237,7 +238,7 @@ stopped {lines} asked shelf shelf' out out' err err' (Unread file) puts.All cove
 stopped {lines} asked shelf shelf' out out' err err' Unwritten puts.All covers performs said =
     unwritten_said asked shelf shelf' out out' err err' performs.partial (same_files asked shelf shelf' out out' Unwritten performs.leaves) (inl performs.leaves.rose) (λ _. inr said.0) (write_line, inr (inr (inr refl)), prefix_whole err.written err'.written write_line said.0)
 stopped {lines} asked shelf shelf' out out' err err' stop puts.Failed covers performs said =
-    unwritten_said asked shelf shelf' out out' err err' performs.partial (same_files asked shelf shelf' out out' stop performs.leaves) (inr said.2) (λ calm. absurd (calm said.2)) (stop_line stop, line_is lines asked shelf shelf' out out' stop covers performs.leaves, said.0)
+    unwritten_said asked shelf shelf' out out' err err' performs.partial (same_files asked shelf shelf' out out' stop performs.leaves) (inr (rose_counted err.faults err'.faults said.1)) (λ calm. absurd (calm (rose_counted err.faults err'.faults said.1))) (stop_line stop, line_is lines asked shelf shelf' out out' stop covers performs.leaves, said.0)
 stopped {lines} asked shelf shelf' out out' err err' (Refused refusal line) puts.NoMemory covers performs said =
     starved asked shelf shelf' out out' err err' performs.partial (counts shelf shelf' out out' err err' performs.leaves.quiet said.1) (inl said.0) (λ _. said.0) (same_files asked shelf shelf' out out' (Refused refusal line) performs.leaves)
 stopped {lines} asked shelf shelf' out out' err err' NoMemory puts.NoMemory covers performs said =
