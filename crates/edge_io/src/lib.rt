@@ -5,8 +5,8 @@
 //!   and the shelf records the name of each failed read.
 //! - `Sink` takes bytes in order. `Sink::put` writes a text, and the sink counts the failed puts.
 //! - `MemoryShelf` and `MemorySink` expose their bytes to contracts, and fail where a test asks for it.
-//! - `FileShelf` and `StreamSink` are thin adapters over a runtime's files and over a stream. Their
-//!   contracts say nothing of the content.
+//! - `FileShelf` and `StreamSink` are thin adapters over a runtime's files and over a stream. As a shelf
+//!   and a sink they say nothing of the content.
 //!
 //! Read the clause `bytes` of `Shelf::read` first. Lemmas for callers that add up known bytes are in
 //! `proofs/KnownBytes.antt`.
