@@ -9,12 +9,11 @@ use Rattle.match_text.specs.declared.matched.Label.TheVariants.{Missing}
 use Rattle.match_text.specs.declared.matched.Routed.{Routed}
 use Rattle.matching.specs.declared.parts.Cell.{Cell}
 use Rattle.row_text.specs.RowLine.{row_line}
-use Rattle.potential_certificate.specs.declared.TheConstants.{TEXT_LIMIT}
 use Rattle.potential_certificate.specs.declared.proof.Certificate.{Certificate}
 use Rattle.potential_certificate.specs.declared.proof.TraceProof.{TraceProof}
 
 abbrev pub text_limit : ℕ
-text_limit = TEXT_LIMIT
+text_limit = 1_073_741_824
 
 -- ---- the first and the last line
 
