@@ -1,4 +1,4 @@
--- A proof with one more point.
+-- A proof with one more point, or with its rank alone.
 use Rattle.std.specs.Prelude.{ℕ, List, [], ◌∷◌, ◌++◌, Option}
 use Rattle.matching.specs.declared.parts.Cell.{Cell}
 use Rattle.potential_certificate.specs.declared.proof.TraceProof.{TraceProof}
@@ -6,3 +6,7 @@ use Rattle.potential_certificate.specs.declared.proof.TraceProof.{TraceProof}
 abbrev pub with_last_point : TraceProof → Option ℕ → List Cell → TraceProof
 with_last_point proof rank cells =
     record { id = proof.id; ranks = proof.ranks ++ rank ∷ []; tables = proof.tables ++ cells ∷ []; pieces = proof.pieces }
+
+abbrev pub with_last_rank : TraceProof → Option ℕ → TraceProof
+with_last_rank proof rank =
+    record { id = proof.id; ranks = proof.ranks ++ rank ∷ []; tables = proof.tables; pieces = proof.pieces }

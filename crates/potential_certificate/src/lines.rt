@@ -1,6 +1,6 @@
 //! The first and the last line of a certificate. Serves the writer and the reader; decided by
 //! `first_line` and `last_line`.
-ghost use Rattle.std.specs.Prelude.{◌≡◌, ◌++◌, OnOk};
+ghost use Rattle.std.specs.Prelude.{◌≡◌, ◌++◌, length, take, OnErr, OnOk};
 ghost use Rattle.potential_certificate.specs.CertificateText.{back_words, first_line, form, gap_words, last_line, option_words};
 ghost use Rattle.potential_certificate.specs.Words.{words_text};
 
@@ -11,7 +11,8 @@ use std::alloc::AllocError;
 
 /// Appends the first line. On `Err`, a part of it may remain at the end.
 pub fn append_first(p: &Params, into: &mut List<u8>) -> Result<(), AllocError>
-    ensures { OnOk result (into.new ≡ into.old ++ first_line p.now) }
+    ensures ok { OnOk result (into.new ≡ into.old ++ first_line p.now) }
+    ensures err { OnErr result (take (length into.old) into.new ≡ into.old) }
 {
     into.extend_from_slice(b"fmm-certificate")?;
     write_worded(b" ", u64::from(form(p)), into)?;
@@ -34,9 +35,10 @@ fn form(p: &Params) -> u32
     }
 }
 
-// Appends the options that every form has.
+// Appends the options that every form has. On `Err`, some of them may remain at the end.
 fn append_options(p: &Params, into: &mut List<u8>) -> Result<(), AllocError>
-    ensures { OnOk result (into.new ≡ into.old ++ words_text (option_words p.now)) }
+    ensures ok { OnOk result (into.new ≡ into.old ++ words_text (option_words p.now)) }
+    ensures err { OnErr result (take (length into.old) into.new ≡ into.old) }
 {
     write_worded(b" k ", u64::from(p.k), into)?;
     write_worded(b" radius ", u64::from(p.radius), into)?;
@@ -45,8 +47,10 @@ fn append_options(p: &Params, into: &mut List<u8>) -> Result<(), AllocError>
     write_worded(b" bound ", u64::from(p.bound), into)
 }
 
+// Appends the option `back`, or nothing.
 fn append_back(p: &Params, into: &mut List<u8>) -> Result<(), AllocError>
-    ensures { OnOk result (into.new ≡ into.old ++ words_text (back_words p.now)) }
+    ensures ok { OnOk result (into.new ≡ into.old ++ words_text (back_words p.now)) }
+    ensures err { OnErr result (into.new ≡ into.old) }
 {
     if form(p) == 1 {
         return Ok(());
@@ -54,8 +58,10 @@ fn append_back(p: &Params, into: &mut List<u8>) -> Result<(), AllocError>
     write_worded(b" back ", u64::from(p.back), into)
 }
 
+// Appends the option `gap`, or nothing.
 fn append_gap(p: &Params, into: &mut List<u8>) -> Result<(), AllocError>
-    ensures { OnOk result (into.new ≡ into.old ++ words_text (gap_words p.now)) }
+    ensures ok { OnOk result (into.new ≡ into.old ++ words_text (gap_words p.now)) }
+    ensures err { OnErr result (into.new ≡ into.old) }
 {
     if form(p) == 3 {
         return write_worded(b" gap ", u64::from(p.gap), into);
@@ -65,7 +71,8 @@ fn append_gap(p: &Params, into: &mut List<u8>) -> Result<(), AllocError>
 
 /// Appends the last line. On `Err`, a part of it may remain at the end.
 pub fn append_last(traces: u64, rows: u64, into: &mut List<u8>) -> Result<(), AllocError>
-    ensures { OnOk result (into.new ≡ into.old ++ last_line traces rows) }
+    ensures ok { OnOk result (into.new ≡ into.old ++ last_line traces rows) }
+    ensures err { OnErr result (take (length into.old) into.new ≡ into.old) }
 {
     write_worded(b"certified traces ", traces, into)?;
     write_worded(b" rows ", rows, into)?;

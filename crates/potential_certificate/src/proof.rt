@@ -1,6 +1,6 @@
 //! The parts of a certificate.
-ghost use Rattle.std.specs.Prelude.{◌≡◌, OnOk};
-ghost use Rattle.potential_certificate.specs.AddedPoint.{with_last_point};
+ghost use Rattle.std.specs.Prelude.{◌≡◌, ◌⊎◌, MatchResult};
+ghost use Rattle.potential_certificate.specs.AddedPoint.{with_last_point, with_last_rank};
 
 use bounded_search::Row;
 use match_text::Routed;
@@ -39,7 +39,8 @@ impl TraceProof {
         rank: Option<u32>,
         table: Potentials,
     ) -> Result<(), AllocError>
-        ensures { OnOk result (self.new ≡ with_last_point self.old rank table) }
+        ensures { MatchResult result (λ _. self.new ≡ with_last_point self.old rank table)
+            (λ _. (self.new ≡ self.old) ⊎ (self.new ≡ with_last_rank self.old rank)) }
     {
         self.ranks.push(rank)?;
         self.tables.push(table)
