@@ -10,8 +10,7 @@
 //! point, and `end ID`; then a line for each row (`row_text`) by ascending origin, and the line
 //! `certified traces T rows R`. It has at most [`TEXT_LIMIT`] bytes. [`write_certificate`] appends it,
 //! and [`read_certificate`] accepts exactly the texts of certificates for one set of options. A
-//! [`CertificateReader`] takes the text in blocks, and reads each with as many threads as there are
-//! processors.
+//! [`CertificateReader`] takes the text in blocks, and reads each with up to 64 threads.
 //!
 //! `certificate_text` in `specs/CertificateText.antt` defines the text, `HasText` which certificates
 //! have one, and `certificate_of` in `specs/Reading.antt` what is read. Read these and the laws in

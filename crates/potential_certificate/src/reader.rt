@@ -48,7 +48,7 @@ impl CertificateReader {
         }
     }
 
-    /// Takes more of the text. As many threads as there are processors read the proofs and rows in it.
+    /// Takes more of the text. Up to 64 threads read the proofs and rows in it.
     pub fn push<R: Threads + Sync>(
         self,
         rt: &R,
