@@ -5,10 +5,9 @@ use Rattle.bounded_search.specs.Table.{TableRow}
 use Rattle.decimal_text.specs.Number.{decimal}
 use Rattle.match_text.specs.MatchText.{line}
 use Rattle.row_text.specs.RowLine.{row_line}
-use Rattle.table_file.specs.declared.TheConstants.{TEXT_LIMIT}
 
 abbrev pub text_limit : ℕ
-text_limit = TEXT_LIMIT
+text_limit = 1_073_741_824
 
 -- `fmm-table 1 bound U nodes N edges M`
 abbrev pub first_line : (bound nodes edges : ℕ) → List ℕ
