@@ -1,6 +1,6 @@
 //! A word and a number after it, written as one piece. Serves the writers of lines; decided by
 //! `decimal`.
-ghost use Rattle.std.specs.Prelude.{◌≡◌, ◌+◌, ◌≤◌, ◌++◌, length, drop, OnOk, OnErr};
+ghost use Rattle.std.specs.Prelude.{◌≡◌, ◌+◌, ◌≤◌, ◌++◌, length, drop, take, OnOk, OnErr};
 ghost use Rattle.decimal_text.specs.Number.{decimal};
 
 use itoa::write_digits;
@@ -21,12 +21,13 @@ pub fn write_worded(word: &[u8], number: u64, into: &mut List<u8>) -> Result<(),
     into.extend_from_slice(&part[start..])
 }
 
-/// Writes a word and a number so that they end at `end`, and returns where they start.
+/// Writes a word and a number so that they end at `end`, and returns where they start. The bytes before
+/// and after them are unchanged.
 #[inline(always)]
 pub fn put_worded(word: &[u8], number: u64, bytes: &mut [u8], end: usize) -> usize
-    requires room { length word.now + 20 ≤ end }
-    requires within { end ≤ length bytes.old }
+    requires { (length word.now + 20 ≤ end) × (end ≤ length bytes.old) }
     ensures written { drop result bytes.new ≡ word.now ++ (decimal number ++ drop end bytes.old) }
+    ensures front { take result bytes.new ≡ take result bytes.old }
     ensures near { end ≤ result + length word.now + 20 }
     ensures within { (result ≤ length bytes.new) × (length bytes.new ≡ length bytes.old) }
 {

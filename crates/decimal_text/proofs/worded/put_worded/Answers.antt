@@ -1,4 +1,6 @@
-use Rattle.std.proofs.Common.{◌-◌, ◌∙◌, drop, length, length-drop, length-take-le, arith}
+use Rattle.std.proofs.Common.{◌-◌, ◌∙◌, ap, drop, length, length-drop, length-take-le, sym, take, arith}
+use Rattle.std.proofs.lemmas.List.{take-take}
+use Rattle.std.proofs.lemmas.Slice.{take-put_mid_below}
 use Rattle.decimal_text.proofs.Laws.{length-decimal}
 use Rattle.decimal_text.proofs.worded.put_worded.Goals as goal
 
@@ -23,3 +25,12 @@ pub returns-clause-near : goal.returns-clause-near
 returns-clause-near c =
     let long = (length-decimal c.args.number (omega arith)).1 in
     omega (arith, long)
+
+pub returns-clause-front : goal.returns-clause-front
+returns-clause-front c =
+    let long = (length-decimal c.args.number (omega arith)).1 in
+    let start = c.write_digits-start.result in
+    let front = start - length c.args.word.now in
+    let bytes = c.write_digits-start.new.buf in
+    take-put_mid_below front (start - front) bytes _ front (omega arith) (omega (arith, long, c.write_digits-start.auto.buf))
+    ∙ sym (take-take front start bytes (omega arith)) ∙ ap (take front) c.write_digits-start.ensures.before ∙ take-take front start c.args.bytes.now (omega arith)
