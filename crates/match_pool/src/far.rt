@@ -12,7 +12,7 @@ use polyline_geometry::List;
 use std::alloc::{AllocError, Global};
 use trace_reader::{Fix, Trace};
 
-/// Whether a position is so far from the whole network that it has no candidate.
+/// True only if a position has no candidate, far from the whole network. False decides nothing.
 fn fix_lies_far(batch: &Batch, fix: &Fix) -> Result<bool, AllocError>
     requires { InRange (point_of_fix fix.now) }
     ensures { IfOk result (λ far. IsTrue far
@@ -26,7 +26,8 @@ fn fix_lies_far(batch: &Batch, fix: &Fix) -> Result<bool, AllocError>
     Ok(found.len() == 0)
 }
 
-/// Whether all positions of a trace are. The first position decides for most traces.
+/// True only if no position of a trace has a candidate. False decides nothing; for most traces the first
+/// position gives it.
 pub(crate) fn lies_far(batch: &Batch, trace: &Trace) -> Result<bool, AllocError>
     requires { IsLawfulTrace trace.now }
     ensures { IfOk result (λ far. IsTrue far
