@@ -25,7 +25,7 @@ use std::thread;
 use std::thread::Threads;
 use trace_reader::Trace;
 
-// The bytes of a certificate that are read at once: enough to keep all processors busy, few enough to be
+// The bytes of a certificate that are read at once: enough to keep several threads busy, few enough to be
 // read soon.
 const BLOCK: u64 = 16_777_216;
 
@@ -139,7 +139,7 @@ fn load_certificate<R: Threads + Sync, S: Shelf>(
     accept_certificate(rt, alloc, subject, text)
 }
 
-/// Reads the network, then all traces and then the certificate, and reports that it is proved. All processors
+/// Reads the network, then all traces and then the certificate, and reports that it is proved. Several threads
 /// process a block of the certificate while the next block is read.
 pub fn check_traces<R: Threads + Sync, S: Shelf, K: Sink>(
     rt: &R,

@@ -22,8 +22,7 @@ use trellis::Potentials;
 
 /// The certificate whose text for these options this is.
 ///
-/// It reads the text once, from its start to its end or to its first bad line. The result has a text
-/// (`HasText`); whether it is right is not checked.
+/// The result has a text (`HasText`); whether it is right is not checked. Takes time linear in the text.
 pub fn read_certificate(alloc: Global, p: &Params, text: &[u8]) -> Result<Certificate, CertFault>
     ensures ok { IfOk result (λ c. certificate_of p.now text.now ≡ Ok c) }
     ensures err { IfErr result (λ fault. (fault ≡ Memory)
