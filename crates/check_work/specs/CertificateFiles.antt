@@ -12,6 +12,11 @@ pub record IsToBeRead (block : Block) : Type 0 where
   pub some : 1 ≤ block.most
   pub few : block.most < 2 ^ 40
 
+-- a block has at most so many bytes, and so many where the file may go on behind it
+pub record IsOfSize (most : ℕ) (block : Block) (goes_on : Bool) : Type 0 where
+  pub few : length block.bytes.items ≤ most
+  pub full : goes_on ≡ true → length block.bytes.items ≡ most
+
 -- what was read of a file: all of it, unless it goes on
 abbrev pub IsRead : Option (List ℕ → Option (List ℕ)) → List ℕ → List ℕ → Bool → Type 0
 IsRead told name text true = IsReadSoFar told name text

@@ -2,7 +2,7 @@
 ghost use Rattle.std.specs.Prelude.{◌≡◌, ◌+◌, ◌≤◌, ◌<◌, ◌^◌, ◌++◌, IfErr, IfOk, length};
 ghost use Rattle.potential_certificate.specs.CertificateText.{text_limit};
 ghost use Rattle.program_frame.specs.Read.{FailsToRead, ReadsWhole};
-ghost use Rattle.check_work.specs.CertificateFiles.{IsToBeRead, ReadsBlock};
+ghost use Rattle.check_work.specs.CertificateFiles.{IsOfSize, IsToBeRead, ReadsBlock};
 
 use edge_io::{Shelf, Taken};
 use potential_certificate::{CertificateReader, TEXT_LIMIT};
@@ -27,6 +27,7 @@ fn next_block(block: &Block, memory: Vec<u8>, most: u64) -> Block
     requires within { block.now.from + length block.now.bytes.items ≤ text_limit }
     requires most { (1 ≤ most) × (most < 2 ^ 40) }
     ensures place { result.from ≡ block.now.from + length block.now.bytes.items }
+    ensures size { result.most ≡ most }
     ensures empty { IsToBeRead result }
 {
     let mut bytes = memory;
@@ -46,6 +47,7 @@ fn fill<S: Shelf>(shelf: &mut S, name: &str, block: &mut Block) -> Result<bool, 
         (S.state shelf.old) (S.state shelf.new) block.old.from block.new) }
     ensures err { IfErr result (FailsToRead File.Certificate name.now
         (S.state shelf.old) (S.state shelf.new)) }
+    ensures size { IfOk result (λ goes_on. IsOfSize block.old.most block.new goes_on) }
 {
     let end = (block.from + block.most).min(TEXT_LIMIT + 1);
     while block.from + (block.bytes.len() as u64) < end {
@@ -100,7 +102,7 @@ fn take_and_fill<R: Threads + Sync, S: Shelf>(
 }
 
 /// Reads a certificate file from its start to its end or to the first byte above the limit, in blocks of at most
-/// `most` bytes. Only two blocks are stored, and the parts of the text that are not proofs or rows.
+/// `size` bytes. Only two blocks are stored, and the parts of the text that are not proofs or rows.
 pub fn read_certificate_file<R: Threads + Sync, S: Shelf>(
     rt: &R,
     alloc: Global,

@@ -1,4 +1,4 @@
-use Rattle.std.proofs.Common.{◌≡◌, ◌+◌, ◌≤◌, ◌<◌, ℕ, length, vec_len, refl, subst, rules, arith, ◌∙◌, nat_le}
+use Rattle.std.proofs.Common.{◌≡◌, ◌+◌, ◌≤◌, ◌<◌, ℕ, true, false, List, length, vec_len, refl, ap, subst, rules, arith, ◌∙◌, nat_le}
 use Rattle.std.proofs.lemmas.Bool.Decides.{nat_tests}
 use Rattle.edge_io.specs.Shelf.{Reads}
 use Rattle.edge_io.specs.declared.shelf.Taken.TheVariants.{End, Got}
@@ -48,4 +48,26 @@ returns-clause-ok g c =
       some = λ e. omega (arith, some, full);
       within = λ e. grind (arith, nat_tests, e, full);
       read = block_full (g.S.Shelf.state c.args.shelf.now) c.args.name.now block.from c.min-end.result block.bytes.items (nat_le c.min-end.result text_limit) refl (omega (arith, c.min-end.ensures)) full i.front;
+    }
+
+pub returns-in-End-clause-size : goal.returns-in-End-clause-size
+returns-in-End-clause-size g c =
+    let i = c.loop-block.invariant in
+    record {
+      few = omega (arith, ap (λ (l : List ℕ). length l) c.in-End.ensures.grows, i.within, i.place, c.min-end.ensures);
+      full = λ (on : false ≡ true). absurd (cc on);
+    }
+
+pub returns-clause-size : goal.returns-clause-size
+returns-clause-size g c =
+    let i = c.loop-block.invariant in
+    let block = c.loop-block.block in
+    let behind : c.min-end.result ≤ block.from + c.len.result = search (rules, c.loop-block-test.false) in
+    let long : vec_len block.bytes ≡ length block.bytes.items = search rules in
+    let full : block.from + length block.bytes.items ≡ c.min-end.result = omega (arith, behind, c.len.ensures, long, i.within) in
+    record {
+      few = omega (arith, full, i.place, c.min-end.ensures);
+      full = λ e.
+          let low : c.min-end.result ≤ text_limit = grind (arith, nat_tests, e) in
+          omega (arith, low, full, i.place, c.min-end.ensures);
     }
