@@ -38,6 +38,6 @@ next_read name first shelf shelf' at at' items chunk more same is came next =
     subst (λ s. NextChunk name s shelf' at at' chunk (Ok true)) same (subst (λ l. NextChunk name shelf shelf' at at' l (Ok true)) (sym is) (subst (λ m. NextChunk name shelf shelf' at at' items (Ok m)) came next))
 
 -- none came, and so the file was read whole
-pub next_whole : (name : List ℕ) (first shelf shelf' : ShelfState) (at at' : ℕ) (items : List ℕ) (more : Bool) → shelf ≡ first → more ≡ false → NextChunk name shelf shelf' at at' items (Ok more) → NextChunk name first shelf' at at' items (Ok false)
+pub next_whole : (name : List ℕ) (first shelf shelf' : ShelfState) (at at' : ℕ) (items : List ℕ) (more : Bool) → shelf ≡ first → more ≡ false → NextChunk name shelf shelf' at at' items (Ok more) → (fed : List ℕ) → AreRead name first at fed → ReadsWhole name trace_limit first shelf' fed
 next_whole name first shelf shelf' at at' items more same ended next =
-    subst (λ s. NextChunk name s shelf' at at' items (Ok false)) same (subst (λ m. NextChunk name shelf shelf' at at' items (Ok m)) ended next)
+    (subst (λ s. NextChunk name s shelf' at at' items (Ok false)) same (subst (λ m. NextChunk name shelf shelf' at at' items (Ok m)) ended next)).1

@@ -1,5 +1,5 @@
 -- A trace file that is read chunk by chunk.
-use Rattle.std.specs.Prelude.{◌≡◌, ℕ, ◌+◌, ◌≤◌, ◌<◌, ◌^◌, List, ◌++◌, length, Bool, true, false, Result, Ok, Err}
+use Rattle.std.specs.Prelude.{◌≡◌, ℕ, ◌+◌, ◌≤◌, ◌<◌, ◌^◌, List, [], ◌++◌, length, Bool, true, false, Result, Ok, Err}
 use Rattle.edge_io.specs.State.{ShelfState}
 use Rattle.program_frame.specs.Read.{FailsToRead, IsReadSoFar, ReadsWhole}
 use Rattle.program_frame.specs.Refusals.{trace_limit}
@@ -19,6 +19,10 @@ pub record IsChunk (at at' : ℕ) (chunk : List ℕ) : Type 0 where
   pub place : at' ≡ at + length chunk
   pub within : at' ≤ trace_limit + 1
 
+-- no chunk was read, and the place is as before
+abbrev pub IsNoChunk : (at at' : ℕ) (chunk : List ℕ) → Type 0
+IsNoChunk at at' chunk = (at' ≡ at) × (chunk ≡ [])
+
 -- the next chunk, whatever was read before; or the file was read whole, or not
 abbrev pub NextChunk : List ℕ → ShelfState → ShelfState → ℕ → ℕ → List ℕ → Result Bool Stop → Type 0
 NextChunk name shelf shelf' at at' chunk (Ok true) =
@@ -26,5 +30,7 @@ NextChunk name shelf shelf' at at' chunk (Ok true) =
     × (shelf' ≡ shelf)
     × ((fed : List ℕ) → AreRead name shelf at fed → AreRead name shelf at' (fed ++ chunk))
 NextChunk name shelf shelf' at at' chunk (Ok false) =
-    (fed : List ℕ) → AreRead name shelf at fed → ReadsWhole name trace_limit shelf shelf' fed
-NextChunk name shelf shelf' at at' chunk (Err stop) = FailsToRead Traces name shelf shelf' stop
+    IsNoChunk at at' chunk
+    × ((fed : List ℕ) → AreRead name shelf at fed → ReadsWhole name trace_limit shelf shelf' fed)
+NextChunk name shelf shelf' at at' chunk (Err stop) =
+    IsNoChunk at at' chunk × FailsToRead Traces name shelf shelf' stop

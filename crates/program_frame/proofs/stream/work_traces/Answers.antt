@@ -27,7 +27,7 @@ pub returns-in_err-next : goal.returns-in_err-next
 returns-in_err-next g c =
     let inv = c.loop-chunks.invariant in
     let p = err_from_is_err_and c.from_residual.result c.from_residual.ensures.1 in
-    rw (p.1, p.2) (reading_fails (g.S.Shelf.state c.loop-chunks.shelf) (g.S.Shelf.state c.next.new.shelf) c.in_err-next.field-0.0 inv.reading inv.same inv.within c.in_err-next.ensures)
+    rw (p.1, p.2) (reading_fails (g.S.Shelf.state c.loop-chunks.shelf) (g.S.Shelf.state c.next.new.shelf) c.in_err-next.field-0.0 inv.reading inv.same inv.within c.in_err-next.ensures.1)
 
 pub take_chunk-requires-clause-ready : goal.take_chunk-requires-clause-ready
 take_chunk-requires-clause-ready g c =

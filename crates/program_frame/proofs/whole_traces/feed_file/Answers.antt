@@ -22,7 +22,7 @@ next-requires g c = c.loop-chunks.invariant.within
 pub returns-in_err-next : goal.returns-in_err-next
 returns-in_err-next g c =
     let p = err_from_is_err_and c.from_residual.result c.from_residual.ensures.1 in
-    let fails = subst (λ s. FailsToRead Traces c.args.name.now s (g.S.Shelf.state c.next.new.shelf) c.in_err-next.field-0.0) c.loop-chunks.invariant.same c.in_err-next.ensures in
+    let fails = subst (λ s. FailsToRead Traces c.args.name.now s (g.S.Shelf.state c.next.new.shelf) c.in_err-next.field-0.0) c.loop-chunks.invariant.same c.in_err-next.ensures.1 in
     rw (p.1, p.2) (load_unread Traces c.args.name.now (g.S.Shelf.state c.args.shelf.now) (g.S.Shelf.state c.next.new.shelf) c.in_err-next.field-0.0 fails)
 
 pub returns-in-Err : goal.returns-in-Err

@@ -1,11 +1,11 @@
-use Rattle.std.proofs.Common.{◌≡◌, ◌+◌, ◌≤◌, length, ap, arith}
+use Rattle.std.proofs.Common.{◌≡◌, ◌+◌, ◌≤◌, length, refl, ap, arith, ◌∙◌}
 use Rattle.edge_io.specs.declared.shelf.Taken.TheVariants.{End, Got}
 use Rattle.program_frame.proofs.ChunkReads.{chunk_read, end_read, limit_read, reads_into}
 use Rattle.program_frame.proofs.chunks.Chunks.next.Goals as goal
 
 pub returns-then-self-gt-TRACE_LIMIT : goal.returns-then-self-gt-TRACE_LIMIT
 returns-then-self-gt-TRACE_LIMIT g c =
-    limit_read c.args.name.now (g.S.Shelf.state c.args.shelf.now) c.args.self.now.at c.if-self-gt-TRACE_LIMIT.true
+    ((refl, c.truncate.ensures.items), limit_read c.args.name.now (g.S.Shelf.state c.args.shelf.now) c.args.self.now.at c.if-self-gt-TRACE_LIMIT.true)
 
 pub returns-in-Got : goal.returns-in-Got
 returns-in-Got g c =
@@ -23,5 +23,6 @@ returns-in-Got g c =
 pub returns-in-End : goal.returns-in-End
 returns-in-End g c =
     let low : c.args.self.now.at ≤ 1_099_511_627_776 = omega (arith, c.if-self-gt-TRACE_LIMIT.false) in
-    end_read c.args.name.now (g.S.Shelf.state c.args.shelf.now) (g.S.Shelf.state c.read.new.self) c.args.self.now.at c.read.new.into.items low c.in-End.ensures.state
-    (reads_into (g.S.Shelf.state c.args.shelf.now).holds c.args.name.now c.args.self.now.at _ c.read.new.into.items End c.truncate.ensures.items c.in-End.ensures.bytes)
+    let whole = end_read c.args.name.now (g.S.Shelf.state c.args.shelf.now) (g.S.Shelf.state c.read.new.self) c.args.self.now.at c.read.new.into.items low c.in-End.ensures.state
+    (reads_into (g.S.Shelf.state c.args.shelf.now).holds c.args.name.now c.args.self.now.at _ c.read.new.into.items End c.truncate.ensures.items c.in-End.ensures.bytes) in
+    ((refl, c.in-End.ensures.grows ∙ c.truncate.ensures.items), whole)
