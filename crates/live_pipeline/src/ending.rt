@@ -1,5 +1,5 @@
 //! The end of a run, after the last part. Serves `live_traces`; decided by `EndsTraces`.
-ghost use Rattle.std.specs.Prelude.{Ok};
+ghost use Rattle.std.specs.Prelude.{◌≡◌, Ok, Err, IfErr};
 ghost use Rattle.live_pipeline.specs.Ending.{EndsTraces};
 ghost use Rattle.live_pipeline.specs.Matching.{EndsWithPart, MayEnd, NeverRefuses};
 
@@ -43,7 +43,8 @@ pub fn end_traces<J: Job, K: Sink>(
 ) -> Result<(), Stop>
     requires calm { NeverRefuses (J.text job.old) }
     requires may { MayEnd (J.has job.old) last ended }
-    ensures { EndsTraces (J.text job.old) (J.has job.old) (K.state out.old) (K.state out.new)
+    ensures first { IfErr ended (λ stop. (result ≡ Err stop) × (K.state out.new ≡ K.state out.old)) }
+    ensures ends { EndsTraces (J.text job.old) (J.has job.old) (K.state out.old) (K.state out.new)
         last ended result }
 {
     match ended {
