@@ -1,8 +1,8 @@
-use Rattle.std.proofs.Common.{◌≡◌, ◌⊎◌, ◌∙◌, sym, ap, subst, map, string_bytes, inl, Err, Ok}
+use Rattle.std.proofs.Common.{◌≡◌, ◌⊎◌, ◌∙◌, ap, subst, map, string_bytes, inl, Err, Ok}
 use Rattle.command_line.specs.Words.{command_of}
 use Rattle.command_line.specs.Work.{plain}
 use Rattle.command_line.specs.declared.fault.WordsFault.TheVariants.{Memory}
-use Rattle.live_pipeline.specs.Words.{asked_by, with_follow}
+use Rattle.live_pipeline.specs.Words.{asked_by}
 use Rattle.program_frame.proofs.Stages.{memory_performs}
 use Rattle.live_pipeline.proofs.Asked.{asked_follow, other_refuse, words_refuse}
 use Rattle.live_pipeline.proofs.top.perform.Goals as goal
