@@ -4,7 +4,7 @@ ghost use Rattle.std.specs.Borrow.{sem};
 ghost use Rattle.std.specs.Io.BufRead.{Rests};
 ghost use Rattle.road_network.specs.Net.{HasNode};
 ghost use Rattle.bounded_search.specs.Lenders.{own_rows_type};
-ghost use Rattle.bounded_search.specs.Table.{IsRow};
+ghost use Rattle.bounded_search.specs.Table.{IsNearRow, IsRow};
 ghost use Rattle.bounded_search.specs.Known.{IsKnownList};
 ghost use Rattle.bounded_search.specs.OwnInside.{AreHeldRows, HoldsRows};
 ghost use Rattle.bounded_search.specs.RowValue.{row_of};
@@ -156,5 +156,18 @@ impl<'n> Rows for OwnRows<'n> {
     {
         self.fill(n)?;
         Ok(self.get(n))
+    }
+
+    /// The row within the whole bound, as `row` returns it.
+    fn near_row(&mut self, n: NodeId, reach: u32) -> Result<&Row, AllocError>
+        requires node { HasNode self.old.network n.0 }
+        requires reach { reach ≤ self.old.bound }
+        ensures value { IfOk result
+            (λ row. IsNearRow self.old.network reach self.old.bound n.0 row.now) }
+        ensures again { Contains self.old.known n.0 → IsOk result }
+        ensures* after { sem 𝓛 (Rests own_rows_type self.entry
+            (λ new. AsksFor self.old (λ v. v ≡ n.0) result new)) }
+    {
+        self.row(n)
     }
 }

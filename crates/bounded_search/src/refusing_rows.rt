@@ -6,7 +6,7 @@ ghost use Rattle.road_network.specs.Net.{HasNode};
 ghost use Rattle.bounded_search.specs.Lenders.{refusing_rows_type};
 ghost use Rattle.bounded_search.specs.Refusing.{next_call, IsRefused, FollowsCall};
 ghost use Rattle.bounded_search.specs.Rows.{AsksFor, no_rows};
-ghost use Rattle.bounded_search.specs.Table.{IsRow};
+ghost use Rattle.bounded_search.specs.Table.{IsNearRow, IsRow};
 
 use crate::Rows;
 use crate::own_rows::OwnRows;
@@ -98,6 +98,20 @@ impl<'n> Rows for RefusingRows<'n> {
     fn row(&mut self, n: NodeId) -> Result<&Row, AllocError>
         requires { HasNode self.old.rows.network n.0 }
         ensures value { IfOk result (λ row. IsRow self.old.rows.network self.old.rows.bound n.0 row.now) }
+        ensures refused { IsRefused self.old → IsErr result }
+        ensures again { (IsRefused self.old → ⊥) → Contains self.old.rows.known n.0 → IsOk result }
+        ensures* after { sem 𝓛 (Rests refusing_rows_type self.entry
+            (λ new. AsksFor self.old.rows (λ v. v ≡ n.0) result new.rows)) }
+    {
+        self.ask(n)
+    }
+
+    /// Counted and refused as a call of `row`, with the row within the whole bound.
+    fn near_row(&mut self, n: NodeId, reach: u32) -> Result<&Row, AllocError>
+        requires node { HasNode self.old.rows.network n.0 }
+        requires reach { reach ≤ self.old.rows.bound }
+        ensures value { IfOk result
+            (λ row. IsNearRow self.old.rows.network reach self.old.rows.bound n.0 row.now) }
         ensures refused { IsRefused self.old → IsErr result }
         ensures again { (IsRefused self.old → ⊥) → Contains self.old.rows.known n.0 → IsOk result }
         ensures* after { sem 𝓛 (Rests refusing_rows_type self.entry

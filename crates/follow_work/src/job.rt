@@ -12,7 +12,7 @@ ghost use Rattle.follow_work.specs.Follow.{follow_job, followed_of};
 ghost use Rattle.follow_work.specs.FollowDone.{HasFollowed};
 ghost use Rattle.trace_match.specs.Totals.{pieces_of};
 
-use bounded_search::OwnRows;
+use bounded_search::NearRows;
 use cost_model::Params;
 use polyline_geometry::List;
 use program_frame::{Job, Stop, Tally};
@@ -25,7 +25,7 @@ use trace_sessions::{Basis, follow_trace};
 /// Follows traces with own rows, one after the other, and counts them.
 pub struct FollowJob<'n> {
     matcher: Matcher<'n>,
-    rows: OwnRows<'n>,
+    rows: NearRows<'n>,
     tally: Tally,
 }
 
@@ -45,7 +45,7 @@ impl<'n> Drop for FollowJob<'n> {
 fn follow_one<'n>(
     alloc: Global,
     matcher: &Matcher<'n>,
-    rows: &mut OwnRows<'n>,
+    rows: &mut NearRows<'n>,
     trace: &Trace,
     into: &mut List<u8>,
 ) -> Result<u64, AllocError>
@@ -69,7 +69,7 @@ fn follow_one<'n>(
 fn write_followed<'n>(
     alloc: Global,
     matcher: &Matcher<'n>,
-    rows: &mut OwnRows<'n>,
+    rows: &mut NearRows<'n>,
     traces: &[Trace],
     into: &mut List<u8>,
 ) -> Result<u64, AllocError>

@@ -42,7 +42,10 @@ pub record IsLegAdded (run : Run) (i : ℕ) (old new : List ℕ) : Type 0 where
       (chosen_in run (i + 1)) route
   pub added : new ≡ old ++ edges_of (chosen_in run (i + 1)) route
 
--- there is a walk of at most this length from the end of edge e to the start of edge f
+-- a walk of at most this length joins node u to node v
+abbrev pub AreJoined : Net → ℕ → ℕ → ℕ → Type 0
+AreJoined n bound u v = (w : List ℕ) × IsWalk n u w v × (walk_length n w ≤ bound)
+
+-- and the end of edge e to the start of edge f
 abbrev pub HasWalk : Net → ℕ → ℕ → ℕ → Type 0
-HasWalk n bound e f =
-    (w : List ℕ) × IsWalk n (target n e) w (source n f) × (walk_length n w ≤ bound)
+HasWalk n bound e f = AreJoined n bound (target n e) (source n f)

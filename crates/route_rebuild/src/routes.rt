@@ -1,11 +1,13 @@
 //! The route of a piece. Serves `route`; decided by `IsRouteOf`.
-ghost use Rattle.std.specs.Prelude.{◌≡◌, ◌<◌, ◌≤◌, IfOk, OnOk, length};
+ghost use Rattle.std.specs.Prelude.{◌≡◌, ◌<◌, ◌≤◌, IfOk, OnOk, length, reverse};
+ghost use Rattle.road_network.specs.Net.{HasNode};
+ghost use Rattle.road_network.specs.Walk.{IsLeastWalk};
 ghost use Rattle.bounded_search.specs.Rows.{AreRowsOf, AsksFor};
 ghost use Rattle.route_rebuild.specs.Chosen.{IsChosenRun, IsSolved};
 ghost use Rattle.route_rebuild.specs.Laws.{IsJoinedRoute};
 ghost use Rattle.route_rebuild.specs.Numbers.{numbers};
 ghost use Rattle.route_rebuild.specs.Routes.{IsRouteOf, IsWalkStart, piece_at};
-ghost use Rattle.route_rebuild.specs.Runs.{AreRowsForRun, IsLegAdded, IsRouteOfRun, IsWalkStartAt, IsWalkStartOf};
+ghost use Rattle.route_rebuild.specs.Runs.{AreJoined, AreRowsForRun, IsLegAdded, IsRouteOfRun, IsWalkStartAt, IsWalkStartOf};
 
 use crate::run::{Run, chosen};
 use crate::walks::walk;
@@ -13,9 +15,9 @@ use bounded_search::Rows;
 use cost_model::Params;
 use matching::{Layer, Piece};
 use polyline_geometry::List;
-use road_network::{EdgeId, Network};
+use road_network::{EdgeId, Network, NodeId};
 use std::alloc::{AllocError, Global};
-use trellis::Solved;
+use trellis::{Solved, near_reach};
 
 /// The route of a piece, in order of travel: the edge of the first point's chosen candidate,
 /// then for each neighbouring pair nothing if its route is direct, and otherwise its walk and the
@@ -110,8 +112,31 @@ fn append_leg<R: Rows>(
     if a.edge == b.edge && a.offset <= b.offset + run.params.back {
         return Ok(());
     }
-    let row = rows.row(run.net.to(a.edge))?;
-    let between = walk(alloc, run.net, row, run.net.from(b.edge))?;
+    let between = walk_between(alloc, rows, run, run.net.to(a.edge), run.net.from(b.edge))?;
     edges.extend_from_slice(between.as_slice())?;
     edges.push(b.edge)
+}
+
+/// The least walk between two nodes that are joined within the bound: by a near row of the first one if that lists
+/// the other, and otherwise by its row within the whole bound.
+fn walk_between<R: Rows>(
+    alloc: Global,
+    rows: &mut R,
+    run: &Run,
+    from: NodeId,
+    to: NodeId,
+) -> Result<List<EdgeId>, AllocError>
+    requires rows { AreRowsForRun (R.state rows.old) run.now }
+    requires node { HasNode run.now.net.now from.0 }
+    requires joined { AreJoined run.now.net.now run.now.params.now.bound from.0 to.0 }
+    ensures walk { IfOk result (λ es. IsLeastWalk run.now.net.now from.0 (reverse (numbers es)) to.0) }
+    ensures asks { AsksFor (R.state rows.old) (λ v. v ≡ from.0) result (R.state rows.new) }
+{
+    let reach = near_reach(run.params.bound);
+    let near = rows.near_row(from, reach)?;
+    if near.find(to).is_some() {
+        return walk(alloc, run.net, near, to);
+    }
+    let row = rows.row(from)?;
+    walk(alloc, run.net, row, to)
 }

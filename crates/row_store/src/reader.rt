@@ -1,10 +1,10 @@
 //! What one thread knows of a store. Serves `Reader`; decided by `Reading`.
-ghost use Rattle.std.specs.Prelude.{◌≡◌, ◌<◌, ◌↔◌, IfOk, IsOk, OnOk, OnErr, length, replicate, slice_get, Some, None};
+ghost use Rattle.std.specs.Prelude.{◌≡◌, ◌<◌, ◌≤◌, ◌↔◌, IfOk, IsOk, OnOk, OnErr, length, replicate, slice_get, Some, None};
 ghost use Rattle.std.specs.Borrow.{sem};
 ghost use Rattle.std.specs.Io.BufRead.{Rests};
 ghost use Rattle.road_network.specs.Net.{HasNode};
 ghost use Rattle.bounded_search.specs.Rows.{AsksFor};
-ghost use Rattle.bounded_search.specs.Table.{TableRow, IsRow};
+ghost use Rattle.bounded_search.specs.Table.{TableRow, IsNearRow, IsRow};
 ghost use Rattle.row_store.specs.Lenders.{reader_type};
 ghost use Rattle.row_store.specs.Store.{IsKnown, KnowsRow, Sees, knows, rows_state};
 ghost use Rattle.row_store.specs.Sights.{row_seen, IsTable};
@@ -262,5 +262,18 @@ impl<'s> Rows for Reader<'s> {
         let at = n.0 as usize;
         self.places[at].make_own(store, &mut self.searcher, n)?;
         Ok(self.places[at].lend(store, n))
+    }
+
+    /// The row within the whole bound, as `row` returns it: the cells of a store have no other.
+    fn near_row(&mut self, n: NodeId, reach: u32) -> Result<&Row, AllocError>
+        requires node { HasNode self.old.store.network n.0 }
+        requires reach { reach ≤ self.old.store.bound }
+        ensures value { IfOk result
+            (λ row. IsNearRow self.old.store.network reach self.old.store.bound n.0 row.now) }
+        ensures again { KnowsRow self.old n.0 → IsOk result }
+        ensures* after { sem 𝓛 (Rests reader_type self.entry
+            (λ new. AsksFor (rows_state self.old) (λ v. v ≡ n.0) result (rows_state new))) }
+    {
+        self.row(n)
     }
 }

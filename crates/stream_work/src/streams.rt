@@ -9,7 +9,7 @@ ghost use Rattle.trace_sessions.specs.Streaming.{AsksStream, Streams};
 ghost use Rattle.stream_work.specs.Streams.{streams_job, streams_plan, too_long_line};
 ghost use Rattle.stream_work.specs.StreamsDone.{CanTakeFragments, HasStreamed};
 
-use bounded_search::OwnRows;
+use bounded_search::NearRows;
 use cost_model::Params;
 use decimal_text::write_unsigned;
 use edge_io::{Shelf, Sink};
@@ -28,14 +28,14 @@ use trace_sessions::{SessionFault, Sessions};
 struct StreamJob<'m> {
     matcher: &'m Matcher<'m>,
     sessions: Sessions<'m>,
-    rows: OwnRows<'m>,
+    rows: NearRows<'m>,
     tally: Tally,
 }
 
 // Takes the points of fragments, appends their lines, and returns how many pieces they closed.
 fn stream_fragments(
     sessions: &mut Sessions,
-    rows: &mut OwnRows,
+    rows: &mut NearRows,
     traces: &[Trace],
     into: &mut List<u8>,
 ) -> Result<u64, SessionFault>

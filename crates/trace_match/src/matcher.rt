@@ -5,12 +5,13 @@ ghost use Rattle.bounded_search.specs.Rows.{no_rows};
 ghost use Rattle.cost_model.specs.Options.{IsAccepted};
 ghost use Rattle.trace_match.specs.Ground.{IsGridFor};
 
-use bounded_search::OwnRows;
+use bounded_search::NearRows;
 use cost_model::Params;
 use grid_index::Grid;
 use road_network::Network;
 use std::alloc::{AllocError, Global};
 use std::marker::Model;
+use trellis::near_reach;
 
 // The least side of a cell of the grid, in cm.
 const LEAST_SIDE: u32 = 10_000;
@@ -86,11 +87,12 @@ impl<'n> Matcher<'n> {
         &self.params
     }
 
-    /// Rows of the network within the bound of the options. No node is known.
-    pub fn rows(&self, alloc: Global) -> Result<OwnRows<'n>, AllocError>
+    /// Rows of the network within the bound of the options, for matching along traces. No node is known.
+    pub fn rows(&self, alloc: Global) -> Result<NearRows<'n>, AllocError>
         ensures { IfOk result
             (λ rows. rows ≡ no_rows self.now.network self.now.params.bound) }
     {
-        OwnRows::open(alloc, self.network, self.params.bound)
+        let bound = self.params.bound;
+        NearRows::open(alloc, self.network, bound, near_reach(bound))
     }
 }

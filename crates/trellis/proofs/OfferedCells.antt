@@ -1,5 +1,6 @@
 -- The cells of a point while ways are offered to them, rank by rank.
-use Rattle.std.proofs.Common.{◌≡◌, ℕ, ◌+◌, ◌-◌, ◌^◌, ◌<◌, ◌++◌, List, None, length, take, refl, sym, ap, ◌∙◌, subst}
+use Rattle.std.proofs.Common.{◌≡◌, ℕ, ◌+◌, ◌-◌, ◌^◌, ◌<◌, ◌≤◌, ◌++◌, List, None, inl, inr, length, length-set, set, get_or-set_same, get_or-set_other, take, refl, sym, ap, ◌∙◌, subst, arith}
+use Rattle.std.proofs.lemmas.Bool.{cases_eq}
 use Rattle.std.specs.Prelude.{Result}
 use Rattle.std.proofs.Math.Seq.{take-append_seam}
 use Rattle.bounded_search.specs.Rows.{RowsState, AsksFor}
@@ -7,7 +8,7 @@ use Rattle.cost_model.specs.Costs.{emission}
 use Rattle.road_network.specs.declared.Candidate.{Candidate}
 use Rattle.road_network.specs.Net.{IsLawful, target}
 use Rattle.matching.specs.declared.parts.Cell.{Cell}
-use Rattle.matching.specs.Cells.{cell_at}
+use Rattle.matching.specs.Cells.{cell_at, empty_cell}
 use Rattle.matching.specs.Growth.{CostAtMost}
 use Rattle.matching.specs.Layers.{candidate_of_rank, end_of, trellis}
 use Rattle.matching.specs.Local.{IsLeastWay}
@@ -16,7 +17,7 @@ use Rattle.matching.specs.Sequences.{added}
 use Rattle.trellis.specs.declared.steps.Origin.{Origin}
 use Rattle.trellis.specs.declared.steps.Step.{Step}
 use Rattle.trellis.specs.Offers.{IsOrigin, offered, raised}
-use Rattle.trellis.specs.Steps.{AreFilled, AreOfferedBelow, IsOriginAt, arrival_by_rank}
+use Rattle.trellis.specs.Steps.{AreFilled, AreOfferedBelow, AreOfferedUpTo, IsOriginAt, arrival_by_rank}
 use Rattle.trellis.proofs.Learning.{asks_one}
 use Rattle.trellis.proofs.LeastWays.{offered_keeps, raised_least}
 use Rattle.trellis.proofs.Ways.{arrival_le}
@@ -29,6 +30,53 @@ one_offered s rank old new h count each = record {
   each = λ j lt. let low : j < length old = subst (λ n. j < n) count lt in
       offered_keeps (λ a. arrival_by_rank s a j) rank (cell_at old j) (cell_at new j) (h.each j low) (each j low);
 }
+
+-- none yet of the ways of one more rank
+pub up_to_none : (s : Step) (rank : ℕ) (cells : List Cell) → AreOfferedBelow s rank cells → AreOfferedUpTo s rank 0 cells
+up_to_none s rank cells h = record {
+  count = h.count;
+  within = omega arith;
+  done = λ j lt. absurd (omega (arith, lt));
+  left = λ j low lt. h.each j lt;
+}
+
+-- the way to one more cell, which changed nothing, or wrote the cell
+pub up_to_same : (s : Step) (rank i : ℕ) (cells : List Cell) → AreOfferedUpTo s rank i cells → i < length cells
+    → offered (cell_at cells i) rank (arrival_by_rank s rank i) ≡ cell_at cells i → AreOfferedUpTo s rank (i + 1) cells
+up_to_same s rank i cells h lt stays = record {
+  count = h.count;
+  within = omega (arith, lt);
+  done = λ j below. elim (cases_eq j i) [
+    | inl same ↦
+        subst (λ k. IsLeastWay (λ a. arrival_by_rank s a k) (rank + 1) (cell_at cells k)) (sym same)
+        (offered_keeps (λ a. arrival_by_rank s a i) rank (cell_at cells i) (cell_at cells i) (h.left i (omega arith) lt) (sym stays))
+    | inr apart ↦ h.done j (omega (arith, below, apart))
+  ];
+  left = λ j from low. h.left j (omega (arith, from)) low;
+}
+
+pub up_to_next : (s : Step) (rank i : ℕ) (cells : List Cell) (cell : Cell) → AreOfferedUpTo s rank i cells → i < length cells
+    → cell ≡ offered (cell_at cells i) rank (arrival_by_rank s rank i) → AreOfferedUpTo s rank (i + 1) (set cells i cell)
+up_to_next s rank i cells cell h lt is = record {
+  count = length-set cells i cell ∙ h.count;
+  within = let count = length-set cells i cell in omega (arith, count, lt);
+  done = λ j below. elim (cases_eq j i) [
+    | inl same ↦
+        subst (λ k. IsLeastWay (λ a. arrival_by_rank s a k) (rank + 1) (cell_at (set cells i cell) k)) (sym same)
+        (offered_keeps (λ a. arrival_by_rank s a i) rank (cell_at cells i) (cell_at (set cells i cell) i) (h.left i (omega arith) lt)
+        (get_or-set_same cells i cell empty_cell lt ∙ is))
+    | inr apart ↦
+        subst (λ (c : Cell). IsLeastWay (λ a. arrival_by_rank s a j) (rank + 1) c) (sym (get_or-set_other cells i j cell empty_cell apart))
+        (h.done j (omega (arith, below, apart)))
+  ];
+  left = λ j from low.
+      subst (λ (c : Cell). IsLeastWay (λ a. arrival_by_rank s a j) rank c) (sym (get_or-set_other cells i j cell empty_cell (λ same. omega (arith, same, from))))
+      (h.left j (omega (arith, from)) (let count = length-set cells i cell in omega (arith, count, low)));
+}
+
+-- and to all
+pub up_to_all : (s : Step) (rank i : ℕ) (cells : List Cell) → AreOfferedUpTo s rank i cells → length cells ≤ i → AreOfferedBelow s (rank + 1) cells
+up_to_all s rank i cells h all = record { count = h.count; each = λ j lt. h.done j (omega (arith, lt, all)) }
 
 -- a candidate that is not live has no ways
 pub passed_over : (s : Step) (rank : ℕ) (cells : List Cell) → (cell_at s.costs.now rank).cost ≡ None → AreOfferedBelow s rank cells → AreOfferedBelow s (rank + 1) cells

@@ -1,8 +1,8 @@
 //! A memory of lookups in rows, which saves repeated lookups of a pair of nodes. Serves `arrival_cost`;
 //! decided by `distance_in`.
 ghost use Rattle.std.specs.Prelude.{◌≡◌, IfSome};
-ghost use Rattle.bounded_search.specs.Table.{IsRow};
-ghost use Rattle.trellis.specs.Pairs.{TellsPair, distance_in, pairs_of};
+ghost use Rattle.bounded_search.specs.Table.{IsNearRow};
+ghost use Rattle.trellis.specs.Pairs.{IsTold, TellsPair, TellsReached, distance_in, pairs_of, reached_by};
 
 use bounded_search::Row;
 use road_network::{Network, NodeId};
@@ -18,6 +18,36 @@ struct Told {
     origin: u32,
     node: u32,
     distance: Option<u32>,
+}
+
+/// A row of a node within some bound, and how far it reaches at least, in cm.
+#[derive(Clone, Copy)]
+pub struct NearRow<'a> {
+    pub row: &'a Row,
+    pub reach: u32,
+}
+
+/// What is told of the walks to a node.
+#[derive(Clone, Copy)]
+pub enum Reached {
+    /// The least walk has this length, in cm.
+    At(u32),
+    /// No walk is within the bound.
+    Nowhere,
+    /// The row does not list the node, and may not reach as far as the bound.
+    Further,
+}
+
+impl Reached {
+    /// What a row within the whole bound tells.
+    fn within(distance: Option<u32>) -> Reached
+        ensures { result ≡ reached_by distance }
+    {
+        match distance {
+            Some(distance) => Reached::At(distance),
+            None => Reached::Nowhere,
+        }
+    }
 }
 
 /// Pairs of nodes of a network, as its rows within a bound list them.
@@ -82,18 +112,22 @@ impl<'n> PairMemory<'n> {
         }
     }
 
-    /// The distance of a node in this row.
-    pub fn distance(&mut self, row: &Row, node: NodeId) -> Option<u32>
-        requires { IsRow self.old.network self.old.bound row.now.origin row.now }
-        ensures told { result ≡ distance_in row.now node.0 }
+    /// What a row tells of a node, or what the memory tells of it and the row's origin.
+    pub fn reached(&mut self, near: &NearRow, node: NodeId) -> Reached
+        requires { IsNearRow self.old.network near.now.reach self.old.bound near.now.row.now.origin near.now.row.now }
+        ensures told { TellsReached self.old near.now.row.now node.0 result }
+        ensures whole { near.now.reach ≡ self.old.bound → IsTold result }
         ensures same { self.new ≡ self.old }
     {
-        let origin = row.origin().0;
+        let origin = near.row.origin().0;
         let place = (origin as usize * 31 + node.0 as usize) % PLACES;
         if let Some(distance) = self.remembered(place, origin, node.0) {
-            return distance;
+            return Reached::within(distance);
         }
-        let distance = look(row, node);
+        let distance = look(near.row, node);
+        if distance.is_none() && near.reach < self.bound {
+            return Reached::Further;
+        }
         if place < self.places.len() {
             self.places[place] = Some(Told {
                 origin,
@@ -101,7 +135,7 @@ impl<'n> PairMemory<'n> {
                 distance,
             });
         }
-        distance
+        Reached::within(distance)
     }
 }
 

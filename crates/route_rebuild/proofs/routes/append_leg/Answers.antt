@@ -43,48 +43,34 @@ to-requires g c = rw c.chosen-a.ensures (leg_edges c.args.run.now c.args.i c.req
 pub from-requires : goal.from-requires
 from-requires g c = rw c.chosen-b.ensures (leg_edges c.args.run.now c.args.i c.requires.point.0 c.requires.point.1).1
 
-pub row-requires : goal.row-requires
-row-requires g c =
+pub walk_between-requires-clause-node : goal.walk_between-requires-clause-node
+walk_between-requires-clause-node g c =
     let has : HasEdge c.args.run.now.net.now c.chosen-a.result.edge.0 = rw c.chosen-a.ensures (leg_edges c.args.run.now c.args.i c.requires.point.0 c.requires.point.1).0 in
-    rw (c.requires.rows.network, c.to.ensures) (c.invariants.ensures.targets c.chosen-a.result.edge.0 has)
+    rw c.to.ensures (c.invariants.ensures.targets c.chosen-a.result.edge.0 has)
 
-pub walk-requires-clause-listed : goal.walk-requires-clause-listed
-walk-requires-clause-listed g c =
+pub walk_between-requires-clause-joined : goal.walk_between-requires-clause-joined
+walk_between-requires-clause-joined g c =
     let run = c.args.run.now in
     let none : IsDirectLeg run c.args.i → ⊥ = λ direct.
     let is : IsRoute run.net.now run.params.now.bound run.params.now.back c.chosen-a.result c.chosen-b.result Direct = rw (c.chosen-a.ensures, c.chosen-b.ensures) direct in
     elim c.else-eq.branch [ else-eq-via-then-eq+else-a-b w ↦ omega (arith, is.1) | else-eq-via-else-eq w ↦ let same = is.0 in grind (arith, nat_tests) ] in
-    let found : HasWalk run.net.now (g.R.Rows.state c.args.rows.now).bound c.chosen-a.result.edge.0 c.chosen-b.result.edge.0 =
-    rw (c.chosen-a.ensures, c.chosen-b.ensures, c.requires.rows.bound) (leg_walk run c.args.i c.invariants.ensures c.requires.point.0 c.requires.point.1 none) in
-    let n = run.net.now in
-    let rows = g.R.Rows.state c.args.rows.now in
-    let w = found.0 in
-    let walk : IsWalk rows.network c.to.result.0 w c.from.result.0 =
-    subst (λ m. IsWalk m c.to.result.0 w c.from.result.0) (sym c.requires.rows.network)
-    (subst (λ v. IsWalk n v w c.from.result.0) (sym c.to.ensures) (subst (λ v. IsWalk n (target n c.chosen-a.result.edge.0) w v) (sym c.from.ensures) found.1)) in
-    let within : walk_length rows.network w ≤ rows.bound = subst (λ m. walk_length m w ≤ rows.bound) (sym c.requires.rows.network) found.2 in
-    is_there label_of (entry_in c.in_ok-row.row.now.entries c.from.result.0) (c.in_ok-row.ensures.value.table.reached c.from.result.0 w walk within)
-
-pub returns-in_err-row-clause-asks : goal.returns-in_err-row-clause-asks
-returns-in_err-row-clause-asks g c =
-    let run = c.args.run.now in
-    let none : IsRoute run.net.now run.params.now.bound run.params.now.back c.chosen-a.result c.chosen-b.result Direct → ⊥ = λ is.
-    elim c.else-eq.branch [ else-eq-via-then-eq+else-a-b w ↦ omega (arith, is.1) | else-eq-via-else-eq w ↦ let same = is.0 in grind (arith, nat_tests) ] in
-    asks_err (asks_walk run c.args.i _ _ _ c.chosen-a.ensures c.chosen-b.ensures none c.to.ensures c.row.follows.holds-at-none).only c.from_residual.ensures.0
+    let found : HasWalk run.net.now run.params.now.bound c.chosen-a.result.edge.0 c.chosen-b.result.edge.0 =
+    rw (c.chosen-a.ensures, c.chosen-b.ensures) (leg_walk run c.args.i c.invariants.ensures c.requires.point.0 c.requires.point.1 none) in
+    rw (c.to.ensures, c.from.ensures) found
 
 pub returns-in_err-between-clause-asks : goal.returns-in_err-between-clause-asks
 returns-in_err-between-clause-asks g c =
     let run = c.args.run.now in
     let none : IsRoute run.net.now run.params.now.bound run.params.now.back c.chosen-a.result c.chosen-b.result Direct → ⊥ = λ is.
     elim c.else-eq.branch [ else-eq-via-then-eq+else-a-b w ↦ omega (arith, is.1) | else-eq-via-else-eq w ↦ let same = is.0 in grind (arith, nat_tests) ] in
-    asks_err (asks_walk run c.args.i _ _ _ c.chosen-a.ensures c.chosen-b.ensures none c.to.ensures c.row.follows.holds-at-none).only c.from_residual-in_err-between.ensures.0
+    asks_err (asks_walk run c.args.i _ _ _ c.chosen-a.ensures c.chosen-b.ensures none c.to.ensures c.walk_between.ensures.asks).only c.from_residual.ensures.0
 
 pub returns-in_err-extend_from_slice-clause-asks : goal.returns-in_err-extend_from_slice-clause-asks
 returns-in_err-extend_from_slice-clause-asks g c =
     let run = c.args.run.now in
     let none : IsRoute run.net.now run.params.now.bound run.params.now.back c.chosen-a.result c.chosen-b.result Direct → ⊥ = λ is.
     elim c.else-eq.branch [ else-eq-via-then-eq+else-a-b w ↦ omega (arith, is.1) | else-eq-via-else-eq w ↦ let same = is.0 in grind (arith, nat_tests) ] in
-    asks_err (asks_walk run c.args.i _ _ _ c.chosen-a.ensures c.chosen-b.ensures none c.to.ensures c.row.follows.holds-at-none).only c.from_residual-in_err-extend_from_slice.ensures.0
+    asks_err (asks_walk run c.args.i _ _ _ c.chosen-a.ensures c.chosen-b.ensures none c.to.ensures c.walk_between.ensures.asks).only c.from_residual-in_err-extend_from_slice.ensures.0
 
 on_by : {A E P Q : Type 0} (r : Result A E) → OnOk r P → (P → Q) → OnOk r Q
 on_by (Ok x) p f = f p
@@ -101,8 +87,7 @@ returns-clause-leg g c =
     elim c.else-eq.branch [ else-eq-via-then-eq+else-a-b w ↦ omega (arith, is.1) | else-eq-via-else-eq w ↦ let same = is.0 in grind (arith, nat_tests) ] in
     let n = run.net.now in
     let least : IsLeastWalk n (target n c.chosen-a.result.edge.0) (reverse (numbers walk)) (source n c.chosen-b.result.edge.0) =
-    subst (λ v. IsLeastWalk n v (reverse (numbers walk)) (source n c.chosen-b.result.edge.0)) (c.in_ok-row.ensures.value.origin ∙ c.to.ensures)
-    (subst (λ v. IsLeastWalk n c.in_ok-row.row.now.origin (reverse (numbers walk)) v) c.from.ensures c.in_ok-between.ensures) in
+    rw (c.to.ensures, c.from.ensures) at c.in_ok-between.ensures.walk in
     let found = leg_walk run i c.invariants.ensures c.requires.point.0 c.requires.point.1 none in
     on_by c.push.result c.push.ensures.ok (λ pushed.
     walk_leg run i edges walk c.push.new.self found none (rw (c.chosen-a.ensures, c.chosen-b.ensures) at least)
@@ -115,4 +100,4 @@ returns-clause-asks g c =
     let run = c.args.run.now in
     let none : IsRoute run.net.now run.params.now.bound run.params.now.back c.chosen-a.result c.chosen-b.result Direct → ⊥ = λ is.
     elim c.else-eq.branch [ else-eq-via-then-eq+else-a-b w ↦ omega (arith, is.1) | else-eq-via-else-eq w ↦ let same = is.0 in grind (arith, nat_tests) ] in
-    asks_done (asks_ok (asks_walk run c.args.i _ _ _ c.chosen-a.ensures c.chosen-b.ensures none c.to.ensures c.row.follows.holds-at-none) c.in_ok-row.was)
+    asks_done (asks_ok (asks_walk run c.args.i _ _ _ c.chosen-a.ensures c.chosen-b.ensures none c.to.ensures c.walk_between.ensures.asks) c.in_ok-between.was)

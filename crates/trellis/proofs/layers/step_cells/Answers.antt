@@ -1,4 +1,4 @@
-use Rattle.std.proofs.Common.{◌≡◌, ◌+◌, ◌∙◌, length, drop, rules}
+use Rattle.std.proofs.Common.{◌≡◌, ◌+◌, ◌∙◌, length, drop, refl, rules}
 use Rattle.bounded_search.proofs.Asking.{asks_done, asks_err, asks_ok}
 use Rattle.trellis.proofs.Learning.{all_more, asks_any, asks_dead, asks_more, only_any}
 use Rattle.trellis.proofs.OfferedCells.{asks_origin, offer_taken, passed_over}
@@ -24,22 +24,22 @@ loop-rank-preserved g c =
     let inv = c.loop-rank.invariant in
     let from = c.in-Some.from in
     let at = c.in-Some.ensures.live in
-    let new = c.offer_by_row.new.cells in
-    let one = asks_origin step rank c.node.result.0 from at c.node.ensures.node c.row.follows.holds-at-none in
+    let new = c.offer_from.new.cells in
+    let one = asks_origin step rank _ from at refl c.offer_from.ensures.asks in
     let asks = asks_more step.net.now step.before.now step.costs.now rank inv.asks one in
     record {
-      offered = offer_taken step rank from c.loop-rank.cells new (drop (length new) c.loop-rank.cells) at inv.offered c.offer_by_row.ensures.cells;
-      asks = asks_ok asks c.in_ok-row.was;
-      pairs = c.offer_by_row.ensures.same ∙ inv.pairs;
+      offered = offer_taken step rank from c.loop-rank.cells new (drop (length new) c.loop-rank.cells) at inv.offered c.in_ok-offer_from.ensures.cells;
+      asks = asks_ok asks c.in_ok-offer_from.was;
+      pairs = c.offer_from.ensures.pairs ∙ inv.pairs;
     }
 
-pub returns-in_err-row-clause-asks : goal.returns-in_err-row-clause-asks
-returns-in_err-row-clause-asks g c =
+pub returns-in_err-offer_from-clause-asks : goal.returns-in_err-offer_from-clause-asks
+returns-in_err-offer_from-clause-asks g c =
     let step = c.args.step.now in
     let rank = c.loop-rank.rank in
-    let one = asks_origin step rank c.node.result.0 c.in-Some.from c.in-Some.ensures.live c.node.ensures.node c.row.follows.holds-at-none in
+    let one = asks_origin step rank _ c.in-Some.from c.in-Some.ensures.live refl c.offer_from.ensures.asks in
     let asks = asks_more step.net.now step.before.now step.costs.now rank c.loop-rank.invariant.asks one in
-    asks_err (only_any step.net.now step.before.now step.costs.now (rank + 1) asks.only) c.from_residual-in_err-row.ensures.0
+    asks_err (only_any step.net.now step.before.now step.costs.now (rank + 1) asks.only) c.from_residual-in_err-offer_from.ensures.0
 
 pub returns-clause-asks : goal.returns-clause-asks
 returns-clause-asks g c =
