@@ -15,6 +15,7 @@ use Rattle.matching.specs.Routes.{Direct, HasNoRoute, IsRoute}
 use Rattle.road_network.specs.declared.Candidate.{Candidate}
 use Rattle.road_network.specs.Net.{HasEdge, HasNode, IsLawful, Net, source, target}
 use Rattle.trellis.proofs.RouteOfRow.{IsOverWalk, no_route, told_entry, told_walk}
+use Rattle.trellis.specs.declared.pairs.NearRow.{NearRow}
 use Rattle.trellis.specs.declared.pairs.Told.{Told}
 use Rattle.trellis.specs.Pairs.{IsTold, TellsPair, TellsReached, distance_in, pairs_of, reached_by}
 use Rattle.trellis.specs.PairsInside.{ArePlaces}
@@ -39,34 +40,34 @@ entry_labelled (Some y) x e =
     ap (λ (l : Label). Some l.distance) same
 
 -- what one row says of a node that it lists, the row within the whole bound says
-near_tells : (table : BoundedTable) (reach node : ℕ) (row : TableRow) (x : Entry) → IsNearRow table.network reach table.bound row.origin row
-    → entry_in row.entries node ≡ Some x → TellsPair table row.origin node (Some x.distance)
-near_tells table reach node row x near listed = λ whole h.
-    let label = listed_too table.network near.within table.bound row.origin (label_in row.entries) (label_in whole.entries) near.no_further near.is.table h.table
-        node (label_of x) (ap (option_map label_of) listed) in
+near_tells : (table : BoundedTable) (reach s node : ℕ) (row : TableRow) (x : Entry) → IsNearRow table.network reach table.bound s row
+    → entry_in row.entries node ≡ Some x → TellsPair table s node (Some x.distance)
+near_tells table reach s node row x near listed = λ whole h.
+    let label = listed_too table.network near.within table.bound s (label_in row.entries) (label_in whole.entries) near.no_further near.is.table h.table
+    node (label_of x) (ap (option_map label_of) listed) in
     entry_labelled (entry_in whole.entries node) x label
 
 -- and a row within the whole bound says it of each node
-row_tells : (table : BoundedTable) (reach node : ℕ) (row : TableRow) → IsNearRow table.network reach table.bound row.origin row → table.bound ≤ reach
-    → TellsPair table row.origin node (distance_in row node)
-row_tells table reach node row near whole = λ other h.
+row_tells : (table : BoundedTable) (reach s node : ℕ) (row : TableRow) → IsNearRow table.network reach table.bound s row → table.bound ≤ reach
+    → TellsPair table s node (distance_in row node)
+row_tells table reach s node row near whole = λ other h.
     let same : near.within ≡ table.bound = omega (arith, near.reaches, near.no_further, whole) in
-    let is = subst (λ b. IsRow table.network b row.origin row) same near.is in
-    ap (λ (r : TableRow). distance_in r node) (one_row table.network table.bound row.origin other row h is)
+    let is = subst (λ b. IsRow table.network b s row) same near.is in
+    ap (λ (r : TableRow). distance_in r node) (one_row table.network table.bound s other row h is)
 
 -- what a row tells of a node, which it lists if it may be shorter than the bound
-pub pair_told : (table : BoundedTable) (reach node : ℕ) (row : TableRow) (distance : Option ℕ) → IsNearRow table.network reach table.bound row.origin row
-    → distance ≡ distance_in row node → (distance ≡ None → table.bound ≤ reach) → TellsPair table row.origin node distance
-pair_told table reach node row None near is whole = subst (TellsPair table row.origin node) (sym is) (row_tells table reach node row near (whole refl))
-pair_told table reach node row (Some d) near is whole =
+pub pair_told : (table : BoundedTable) (reach s node : ℕ) (row : TableRow) (distance : Option ℕ) → IsNearRow table.network reach table.bound s row
+    → distance ≡ distance_in row node → (distance ≡ None → table.bound ≤ reach) → TellsPair table s node distance
+pair_told table reach s node row None near is whole = subst (TellsPair table s node) (sym is) (row_tells table reach s node row near (whole refl))
+pair_told table reach s node row (Some d) near is whole =
     let x = told_entry (entry_in row.entries node) d (sym is) in
-    subst (λ k. TellsPair table row.origin node (Some k)) x.2 (near_tells table reach node row x.0 near (sym x.1))
+    subst (λ k. TellsPair table s node (Some k)) x.2 (near_tells table reach s node row x.0 near (sym x.1))
 
 -- a distance of the row within the whole bound, as it is told
-pub told_reached : (table : BoundedTable) (row : TableRow) (node : ℕ) (distance : Option ℕ) → TellsPair table row.origin node distance
-    → TellsReached table row node (reached_by distance)
-told_reached table row node None tells = tells
-told_reached table row node (Some d) tells = tells
+pub told_reached : (table : BoundedTable) (near : NearRow) (node : ℕ) (distance : Option ℕ) → TellsPair table near.origin.0 node distance
+    → TellsReached table near node (reached_by distance)
+told_reached table near node None tells = tells
+told_reached table near node (Some d) tells = tells
 
 pub is_told : (distance : Option ℕ) → IsTold (reached_by distance)
 is_told None = tt

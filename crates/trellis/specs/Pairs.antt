@@ -4,6 +4,7 @@ use Rattle.std.specs.Option.{option_map}
 use Rattle.road_network.specs.Net.{Net}
 use Rattle.bounded_search.specs.declared.table_row.Entry.{Entry}
 use Rattle.bounded_search.specs.Table.{BoundedTable, TableRow, IsRow, entry_in}
+use Rattle.trellis.specs.declared.pairs.NearRow.{NearRow}
 use Rattle.trellis.specs.declared.pairs.Reached.{Reached}
 use Rattle.trellis.specs.declared.pairs.Reached.TheVariants.{At, Nowhere, Further}
 
@@ -26,10 +27,10 @@ reached_by None = Nowhere
 reached_by (Some d) = At d
 
 -- it tells what the row within the whole bound says, or that this row does not list the node
-abbrev pub TellsReached : BoundedTable → TableRow → ℕ → Reached → Type 0
-TellsReached table row node (At d) = TellsPair table row.origin node (Some d)
-TellsReached table row node Nowhere = TellsPair table row.origin node None
-TellsReached table row node Further = distance_in row node ≡ None
+abbrev pub TellsReached : BoundedTable → NearRow → ℕ → Reached → Type 0
+TellsReached table near node (At d) = TellsPair table near.origin.0 node (Some d)
+TellsReached table near node Nowhere = TellsPair table near.origin.0 node None
+TellsReached table near node Further = distance_in near.row.now node ≡ None
 
 -- it tells what the row within the whole bound says
 abbrev pub IsTold : Reached → Type 0

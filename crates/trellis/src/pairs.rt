@@ -20,10 +20,12 @@ struct Told {
     distance: Option<u32>,
 }
 
-/// A row of a node within some bound, and how far it reaches at least, in cm.
+/// A row of a node within some bound.
 #[derive(Clone, Copy)]
 pub struct NearRow<'a> {
+    pub origin: NodeId,
     pub row: &'a Row,
+    /// In cm; the row's bound is no shorter.
     pub reach: u32,
 }
 
@@ -112,14 +114,14 @@ impl<'n> PairMemory<'n> {
         }
     }
 
-    /// What a row tells of a node, or what the memory tells of it and the row's origin.
+    /// What a row tells of a node, or what the memory tells of it and the row's origin. Then the row is not read.
     pub fn reached(&mut self, near: &NearRow, node: NodeId) -> Reached
-        requires { IsNearRow self.old.network near.now.reach self.old.bound near.now.row.now.origin near.now.row.now }
-        ensures told { TellsReached self.old near.now.row.now node.0 result }
+        requires { IsNearRow self.old.network near.now.reach self.old.bound near.now.origin.0 near.now.row.now }
+        ensures told { TellsReached self.old near.now node.0 result }
         ensures whole { near.now.reach ≡ self.old.bound → IsTold result }
         ensures same { self.new ≡ self.old }
     {
-        let origin = near.row.origin().0;
+        let origin = near.origin.0;
         let place = (origin as usize * 31 + node.0 as usize) % PLACES;
         if let Some(distance) = self.remembered(place, origin, node.0) {
             return Reached::within(distance);

@@ -18,16 +18,16 @@ invariant_of-self c =
     let table = shown_pairs c.self.inside in
     let near = c.args.near.now in
     let row = near.row.now in
-    let is : IsNearRow table.network near.reach table.bound row.origin row =
-    subst (λ (t : BoundedTable). IsNearRow t.network near.reach t.bound row.origin row) (sym c.self.view_is) c.requires in
-    let told : Told = record { origin = c.origin-origin.result.0; node = c.args.node.0; distance = c.look-distance.result } in
+    let is : IsNearRow table.network near.reach table.bound near.origin.0 row =
+    subst (λ (t : BoundedTable). IsNearRow t.network near.reach t.bound near.origin.0 row) (sym c.self.view_is) c.requires in
+    let told : Told = record { origin = near.origin.0; node = c.args.node.0; distance = c.look-distance.result } in
     let whole : c.look-distance.result ≡ None → table.bound ≤ near.reach =
     elim c.else-is_none.branch [
       | else-is_none-via-then-is_none+else-near-self w ↦ λ none. omega (arith, w.if-near-self.false)
       | else-is_none-via-else-is_none w ↦ λ none. absurd (not_none c.look-distance.result c.is_none.result c.is_none.ensures w.if-is_none.false none)
     ] in
     let tells : TellsPair table told.origin told.node told.distance =
-    subst (λ k. TellsPair table k told.node told.distance) (sym c.origin-origin.ensures) (pair_told table near.reach told.node row told.distance is c.look-distance.ensures whole) in
+    pair_told table near.reach near.origin.0 told.node row told.distance is c.look-distance.ensures whole in
     let lt = c.if-place-len.true in
     record { each = places_more table c.self.inside.places.items _ told c.self.invariant.each (omega (arith, lt)) tells }
 
@@ -41,4 +41,4 @@ returns-clause-told c =
       | else-is_none-via-then-is_none+else-near-self w ↦ λ none. omega (arith, w.if-near-self.false, ap (λ (t : BoundedTable). t.bound) c.self.view_is)
       | else-is_none-via-else-is_none w ↦ λ none. absurd (not_none c.look-distance.result c.is_none.result c.is_none.ensures w.if-is_none.false none)
     ] in
-    rw c.within-2.ensures (told_reached table row c.args.node.0 c.look-distance.result (pair_told table near.reach c.args.node.0 row c.look-distance.result c.requires c.look-distance.ensures whole))
+    rw c.within-2.ensures (told_reached table near c.args.node.0 c.look-distance.result (pair_told table near.reach near.origin.0 c.args.node.0 row c.look-distance.result c.requires c.look-distance.ensures whole))
