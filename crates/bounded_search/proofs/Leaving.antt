@@ -109,7 +109,7 @@ marked_begun bound s words after marks queue lt none is waits v there = elim (ca
 ]
 
 -- a node is taken out of the queue
-pub node_taken : (n : Net) (s : ℕ) (w : Workspace) (x : Waiting) (new : List Waiting) → IsPermutation w.queue (x ∷ new) → IsSearching n s w [] → IsSearching n s (record { bound = w.bound; reach = w.reach; words = w.words; marks = w.marks; queue = new; found = w.found }) (x ∷ [])
+pub node_taken : (n : Net) (s : ℕ) (w : Workspace) (x : Waiting) (new : List Waiting) → IsPermutation w.queue (x ∷ new) → IsSearching n s w [] → IsSearching n s (record { bound = w.bound; merge_limit = w.merge_limit; words = w.words; marks = w.marks; queue = new; found = w.found }) (x ∷ [])
 node_taken n s w x new perm h = record {
   sized = record { low = h.sized.low; few = h.sized.few; words_count = h.sized.words_count; marks = h.sized.marks };
   underway = reordered n w.bound s w.words.items w.queue (x ∷ new) perm h.underway;

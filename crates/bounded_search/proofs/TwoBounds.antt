@@ -1,7 +1,7 @@
 -- Rows within a shorter bound beside those within the whole one.
 use Rattle.std.proofs.Common.{◌≡◌, ◌≤◌, ℕ, arith, subst}
 use Rattle.road_network.specs.Net.{Net}
-use Rattle.bounded_search.specs.Rows.{RowsState, AsksOnly, AsksAll}
+use Rattle.bounded_search.specs.Rows.{RowsState, AsksOnly}
 use Rattle.bounded_search.specs.Table.{TableRow, IsRow, IsNearRow}
 
 -- what asking for near rows leaves, said of the whole bound

@@ -23,7 +23,7 @@ use std::alloc::{AllocError, Global};
 /// All words are made for one bound: the word of a node without a label is just beyond it.
 pub struct Workspace {
     pub(crate) bound: u32,
-    pub(crate) reach: u32,
+    pub(crate) merge_limit: u32,
     pub(crate) words: Vec<u64>,
     pub(crate) marks: Marks,
     queue: Queue,
@@ -35,7 +35,7 @@ impl Drop for Workspace {
     fn drop(self) {
         let Workspace {
             bound: _,
-            reach: _,
+            merge_limit: _,
             words: _,
             marks: _,
             queue: _,
@@ -62,7 +62,7 @@ fn window(net: &Network, bound: u32) -> u32 {
 
 /// The distance up to which a node's row is merged, in cm. Within three mean lengths the rows of a few nodes
 /// label most nodes of a row; for a small bound, a row is found as quickly by its edges.
-fn reach(net: &Network, bound: u32) -> u32 {
+fn merge_limit(net: &Network, bound: u32) -> u32 {
     mean_length(net).saturating_mul(3).min(bound / 4)
 }
 
@@ -77,7 +77,7 @@ impl Workspace {
         let nodes = net.node_count() as usize;
         Ok(Workspace {
             bound,
-            reach: reach(net, bound),
+            merge_limit: merge_limit(net, bound),
             words: vec![in alloc; no_label(bound); nodes]?,
             marks: Marks::new(alloc, nodes)?,
             queue: Queue::new(alloc, window(net, bound)),
@@ -104,7 +104,7 @@ impl Workspace {
         if distance_in(self.words[next.node as usize]) != next.distance {
             return Ok(());
         }
-        if next.distance < self.reach
+        if next.distance < self.merge_limit
             && let Some(row) = known.known_row(node)
         {
             self.merge(row, next.distance);

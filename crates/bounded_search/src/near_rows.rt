@@ -1,8 +1,9 @@
 //! Rows that reach only as far as they are needed. Serves those who match along a trace; decided by `Rows`.
-ghost use Rattle.std.specs.Prelude.{◌≡◌, ◌≤◌, ◌↔◌, length, Contains, IfOk, IsTrue, OnOk};
+ghost use Rattle.std.specs.Prelude.{◌≡◌, ◌≤◌, length, IfOk};
 ghost use Rattle.std.specs.Borrow.{sem};
 ghost use Rattle.std.specs.Io.BufRead.{Rests};
 ghost use Rattle.road_network.specs.Net.{HasNode};
+ghost use Rattle.bounded_search.specs.Known.{IsKnownList};
 ghost use Rattle.bounded_search.specs.Lenders.{near_rows_type};
 ghost use Rattle.bounded_search.specs.Table.{IsNearRow, IsRow};
 ghost use Rattle.bounded_search.specs.Rows.{AsksFor, no_rows};
@@ -55,19 +56,18 @@ impl<'n> NearRows<'n> {
         Ok(NearRows { near, whole, reach })
     }
 
+    /// The invariant of the known nodes.
+    pub fn invariants(&self)
+        ensures { IsKnownList self.now.network self.now.known }
+    {
+        self.near.invariants();
+    }
+
     /// The number of known nodes.
     pub fn count(&self) -> u32
         ensures { result ≡ length self.now.known }
     {
         self.near.count()
-    }
-
-    /// Whether a node is known.
-    pub fn has(&self, n: NodeId) -> bool
-        requires { HasNode self.now.network n.0 }
-        ensures { IsTrue result ↔ Contains self.now.known n.0 }
-    {
-        self.near.has(n)
     }
 }
 
@@ -80,6 +80,7 @@ impl<'n> Rows for NearRows<'n> {
         ensures* after { sem 𝓛 (Rests near_rows_type self.entry
             (λ new. AsksFor self.old (λ v. v ≡ n.0) result new)) }
     {
+        // The known nodes are those whose near row is.
         self.near.fill(n)?;
         self.whole.fill(n)?;
         Ok(self.whole.get(n))

@@ -1,6 +1,6 @@
-use Rattle.std.proofs.Common.{refl, ap, ◌∙◌, subst}
+use Rattle.std.proofs.Common.{refl, ap, ◌∙◌}
 use Rattle.std.proofs.lemmas.Result.{err_from_is_err_and}
-use Rattle.bounded_search.specs.Rows.{RowsState, AsksFor}
+use Rattle.bounded_search.specs.Rows.{RowsState}
 use Rattle.bounded_search.proofs.Asking.{asks_err}
 use Rattle.bounded_search.proofs.TwoBounds.{only_of, row_named}
 use Rattle.bounded_search.proofs.near_rows.NearRowsRows.row.Goals as goal
