@@ -11,7 +11,7 @@ use thiserror::Error;
 /// counted from 1.
 #[derive(Clone, Copy, Debug, Error)]
 pub enum TraceFault {
-    /// The first line is not the header.
+    /// The first line that is not blank is not a header, or all lines are blank.
     BadHeader,
     /// A row does not have as many fields as the header.
     FieldCount(u64),
