@@ -13,7 +13,7 @@ use std::alloc::{AllocError, Global};
 use trace_reader::{Fix, Trace};
 
 /// True only if a position has no candidate, far from the whole network. False decides nothing.
-fn fix_lies_far(batch: &Batch, fix: &Fix) -> Result<bool, AllocError>
+fn fix_is_surely_far(batch: &Batch, fix: &Fix) -> Result<bool, AllocError>
     requires { InRange (point_of_fix fix.now) }
     ensures { IfOk result (λ far. IsTrue far
         → LiesFar batch.now.net.now batch.now.params.now fix.now) }
@@ -28,13 +28,13 @@ fn fix_lies_far(batch: &Batch, fix: &Fix) -> Result<bool, AllocError>
 
 /// True only if no position of a trace has a candidate. False decides nothing; for most traces the first
 /// position gives it.
-pub(crate) fn lies_far(batch: &Batch, trace: &Trace) -> Result<bool, AllocError>
+pub(crate) fn is_surely_far(batch: &Batch, trace: &Trace) -> Result<bool, AllocError>
     requires { IsLawfulTrace trace.now }
     ensures { IfOk result (λ far. IsTrue far
         → All (LiesFar batch.now.net.now batch.now.params.now) trace.now.fixes) }
 {
     for fix in trace.fixes.as_slice() {
-        if !fix_lies_far(batch, fix)? {
+        if !fix_is_surely_far(batch, fix)? {
             return Ok(false);
         }
     }

@@ -9,7 +9,7 @@ ghost use Rattle.match_pool.specs.Working.{IsReaderFor};
 
 use crate::answer::match_one;
 use crate::batch::Batch;
-use crate::far::{lies_far, unmatched};
+use crate::far::{is_surely_far, unmatched};
 use crate::one_fix::match_fix;
 use match_text::MatchedTrace;
 use row_store::Reader;
@@ -32,7 +32,7 @@ pub fn find_match<'s>(
     if trace.fixes.len() == 1 {
         return match_fix(batch, trace);
     }
-    if lies_far(batch, trace)? {
+    if is_surely_far(batch, trace)? {
         return unmatched(batch.alloc, trace);
     }
     let answer = match_one(

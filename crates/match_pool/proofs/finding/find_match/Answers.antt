@@ -18,7 +18,7 @@ returns-then-branch-clause-matched c =
     let n = c.args.batch.now.net.now in
     let p = c.args.batch.now.params.now in
     let trace = c.args.trace.now in
-    let same = unmatched_is n p trace c.args.batch.now.ground.options c.requires.trace (c.in_ok-lies_far.ensures c.if-branch.true) in
+    let same = unmatched_is n p trace c.args.batch.now.ground.options c.requires.trace (c.in_ok-is_surely_far.ensures c.if-branch.true) in
     IfOk-weaker c.unmatched.result _ _ (λ matched is. is ∙ same) c.unmatched.ensures
 
 pub returns-then-branch-clause-asks : goal.returns-then-branch-clause-asks
@@ -27,11 +27,11 @@ returns-then-branch-clause-asks c =
     let p = c.args.batch.now.params.now in
     let trace = c.args.trace.now in
     let state = rows_state c.args.reader.now in
-    let asked = unmatched_asks n p trace state c.args.batch.now.ground.options c.requires.trace (c.in_ok-lies_far.ensures c.if-branch.true) in
+    let asked = unmatched_asks n p trace state c.args.batch.now.ground.options c.requires.trace (c.in_ok-is_surely_far.ensures c.if-branch.true) in
     asks_done asked
 
-pub returns-in_err-lies_far-clause-asks : goal.returns-in_err-lies_far-clause-asks
-returns-in_err-lies_far-clause-asks c =
+pub returns-in_err-is_surely_far-clause-asks : goal.returns-in_err-is_surely_far-clause-asks
+returns-in_err-is_surely_far-clause-asks c =
     asks_err (asks_nothing (rows_state c.args.reader.now) (λ v. asks c.args.batch.now.net.now c.args.batch.now.params.now c.args.trace.now v ≡ true)) c.from_residual.ensures.0
 
 pub returns-in_err-answer-clause-asks : goal.returns-in_err-answer-clause-asks

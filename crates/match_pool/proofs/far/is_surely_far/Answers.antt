@@ -3,7 +3,7 @@ use Rattle.std.proofs.lemmas.Bool.{cases_lt}
 use Rattle.std.proofs.lemmas.List.{get_or_default}
 use Rattle.trace_reader.specs.declared.trace.Fix.{Fix}
 use Rattle.match_pool.specs.Unmatched.{LiesFar}
-use Rattle.match_pool.proofs.far.lies_far.Goals as goal
+use Rattle.match_pool.proofs.far.is_surely_far.Goals as goal
 
 pub loop-fix-preserved : goal.loop-fix-preserved
 loop-fix-preserved c k d lt =
@@ -15,7 +15,7 @@ loop-fix-preserved c k d lt =
     (λ below. c.loop-fix.invariant k d below)
     (λ here.
     let e : i ≡ k = omega (arith, lt, here) in
-    subst (LiesFar n p) (get_or_default items i _ d c.loop-fix-test.true ∙ ap (λ v. get_or items v d) e) (c.in_ok-fix_lies_far.ensures c.if-not-branch.false))
+    subst (LiesFar n p) (get_or_default items i _ d c.loop-fix-test.true ∙ ap (λ v. get_or items v d) e) (c.in_ok-fix_is_surely_far.ensures c.if-not-branch.false))
     (cases_lt k i)
 
 pub returns : goal.returns
