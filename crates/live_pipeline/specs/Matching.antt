@@ -29,6 +29,10 @@ abbrev pub MayTake : (List ATrace → Type 0) → Result (Unit {0}) Stop → Lis
 MayTake has (Ok done) traces = CanTake has traces
 MayTake has (Err stop) traces = Unit {0}
 
+-- if the work had stopped, its result stays the same and nothing more is written
+abbrev pub StaysStopped : (out out' : SinkState) → (ended result : Result (Unit {0}) Stop) → Type 0
+StaysStopped out out' ended result = IfErr ended (λ stop. (result ≡ Err stop) × (out' ≡ out))
+
 -- a trace is written behind those before it, whichever they are, unless the work had stopped or stops
 abbrev pub WritesNext : JobText → (has has' : List ATrace → Type 0) → (out out' : SinkState) → ATrace
     → (ended result : Result (Unit {0}) Stop) → Type 0

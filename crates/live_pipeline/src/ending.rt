@@ -1,7 +1,7 @@
 //! The end of a run, after the last part. Serves `live_traces`; decided by `EndsTraces`.
-ghost use Rattle.std.specs.Prelude.{◌≡◌, Ok, Err, IfErr};
+ghost use Rattle.std.specs.Prelude.{Ok};
 ghost use Rattle.live_pipeline.specs.Ending.{EndsTraces};
-ghost use Rattle.live_pipeline.specs.Matching.{EndsWithPart, MayEnd, NeverRefuses};
+ghost use Rattle.live_pipeline.specs.Matching.{EndsWithPart, MayEnd, NeverRefuses, StaysStopped};
 
 use edge_io::Sink;
 use polyline_geometry::List;
@@ -43,7 +43,7 @@ pub fn end_traces<J: Job, K: Sink>(
 ) -> Result<(), Stop>
     requires calm { NeverRefuses (J.text job.old) }
     requires may { MayEnd (J.has job.old) last ended }
-    ensures first { IfErr ended (λ stop. (result ≡ Err stop) × (K.state out.new ≡ K.state out.old)) }
+    ensures first { StaysStopped (K.state out.old) (K.state out.new) ended result }
     ensures ends { EndsTraces (J.text job.old) (J.has job.old) (K.state out.old) (K.state out.new)
         last ended result }
 {

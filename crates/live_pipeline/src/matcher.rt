@@ -1,8 +1,8 @@
 //! The matcher: takes traces from the relay and writes their text. Serves `live_traces`; decided by `HasMatched`.
-ghost use Rattle.std.specs.Prelude.{◌≡◌, ◌∷◌, [], Err, IfErr};
+ghost use Rattle.std.specs.Prelude.{◌≡◌, ◌∷◌, []};
 ghost use Rattle.program_frame.specs.Batches.{WritesWaiting};
 ghost use Rattle.program_frame.specs.Jobs.{CanTake};
-ghost use Rattle.live_pipeline.specs.Matching.{HasTakenAll, IsFresh, MayTake, NeverRefuses, WritesNext};
+ghost use Rattle.live_pipeline.specs.Matching.{HasTakenAll, IsFresh, MayTake, NeverRefuses, StaysStopped, WritesNext};
 
 use edge_io::Sink;
 use polyline_geometry::List;
@@ -41,7 +41,7 @@ fn write_next<J: Job, K: Sink>(
 ) -> Result<(), Stop>
     requires calm { NeverRefuses (J.text job.old) }
     requires may { MayTake (J.has job.old) ended (trace ∷ []) }
-    ensures quiet { IfErr ended (λ stop. (result ≡ Err stop) × (K.state out.new ≡ K.state out.old)) }
+    ensures quiet { StaysStopped (K.state out.old) (K.state out.new) ended result }
     ensures text { J.text job.new ≡ J.text job.old }
     ensures writes { WritesNext (J.text job.old) (J.has job.old) (J.has job.new)
         (K.state out.old) (K.state out.new) trace ended result }
