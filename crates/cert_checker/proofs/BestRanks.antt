@@ -57,10 +57,10 @@ best_is t l layers cells tables r c rest linked best =
       same.1,
     )
 
-pointed : (cells : List Cell) (tables : List (List Cell)) (y : Option ℕ) (a : ℕ) (rest : List ℕ)
+by_pointers-parts : (cells : List Cell) (tables : List (List Cell)) (y : Option ℕ) (a : ℕ) (rest : List ℕ)
     → a ∷ rest ≡ by_pointers (cells ∷ tables) y → (y ≡ Some a) × (rest ≡ by_pointers tables ((cell_at cells a).«from»))
-pointed cells tables None a rest e = absurd (cc)
-pointed cells tables (Some b) a rest e =
+by_pointers-parts cells tables None a rest e = absurd (cc)
+by_pointers-parts cells tables (Some b) a rest e =
     let same : a ≡ b = cc in
     let others : rest ≡ by_pointers tables ((cell_at cells b).«from») = cc in
     (ap (λ v. let o : Option ℕ = Some v in o) (sym same), others ∙ ap (λ v. by_pointers tables ((cell_at cells v).«from»)) (sym same))
@@ -76,7 +76,7 @@ step_back chosen tables m lt lt2 h =
     let y = pointer_of (get_or tables (m + 1) []) (Some (get_or chosen (m + 1) 0)) in
     let left = reverse-take chosen m (get_or chosen m 0) (at-get_or chosen m 0 (omega (arith, lt))) in
     let right = reverse-take tables m (get_or tables m []) (at-get_or tables m [] (omega (arith, lt2))) in
-    pointed (get_or tables m []) (reverse (take m tables)) y (get_or chosen m 0) (reverse (take m chosen)) (sym left ∙ h ∙ ap (λ ts. by_pointers ts y) right)
+    by_pointers-parts (get_or tables m []) (reverse (take m tables)) y (get_or chosen m 0) (reverse (take m chosen)) (sym left ∙ h ∙ ap (λ ts. by_pointers ts y) right)
 
 all_back : (chosen : List ℕ) (tables : List (List Cell)) (n d m : ℕ) → m + d ≡ n → n < length chosen → n < length tables → LeadsBack chosen tables n → LeadsBack chosen tables m
 all_back chosen tables n zero m e lt lt2 h = let same : n ≡ m = omega (arith, e) in subst (λ k. LeadsBack chosen tables k) same h

@@ -24,8 +24,8 @@ passes : (b : Bool) (x : Condition) (rest : Option Condition) → cond b rest (S
 passes true x rest e = (refl, e)
 passes false x rest e = absurd (cc)
 
-none_fails : (test : Condition → Bool) → first_failing test order ≡ None → AllPass test
-none_fails test h =
+none_failing-all_pass : (test : Condition → Bool) → first_failing test order ≡ None → AllPass test
+none_failing-all_pass test h =
     let a = passes (test Candidates) Candidates (first_failing test (Row ∷ Break ∷ FirstCost ∷ Relaxed ∷ Tight ∷ Pointer ∷ Chosen ∷ Route ∷ [])) h in
     let b = passes (test Row) Row (first_failing test (Break ∷ FirstCost ∷ Relaxed ∷ Tight ∷ Pointer ∷ Chosen ∷ Route ∷ [])) a.1 in
     let c = passes (test Break) Break (first_failing test (FirstCost ∷ Relaxed ∷ Tight ∷ Pointer ∷ Chosen ∷ Route ∷ [])) b.1 in
@@ -37,8 +37,8 @@ none_fails test h =
     let j = passes (test Route) Route None i.1 in
     record { candidates = a.0; row = b.0; break = c.0; first_cost = d.0; relaxed = e.0; tight = f.0; pointer = g.0; chosen = i.0; route = j.0 }
 
-all_pass : (test : Condition → Bool) → AllPass test → first_failing test order ≡ None
-all_pass test h = rw (h.candidates, h.row, h.break, h.first_cost, h.relaxed, h.tight, h.pointer, h.chosen, h.route) refl
+all_pass-none_failing : (test : Condition → Bool) → AllPass test → first_failing test order ≡ None
+all_pass-none_failing test h = rw (h.candidates, h.row, h.break, h.first_cost, h.relaxed, h.tight, h.pointer, h.chosen, h.route) refl
 
 pub both_proved : (v w : Verdict) → or_else v w ≡ Proved → (v ≡ Proved) × (w ≡ Proved)
 both_proved Proved w e = (refl, e)
@@ -54,13 +54,13 @@ before_told number c (suc n) e i lt =
     let parts = both_proved (verdict_before number c n) (refused_at number n (first_failing (holds c n) order)) e in
     ⊎_elim (λ low. before_told number c n parts.0 i low)
     (λ ge. let same : n ≡ i = omega (arith, lt, ge) in
-    subst (λ k. AllPass (holds c k)) same (none_fails (holds c n) (none_refused number n (first_failing (holds c n) order) parts.1)))
+    subst (λ k. AllPass (holds c k)) same (none_failing-all_pass (holds c n) (none_refused number n (first_failing (holds c n) order) parts.1)))
     (cases_lt i n)
 
 before_proved : (number : ℕ) (c : Case) (n : ℕ) → ((i : ℕ) → i < n → AllPass (holds c i)) → verdict_before number c n ≡ Proved
 before_proved number c zero each = refl
 before_proved number c (suc n) each =
-    rw (before_proved number c n (λ i lt. each i (omega (arith, lt))), all_pass (holds c n) (each n (omega arith))) refl
+    rw (before_proved number c n (λ i lt. each i (omega (arith, lt))), all_pass-none_failing (holds c n) (each n (omega arith))) refl
 
 pub proved_each : (number : ℕ) (c : Case) → trace_verdict number c ≡ Proved → (i : ℕ) → i < length c.layers → AllPass (holds c i)
 proved_each number c e i lt = before_told number c (length c.layers) e i lt

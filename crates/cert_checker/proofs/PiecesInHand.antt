@@ -43,9 +43,9 @@ split_first : (left : List Routed) (q : Routed) → Some q ≡ slice_get left 0 
 split_first [] q is = absurd (cc)
 split_first (x ∷ more) q is = ap (λ y. y ∷ more) (sym (same_Some q x is))
 
-none_left : (left : List Routed) → None ≡ slice_get left 0 → left ≡ []
-none_left [] is = refl
-none_left (x ∷ more) is = absurd (cc)
+no_piece_left : (left : List Routed) → None ≡ slice_get left 0 → left ≡ []
+no_piece_left [] is = refl
+no_piece_left (x ∷ more) is = absurd (cc)
 
 head_of : (pieces left : List Routed) (i : ℕ) (q : Routed) → AreLeft pieces left i → Some q ≡ slice_get left 0 → IsHead pieces i q
 head_of pieces left i q h is = head_is pieces left i q (drop 1 left) h (split_first left q is)
@@ -63,7 +63,7 @@ append_nil (x ∷ xs) = ap (λ y. x ∷ y) (append_nil xs)
 
 at_none : (pieces left : List Routed) (i : ℕ) (f : Routed → Bool) → AreLeft pieces left i → None ≡ slice_get left 0 → IsOff f i → list_any f pieces ≡ false
 at_none pieces left i f h is off =
-    let all : pieces ≡ h.ended = h.parts ∙ ap (λ x. h.ended ++ x) (none_left left is) ∙ append_nil h.ended in
+    let all : pieces ≡ h.ended = h.parts ∙ ap (λ x. h.ended ++ x) (no_piece_left left is) ∙ append_nil h.ended in
     ap (list_any f) all ∙ none_passes f i h.ended off (all_ended i h.ended h.before)
 
 abbrev starts_at : ℕ → Routed → Bool
@@ -161,8 +161,8 @@ on_later n m (q ∷ pieces) rise le =
     let some = leb-true q.first q.last b.0 in
     and_from (nat_le m q.last) _ (le-leb m q.last (omega (arith, low, some, le))) (on_later (q.last + 1) m pieces b.1 (omega (arith, low, some, le)))
 
-next_is : (pieces left : List Routed) (i : ℕ) (q : Routed) (more : List Routed) → AreLeft pieces left i → left ≡ q ∷ more → q.last ≡ i → AreLeft pieces more (i + 1)
-next_is pieces left i q more h is ends =
+next_piece-is_left : (pieces left : List Routed) (i : ℕ) (q : Routed) (more : List Routed) → AreLeft pieces left i → left ≡ q ∷ more → q.last ≡ i → AreLeft pieces more (i + 1)
+next_piece-is_left pieces left i q more h is ends =
     let parts : pieces ≡ h.ended ++ q ∷ more = h.parts ∙ ap (λ x. h.ended ++ x) is in
     let p = placed 0 h.ended q more (subst (λ x. rise_from 0 x ≡ true) parts h.rise) in
     record {
@@ -177,7 +177,7 @@ next_is pieces left i q more h is ends =
 pub next_left : (pieces left : List Routed) (i : ℕ) (q : Routed) → AreLeft pieces left i → Some q ≡ slice_get left 0 → q.last ≡ i → AreLeft pieces (take (length left - 1) (drop 1 left)) (i + 1)
 next_left pieces left i q h is ends =
     let whole : take (length left - 1) (drop 1 left) ≡ drop 1 left = take_all (length left - 1) (drop 1 left) (omega (arith, length-drop 1 left)) in
-    subst (λ x. AreLeft pieces x (i + 1)) (sym whole) (next_is pieces left i q (drop 1 left) h (split_first left q is) ends)
+    subst (λ x. AreLeft pieces x (i + 1)) (sym whole) (next_piece-is_left pieces left i q (drop 1 left) h (split_first left q is) ends)
 
 pub same_left : (pieces left : List Routed) (i : ℕ) (q : Routed) → AreLeft pieces left i → Some q ≡ slice_get left 0 → (q.last ≡ i → ⊥) → AreLeft pieces left (i + 1)
 same_left pieces left i q h is ne =
@@ -203,7 +203,7 @@ empty_left pieces left i h is = record {
   parts = h.parts;
   rise = h.rise;
   before = ended_more i h.ended h.before;
-  on = ap (list_all (λ x. nat_le (i + 1) x.last)) (none_left left is);
+  on = ap (list_all (λ x. nat_le (i + 1) x.last)) (no_piece_left left is);
 }
 
 -- at first all pieces are left

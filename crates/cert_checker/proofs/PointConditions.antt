@@ -124,8 +124,8 @@ breaks_told c i e =
           (false_from_ne_true (looks && goes) (λ b. let p = and_parts looks goes b in no ((looked c i).0 p.0) ((has_ways c i).0 p.1)));
     }
 
-breaks_hold : (c : Case) (i : ℕ) → BreaksRight c i → breaks_right c i ≡ true
-breaks_hold c i h =
+breaks_tested : (c : Case) (i : ℕ) → BreaksRight c i → breaks_right c i ≡ true
+breaks_tested c i h =
     let w = width c i in
     let looks = is_looked_at c i in
     let goes = has_way c i in
@@ -150,7 +150,7 @@ breaks c i =
     let later = list_any (λ (q : Routed). ltb i q.last) c.proof.pieces in
     let in_order = not (i == 0) || rise_from 0 c.proof.pieces in
     let within = not (is_last c i) || not later in
-    Decides-and (breaks_right c i) (in_order && within) (breaks_told c i, breaks_hold c i)
+    Decides-and (breaks_right c i) (in_order && within) (breaks_told c i, breaks_tested c i)
     (Decides-and in_order within (implied (i == 0) (rise_from 0 c.proof.pieces) (Decides-eqb i 0) (rises 0 c.proof.pieces))
     (implied (is_last c i) (not later) (Decides-eqb (i + 1) (length c.layers))
     (Decides-not later (some_element (λ q. i < q.last) (λ q. ltb i q.last) no_piece c.proof.pieces (λ q. Decides-ltb i q.last)))))

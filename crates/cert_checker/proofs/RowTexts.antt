@@ -83,15 +83,15 @@ below_too : (least from : ℕ) (rows : List TableRow) → least ≤ from → Are
 below_too least from [] le h = tt
 below_too least from (row ∷ rows) le h = let low = h.1 in (h.0, omega (arith, low, le), h.2)
 
-one_more : (n : Net) (bound v : ℕ) (b : Bool) (nodes : List ℕ) → IsRowValue (row_of n bound v) → AreRowsFrom (v + 1) (map (row_of n bound) nodes)
+one_more_row : (n : Net) (bound v : ℕ) (b : Bool) (nodes : List ℕ) → IsRowValue (row_of n bound v) → AreRowsFrom (v + 1) (map (row_of n bound) nodes)
     → AreRowsFrom v (map (row_of n bound) (cond b (v ∷ nodes) nodes))
-one_more n bound v true nodes here h = (here, omega arith, h)
-one_more n bound v false nodes here h = below_too v (v + 1) (map (row_of n bound) nodes) (omega arith) h
+one_more_row n bound v true nodes here h = (here, omega arith, h)
+one_more_row n bound v false nodes here h = below_too v (v + 1) (map (row_of n bound) nodes) (omega arith) h
 
 rows_from : (n : Net) (bound : ℕ) (test : ℕ → Bool) (from m : ℕ) → IsLawful n → bound ≤ 10_000_000 → from + m ≤ length n.nodes → AreRowsFrom from (rows_on n bound test from m)
 rows_from n bound test from zero lawful short le = tt
 rows_from n bound test from (suc m) lawful short le =
-    one_more n bound from (test from) (filter test (range_with_len (from + 1) m)) (row_value n bound from lawful short (omega (arith, le)))
+    one_more_row n bound from (test from) (filter test (range_with_len (from + 1) m)) (row_value n bound from lawful short (omega (arith, le)))
     (rows_from n bound test (from + 1) m lawful short (omega (arith, le)))
 
 pub rows_have_lines : (n : Net) (bound : ℕ) (test : ℕ → Bool) → IsLawful n → bound ≤ 10_000_000 → AreRowsFrom 0 (rows_where n bound test)

@@ -126,10 +126,10 @@ true_if : (b : Bool) → ((b ≡ true → ⊥) → ⊥) → b ≡ true
 true_if true h = refl
 true_if false h = absurd (h (λ e. false≢true e))
 
-tight_there : (ways : ℕ → Option ℕ) (n c : ℕ) (x y : Option ℕ) → IsTightCost ways n x y → x ≡ Some c → (a : ℕ) × (a < n) × IsThere (ways a)
-tight_there ways n c None y h e = absurd (cc)
-tight_there ways n c (Some b) None h e = absurd h
-tight_there ways n c (Some b) (Some a) h e = (a, h.0, (b, h.1))
+tight_there-at_cost : (ways : ℕ → Option ℕ) (n c : ℕ) (x y : Option ℕ) → IsTightCost ways n x y → x ≡ Some c → (a : ℕ) × (a < n) × IsThere (ways a)
+tight_there-at_cost ways n c None y h e = absurd (cc)
+tight_there-at_cost ways n c (Some b) None h e = absurd h
+tight_there-at_cost ways n c (Some b) (Some a) h e = (a, h.0, (b, h.1))
 
 -- a later point is looked at and reached
 pub looked_of : (c : Case) (q : Routed) (i : ℕ) → IsRunOf c q → IsLater i q → IsLookedAt c i
@@ -151,7 +151,7 @@ reached_of c q i h later =
     let sequence = subst (λ xs. HasSequence t xs) (reverse-take (layers_from c q) k (layer c i) (layer_at c q i h later.0)) (can_to c q i h later.0).sequence in
     let live = some_live t (layer c i) (reverse (take k (layers_from c q))) (table c i) (reverse (take k (tables_in c q))) (linked_of c q i h later.0) sequence in
     let least = (later_of c q i h later).each live.0 live.2 in
-    (live.0, live.2, tight_there (λ a. way c i a live.0) (width c (i - 1)) live.1 ((cell_at (table c i) live.0).cost) ((cell_at (table c i) live.0).«from») least.tight live.3)
+    (live.0, live.2, tight_there-at_cost (λ a. way c i a live.0) (width c (i - 1)) live.1 ((cell_at (table c i) live.0).cost) ((cell_at (table c i) live.0).«from») least.tight live.3)
 
 -- the piece goes no further
 pub ends_of : (c : Case) (q : Routed) (i : ℕ) → IsRunOf c q → q.last + 1 ≡ i → i < length c.layers → IsLookedAt c i → HasWay c i → ⊥

@@ -47,8 +47,8 @@ of_error app words e fault is fails memory other =
       ]
     ]
 
-taken : (kinds : Kinds) (command : Result PlainCommand WordsFault) → kinds ≡ [] → if_taken kinds command ≡ command
-taken kinds command none = ap (λ ks. if_taken ks command) none
+if_taken-none : (kinds : Kinds) (command : Result PlainCommand WordsFault) → kinds ≡ [] → if_taken kinds command ≡ command
+if_taken-none kinds command none = ap (λ ks. if_taken ks command) none
 
 pub of_matches : (app : App) (words : List Text) (m : ArgMatches) (command : Result PlainCommand WordsFault) → app ≡ program
     → (is_simple_and_free app ≡ true → fault_of app words ≡ []) → HasMatchesOf app words m
@@ -57,7 +57,7 @@ unfolding command_of
 of_matches app words m command is fails matches entered =
     let none = subst (λ a. is_simple_and_free a ≡ true → fault_of a words ≡ []) is fails simple_and_free in
     let has = subst (λ a. HasMatchesOf a words m) is matches in
-    taken _ _ none ∙ (ap entered_of (sym (has simple).1) ∙ sym entered)
+    if_taken-none _ _ none ∙ (ap entered_of (sym (has simple).1) ∙ sym entered)
 
 pub at_ok : (command : Result PlainCommand WordsFault) (r : Result Command WordsFault)
     → command ≡ result_map_both plain (λ f. f) r → IfOk r (λ c. command ≡ Ok (plain c))

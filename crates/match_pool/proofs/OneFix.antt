@@ -144,15 +144,15 @@ none_next n p layer v trace h =
     let yes = h.2.1.next_is in
     absurd (cc)
 
-none_asked : (n : Net) (p : Params) (id : ℕ) (fix : Fix) (v : ℕ) → asks n p (record { id = id; fixes = fix ∷ [] }) v ≡ true → ⊥
+one_fix-asks_none : (n : Net) (p : Params) (id : ℕ) (fix : Fix) (v : ℕ) → asks n p (record { id = id; fixes = fix ∷ [] }) v ≡ true → ⊥
 unfolding asks
-none_asked n p id fix v is =
+one_fix-asks_none n p id fix v is =
     let trace : Trace = record { id = id; fixes = fix ∷ [] } in
     none_next n p (layer_of n p fix) v trace ((is_asked_node-tells (trellis n p) (end_of n) (layer_of n p fix ∷ []) (solution_of n p trace).pieces v).1 is)
 
 asks_none : (n : Net) (p : Params) (id : ℕ) (fixes : List Fix) (v : ℕ) → length fixes ≡ 1 → asks n p (record { id = id; fixes = fixes }) v ≡ true → ⊥
 asks_none n p id [] v one is = absurd (omega (arith, one))
-asks_none n p id (fix ∷ []) v one is = none_asked n p id fix v is
+asks_none n p id (fix ∷ []) v one is = one_fix-asks_none n p id fix v is
 asks_none n p id (fix ∷ next ∷ fixes) v one is = absurd (omega (arith, one))
 
 pub one_asks : (n : Net) (p : Params) (trace : Trace) (state : RowsState) → length trace.fixes ≡ 1 → AsksAll state state (λ v. asks n p trace v ≡ true)

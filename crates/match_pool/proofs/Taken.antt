@@ -21,8 +21,8 @@ contains_map : {A B : Type 0} (f : A → B) (xs : List A) (x : A) → Contains x
 contains_map f xs x c = (c.0, (let lt = c.1 in let same = length-map xs f in omega arith), get_or-map f xs c.0 x (f x) c.1 ∙ ap f c.2)
 
 -- the ranks that a ticket drew which had drawn nothing before
-drawn_below : (j : Job) (partition : List ℕ) (reader : Reading) (ticket : Drawn) (done : List Done) (reader' : Reading) (ticket' : Drawn) (w : WorksOn j partition reader ticket done reader' ticket') → ticket.numbers ≡ [] → (k : ℕ) → k < length partition → Contains ticket'.numbers k → Contains w.ranks k
-drawn_below j partition reader ticket done reader' ticket' w fresh k low c =
+drawn-is_ranked : (j : Job) (partition : List ℕ) (reader : Reading) (ticket : Drawn) (done : List Done) (reader' : Reading) (ticket' : Drawn) (w : WorksOn j partition reader ticket done reader' ticket') → ticket.numbers ≡ [] → (k : ℕ) → k < length partition → Contains ticket'.numbers k → Contains w.ranks k
+drawn-is_ranked j partition reader ticket done reader' ticket' w fresh k low c =
     let whole : ticket'.numbers ≡ w.ranks ++ w.last ∷ [] = w.drawn ∙ ap (λ (l : List ℕ). l ++ (w.ranks ++ w.last ∷ [])) fresh in
     let here : Contains (w.ranks ++ w.last ∷ []) k = subst (λ (l : List ℕ). Contains l k) whole c in
     ⊎_elim (λ inside. inside) (λ (same : w.last ≡ k). let above = w.above in absurd (omega (arith, same))) (Contains-push_cases w.ranks w.last k here)
@@ -46,7 +46,7 @@ turn_over j partition reader ticket turn reader' is fresh claims w =
         numbers = map (number_at partition.numbers) w.ranks;
         are = w.answers;
         inside = numbers_inside partition.numbers w.ranks w.below;
-        all = λ rank low c. contains_map (number_at partition.numbers) w.ranks rank (drawn_below j partition.numbers reader ticket turn.done reader' turn.ticket w none rank low c);
+        all = λ rank low c. contains_map (number_at partition.numbers) w.ranks rank (drawn-is_ranked j partition.numbers reader ticket turn.done reader' turn.ticket w none rank low c);
       };
     }
 
@@ -55,5 +55,5 @@ pub turn_learns : (j : Job) (partition : Partition) (reader : Reading) (ticket :
 turn_learns j partition reader ticket turn reader' fresh w rank v low c asked =
     let none : ticket.numbers ≡ [] = ap (λ (t : Drawn). t.numbers) fresh in
     let at = number_at partition.numbers in
-    let inside : Contains (map at w.ranks) (at rank) = contains_map at w.ranks rank (drawn_below j partition.numbers reader ticket turn.done reader' turn.ticket w none rank low c) in
+    let inside : Contains (map at w.ranks) (at rank) = contains_map at w.ranks rank (drawn-is_ranked j partition.numbers reader ticket turn.done reader' turn.ticket w none rank low c) in
     (w.learns v).1 (inr (list_any_at (asks_at j v) (map at w.ranks) inside.0 (at rank) inside.1 (ap (asks_at j v) inside.2 ∙ asked)))

@@ -50,10 +50,10 @@ record IsTaken {A : Type 0} (said : Result A (List ℕ)) (next : A → Plan) (fi
   value_is : said ≡ Ok value
   then_is : outcome_of (next value) files ≡ Some o
 
-taken : {A : Type 0} (status : ℕ) (said : Result A (List ℕ)) (next : A → Plan) (files : Files) (o : Outcome) → 1 ≤ status → outcome_of (accepts status said next) files ≡ Some o → o.status ≡ 0
+taken-if_done : {A : Type 0} (status : ℕ) (said : Result A (List ℕ)) (next : A → Plan) (files : Files) (o : Outcome) → 1 ≤ status → outcome_of (accepts status said next) files ≡ Some o → o.status ≡ 0
     → IsTaken said next files o
-taken status (Ok value) next files o some is done = record { value = value; value_is = refl; then_is = is }
-taken status (Err line) next files o some is done =
+taken-if_done status (Ok value) next files o some is done = record { value = value; value_is = refl; then_is = is }
+taken-if_done status (Err line) next files o some is done =
     let same : refused_with status line ≡ o = cc is in
     let status_is : status ≡ o.status = ap (λ (x : Outcome). x.status) same in
     absurd (omega (arith, some, done, status_is))
@@ -63,7 +63,7 @@ loaded_of : {A : Type 0} (held : Option (List ℕ)) (status : ℕ) (name : List 
     → IsLoaded name limit said next files o
 loaded_of None status name limit said next files o held_is some is done = absurd (cc is)
 loaded_of (Some bytes) status name limit said next files o held_is some is done =
-    let t = taken status (said bytes) next files o some is done in
+    let t = taken-if_done status (said bytes) next files o some is done in
     record { bytes = bytes; value = t.value; bytes_are = held_is; value_is = t.value_is; then_is = t.then_is }
 
 loaded : {A : Type 0} (file : File) (name : List ℕ) (limit status : ℕ) (said : List ℕ → Result A (List ℕ)) (next : A → Plan) (files : Files) (o : Outcome)
@@ -115,7 +115,7 @@ proved_runs_are_accepted limits proves checks files files' o runs is done =
     let net = loaded Network runs.network (file_limit limits) 5 (network_said limits) _ files o (omega arith) proved done in
     let tra = loaded Traces runs.traces trace_limit 6 traces_said _ files o (omega arith) net.then_is done in
     let on : Setting = record { network = net.value; params = p } in
-    let said = taken 8 (prove_said on tra.value) (λ text. ends (done_with text)) files o (omega arith) tra.then_is done in
+    let said = taken-if_done 8 (prove_said on tra.value) (λ text. ends (done_with text)) files o (omega arith) tra.then_is done in
     let text = said.value in
     let same : done_with text ≡ o = cc (said.then_is) in
     let short = subst (λ (t : List ℕ). length t ≤ text_limit) (written (text_of_proofs on tra.value) text (nat_lt text_limit (length (text_of_proofs on tra.value))) refl said.value_is).0

@@ -140,10 +140,10 @@ pub record Steps (T U : List (List ℕ) → Type 0) (text line next : List ℕ) 
   pub some : T [] → ⊥
   pub only : (first : List ℕ) (others : List (List ℕ)) (rest : List ℕ) → T (first ∷ others) → text ≡ first ++ rest → U others × (rest ≡ next)
 
-behind : {T U : List (List ℕ) → Type 0} {text line next : List ℕ} → Steps T U text line next
+next_begins : {T U : List (List ℕ) → Type 0} {text line next : List ℕ} → Steps T U text line next
     → (n : ℕ) (lines : List (List ℕ)) (rest : List ℕ) → T lines → suc n ≤ length lines → text ≡ concat (take (suc n) lines) ++ rest → BeginsWithLinesOf U n next
-behind s n [] rest is enough begins = absurd (s.some is)
-behind s n (first ∷ others) rest is enough begins =
+next_begins s n [] rest is enough begins = absurd (s.some is)
+next_begins s n (first ∷ others) rest is enough begins =
     let found = s.only first others (concat (take n others) ++ rest) is (begins ∙ append_assoc first (concat (take n others)) rest) in
     record { lines = others; is = found.0; enough = omega (arith, enough); rest = rest; begins = sym found.1 }
 
@@ -169,7 +169,7 @@ step_fails {line = line} s f = record {
         rest = b.rest;
         begins = s.text_is ∙ ap (λ (t : List ℕ). line ++ t) b.begins ∙ sym (append_assoc line (concat (take (length f.front) b.lines)) b.rest);
       };
-  bad = λ b. f.bad (behind s (suc (length f.front)) b.lines b.rest b.is b.enough b.begins);
+  bad = λ b. f.bad (next_begins s (suc (length f.front)) b.lines b.rest b.is b.enough b.begins);
   not_whole = λ w. f.not_whole (whole_behind s w.lines w.rest w.is w.begins);
 }
 
@@ -180,7 +180,7 @@ step_goes_past {line = line} s g = record {
   rest = g.rest;
   is = s.more g.lines g.is;
   text_is = s.text_is ∙ ap (λ (t : List ℕ). line ++ t) g.text_is ∙ sym (append_assoc line (concat g.lines) (g.byte ∷ g.rest));
-  bad = λ b. g.bad (behind s (suc (length g.lines)) b.lines b.rest b.is b.enough b.begins);
+  bad = λ b. g.bad (next_begins s (suc (length g.lines)) b.lines b.rest b.is b.enough b.begins);
 }
 
 pub step : {F : Type 0} (bad_line : ℕ → F) (cut : F) (number : ℕ) {T U : List (List ℕ) → Type 0} {text line next : List ℕ} (fault : F)

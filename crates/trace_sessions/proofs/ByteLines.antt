@@ -79,15 +79,15 @@ words-line (word ∷ words) are =
       is = ap (λ t. 32 ∷ (word ++ t)) rest.is ∙ ap (λ t. 32 ∷ t) (sym (append_assoc word rest.body (10 ∷ [])));
     }
 
-behind : (front text : List ℕ) → All IsPlain front → IsOneLine text → IsOneLine (front ++ text)
-behind front text plain one = record {
+line-after_plain : (front text : List ℕ) → All IsPlain front → IsOneLine text → IsOneLine (front ++ text)
+line-after_plain front text plain one = record {
   body = front ++ one.body;
   plain = All-append IsPlain front one.body plain one.plain;
   is = ap (λ t. front ++ t) one.is ∙ sym (append_assoc front one.body (10 ∷ []));
 }
 
 one-line : (word : List ℕ) (words : List (List ℕ)) → All IsPlain word → All (All IsPlain) words → IsOneLine (line word words)
-one-line word words first are = behind word (words_after words) first (words-line words are)
+one-line word words first are = line-after_plain word (words_after words) first (words-line words are)
 
 abbrev Words : List (List ℕ) → Type 0
 Words words = All (All IsPlain) words
@@ -142,7 +142,7 @@ led-one : (id : ℕ) (lines : List (List ℕ)) → All IsOneLine lines → All I
 led-one id [] are = All-nil IsOneLine
 led-one id (text ∷ lines) are =
     let lead = All-append IsPlain (decimal id) (32 ∷ []) (decimal-plain id) (All-cons IsPlain 32 [] refl (All-nil IsPlain)) in
-    All-cons IsOneLine (lead_of (Some id) ++ text) (led_by id lines) (behind (lead_of (Some id)) text lead (All-head IsOneLine text lines are)) (led-one id lines (All-tail IsOneLine text lines are))
+    All-cons IsOneLine (lead_of (Some id) ++ text) (led_by id lines) (line-after_plain (lead_of (Some id)) text lead (All-head IsOneLine text lines are)) (led-one id lines (All-tail IsOneLine text lines are))
 
 -- ---- the lines of a stream
 

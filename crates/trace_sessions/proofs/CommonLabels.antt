@@ -129,10 +129,10 @@ same-front : (n : Net) (p : Params) (layers : List Layer) (first k : ℕ) (close
 same-front n p layers first k closed b committed s x h =
     ap (take k) h.is ∙ s.is-front.agree h.rank s.end.rank h.price s.end.price h.ranks s.end.ranks h.best s.end.best ∙ ap (take k) (sym s.end.is)
 
-begins : (n : Net) (p : Params) (layers : List Layer) (first k : ℕ) (closed : List Label) (b : List ℕ) (committed : List Label) → Stands n p layers first k closed b committed
+begins-with_committed : (n : Net) (p : Params) (layers : List Layer) (first k : ℕ) (closed : List Label) (b : List ℕ) (committed : List Label) → Stands n p layers first k closed b committed
     → (x : List ℕ) → IsEnd (trellis n p) (reverse (drop first layers)) x
     → BeginsWith (labels_of n layers (take first (solution (trellis n p) layers).ranks ++ some_of x)) committed
-begins n p layers first k closed b committed s x h =
+begins-with_committed n p layers first k closed b committed s x h =
     let xs = drop first layers in
     let rest = drop k (tail_of n xs x) in (
       rest,
@@ -179,7 +179,7 @@ law-from n p layers first k closed b committed s =
     let size : length committed ≡ first + k = ap length s.is ∙ length-append closed (take k (tail_of n xs b))
     ∙ omega (arith, s.count, length-take-le k (tail_of n xs b) (omega (arith, w, length-reverse xs, tail-count n p xs b s.end))) in
     record {
-      common = All-map (λ labels. BeginsWith labels committed) list ends (all-among (λ x. BeginsWith (list x) committed) ends (λ x among. begins n p layers first k closed b committed s x (ends-told t (reverse xs) x among)));
+      common = All-map (λ labels. BeginsWith labels committed) list ends (all-among (λ x. BeginsWith (list x) committed) ends (λ x among. begins-with_committed n p layers first k closed b committed s x (ends-told t (reverse xs) x among)));
       longest = λ other all.
           let each : (x : List ℕ) → IsEnd t (reverse xs) x → BeginsWith (list x) other = λ x h.
           among-all (λ y. BeginsWith (list y) other) ends x (among-mapped list (λ labels. BeginsWith labels other) ends all)
