@@ -14,9 +14,12 @@ use std::alloc::{AllocError, Global};
 use trace_reader::Trace;
 use trace_sessions::{Basis, follow_trace};
 
-/// Two places on the first edge, the second one behind: the match continues on the next edge, and asks for
-/// three rows.
+/// Two places on the first edge, the second one behind: the match continues on the next edge.
 const BEHIND: [(i32, i32); 2] = [(9_000, 0), (1_000, 0)];
+
+/// The calls for a row: for the near and the whole row of both candidates of the first place, and for the near row
+/// that the walk is rebuilt from.
+const CALLS: u64 = 5;
 
 const FOLLOWED: &[u8] =
     b"trace 7\nfix 0\nfix 1\nat 0 edge 10 offset 9000 d2 0\nat 1 edge 11 offset 0 d2 81000000\nfinish\npiece 0 1 cost 47500 route 10 11\nend 7\n";
@@ -66,14 +69,14 @@ fn outcome(alloc: Global, call: u64) -> Option<(bool, bool)> {
 
 #[test]
 fn a_refused_row_ends_the_match(rt: HostRuntime) {
-    for call in 1..4 {
+    for call in 1..CALLS + 1 {
         assert!(rt;
             outcome(rt.alloc(), call) == Some((false, false)),
             "call {call}"
         );
     }
     assert!(rt;
-        outcome(rt.alloc(), 4) == Some((true, true)),
+        outcome(rt.alloc(), CALLS + 1) == Some((true, true)),
         "no such call"
     );
 }
