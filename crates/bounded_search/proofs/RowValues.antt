@@ -227,7 +227,7 @@ same_labels n bound s v lawful has =
       | inr past ↦ entries_end table 0 (length n.nodes) v (omega arith) ∙ none_beyond n bound s v lawful has past (table v) refl
     ]
 
-row_of_is : (n : Net) (bound s : ℕ) → IsLawful n → HasNode n s → IsRow n bound s (row_of n bound s)
+pub row_of_is : (n : Net) (bound s : ℕ) → IsLawful n → HasNode n s → IsRow n bound s (row_of n bound s)
 row_of_is n bound s lawful has =
     let same : label_within n s bound ≡ label_in (row_of n bound s).entries = fun_ext (λ v. sym (same_labels n bound s v lawful has)) in
     record {

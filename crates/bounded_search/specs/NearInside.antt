@@ -10,5 +10,4 @@ near_rows a = record a.near { bound = a.whole.bound }
 -- both are rows of one network, and the near ones reach no further
 pub record AreOfOne (a : Inside) : Type 0 where
   pub network : a.whole.network ≡ a.near.network
-  pub reach : a.near.bound ≡ a.reach
-  pub shorter : a.reach ≤ a.whole.bound
+  pub shorter : a.near.bound ≤ a.whole.bound

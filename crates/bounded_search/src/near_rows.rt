@@ -23,7 +23,6 @@ use std::marker::Model;
 pub struct NearRows<'n> {
     near: OwnRows<'n>,
     whole: OwnRows<'n>,
-    reach: u32,
 }
 
 impl<'n> Model for NearRows<'n> {
@@ -53,7 +52,7 @@ impl<'n> NearRows<'n> {
     {
         let near = OwnRows::open(alloc, network, reach)?;
         let whole = OwnRows::open(alloc, network, bound)?;
-        Ok(NearRows { near, whole, reach })
+        Ok(NearRows { near, whole })
     }
 
     /// The invariant of the known nodes.
@@ -96,7 +95,7 @@ impl<'n> Rows for NearRows<'n> {
             (λ new. AsksFor self.old (λ v. v ≡ n.0) result new)) }
     {
         self.near.fill(n)?;
-        if reach <= self.reach {
+        if reach <= self.near.bound() {
             return Ok(self.near.get(n));
         }
         self.whole.fill(n)?;

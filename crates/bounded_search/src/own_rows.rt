@@ -65,6 +65,13 @@ impl<'n> OwnRows<'n> {
         let _ = &self.rows;
     }
 
+    /// The bound, in cm.
+    pub(crate) fn bound(&self) -> u32
+        ensures { result ≡ self.now.bound }
+    {
+        self.searcher.bound()
+    }
+
     /// The number of known nodes.
     pub fn count(&self) -> u32
         ensures { result ≡ length self.now.known }

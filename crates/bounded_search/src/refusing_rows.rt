@@ -1,10 +1,10 @@
 //! Rows that fail at chosen calls, to test their callers. Serves tests; decided by `FollowsCall`.
-ghost use Rattle.std.specs.Prelude.{◌≡◌, ◌≤◌, ◌↔◌, Contains, IfOk, IsOk, IsErr};
+ghost use Rattle.std.specs.Prelude.{◌≡◌, ◌≤◌, ◌↔◌, IfOk, IsErr};
 ghost use Rattle.std.specs.Borrow.{sem};
 ghost use Rattle.std.specs.Io.BufRead.{Rests};
 ghost use Rattle.road_network.specs.Net.{HasNode};
 ghost use Rattle.bounded_search.specs.Lenders.{refusing_rows_type};
-ghost use Rattle.bounded_search.specs.Refusing.{next_call, IsRefused, FollowsCall};
+ghost use Rattle.bounded_search.specs.Refusing.{next_call, AnswersCall, FollowsCall, IsRefused};
 ghost use Rattle.bounded_search.specs.Rows.{AsksFor, no_rows};
 ghost use Rattle.bounded_search.specs.Table.{IsNearRow, IsRow};
 
@@ -70,8 +70,7 @@ impl<'n> RefusingRows<'n> {
     fn fill(&mut self, n: NodeId) -> Result<(), AllocError>
         requires { HasNode self.old.rows.network n.0 }
         ensures follows { FollowsCall self.old n.0 result self.new }
-        ensures refused { IsRefused self.old → IsErr result }
-        ensures again { (IsRefused self.old → ⊥) → Contains self.old.rows.known n.0 → IsOk result }
+        ensures answers { AnswersCall self.old n.0 result }
     {
         self.admit()?;
         self.rows.fill(n)
@@ -82,8 +81,7 @@ impl<'n> RefusingRows<'n> {
     pub fn ask(&mut self, n: NodeId) -> Result<&Row, AllocError>
         requires { HasNode self.old.rows.network n.0 }
         ensures value { IfOk result (λ row. IsRow self.old.rows.network self.old.rows.bound n.0 row.now) }
-        ensures refused { IsRefused self.old → IsErr result }
-        ensures again { (IsRefused self.old → ⊥) → Contains self.old.rows.known n.0 → IsOk result }
+        ensures answers { AnswersCall self.old n.0 result }
         ensures* after { sem 𝓛 (Rests refusing_rows_type self.entry (FollowsCall self.old n.0 result)) }
     {
         self.fill(n)?;
@@ -98,8 +96,7 @@ impl<'n> Rows for RefusingRows<'n> {
     fn row(&mut self, n: NodeId) -> Result<&Row, AllocError>
         requires { HasNode self.old.rows.network n.0 }
         ensures value { IfOk result (λ row. IsRow self.old.rows.network self.old.rows.bound n.0 row.now) }
-        ensures refused { IsRefused self.old → IsErr result }
-        ensures again { (IsRefused self.old → ⊥) → Contains self.old.rows.known n.0 → IsOk result }
+        ensures answers { AnswersCall self.old n.0 result }
         ensures* after { sem 𝓛 (Rests refusing_rows_type self.entry
             (λ new. AsksFor self.old.rows (λ v. v ≡ n.0) result new.rows)) }
     {
@@ -112,8 +109,7 @@ impl<'n> Rows for RefusingRows<'n> {
         requires reach { reach ≤ self.old.rows.bound }
         ensures value { IfOk result
             (λ row. IsNearRow self.old.rows.network reach self.old.rows.bound n.0 row.now) }
-        ensures refused { IsRefused self.old → IsErr result }
-        ensures again { (IsRefused self.old → ⊥) → Contains self.old.rows.known n.0 → IsOk result }
+        ensures answers { AnswersCall self.old n.0 result }
         ensures* after { sem 𝓛 (Rests refusing_rows_type self.entry
             (λ new. AsksFor self.old.rows (λ v. v ≡ n.0) result new.rows)) }
     {

@@ -8,7 +8,7 @@ use Rattle.bounded_search.specs.Labels.{entry_of}
 use Rattle.bounded_search.specs.Table.{TableRow}
 use Rattle.bounded_search.specs.declared.table_row.Label.{Label}
 use Rattle.bounded_search.proofs.RowChecks.{rules_of_row}
-use Rattle.bounded_search.proofs.RowValues.{row_values}
+use Rattle.bounded_search.proofs.RowValues.{row_of_is}
 use Rattle.road_network.specs.Net.{HasNode, IsLawful, Net}
 use Rattle.road_network.specs.declared.EdgeId.{EdgeId}
 use Rattle.row_text.specs.Laws.{EntryFits, IsRowValue}
@@ -69,7 +69,7 @@ row_value n bound v lawful short node =
     let nodes = lawful.few_nodes in
     let edges = lawful.few_edges in
     record {
-      rules = rules_of_row n bound v (row_of n bound v) lawful ((row_values n bound v (row_of n bound v) lawful node).1 refl);
+      rules = rules_of_row n bound v (row_of n bound v) lawful (row_of_is n bound v lawful node);
       origin = omega (arith, node, nodes);
       entries = entries_fit bound (length n.edges) 0 (length n.nodes) (label_within n v bound) (omega (arith, short)) (omega (arith, edges)) (omega (arith, nodes))
           (λ u. labels_within n bound v bound u (omega arith));

@@ -264,7 +264,7 @@ impl<'s> Rows for Reader<'s> {
         Ok(self.places[at].lend(store, n))
     }
 
-    /// The row within the whole bound, as `row` returns it: the cells of a store have no other.
+    /// The row within the whole bound, as `row` returns it.
     fn near_row(&mut self, n: NodeId, reach: u32) -> Result<&Row, AllocError>
         requires node { HasNode self.old.store.network n.0 }
         requires reach { reach ≤ self.old.store.bound }

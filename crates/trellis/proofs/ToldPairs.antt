@@ -9,7 +9,7 @@ use Rattle.bounded_search.specs.declared.table_row.Label.{Label}
 use Rattle.bounded_search.specs.Table.{BoundedTable, TableRow, IsNearRow, IsRow, entry_in, label_in, label_of}
 use Rattle.bounded_search.proofs.KnownNodes.{get_set, get_set_else}
 use Rattle.bounded_search.proofs.OneRow.{listed_too, one_row}
-use Rattle.bounded_search.proofs.RowValues.{row_values}
+use Rattle.bounded_search.proofs.RowValues.{row_of_is}
 use Rattle.bounded_search.specs.RowValue.{row_of}
 use Rattle.matching.specs.Routes.{Direct, HasNoRoute, IsRoute}
 use Rattle.road_network.specs.declared.Candidate.{Candidate}
@@ -75,16 +75,13 @@ is_told (Some d) = tt
 
 -- ---- routes that are told
 
-whole_row : (n : Net) (bound s : ℕ) → IsLawful n → HasNode n s → IsRow n bound s (row_of n bound s)
-whole_row n bound s lawful has = (row_values n bound s (row_of n bound s) lawful has).1 refl
-
 -- what is told of a pair, in the words of the row within the whole bound
 told_whole : (n : Net) (bound s v : ℕ) (table : BoundedTable) (origin node : ℕ) (distance : Option ℕ) → IsLawful n → HasNode n s
     → table ≡ pairs_of n bound → origin ≡ s → node ≡ v → TellsPair table origin node distance → distance_in (row_of n bound s) v ≡ distance
 told_whole n bound s v table origin node distance lawful has table_is origin_is node_is tells =
     let on : TellsPair (pairs_of n bound) origin node distance = subst (λ (t : BoundedTable). TellsPair t origin node distance) table_is tells in
     let from : TellsPair (pairs_of n bound) s node distance = subst (λ k. TellsPair (pairs_of n bound) k node distance) origin_is on in
-    ap (distance_in (row_of n bound s)) (sym node_is) ∙ from (row_of n bound s) (whole_row n bound s lawful has)
+    ap (distance_in (row_of n bound s)) (sym node_is) ∙ from (row_of n bound s) (row_of_is n bound s lawful has)
 
 -- a pair between two candidates: the node where the edge of a ends, and the one where that of b begins
 pub record IsBetween (n : Net) (bound : ℕ) (a b : Candidate) (table : BoundedTable) (origin node : ℕ) : Type 0 where
@@ -99,7 +96,7 @@ pub over_told : (n : Net) (bound back : ℕ) (a b : Candidate) (table : BoundedT
 over_told n bound back a b table origin node d pair tells none =
     let s : ℕ = target n a.edge.0 in
     let has : HasNode n s = pair.lawful.targets a.edge.0 pair.edge in
-    told_walk n bound back a b (row_of n bound s) d (whole_row n bound s pair.lawful has)
+    told_walk n bound back a b (row_of n bound s) d (row_of_is n bound s pair.lawful has)
     (told_whole n bound s (source n b.edge.0) table origin node (Some d) pair.lawful has pair.table_is pair.origin_is pair.node_is tells) none
 
 pub none_told : (n : Net) (bound back : ℕ) (a b : Candidate) (table : BoundedTable) (origin node : ℕ) → IsBetween n bound a b table origin node
@@ -107,5 +104,5 @@ pub none_told : (n : Net) (bound back : ℕ) (a b : Candidate) (table : BoundedT
 none_told n bound back a b table origin node pair tells none =
     let s : ℕ = target n a.edge.0 in
     let has : HasNode n s = pair.lawful.targets a.edge.0 pair.edge in
-    no_route n bound back a b (row_of n bound s) (whole_row n bound s pair.lawful has)
+    no_route n bound back a b (row_of n bound s) (row_of_is n bound s pair.lawful has)
     (told_whole n bound s (source n b.edge.0) table origin node None pair.lawful has pair.table_is pair.origin_is pair.node_is tells) none

@@ -22,7 +22,7 @@ struct Told {
 
 /// A row of a node within some bound.
 #[derive(Clone, Copy)]
-pub struct NearRow<'a> {
+pub(crate) struct NearRow<'a> {
     pub origin: NodeId,
     pub row: &'a Row,
     /// In cm; the row's bound is no shorter.
@@ -31,7 +31,7 @@ pub struct NearRow<'a> {
 
 /// What is told of the walks to a node.
 #[derive(Clone, Copy)]
-pub enum Reached {
+pub(crate) enum Reached {
     /// The least walk has this length, in cm.
     At(u32),
     /// No walk is within the bound.
@@ -115,7 +115,7 @@ impl<'n> PairMemory<'n> {
     }
 
     /// What a row tells of a node, or what the memory tells of it and the row's origin. Then the row is not read.
-    pub fn reached(&mut self, near: &NearRow, node: NodeId) -> Reached
+    pub(crate) fn reached(&mut self, near: &NearRow, node: NodeId) -> Reached
         requires { IsNearRow self.old.network near.now.reach self.old.bound near.now.origin.0 near.now.row.now }
         ensures told { TellsReached self.old near.now node.0 result }
         ensures whole { near.now.reach ≡ self.old.bound → IsTold result }

@@ -7,4 +7,4 @@ returns c = λ test.
     let from = c.args.from.now in
     let step = from.step.now in
     let shorter = rw c.candidate-to.ensures at c.length_at_least.ensures in
-    stays c.args.cell from.rank c.in-Some.least (arrival_by_rank step from.rank c.args.j) c.in-Some.is (λ k way. c.none_costs_less.ensures test c.args.j shorter k way)
+    stays c.args.cell from.rank c.in-Some.least (arrival_by_rank step from.rank c.args.j) c.in-Some.is (λ k way. c.none_costs_less.ensures test c.args.j k shorter way)

@@ -6,7 +6,7 @@ use Rattle.trellis.proofs.Ways.{IsMove, no_way_less}
 use Rattle.trellis.proofs.offers.none_costs_less.Goals as goal
 
 pub returns : goal.returns
-returns c = λ test j none k way.
+returns c = λ test j k none way.
     let from = c.args.from.now in
     let step = from.step.now in
     let n = step.net.now in

@@ -5,18 +5,18 @@ use Rattle.bounded_search.proofs.Asking.{asks_err}
 use Rattle.bounded_search.proofs.TwoBounds.{only_of, row_named, whole_is_near}
 use Rattle.bounded_search.proofs.near_rows.NearRowsRows.near_row.Goals as goal
 
-pub returns-then-reach-self : goal.returns-then-reach-self
-returns-then-reach-self c =
+pub returns-then-reach-bound : goal.returns-then-reach-bound
+returns-then-reach-bound c =
     let near = c.in_ok-fill.ensures.asks in
     let same : c.self.inside.whole.bound ≡ c.self.inside.whole.bound = refl in
     let only = only_of same near.only in
     let network = near.only.keeps.network ∙ ap (λ (k : RowsState). k.network) c.self.view_is in
-    let bound = near.only.keeps.bound ∙ c.self.invariant.reach in (
+    let bound = near.only.keeps.bound in (
       (refl, λ _. tt, record { only = rw c.self.view_is at only; all = near.all }),
       record {
         value = record {
-          within = c.self.inside.reach;
-          reaches = omega (arith, c.if-reach-self.true);
+          within = c.self.inside.near.bound;
+          reaches = omega (arith, c.if-reach-bound.true, c.bound.ensures, near.only.keeps.bound);
           no_further = omega (arith, c.self.invariant.shorter, ap (λ (k : RowsState). k.bound) c.self.view_is);
           is = row_named network bound c.get.ensures;
         };

@@ -10,5 +10,5 @@ returns c =
     let f = rw (← c.self.view_is) at c.in_ok-fill.ensures.follows in
     let row = rw (f.asks.only.keeps.network, f.asks.only.keeps.bound) at c.get.ensures in (
       (refl, λ _. tt, record { refuse = f.refuse; counted = f.counted; asks = record { only = f.asks.only; all = f.asks.all }; refused = tt }),
-      record { value = row; refused = c.in_ok-fill.ensures.refused; again = λ _ _. refl; after = tt },
+      record { value = row; answers = record { refused = c.in_ok-fill.ensures.answers.refused; again = λ _ _. refl }; after = tt },
     )
