@@ -17,6 +17,7 @@ import hashlib
 import os
 import shlex
 import subprocess
+import tempfile
 import time
 
 ONE_WORKER = ["--workers", "1"]
@@ -83,18 +84,19 @@ def lines_of(path):
 
 def run(command, folder):
     """Seconds, processor seconds, peak memory in bytes, the status, and a digest of all that was answered."""
-    out = os.path.join(folder, "measured")
-    with open(out, "wb") as f, open(out + ".err", "wb") as g:
-        begin = time.monotonic()
-        child = subprocess.Popen(command, cwd=folder, stdin=subprocess.DEVNULL, stdout=f, stderr=g)
-        _, ended, usage = os.wait4(child.pid, 0)
-        seconds = time.monotonic() - begin
-    status = child.returncode = os.waitstatus_to_exitcode(ended)
-    digest = hashlib.sha256(str(status).encode())
-    for path in (out, out + ".err"):
-        with open(path, "rb") as f:
-            for block in iter(lambda: f.read(1 << 20), b""):
-                digest.update(block)
+    with tempfile.TemporaryDirectory(dir=folder) as answers:
+        out, err = (os.path.join(answers, name) for name in ("out", "err"))
+        with open(out, "wb") as f, open(err, "wb") as g:
+            begin = time.monotonic()
+            child = subprocess.Popen(command, cwd=folder, stdin=subprocess.DEVNULL, stdout=f, stderr=g)
+            _, ended, usage = os.wait4(child.pid, 0)
+            seconds = time.monotonic() - begin
+        status = child.returncode = os.waitstatus_to_exitcode(ended)
+        digest = hashlib.sha256(str(status).encode())
+        for path in (out, err):
+            with open(path, "rb") as f:
+                for block in iter(lambda: f.read(1 << 20), b""):
+                    digest.update(block)
     return seconds, usage.ru_utime + usage.ru_stime, usage.ru_maxrss * 1024, status, digest.hexdigest()
 
 
