@@ -20,6 +20,7 @@ use polyline_geometry::List;
 use program_frame::{Job, NetworkFile, Stop, Tally, load_network, work_traces};
 use row_store::{Reader, RowStore, known_count};
 use std::alloc::{AllocError, Global};
+use std::mem::forget;
 use std::thread::Threads;
 use trace_match::Matcher;
 use trace_reader::Trace;
@@ -144,5 +145,8 @@ pub fn match_traces<R: Threads + Sync, G: Gate, S: Shelf, K: Sink>(
     let roads = load_network(alloc, shelf, network)?;
     let matcher = Matcher::open(alloc, &roads, options)?;
     let store = open_store(alloc, &matcher)?;
-    match_file(rt, alloc, &matcher, &store, traces, shelf, out, gate)
+    let done = match_file(rt, alloc, &matcher, &store, traces, shelf, out, gate);
+    // The process ends soon, and the system then takes the memory of all rows at once.
+    forget(store);
+    done
 }
