@@ -5,6 +5,7 @@ ghost use Rattle.bounded_search.specs.Searching.{EndsClean, Leaves};
 ghost use Rattle.bounded_search.specs.Marked.{IsClean, IsSized, KeepsSizes};
 ghost use Rattle.bounded_search.specs.Table.{IsRow};
 
+use crate::fans::Fans;
 use crate::found_entries::FoundEntries;
 use crate::known_rows::KnownRows;
 use crate::label_words::{ORIGIN, distance_in, no_label};
@@ -89,17 +90,17 @@ impl Workspace {
     /// otherwise by every edge out of it.
     fn leave<K: KnownRows>(
         &mut self,
-        net: &Network,
+        fans: &Fans<'_>,
         known: &K,
         next: Waiting,
     ) -> Result<(), AllocError>
-        requires known { K.table known.now ≡ record { network = net.now; bound = self.old.bound } }
-        requires next { HasNode net.now next.node × (next.distance ≤ 10_000_000) }
-        requires sized { IsSized (length net.now.nodes) self.old }
-        ensures leaves { OnOk result (Leaves net.now (next ∷ []) self.old self.new) }
+        requires known { K.table known.now ≡ record { network = fans.now; bound = self.old.bound } }
+        requires next { HasNode fans.now next.node × (next.distance ≤ 10_000_000) }
+        requires sized { IsSized (length fans.now.nodes) self.old }
+        ensures leaves { OnOk result (Leaves fans.now (next ∷ []) self.old self.new) }
         ensures sized { KeepsSizes self.old self.new }
     {
-        net.invariants();
+        fans.invariants();
         let node = NodeId(next.node);
         if distance_in(self.words[next.node as usize]) != next.distance {
             return Ok(());
@@ -111,9 +112,12 @@ impl Workspace {
             return Ok(());
         }
         self.marks.mark(node);
-        let arcs = net.arcs(node);
-        self.queue
-            .try_arcs(self.words.as_mut_slice(), next.distance, arcs)
+        let words = self.words.as_mut_slice();
+        let fan = fans.fan(node);
+        if fan.is_whole {
+            return self.queue.try_fan(words, next.distance, fan);
+        }
+        self.queue.try_arcs(words, next.distance, fans.arcs(node))
     }
 
     /// The entries of the row of an origin. After `Err` the arrays must be cleared.
@@ -124,22 +128,22 @@ impl Workspace {
     pub fn entries<K: KnownRows>(
         &mut self,
         alloc: Global,
-        net: &Network,
+        fans: &Fans<'_>,
         known: &K,
         origin: NodeId,
     ) -> Result<Vec<Entry>, AllocError>
-        requires known { K.table known.now ≡ record { network = net.now; bound = self.old.bound } }
-        requires origin { HasNode net.now origin.0 }
-        requires clean { IsClean (length net.now.nodes) self.old }
+        requires known { K.table known.now ≡ record { network = fans.now; bound = self.old.bound } }
+        requires origin { HasNode fans.now origin.0 }
+        requires clean { IsClean (length fans.now.nodes) self.old }
         ensures row { IfOk result (λ entries.
-            IsRow net.now self.old.bound origin.0 (record { origin = origin.0; entries = entries.items })) }
+            IsRow fans.now self.old.bound origin.0 (record { origin = origin.0; entries = entries.items })) }
         ensures clean { EndsClean result self.old self.new }
     {
-        net.invariants();
+        fans.invariants();
         self.words[origin.0 as usize] = ORIGIN;
         self.queue.start(origin.0)?;
         while let Some(next) = self.queue.take()? {
-            self.leave(net, known, next)?;
+            self.leave(fans, known, next)?;
         }
         self.take_entries(alloc)
     }

@@ -1,9 +1,10 @@
 //! Searches for many rows of one network. Serves `search` and `OwnRows`; decided by `IsRow`.
-ghost use Rattle.std.specs.Prelude.{◌≡◌, ◌≤◌, ◌↔◌, IfOk, IsTrue};
+ghost use Rattle.std.specs.Prelude.{◌≡◌, ◌≤◌, ◌↔◌, IfOk, IfSome, IsTrue, OnErr, OnOk, Some};
 ghost use Rattle.road_network.specs.Net.{HasNode, IsLawful};
 ghost use Rattle.bounded_search.specs.Table.{IsRow};
 
 use crate::dijkstra::Workspace;
+use crate::fans::Fans;
 use crate::known_rows::{KnownRows, NoRows};
 use crate::places::place_between;
 use crate::table_row::Row;
@@ -16,10 +17,12 @@ use std::marker::Model;
 /// Searches for rows of one network within one bound.
 ///
 /// It keeps its arrays over many rows, and leaves them empty: a row costs what it reaches, whatever the size of
-/// the network.
+/// the network. Its first search looks at every edge, and makes an array of 52 bytes for each node.
 pub struct Searcher<'n> {
     alloc: Global,
     network: &'n Network,
+    // Made for the first search.
+    fans: Option<Fans<'n>>,
     workspace: Workspace,
 }
 
@@ -29,6 +32,7 @@ impl<'n> Drop for Searcher<'n> {
         let Searcher {
             alloc: _,
             network: _,
+            fans: _,
             workspace: _,
         } = self;
     }
@@ -56,6 +60,7 @@ impl<'n> Searcher<'n> {
         Ok(Searcher {
             alloc,
             network,
+            fans: None,
             workspace,
         })
     }
@@ -119,7 +124,9 @@ impl<'n> Searcher<'n> {
         let alloc = self.alloc;
         let network = self.network;
         network.invariants();
-        match self.workspace.entries(alloc, network, known, origin) {
+        make_fans(alloc, network, &mut self.fans)?;
+        let fans = self.fans.as_ref().unwrap();
+        match self.workspace.entries(alloc, fans, known, origin) {
             Ok(entries) => Ok(Row {
                 origin,
                 middle: place_between(&entries, 0, entries.len(), origin).unwrap(),
@@ -131,6 +138,22 @@ impl<'n> Searcher<'n> {
             }
         }
     }
+}
+
+// Makes the fans of a network, if there are none.
+fn make_fans<'n>(
+    alloc: Global,
+    network: &'n Network,
+    fans: &mut Option<Fans<'n>>,
+) -> Result<(), AllocError>
+    requires { IfSome fans.old (λ made. made ≡ network.now) }
+    ensures made { OnOk result (fans.new ≡ Some network.now) }
+    ensures err { OnErr result (fans.new ≡ fans.old) }
+{
+    if fans.is_none() {
+        *fans = Some(Fans::new(alloc, network)?);
+    }
+    Ok(())
 }
 
 /// The row of an origin in the table of this network and bound (in cm, at most 10,000,000).
@@ -148,7 +171,7 @@ impl<'n> Searcher<'n> {
 /// 4 at 24 by edge 4. Of several shortest walks the one whose edges, read from the last to the first,
 /// are earliest in the file gives the last edge.
 ///
-/// One row costs an array of the network's size, and a look at the length of every edge. For many rows take a
+/// One row costs arrays of the network's size, and a look at every edge. For many rows take a
 /// [`Searcher`].
 pub fn search(alloc: Global, net: &Network, bound: u32, origin: NodeId) -> Result<Row, AllocError>
     requires origin { HasNode net.now origin.0 }

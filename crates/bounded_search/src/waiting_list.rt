@@ -1,8 +1,10 @@
 //! A list of nodes that wait, to which the arcs of a node append without a branch. Serves the queue.
 ghost use Rattle.std.specs.Prelude.{◌≡◌, ◌≤◌, ◌<◌, ◌+◌, ◌++◌, ◌∷◌, [], ℕ, length, slice_get, take, Some, OnOk};
 ghost use Rattle.std.specs.List.{All};
-ghost use Rattle.bounded_search.specs.Underway.{IsTriable, RelaxesArc, after_arcs};
+ghost use Rattle.bounded_search.specs.Fans.{arcs_in};
+ghost use Rattle.bounded_search.specs.Underway.{IsTriable, RelaxesArc, after_arc, after_arcs};
 
+use crate::fans::Fan;
 use crate::free_places::make_places;
 use crate::label_words::{distance_in, least_word, step_by};
 use crate::queue::Waiting;
@@ -65,13 +67,54 @@ fn relax(words: &mut [u64], distance: u32, arc: Arc, item: &mut Waiting) -> bool
     distance_in(word) < distance_in(before)
 }
 
-/// So many arcs of a node are tried at least: a loop that mostly takes equally many turns is well predicted.
+/// So many arcs of a node are tried at least: code that mostly takes equally many turns is well predicted.
 pub const LEAST_TRIES: usize = 4;
+
+/// Tries an arc from a distance in cm. If its end becomes nearer, that is appended to the first `count` places. The
+/// result is how many items there are then.
+#[inline(always)]
+fn try_arc(
+    words: &mut [u64],
+    distance: u32,
+    arc: Arc,
+    places: &mut [Waiting],
+    count: usize,
+) -> usize
+    requires arc { IsTriable (length words.old) arc }
+    requires distance { distance ≤ 10_000_000 }
+    requires room { count < length places.old }
+    ensures tries { (bound : ℕ) → record { words = words.new; queue = take result places.new }
+        ≡ after_arc bound distance arc (record { words = words.old; queue = take count places.old }) }
+    ensures sizes { (length words.new ≡ length words.old) × (count ≤ result) × (result ≤ count + 1) }
+{
+    let nearer = relax(words, distance, arc, &mut places[count]);
+    count + usize::from(nearer)
+}
+
+/// Tries the arcs of a fan, as [`try_arcs`] does, without a loop.
+#[inline(always)]
+fn try_fan(
+    words: &mut [u64],
+    distance: u32,
+    fan: &Fan,
+    places: &mut [Waiting],
+    count: usize,
+) -> usize
+    requires arcs { All (IsTriable (length words.old)) (arcs_in fan.now) }
+    requires distance { distance ≤ 10_000_000 }
+    requires room { count + LEAST_TRIES ≤ length places.old }
+    ensures tries { (bound : ℕ) → record { words = words.new; queue = take result places.new }
+        ≡ after_arcs bound distance (arcs_in fan.now) (record { words = words.old; queue = take count places.old }) }
+    ensures sizes { (length words.new ≡ length words.old) × (count ≤ result) × (result ≤ length places.new) }
+{
+    let one = try_arc(words, distance, fan.first, places, count);
+    let two = try_arc(words, distance, fan.second, places, one);
+    let three = try_arc(words, distance, fan.third, places, two);
+    try_arc(words, distance, fan.fourth, places, three)
+}
 
 /// Tries arcs from a distance in cm. The nodes that become nearer are appended to the first `count` places, and
 /// the result is how many items there are then.
-///
-/// Where there are fewer than [`LEAST_TRIES`] arcs, the last one is tried again, which changes nothing.
 fn try_arcs(
     words: &mut [u64],
     distance: u32,
@@ -81,19 +124,14 @@ fn try_arcs(
 ) -> usize
     requires arcs { All (IsTriable (length words.old)) arcs.now }
     requires distance { distance ≤ 10_000_000 }
-    requires room { (count + length arcs.now ≤ length places.old) × (count + LEAST_TRIES ≤ length places.old) }
+    requires room { count + length arcs.now ≤ length places.old }
     ensures tries { (bound : ℕ) → record { words = words.new; queue = take result places.new }
         ≡ after_arcs bound distance arcs.now (record { words = words.old; queue = take count places.old }) }
     ensures sizes { (length words.new ≡ length words.old) × (count ≤ result) × (result ≤ length places.new) }
 {
-    let Some(last) = arcs.len().checked_sub(1) else {
-        return count;
-    };
     let mut end = count;
-    for tried in 0..arcs.len().max(LEAST_TRIES) {
-        let arc = arcs[tried.min(last)];
-        let nearer = relax(words, distance, arc, &mut places[end]);
-        end += usize::from(nearer);
+    for tried in 0..arcs.len() {
+        end = try_arc(words, distance, arcs[tried], places, end);
     }
     end
 }
@@ -128,9 +166,25 @@ impl WaitingList {
     pub fn push(&mut self, item: Waiting) -> Result<(), AllocError>
         ensures { OnOk result (self.new ≡ self.old ++ item ∷ []) }
     {
-        make_places(&mut self.places, self.count.saturating_add(1), FREE)?;
+        make_places(&mut self.places, self.count + 1, FREE)?;
         self.places[self.count] = item;
         self.count += 1;
+        Ok(())
+    }
+
+    /// Tries the arcs of a fan from a distance in cm, and appends the nodes that become nearer.
+    #[inline(always)]
+    pub fn try_fan(&mut self, words: &mut [u64], distance: u32, fan: &Fan) -> Result<(), AllocError>
+        requires arcs { All (IsTriable (length words.old)) (arcs_in fan.now) }
+        requires distance { distance ≤ 10_000_000 }
+        ensures tries { OnOk result ((bound : ℕ) → record { words = words.new; queue = self.new }
+            ≡ after_arcs bound distance (arcs_in fan.now) (record { words = words.old; queue = self.old })) }
+        ensures count { length words.new ≡ length words.old }
+        ensures more { length self.old ≤ length self.new }
+    {
+        make_places(&mut self.places, self.count + LEAST_TRIES, FREE)?;
+        let places = self.places.as_mut_slice();
+        self.count = try_fan(words, distance, fan, places, self.count);
         Ok(())
     }
 
@@ -149,18 +203,9 @@ impl WaitingList {
         ensures count { length words.new ≡ length words.old }
         ensures more { length self.old ≤ length self.new }
     {
-        make_places(
-            &mut self.places,
-            self.count + arcs.len().max(LEAST_TRIES),
-            FREE,
-        )?;
-        self.count = try_arcs(
-            words,
-            distance,
-            arcs,
-            self.places.as_mut_slice(),
-            self.count,
-        );
+        make_places(&mut self.places, self.count + arcs.len(), FREE)?;
+        let places = self.places.as_mut_slice();
+        self.count = try_arcs(words, distance, arcs, places, self.count);
         Ok(())
     }
 

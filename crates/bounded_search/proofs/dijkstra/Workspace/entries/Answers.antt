@@ -21,7 +21,7 @@ if_ok P Q (Err e) p f = tt
 
 pub loop-next-init : goal.loop-next-init
 loop-next-init g c =
-    let n = c.args.net.now in
+    let n = c.args.fans.now in
     let w = c.args.self.now in
     let clean = c.requires.clean in
     let s : ℕ = c.args.origin.0 in
@@ -43,7 +43,7 @@ pub leave-requires-clause-next : goal.leave-requires-clause-next
 leave-requires-clause-next g c =
     let w = c.loop-next.self in
     let perm : IsPermutation w.queue (c.in-Some.next ∷ c.take.new.self) = rw c.in-Some.is at c.in_ok-next.ensures in
-    taken_inside c.args.net.now c.args.origin.0 w c.in-Some.next c.take.new.self perm c.loop-next.invariant.searching
+    taken_inside c.args.fans.now c.args.origin.0 w c.in-Some.next c.take.new.self perm c.loop-next.invariant.searching
 
 pub loop-next-smaller : goal.loop-next-smaller
 loop-next-smaller g c =
@@ -59,19 +59,19 @@ loop-next-preserved g c =
     let perm : IsPermutation w.queue (c.in-Some.next ∷ c.take.new.self) = rw c.in-Some.is at c.in_ok-next.ensures in
     record {
       sized = keeps_both c.args.self.now w c.leave.new.self inv.sized (record { bound = e.sized.bound; words_count = e.sized.words_count; marks = e.sized.marks });
-      searching = e.leaves.searching s [] (node_taken c.args.net.now s w c.in-Some.next c.take.new.self perm inv.searching);
+      searching = e.leaves.searching s [] (node_taken c.args.fans.now s w c.in-Some.next c.take.new.self perm inv.searching);
     }
 
 -- the queue was found empty
 pub take_entries-requires-clause-sized : goal.take_entries-requires-clause-sized
 take_entries-requires-clause-sized g c =
     let s = c.loop-next.invariant.sized in
-    sized_here (length c.args.net.now.nodes) c.args.self.now _ c.requires.clean.sized (record { bound = s.bound; words_count = s.words_count; marks = s.marks })
+    sized_here (length c.args.fans.now.nodes) c.args.self.now _ c.requires.clean.sized (record { bound = s.bound; words_count = s.words_count; marks = s.marks })
 
 pub take_entries-requires-clause-marked : goal.take_entries-requires-clause-marked
 take_entries-requires-clause-marked g c =
     let none : (c.loop-next.self.queue ≡ []) × (c.take.new.self ≡ []) = rw c.in_default.is at c.in_ok-next.ensures in
-    all_marked c.args.net.now c.args.origin.0 c.loop-next.self none.0 c.loop-next.invariant.searching
+    all_marked c.args.fans.now c.args.origin.0 c.loop-next.self none.0 c.loop-next.invariant.searching
 
 pub take_entries-requires-clause-none_waiting : goal.take_entries-requires-clause-none_waiting
 take_entries-requires-clause-none_waiting g c =
@@ -80,7 +80,7 @@ take_entries-requires-clause-none_waiting g c =
 
 pub returns-clause-row : goal.returns-clause-row
 returns-clause-row g c =
-    let n = c.args.net.now in
+    let n = c.args.fans.now in
     let w = c.loop-next.self in
     let s : ℕ = c.args.origin.0 in
     let labels : List ℕ = w.words.items in

@@ -7,7 +7,7 @@ use Rattle.bounded_search.proofs.dijkstra.Workspace.entries.Given as goal
 abbrev pub invariant-loop-next : goal.invariant-loop-next
 invariant-loop-next g l = record {
   sized : KeepsSizes l.fn.self l.self;
-  searching : IsSearching l.net l.fn.origin.0 l.self [];
+  searching : IsSearching l.fans l.fn.origin.0 l.self [];
 }
 
 abbrev pub decreases-loop-next : goal.decreases-loop-next

@@ -9,7 +9,7 @@ is_row-requires-clause-origin c = subst (λ (k : BoundedTable). HasNode k.networ
 
 pub is_row-requires-clause-blank : goal.is_row-requires-clause-blank
 is_row-requires-clause-blank c =
-    let inv = c.self.invariant in
+    let inv = c.self.invariant.clean in
     rw c.as_mut_slice-words.ensures.value (record { low = inv.sized.low; words_count = inv.sized.words_count; none_labelled = inv.none_labelled })
 
 pub way_back_following-self : goal.way_back_following-self
@@ -17,15 +17,18 @@ way_back_following-self c = (refl, refl)
 
 pub invariant_of-self : goal.invariant_of-self
 invariant_of-self c =
-    let inv = c.self.invariant in
+    let inv = c.self.invariant.clean in
     let old = c.self.inside.workspace.words in
     let new : List ℕ = c.is_row.new.words in
     let blank = c.is_row.ensures.blank in
     let back : take old.len (new ++ drop (length new) old.items) ≡ new = take_at new (drop (length new) old.items) old.len (c.is_row.auto.words ∙ c.as_mut_slice-words.ensures.len) in
     record {
-      sized = record { low = inv.sized.low; few = inv.sized.few; words_count = ap length back ∙ blank.words_count; marks = inv.sized.marks };
-      none_labelled = rw back blank.none_labelled;
-      none_waiting = inv.none_waiting;
+      clean = record {
+        sized = record { low = inv.sized.low; few = inv.sized.few; words_count = ap length back ∙ blank.words_count; marks = inv.sized.marks };
+        none_labelled = rw back blank.none_labelled;
+        none_waiting = inv.none_waiting;
+      };
+      fans = c.self.invariant.fans;
     }
 
 pub returns-clause-same : goal.returns-clause-same

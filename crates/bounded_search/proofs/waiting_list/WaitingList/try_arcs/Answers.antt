@@ -22,7 +22,7 @@ pub invariant_of-self-2 : goal.invariant_of-self-2
 invariant_of-self-2 c =
     let places : List Waiting = c.make_places.new.places.items in
     let new : List Waiting = c.try_arcs-self-inside.new.places in
-    let back : take c.make_places.new.places.len (new ++ drop (length new) places) ≡ new = take_at new (drop (length new) places) c.make_places.new.places.len (c.try_arcs-self-inside.auto.places ∙ c.as_mut_slice.ensures.len) in
+    let back : take c.make_places.new.places.len (new ++ drop (length new) places) ≡ new = take_at new (drop (length new) places) c.make_places.new.places.len (c.try_arcs-self-inside.auto.places ∙ c.as_mut_slice-places.ensures.len) in
     rw back c.try_arcs-self-inside.ensures.sizes.2
 
 pub returns-clause-tries : goal.returns-clause-tries
@@ -31,8 +31,8 @@ returns-clause-tries c = λ bound.
     let places : List Waiting = c.make_places.new.places.items in
     let words : List ℕ = c.try_arcs-self-inside.new.words in
     let new : List Waiting = c.try_arcs-self-inside.new.places in
-    let back : take c.make_places.new.places.len (new ++ drop (length new) places) ≡ new = take_at new (drop (length new) places) c.make_places.new.places.len (c.try_arcs-self-inside.auto.places ∙ c.as_mut_slice.ensures.len) in
-    let start : take count c.as_mut_slice.result.now ≡ c.args.self.now = ap (take count) c.as_mut_slice.ensures.value ∙ items_still count c.self.inside.places.items places c.args.self.now c.self.invariant c.make_places.ensures.same c.self.view_is in
+    let back : take c.make_places.new.places.len (new ++ drop (length new) places) ≡ new = take_at new (drop (length new) places) c.make_places.new.places.len (c.try_arcs-self-inside.auto.places ∙ c.as_mut_slice-places.ensures.len) in
+    let start : take count c.as_mut_slice-places.result.now ≡ c.args.self.now = ap (take count) c.as_mut_slice-places.ensures.value ∙ items_still count c.self.inside.places.items places c.args.self.now c.self.invariant c.make_places.ensures.same c.self.view_is in
     ap (λ (k : List Waiting). record { words = words; queue = take c.try_arcs-self-inside.result k }) back
     ∙ (c.try_arcs-self-inside.ensures.tries bound ∙ ap (λ (k : List Waiting). after_arcs bound c.args.distance c.args.arcs.now (record { words = c.args.words.now; queue = k })) start)
 
@@ -44,7 +44,7 @@ returns-clause-more c =
     let places : List Waiting = c.make_places.new.places.items in
     let new : List Waiting = c.try_arcs-self-inside.new.places in
     let sizes = c.try_arcs-self-inside.ensures.sizes in
-    let back : take c.make_places.new.places.len (new ++ drop (length new) places) ≡ new = take_at new (drop (length new) places) c.make_places.new.places.len (c.try_arcs-self-inside.auto.places ∙ c.as_mut_slice.ensures.len) in
+    let back : take c.make_places.new.places.len (new ++ drop (length new) places) ≡ new = take_at new (drop (length new) places) c.make_places.new.places.len (c.try_arcs-self-inside.auto.places ∙ c.as_mut_slice-places.ensures.len) in
     let before : length c.args.self.now ≡ c.self.inside.count = ap length (sym c.self.view_is) ∙ length-take-le c.self.inside.count c.self.inside.places.items c.self.invariant in
     let after : length (take c.try_arcs-self-inside.result new) ≡ c.try_arcs-self-inside.result = length-take-le c.try_arcs-self-inside.result new sizes.2 in
     rw (back, before, after) sizes.1
