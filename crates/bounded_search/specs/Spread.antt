@@ -1,26 +1,25 @@
 -- The words of a row's labels, spread over an array by node.
-use Rattle.std.specs.Prelude.{ℕ, ◌≡◌, ◌≤◌, ◌↔◌, Bool, IsTrue, List, Option, Some, None, length}
+use Rattle.std.specs.Prelude.{ℕ, ◌≡◌, ◌+◌, ◌<◌, ◌≤◌, ◌^◌, ◌↔◌, Bool, IsTrue, List, Option, Some, None, length}
 use Rattle.std.specs.List.{All}
-use Rattle.road_network.specs.Net.{Net, HasEdge, HasNode}
-use Rattle.road_network.specs.declared.EdgeId.{EdgeId}
+use Rattle.road_network.specs.Net.{Net, HasNode}
 use Rattle.bounded_search.specs.declared.table_row.Entry.{Entry}
-use Rattle.bounded_search.specs.LabelWords.{label_at, no_label, word_at}
+use Rattle.bounded_search.specs.declared.table_row.Label.{Label}
+use Rattle.bounded_search.specs.LabelWords.{low_of, no_label, word_at, word_of}
 use Rattle.bounded_search.specs.Table.{entry_in, label_in}
-
--- the network has a last edge, if there is one
-abbrev pub HasLast : Net → Option EdgeId → Type 0
-HasLast n None = Unit {0}
-HasLast n (Some e) = HasEdge n e.0
 
 -- a row of this network and bound may have entry x
 pub record FitsIn (n : Net) (bound : ℕ) (x : Entry) : Type 0 where
-  pub last : HasLast n x.last
   pub node : HasNode n x.node.0
   pub within : x.distance ≤ bound
 
+-- the word of a label within the bound is raised by one: so no label by an edge has the word of no label
+abbrev pub IsRaised : ℕ → Option Label → ℕ → Type 0
+IsRaised bound None word = word ≡ no_label bound
+IsRaised bound (Some l) word = (word ≡ word_of l.distance l.last + 1) × (l.distance ≤ bound) × (low_of l.last < 2 ^ 32)
+
 -- the words say what the entries say
 abbrev pub IsSpread : ℕ → List Entry → List ℕ → Type 0
-IsSpread bound entries words = (v : ℕ) → label_at bound words v ≡ label_in entries v
+IsSpread bound entries words = (v : ℕ) → IsRaised bound (label_in entries v) (word_at bound words v)
 
 -- no node is labelled
 abbrev pub NoneLabelled : ℕ → List ℕ → Type 0

@@ -1,18 +1,18 @@
 //! Whether a row is the table's, by the words of its labels: one comparison tells of an edge whether it is relaxed.
 //! Serves `RowChecker` and `Searcher::check`; decided by `IsRow`.
-ghost use Rattle.std.specs.Prelude.{◌≡◌, ◌<◌, ◌≤◌, ◌-◌, ◌^◌, ◌↔◌, length, None, IfSome, IsSome, IsTrue};
-ghost use Rattle.std.specs.List.{All, count_by};
-ghost use Rattle.road_network.specs.Net.{HasNode, leaving};
-ghost use Rattle.bounded_search.specs.Closed.{LeavesRelaxed};
-ghost use Rattle.bounded_search.specs.Given.{IsArcRelaxed, IsGiven, arc_gives, gives};
-ghost use Rattle.bounded_search.specs.LabelWords.{label_at};
+ghost use Rattle.std.specs.Prelude.{◌≡◌, ◌<◌, ◌≤◌, ◌+◌, ◌^◌, ◌↔◌, ◌&&◌, if◌then◌else◌, length, false, IsTrue};
+ghost use Rattle.std.specs.List.{All};
+ghost use Rattle.road_network.specs.Net.{HasNode};
+ghost use Rattle.bounded_search.specs.Given.{IsGiven};
+ghost use Rattle.bounded_search.specs.LabelWords.{low_of, word_of};
 ghost use Rattle.bounded_search.specs.Spread.{FitsIn, IsBlank, IsSpread, LabelsOnly, NoneLabelled, Spreads};
 ghost use Rattle.bounded_search.specs.Table.{IsRow, RisesFrom};
+ghost use Rattle.bounded_search.specs.Tally.{IsEnough, IsTally, is_met};
+ghost use Rattle.bounded_search.specs.Underway.{IsTriable};
 
-use crate::label_words::{no_label, word_by, word_of};
+use crate::label_words::{least_word, no_label, step_by, word_of};
 use crate::table_row::{Entry, Row};
-use crate::waiting_list::LEAST_TRIES;
-use road_network::{Arc, Network, NodeId};
+use road_network::{Arc, EdgeId, Network, NodeId};
 
 /// Whether a row is the row of an origin, with an array of words that is blank before and after. Allocates nothing.
 pub fn is_row(net: &Network, bound: u32, words: &mut [u64], origin: NodeId, row: &Row) -> bool
@@ -26,15 +26,38 @@ pub fn is_row(net: &Network, bound: u32, words: &mut [u64], origin: NodeId, row:
     row.origin() == origin && gives_all(net, bound, words, row.entries())
 }
 
+/// What arcs tell by the words of the nodes where they end.
+#[derive(Clone, Copy)]
+struct Tally {
+    /// How many of them give the label there.
+    given: usize,
+    /// Whether one of them is neither relaxed nor leads beyond the bound.
+    short: bool,
+}
+
+const NOTHING: Tally = Tally {
+    given: 0,
+    short: false,
+};
+
+/// Of a node with so many arcs or fewer, so many are looked at: a loop that mostly takes equally many turns is
+/// well predicted.
+const FEW_ARCS: usize = 4;
+
 /// Whether a row of this network and bound may have an entry.
 fn fits(net: &Network, bound: u32, x: &Entry) -> bool
     ensures { IsTrue result ↔ FitsIn net.now bound x.now }
 {
-    let has_last = match x.last {
-        Some(e) => e.0 < net.edge_count(),
-        None => true,
-    };
-    has_last && x.node.0 < net.node_count() && x.distance <= bound
+    x.node.0 < net.node_count() && x.distance <= bound
+}
+
+/// The word of a label, raised by one. So no label by an edge has the word of no label.
+fn raised(distance: u32, last: Option<EdgeId>) -> u64
+    requires { distance ≤ 10_000_000 }
+    ensures word { result ≡ word_of distance last + 1 }
+    ensures low { low_of last < 2 ^ 32 }
+{
+    word_of(distance, last) + 1
 }
 
 /// Whether a row may have all entries, and the edges out of their nodes are relaxed and give all labels but
@@ -42,8 +65,7 @@ fn fits(net: &Network, bound: u32, x: &Entry) -> bool
 fn gives_all(net: &Network, bound: u32, words: &mut [u64], entries: &[Entry]) -> bool
     requires rising { RisesFrom 0 entries.now }
     requires blank { IsBlank (length net.now.nodes) bound words.old }
-    ensures given { IsTrue result
-        ↔ (All (FitsIn net.now bound) entries.now × IsGiven net.now bound entries.now) }
+    ensures given { IsTrue result ↔ IsGiven net.now bound entries.now }
     ensures blank { IsBlank (length net.now.nodes) bound words.new }
 {
     let good = spread_and_count(net, bound, words, entries);
@@ -55,8 +77,7 @@ fn gives_all(net: &Network, bound: u32, words: &mut [u64], entries: &[Entry]) ->
 fn spread_and_count(net: &Network, bound: u32, words: &mut [u64], entries: &[Entry]) -> bool
     requires rising { RisesFrom 0 entries.now }
     requires blank { IsBlank (length net.now.nodes) bound words.old }
-    ensures given { IsTrue result
-        ↔ (All (FitsIn net.now bound) entries.now × IsGiven net.now bound entries.now) }
+    ensures given { IsTrue result ↔ IsGiven net.now bound entries.now }
     ensures only { LabelsOnly bound entries.now words.new }
 {
     spread(net, bound, words, entries) && are_given(net, bound, words, entries)
@@ -73,9 +94,69 @@ fn spread(net: &Network, bound: u32, words: &mut [u64], entries: &[Entry]) -> bo
         if !fits(net, bound, x) {
             return false;
         }
-        words[x.node.0 as usize] = word_of(x.distance, x.last);
+        words[x.node.0 as usize] = raised(x.distance, x.last);
     }
     true
+}
+
+/// Adds to a tally what an arc tells, by the raised least word of the distance where it begins.
+///
+/// Nothing branches on labels: which arcs give them cannot be predicted.
+fn look(words: &[u64], base: u64, arc: Arc, counts: bool, tally: Tally) -> Tally
+    requires end { arc.to.0 < length words.now }
+    requires fits { (base ≤ 2 ^ 60) × (arc.length ≤ 100_000_000) }
+    requires room { tally.given < 2 ^ 63 }
+    ensures given { result.given ≡ tally.given + (if counts && is_met words.now base arc then 1 else 0) }
+    ensures short { (result.short ≡ false) ↔ ((tally.short ≡ false) × IsEnough words.now base arc) }
+{
+    let word = base + step_by(arc);
+    let there = words[arc.to.0 as usize];
+    Tally {
+        given: tally.given + usize::from(counts & (word == there)),
+        short: tally.short | (word < there),
+    }
+}
+
+/// What few arcs tell. Where there are fewer than [`FEW_ARCS`], the last one is looked at again, which does not
+/// count.
+fn tally_few(words: &[u64], base: u64, arcs: &[Arc]) -> Tally
+    requires few { (0 < length arcs.now) × (length arcs.now ≤ FEW_ARCS) }
+    requires base { base ≤ 2 ^ 60 }
+    requires arcs { All (IsTriable (length words.now)) arcs.now }
+    ensures { IsTally words.now base arcs.now result }
+{
+    let last = arcs.len() - 1;
+    let mut tally = NOTHING;
+    for tried in 0..FEW_ARCS {
+        tally = look(words, base, arcs[tried.min(last)], tried <= last, tally);
+    }
+    tally
+}
+
+/// What each of any number of arcs tells.
+fn tally_each(words: &[u64], base: u64, arcs: &[Arc]) -> Tally
+    requires base { base ≤ 2 ^ 60 }
+    requires arcs { All (IsTriable (length words.now)) arcs.now }
+    ensures { IsTally words.now base arcs.now result }
+{
+    let mut tally = NOTHING;
+    for arc in arcs {
+        tally = look(words, base, *arc, true, tally);
+    }
+    tally
+}
+
+/// What the arcs of a node tell.
+fn tally_arcs(words: &[u64], base: u64, arcs: &[Arc]) -> Tally
+    requires base { base ≤ 2 ^ 60 }
+    requires arcs { All (IsTriable (length words.now)) arcs.now }
+    ensures { IsTally words.now base arcs.now result }
+{
+    if 0 < arcs.len() && arcs.len() <= FEW_ARCS {
+        tally_few(words, base, arcs)
+    } else {
+        tally_each(words, base, arcs)
+    }
 }
 
 /// Whether the edges out of all entries' nodes are relaxed, and give all labels but the origin's.
@@ -86,57 +167,16 @@ fn are_given(net: &Network, bound: u32, words: &[u64], entries: &[Entry]) -> boo
     requires words { (length words.now ≡ length net.now.nodes) × IsSpread bound entries.now words.now }
     ensures { IsTrue result ↔ IsGiven net.now bound entries.now }
 {
-    let mut given = 0;
-    for (place, x) in entries.iter().enumerate() {
-        let Some(count) = count_given(net, bound, words, x) else {
-            return false;
-        };
-        given += count;
-    }
-    given + 1 == entries.len()
-}
-
-/// How many labels the edges out of an entry's node give, where they are relaxed. Where there are fewer than
-/// [`LEAST_TRIES`] edges, the last one is looked at again, which does not count.
-fn count_given(net: &Network, bound: u32, words: &[u64], x: &Entry) -> Option<usize>
-    requires node { HasNode net.now x.now.node.0 }
-    requires within { x.now.distance ≤ 10_000_000 }
-    requires words { length words.now ≡ length net.now.nodes }
-    ensures some { IsSome result
-        ↔ LeavesRelaxed net.now bound (label_at bound words.now) x.now.node.0 x.now.distance }
-    ensures count { IfSome result (λ count. count ≡ count_by
-        (λ e. gives net.now bound (label_at bound words.now) x.now.distance e.0) (leaving net.now x.now.node.0)) }
-{
     net.invariants();
-    let arcs = net.arcs(x.node);
-    let Some(last) = arcs.len().checked_sub(1) else {
-        return Some(0);
-    };
-    let mut count = 0;
-    for tried in 0..arcs.len().max(LEAST_TRIES) {
-        let given = try_arc(bound, words, arcs[tried.min(last)], x.distance)?;
-        count += usize::from(given && tried <= last);
+    let mut total = NOTHING;
+    for x in entries {
+        let tally = tally_arcs(words, least_word(x.distance) + 1, net.arcs(x.node));
+        total = Tally {
+            given: total.given + tally.given,
+            short: total.short | tally.short,
+        };
     }
-    Some(count)
-}
-
-/// Whether an arc gives the label where it ends, if it is relaxed or leads beyond the bound.
-fn try_arc(bound: u32, words: &[u64], arc: Arc, distance: u32) -> Option<bool>
-    requires end { (arc.to.0 < length words.now) × (arc.edge.0 < 2 ^ 32 - 1) }
-    requires fits { (arc.length ≤ 100_000_000) × (distance ≤ 10_000_000) }
-    ensures some { IsSome result ↔ IsArcRelaxed bound (label_at bound words.now) distance arc }
-    ensures given { IfSome result (λ given. given ≡ arc_gives bound (label_at bound words.now) distance arc) }
-{
-    let at = distance + arc.length;
-    if at > bound {
-        return Some(false);
-    }
-    let by = word_by(at, arc.edge);
-    let word = words[arc.to.0 as usize];
-    if word > by {
-        return None;
-    }
-    Some(word == by)
+    !total.short && total.given + 1 == entries.len()
 }
 
 /// Takes the labels of the entries' nodes out.

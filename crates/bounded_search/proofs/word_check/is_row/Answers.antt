@@ -4,7 +4,6 @@ use Rattle.road_network.specs.Net.{HasNode}
 use Rattle.bounded_search.specs.Table.{IsRow}
 use Rattle.bounded_search.proofs.GivenRows.{closed_is}
 use Rattle.bounded_search.proofs.RowChecks.{row_is}
-use Rattle.bounded_search.proofs.WordChecks.{closed_fits}
 use Rattle.bounded_search.proofs.word_check.is_row.Goals as goal
 
 pub returns-then-eq-clause-row : goal.returns-then-eq-clause-row
@@ -17,9 +16,6 @@ returns-then-eq-clause-row c =
     let is = row_is n bound row c.invariants.ensures c.invariants-2.ensures in
     let given = closed_is n bound row c.invariants.ensures c.invariants-2.ensures has in
     let test = rw c.entries.ensures at c.gives_all.ensures.given in (
-      λ t. subst (λ (s : ℕ). IsRow n bound s row) same (is.0 (given.0 (test.0 t).1)),
-      λ h.
-          let all = is.1 (subst (λ (s : ℕ). IsRow n bound s row) (sym same) h) in
-          let g = given.1 all in
-          test.1 (closed_fits n bound row c.invariants-2.ensures g all, g),
+      λ t. subst (λ (s : ℕ). IsRow n bound s row) same (is.0 (given.0 (test.0 t))),
+      λ h. test.1 (given.1 (is.1 (subst (λ (s : ℕ). IsRow n bound s row) (sym same) h))),
     )

@@ -1,14 +1,13 @@
-use Rattle.std.proofs.Common.{◌≡◌, ◌<◌, Bool, ℕ, List, Some, true, false, true≢false, ap, sym, length, get_or, refl, subst, ◌∙◌, rules, arith}
+use Rattle.std.proofs.Common.{◌≡◌, ◌<◌, Bool, ℕ, List, Some, true, false, true≢false, sym, length, get_or, refl, subst, rules, arith}
 use Rattle.std.proofs.lemmas.List.{take_all}
 use Rattle.std.proofs.lemmas.List.Elements.{All-more, All-nil}
 use Rattle.std.specs.List.{All}
 use Rattle.std.specs.Prelude.{IsTrue}
 use Rattle.bounded_search.specs.declared.table_row.Entry.{Entry}
-use Rattle.bounded_search.specs.LabelWords.{label_in_word}
-use Rattle.bounded_search.specs.Spread.{FitsIn, IsSpread}
+use Rattle.bounded_search.specs.Spread.{FitsIn, IsRaised, IsSpread}
 use Rattle.bounded_search.specs.Table.{label_of}
 use Rattle.bounded_search.proofs.Entries.{no_entry}
-use Rattle.bounded_search.proofs.WordChecks.{label_of_word, none_else, none_spread, spread_next}
+use Rattle.bounded_search.proofs.WordChecks.{none_else, none_spread, spread_next}
 use Rattle.bounded_search.proofs.word_check.spread.Goals as goal
 
 pub loop-x-init : goal.loop-x-init
@@ -39,9 +38,9 @@ loop-x-preserved c =
     let x : Entry = get_or entries i no_entry in
     let fits : FitsIn c.args.net.now c.args.bound x = c.fits.ensures.0 (search rules) in
     let inside : x.node.0 < length c.loop-x.words = omega (arith, fits.node, c.requires.blank.words_count) in
-    let is : label_in_word c.args.bound c.word_of.result ≡ Some (label_of x) = ap (label_in_word c.args.bound) c.word_of.ensures ∙ label_of_word c.args.net.now c.args.bound x.distance x.last c.invariants.ensures fits.within fits.last in
+    let is : IsRaised c.args.bound (Some (label_of x)) c.raised.result = (c.raised.ensures.word, fits.within, c.raised.ensures.low) in
     record {
-      spread = spread_next c.args.bound entries i no_entry c.loop-x.words c.word_of.result c.requires.rising lt inside is inv.spread;
+      spread = spread_next c.args.bound entries i no_entry c.loop-x.words c.raised.result c.requires.rising lt inside is inv.spread;
       fits = All-more (FitsIn c.args.net.now c.args.bound) entries i no_entry lt inv.fits fits;
     }
 
