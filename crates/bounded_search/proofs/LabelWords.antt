@@ -3,7 +3,6 @@ use Rattle.std.proofs.Common.{◌≡◌, ◌≢◌, ℕ, ◌-◌, ◌/◌, ◌%�
 use Rattle.std.proofs.lemmas.Bool.{cases_eq, cases_lt, eq-eqb, ne_eqb}
 use Rattle.std.proofs.lemmas.Bool.Decides.{eqb_tells}
 use Rattle.std.proofs.lemmas.List.{get_or_past}
-use Rattle.road_network.specs.declared.EdgeId.{EdgeId}
 use Rattle.bounded_search.specs.declared.table_row.Label.{Label}
 use Rattle.bounded_search.proofs.ClosedTables.{none_some}
 use Rattle.bounded_search.specs.LabelWords.{label_in_word, last_in, no_label, word_at, word_by}
@@ -16,24 +15,12 @@ label_there bound word apart = elim (eqb_tells word (no_label bound)) [ inl t �
 pub word_there : (bound : ℕ) (word : ℕ) (l : Label) → label_in_word bound word ≡ Some l → word ≢ no_label bound
 word_there bound word l h same = none_some refl (rw (eq-eqb word (no_label bound) same) at h)
 
-pub word_none : (bound : ℕ) (word : ℕ) → label_in_word bound word ≡ None → word ≡ no_label bound
-word_none bound word h = elim (eqb_tells word (no_label bound)) [ inl t ↦ t.1 | inr t ↦ absurd (none_some (rw t.0 at h) refl) ]
-
 -- and that of no label has none
 pub none_in : (bound word : ℕ) → word ≡ no_label bound → label_in_word bound word ≡ None
 none_in bound word is = rw (eq-eqb word (no_label bound) is) refl
 
 pub last_there : (e : ℕ) → e < 2 ^ 32 - 1 → last_in e ≡ Some (record { 0 = e })
 last_there e lt = let apart : e ≢ 2 ^ 32 - 1 = omega arith in rw (ne_eqb e (2 ^ 32 - 1) apart) refl
-
-pub last_is : (e : ℕ) (x : EdgeId) → last_in e ≡ Some x → e ≡ x.0
-last_is e x h = elim (eqb_tells e (2 ^ 32 - 1)) [
-  | inl t ↦ absurd (none_some refl (rw t.0 at h))
-  | inr t ↦ let same : Some (record { 0 = e }) ≡ Some x = rw t.0 at h in ap (λ (k : EdgeId). k.0) (same_edge (record { 0 = e }) x same)
-]
-  where
-    same_edge : (a b : EdgeId) → Some a ≡ Some b → a ≡ b
-    same_edge a b h = cc
 
 -- the parts of a word
 pub distance_by : (d e : ℕ) → e < 2 ^ 32 → word_by d e / 2 ^ 32 ≡ d

@@ -11,7 +11,7 @@ use Rattle.bounded_search.specs.declared.queue.Waiting.{Waiting}
 use Rattle.bounded_search.specs.declared.table_row.Entry.{Entry}
 use Rattle.bounded_search.specs.Closed.{IsClosed, IsReached, origin_label}
 use Rattle.bounded_search.specs.LabelWords.{distance_at, word_at}
-use Rattle.bounded_search.specs.Marked.{IsMarked, IsSized, MarksToo}
+use Rattle.bounded_search.specs.Marked.{IsMarkedIn, IsSized, MarkLists, MarksNode, lists_in}
 use Rattle.bounded_search.specs.Merging.{MarksAlso, MergesAll}
 use Rattle.bounded_search.specs.Searching.{AreMarkedOrWait, Leaves}
 use Rattle.bounded_search.specs.Table.{IsRow, RisesFrom, TableRow, entry_in, label_in, label_of}
@@ -61,7 +61,7 @@ is_merge n x row old new h =
       distance = h.starts;
     }
 
-marked_after : (n : Net) (bound v d : ℕ) (row : List Entry) (old new : List ℕ) (before after : Marks) (queue : List Waiting) → IsMerge n bound v d row old new → MarksAlso row before after → AreMarkedOrWait bound old before (record { distance = d; node = v } ∷ queue) → AreMarkedOrWait bound new after queue
+marked_after : (n : Net) (bound v d : ℕ) (row : List Entry) (old new : List ℕ) (before after : Marks) (queue : List Waiting) → IsMerge n bound v d row old new → MarksAlso row (lists_in before) (lists_in after) → AreMarkedOrWait bound old before (record { distance = d; node = v } ∷ queue) → AreMarkedOrWait bound new after queue
 marked_after n bound v d row old new before after queue h also marked u there = elim (cases_Option (entry_in row u)) [
   | inr some ↦ inr (also.listed u (some_there (entry_in row u) some.0 some.1))
   | inl none ↦
@@ -76,14 +76,14 @@ marked_after n bound v d row old new before after queue h also marked u there = 
 ]
 
 -- what is marked once the nodes of all entries are
-pub also_none : (marks : Marks) → MarksAlso [] marks marks
+pub also_none : (marks : MarkLists) → MarksAlso [] marks marks
 also_none marks = record { kept = λ v m. m; listed = λ v some. absurd (true≢false (sym some)) }
 
-pub also_more : (x : Entry) (row : List Entry) (before mid after : Marks) → MarksToo before x.node.0 mid → MarksAlso row mid after → MarksAlso (x ∷ row) before after
+pub also_more : (x : Entry) (row : List Entry) (before mid after : MarkLists) → MarksNode before x.node.0 mid → MarksAlso row mid after → MarksAlso (x ∷ row) before after
 also_more x row before mid after too rest = record {
   kept = λ v m. rest.kept v (too.kept v m);
   listed = λ v some. elim (eqb_tells x.node.0 v) [
-    | inl t ↦ rest.kept v (subst (IsMarked mid) t.1 too.added)
+    | inl t ↦ rest.kept v (subst (IsMarkedIn mid) t.1 too.added)
     | inr t ↦ rest.listed v (rw t.0 at some)
   ];
 }

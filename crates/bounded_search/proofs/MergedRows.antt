@@ -254,7 +254,7 @@ seen_after n bound v d s row old new queue h under f has short =
     ]
 
 -- no word is beyond that of no label
-most : (n : Net) (bound s : ℕ) (words : List ℕ) (queue : List Waiting) → IsUnderway n bound s (record { words = words; queue = queue }) NonePending → (v : ℕ) → word_at bound words v ≤ no_label bound
+pub most : (n : Net) (bound s : ℕ) (words : List ℕ) (queue : List Waiting) → IsUnderway n bound s (record { words = words; queue = queue }) NonePending → (v : ℕ) → word_at bound words v ≤ no_label bound
 most n bound s words queue under v = elim (cases_eq (word_at bound words v) (no_label bound)) [
   | inl none ↦ omega (arith, none)
   | inr there ↦ elim (cases_eq v s) [

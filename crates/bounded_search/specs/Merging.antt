@@ -2,10 +2,9 @@
 use Rattle.std.specs.Prelude.{ℕ, ◌≡◌, ◌+◌, List, [], ◌∷◌, min, slice_set}
 use Rattle.std.specs.Option.{IsSome}
 use Rattle.bounded_search.specs.declared.dijkstra.Workspace.{Workspace}
-use Rattle.bounded_search.specs.declared.marks.Marks.{Marks}
 use Rattle.bounded_search.specs.declared.table_row.Entry.{Entry}
 use Rattle.bounded_search.specs.LabelWords.{word_at, word_of}
-use Rattle.bounded_search.specs.Marked.{IsMarked, KeepsSizes, MarksToo}
+use Rattle.bounded_search.specs.Marked.{IsMarkedIn, KeepsSizes, MarkLists, lists_in}
 use Rattle.bounded_search.specs.Table.{entry_in}
 
 -- the word of an entry, by distance d farther
@@ -22,20 +21,13 @@ merged bound d [] words = words
 merged bound d (x ∷ entries) words = merged bound d entries (merged_entry bound d x words)
 
 -- the nodes of the entries are marked too, and all that was marked
-pub record MarksAlso (entries : List Entry) (before after : Marks) : Type 0 where
-  pub kept : (v : ℕ) → IsMarked before v → IsMarked after v
-  pub listed : (v : ℕ) → IsSome (entry_in entries v) → IsMarked after v
+pub record MarksAlso (entries : List Entry) (before after : MarkLists) : Type 0 where
+  pub kept : (v : ℕ) → IsMarkedIn before v → IsMarkedIn after v
+  pub listed : (v : ℕ) → IsSome (entry_in entries v) → IsMarkedIn after v
 
--- one entry was merged at distance d
-pub record MergesEntry (d : ℕ) (x : Entry) (old new : Workspace) : Type 0 where
-  pub words : new.words.items ≡ merged_entry old.bound d x old.words.items
-  pub marks : MarksToo old.marks x.node.0 new.marks
-  pub sized : KeepsSizes old new
-  pub queue : new.queue ≡ old.queue
-
--- all of them were
+-- all entries were merged at distance d
 pub record MergesAll (d : ℕ) (entries : List Entry) (old new : Workspace) : Type 0 where
   pub words : new.words.items ≡ merged old.bound d entries old.words.items
-  pub marks : MarksAlso entries old.marks new.marks
+  pub marks : MarksAlso entries (lists_in old.marks) (lists_in new.marks)
   pub sized : KeepsSizes old new
   pub queue : new.queue ≡ old.queue

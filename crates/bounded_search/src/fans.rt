@@ -1,12 +1,14 @@
-//! The arcs of each node in one place. Serves the search; decided by `StandsFor`.
+//! The arcs of each node as four in one place. Serves the search; decided by `StandsFor`.
 ghost use Rattle.std.specs.Prelude.{◌≡◌, IfOk, IsTrue, length, map};
 ghost use Rattle.road_network.specs.Net.{HasNode, IsLawful, arc_of, leaving};
 ghost use Rattle.bounded_search.specs.Fans.{IsFan};
 
-use crate::waiting_list::LEAST_TRIES;
 use road_network::{Arc, EdgeId, Network, NodeId};
 use std::alloc::{AllocError, Global};
 use std::marker::Model;
+
+/// How many arcs a fan has. Most nodes have no more.
+pub const FAN_ARCS: usize = 4;
 
 const NO_ARC: Arc = Arc {
     edge: EdgeId(0),
@@ -14,10 +16,10 @@ const NO_ARC: Arc = Arc {
     to: NodeId(0),
 };
 
-/// Four arcs that stand for all arcs of a node, so that these are tried without a loop: most nodes have one to
-/// four. Where there are fewer, the last one stands again, since trying an arc again changes nothing.
+/// The arcs of a node as four, so that a search tries them without a loop, whose end the processor could not predict.
+/// If there are fewer, the last one is repeated: trying an arc again changes nothing.
 ///
-/// Where a node has none, or more than four, its fan is not whole, and stands for nothing.
+/// The fan of a node without arcs, or with more than four, is not whole, and says nothing of them.
 #[derive(Clone, Copy)]
 pub struct Fan {
     pub first: Arc,
@@ -46,7 +48,7 @@ impl Fan {
             second: arcs[last.min(1)],
             third: arcs[last.min(2)],
             fourth: arcs[last.min(3)],
-            is_whole: last < LEAST_TRIES,
+            is_whole: last < FAN_ARCS,
         }
     }
 }

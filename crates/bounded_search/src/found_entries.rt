@@ -1,9 +1,9 @@
 //! A list of entries, to which those of labelled nodes are appended without a branch. Serves `Workspace::entries`;
 //! decided by `TakesNodes`.
-ghost use Rattle.std.specs.Prelude.{◌≡◌, ◌==◌, ◌<◌, ◌≤◌, ◌+◌, [], length, not, slice_set, take, IfOk, OnOk};
+ghost use Rattle.std.specs.Prelude.{◌≡◌, ◌<◌, ◌≤◌, ◌+◌, ◌*◌, [], length, nat_lt, slice_set, take, IfOk, OnOk};
 ghost use Rattle.bounded_search.specs.LabelWords.{no_label, word_at};
 ghost use Rattle.bounded_search.specs.Labels.{entry_by};
-ghost use Rattle.bounded_search.specs.Marked.{TakesNodes};
+ghost use Rattle.bounded_search.specs.Marked.{TakesMarked, TakesNodes, listing};
 ghost use Rattle.bounded_search.specs.Octets.{IsOctet};
 
 use crate::free_places::make_places;
@@ -48,18 +48,19 @@ impl Model for FoundEntries {
     ghost invariant = { IsFoundInside };
 }
 
-/// Removes the label of a node, and writes its entry to a place. Whether there was a label, and so is an entry.
+/// Removes the label of a node, and writes its entry to a place. Whether there was a label, and so is an entry: no
+/// word is beyond that of no label.
 fn take_node(words: &mut [u64], bound: u32, node: usize, place: &mut Entry) -> bool
     requires bound { bound ≤ 10_000_000 }
     requires node { (node < length words.old) × (node ≤ 1_000_000_000) }
     ensures words { words.new ≡ slice_set words.old node (no_label bound) }
     ensures place { place.new ≡ entry_by node (word_at bound words.old node) }
-    ensures labelled { result ≡ not (word_at bound words.old node == no_label bound) }
+    ensures labelled { result ≡ nat_lt (word_at bound words.old node) (no_label bound) }
 {
     let word = words[node];
     words[node] = no_label(bound);
     *place = entry_by(NodeId(node as u32), word);
-    word != no_label(bound)
+    word < no_label(bound)
 }
 
 /// Nodes next to each other by number: eight, or the last ones.
@@ -87,12 +88,70 @@ fn take_octet(
     requires room { count + 8 ≤ length places.old }
     ensures takes { TakesNodes bound octet.first (octet.first + 8)
         words.old (take count places.old) words.new (take result places.new) }
-    ensures room { result ≤ length places.new }
+    ensures room { result ≤ count + 8 }
 {
     let mut end = count;
     for k in 0..octet.nodes {
         let labelled = take_node(words, bound, octet.first + k, &mut places[end]);
         end += usize::from(labelled);
+    }
+    end
+}
+
+/// Takes the octet from a node on, as [`take_octet`] does. The last octet of a network may have fewer than eight nodes.
+// Not inlined, so that its eight nodes have all registers.
+#[inline(never)]
+fn take_octet_at(
+    words: &mut [u64],
+    bound: u32,
+    first: usize,
+    places: &mut [Entry],
+    count: usize,
+) -> usize
+    requires words { (bound ≤ 10_000_000) × (length words.old ≤ 1_000_000_000) }
+    requires room { count + 8 ≤ length places.old }
+    ensures takes { TakesNodes bound first (first + 8)
+        words.old (take count places.old) words.new (take result places.new) }
+    ensures room { result ≤ count + 8 }
+{
+    let left = words.len().saturating_sub(first);
+    if left >= 8 {
+        take_octet(words, bound, Octet { first, nodes: 8 }, places, count)
+    } else {
+        take_octet(words, bound, Octet { first, nodes: left }, places, count)
+    }
+}
+
+/// Eight octets next to each other, in a search within a bound.
+#[derive(Clone, Copy)]
+struct Group {
+    number: usize,
+    bound: u32,
+}
+
+/// Removes the labels of the marked octets of a group and their marks, and puts the entries behind the first `count`
+/// places. The result is how many entries there are then.
+fn take_octets(
+    words: &mut [u64],
+    octets: &mut [u8],
+    places: &mut [Entry],
+    group: Group,
+    count: usize,
+) -> usize
+    requires words { (group.bound ≤ 10_000_000) × (length words.old ≤ 1_000_000_000) }
+    requires octets { ((group.number + 1) * 8 ≤ length octets.old) × (length octets.old ≤ 1_000_000_000) }
+    requires room { count + 64 ≤ length places.old }
+    ensures takes { TakesMarked group.bound (group.number * 64) ((group.number + 1) * 64)
+        (listing words.old octets.old (take count places.old)) (listing words.new octets.new (take result places.new)) }
+    ensures room { result ≤ length places.new }
+{
+    let mut end = count;
+    for octet in group.number * 8..(group.number + 1) * 8 {
+        if octets[octet] == 0 {
+            continue;
+        }
+        octets[octet] = 0;
+        end = take_octet_at(words, group.bound, octet * 8, places, end);
     }
     end
 }
@@ -108,34 +167,28 @@ impl FoundEntries {
         }
     }
 
-    /// Removes the labels of the eight nodes from `first` on, and appends their entries.
+    /// Removes the labels of the marked octets of a group and their marks, and appends the entries.
     // Not inlined, so that the loop over the marks, most of which are not set, stays short.
     #[inline(never)]
-    pub fn take_nodes(
+    pub fn take_group(
         &mut self,
         words: &mut [u64],
+        octets: &mut [u8],
         bound: u32,
-        first: usize,
+        group: usize,
     ) -> Result<(), AllocError>
-        requires bound { bound ≤ 10_000_000 }
-        requires few { length words.old ≤ 1_000_000_000 }
-        ensures takes { OnOk result (TakesNodes bound first (first + 8) words.old self.old words.new self.new) }
-        ensures count { length words.new ≡ length words.old }
+        requires words { (bound ≤ 10_000_000) × (length words.old ≤ 1_000_000_000) }
+        requires octets { ((group + 1) * 8 ≤ length octets.old) × (length octets.old ≤ 1_000_000_000) }
+        ensures { OnOk result (TakesMarked bound (group * 64) ((group + 1) * 64)
+            (listing words.old octets.old self.old) (listing words.new octets.new self.new)) }
     {
-        make_places(&mut self.places, self.count.saturating_add(8), FREE)?;
+        make_places(&mut self.places, self.count.saturating_add(64), FREE)?;
         let places = self.places.as_mut_slice();
-        let left = words.len().saturating_sub(first);
-        self.count = if left >= 8 {
-            take_octet(words, bound, Octet { first, nodes: 8 }, places, self.count)
-        } else {
-            take_octet(
-                words,
-                bound,
-                Octet { first, nodes: left },
-                places,
-                self.count,
-            )
+        let group = Group {
+            number: group,
+            bound,
         };
+        self.count = take_octets(words, octets, places, group, self.count);
         Ok(())
     }
 

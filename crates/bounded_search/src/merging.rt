@@ -1,12 +1,14 @@
 //! Uses the known row of a node in a search. Serves `Workspace::leave`; decided by `MergesAll`.
 ghost use Rattle.std.specs.Prelude.{◌≡◌, ◌<◌, ◌≤◌, ℕ, length};
 ghost use Rattle.std.specs.List.{All};
-ghost use Rattle.bounded_search.specs.Marked.{AreMarksFor, IsSized, KeepsMarkSizes};
+ghost use Rattle.std.specs.Option.{IsSome};
+ghost use Rattle.bounded_search.specs.Marked.{AreListsFor, IsSized, lists_of};
 ghost use Rattle.bounded_search.specs.Merging.{MarksAlso, MergesAll, merged, merged_entry};
+ghost use Rattle.bounded_search.specs.Table.{RisesFrom};
 
 use crate::dijkstra::Workspace;
 use crate::label_words::{least_word, word_of};
-use crate::marks::Marks;
+use crate::marks::mark_after;
 use crate::table_row::{Entry, Row};
 
 /// Gives the node of an entry the entry's label, `distance` farther, if that is better than its own.
@@ -21,18 +23,43 @@ fn merge_entry(words: &mut [u64], distance: u32, entry: Entry)
     words[place] = words[place].min(word);
 }
 
-/// Merges entries at this distance (in cm), one by one: marks the node of each, and gives it the entry's label.
-fn merge_entries(words: &mut [u64], marks: &mut Marks, distance: u32, entries: &[Entry])
-    requires distance { distance ≤ 10_000_000 }
-    requires inside { All (λ x. (x.node.0 < length words.old) × (x.distance ≤ 10_000_000)) entries.now }
-    requires sized { AreMarksFor (length words.old) marks.old }
-    ensures words { (bound : ℕ) → words.new ≡ merged bound distance entries.now words.old }
-    ensures marks { MarksAlso entries.now marks.old marks.new × KeepsMarkSizes marks.old marks.new }
+/// Entries by rising node number, each with a last edge, to be merged at a distance in cm.
+#[derive(Clone, Copy)]
+struct Merged<'e> {
+    entries: &'e [Entry],
+    distance: u32,
+}
+
+/// Merges entries, one by one: marks the node of each, and gives it the entry's label.
+// Over slices, so that the loop keeps the arrays' addresses in registers.
+fn merge_entries(
+    words: &mut [u64],
+    octets: &mut [u8],
+    regions: &mut [u8],
+    areas: &mut [u8],
+    row: Merged<'_>,
+)
+    requires distance { row.distance ≤ 10_000_000 }
+    requires entries { RisesFrom 0 row.entries.now
+        × All (λ x. (x.node.0 < length words.old) × (x.distance ≤ 10_000_000) × IsSome x.last) row.entries.now }
+    requires sized { AreListsFor (length words.old) (lists_of octets.old regions.old areas.old) }
+    ensures words { (bound : ℕ) → words.new ≡ merged bound row.entry.distance row.entry.entries.now words.old }
+    ensures marks { MarksAlso row.entry.entries.now
+        (lists_of octets.old regions.old areas.old) (lists_of octets.new regions.new areas.new) }
 {
-    let mut done = marks.no_region();
-    for entry in entries {
-        done = marks.mark_after(done, entry.node);
-        merge_entry(words, distance, *entry);
+    let mut end = 0;
+    for entry in row.entries {
+        let Some(edge) = entry.last else {
+            unreachable!()
+        };
+        // Built anew, so that the compiler sees that it has an edge, and tests for none no more.
+        let entry = Entry {
+            node: entry.node,
+            distance: entry.distance,
+            last: Some(edge),
+        };
+        end = mark_after(octets, regions, areas, end, entry.node);
+        merge_entry(words, row.distance, entry);
     }
 }
 
@@ -46,7 +73,24 @@ impl Workspace {
         requires inside { All (λ x. (x.node.0 < length self.old.words.items) × (x.distance ≤ 10_000_000)) row.now.entries }
         ensures { MergesAll distance row.now.entries self.old self.new }
     {
+        let middle = row.middle;
+        let entries = row.entries.as_slice();
+        let own = entries[middle];
         let words = self.words.as_mut_slice();
-        merge_entries(words, &mut self.marks, distance, row.entries());
+        let octets = self.marks.octets.as_mut_slice();
+        let regions = self.marks.regions.as_mut_slice();
+        let areas = self.marks.areas.as_mut_slice();
+        let before = Merged {
+            entries: &entries[..middle],
+            distance,
+        };
+        merge_entries(words, octets, regions, areas, before);
+        mark_after(octets, regions, areas, 0, own.node);
+        merge_entry(words, distance, own);
+        let behind = Merged {
+            entries: &entries[middle + 1..],
+            distance,
+        };
+        merge_entries(words, octets, regions, areas, behind);
     }
 }

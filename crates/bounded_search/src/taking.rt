@@ -1,7 +1,7 @@
 //! Takes the labels of a search out as entries, by ascending node number. Serves `Workspace::entries`; decided by
 //! `ListsLabels`.
 ghost use Rattle.std.specs.Prelude.{◌≡◌, ◌<◌, ◌≤◌, ◌+◌, ◌*◌, [], length, IfOk, OnOk};
-ghost use Rattle.bounded_search.specs.Marked.{AllMarked, IsSized, KeepsSizes, Takes, labels_of};
+ghost use Rattle.bounded_search.specs.Marked.{AllMarked, IsSized, KeepsSizes, NoneBeyond, Takes, labels_of};
 ghost use Rattle.bounded_search.specs.Searching.{EndsClean, ListsLabels};
 
 use crate::dijkstra::Workspace;
@@ -19,16 +19,9 @@ impl Workspace {
         if self.marks.none_in(group) {
             return Ok(());
         }
-        for octet in group * 8..(group + 1) * 8 {
-            let mark = self.marks.octets[octet];
-            if mark == 0 {
-                continue;
-            }
-            self.found
-                .take_nodes(self.words.as_mut_slice(), self.bound, octet * 8)?;
-            self.marks.octets[octet] = 0;
-        }
-        Ok(())
+        let octets = self.marks.octets.as_mut_slice();
+        self.found
+            .take_group(self.words.as_mut_slice(), octets, self.bound, group)
     }
 
     /// Takes the labels of a region of 8 groups, if it is marked.
@@ -69,7 +62,8 @@ impl Workspace {
     /// at only if it is marked.
     pub(crate) fn take_entries(&mut self, alloc: Global) -> Result<Vec<Entry>, AllocError>
         requires sized { IsSized (length self.old.words.items) self.old }
-        requires marked { AllMarked self.old.bound self.old.words.items self.old.marks }
+        requires marked { AllMarked self.old.bound self.old.words.items self.old.marks
+            × NoneBeyond self.old.bound self.old.words.items }
         requires none_waiting { self.old.queue ≡ [] }
         ensures entries { IfOk result (λ entries. ListsLabels (labels_of self.old) entries.items) }
         ensures clean { EndsClean result self.old self.new }

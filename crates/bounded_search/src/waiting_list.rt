@@ -4,7 +4,7 @@ ghost use Rattle.std.specs.List.{All};
 ghost use Rattle.bounded_search.specs.Fans.{arcs_in};
 ghost use Rattle.bounded_search.specs.Underway.{IsTriable, RelaxesArc, after_arc, after_arcs};
 
-use crate::fans::Fan;
+use crate::fans::{FAN_ARCS, Fan};
 use crate::free_places::make_places;
 use crate::label_words::{distance_in, least_word, step_by};
 use crate::queue::Waiting;
@@ -67,9 +67,6 @@ fn relax(words: &mut [u64], distance: u32, arc: Arc, item: &mut Waiting) -> bool
     distance_in(word) < distance_in(before)
 }
 
-/// So many arcs of a node are tried at least: code that mostly takes equally many turns is well predicted.
-pub const LEAST_TRIES: usize = 4;
-
 /// Tries an arc from a distance in cm. If its end becomes nearer, that is appended to the first `count` places. The
 /// result is how many items there are then.
 #[inline(always)]
@@ -102,7 +99,7 @@ fn try_fan(
 ) -> usize
     requires arcs { All (IsTriable (length words.old)) (arcs_in fan.now) }
     requires distance { distance ≤ 10_000_000 }
-    requires room { count + LEAST_TRIES ≤ length places.old }
+    requires room { count + FAN_ARCS ≤ length places.old }
     ensures tries { (bound : ℕ) → record { words = words.new; queue = take result places.new }
         ≡ after_arcs bound distance (arcs_in fan.now) (record { words = words.old; queue = take count places.old }) }
     ensures sizes { (length words.new ≡ length words.old) × (count ≤ result) × (result ≤ length places.new) }
@@ -182,7 +179,7 @@ impl WaitingList {
         ensures count { length words.new ≡ length words.old }
         ensures more { length self.old ≤ length self.new }
     {
-        make_places(&mut self.places, self.count + LEAST_TRIES, FREE)?;
+        make_places(&mut self.places, self.count + FAN_ARCS, FREE)?;
         let places = self.places.as_mut_slice();
         self.count = try_fan(words, distance, fan, places, self.count);
         Ok(())

@@ -1,13 +1,13 @@
-use Rattle.std.proofs.Common.{◌≡◌, ℕ, drop}
-use Rattle.bounded_search.specs.declared.marks.Marks.{Marks}
-use Rattle.bounded_search.specs.Marked.{IsDoneOrNone, KeepsMarkSizes}
+use Rattle.std.proofs.Common.{◌≡◌, ℕ, drop, length}
+use Rattle.bounded_search.specs.Marked.{AreListsFor, IsDoneTo, MarkLists, lists_of}
 use Rattle.bounded_search.specs.Merging.{MarksAlso, merged}
+use Rattle.bounded_search.specs.Table.{RisesFrom}
 use Rattle.bounded_search.proofs.merging.merge_entries.Given as goal
 
 abbrev pub invariant-loop-entry : goal.invariant-loop-entry
 invariant-loop-entry l = record {
-  sized : KeepsMarkSizes l.initial.marks l.marks;
-  words : (bound : ℕ) → merged bound l.distance (drop l.entry-index l.entries) l.words ≡ merged bound l.distance l.entries l.initial.words;
-  marks : (after : Marks) → MarksAlso (drop l.entry-index l.entries) l.marks after → MarksAlso l.entries l.initial.marks after;
-  done : IsDoneOrNone l.marks l.done;
+  sized : AreListsFor (length l.words) (lists_of l.octets l.regions l.areas);
+  words : (bound : ℕ) → merged bound l.row.distance (drop l.entry-index l.row.entries.now) l.words ≡ merged bound l.row.distance l.row.entries.now l.initial.words;
+  marks : (after : MarkLists) → MarksAlso (drop l.entry-index l.row.entries.now) (lists_of l.octets l.regions l.areas) after → MarksAlso l.row.entries.now (lists_of l.initial.octets l.initial.regions l.initial.areas) after;
+  done : (b : ℕ) × RisesFrom b (drop l.entry-index l.row.entries.now) × IsDoneTo (lists_of l.octets l.regions l.areas) b l.end;
 }

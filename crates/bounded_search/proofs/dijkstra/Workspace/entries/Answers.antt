@@ -10,6 +10,7 @@ use Rattle.bounded_search.specs.Searching.{ListsLabels}
 use Rattle.bounded_search.specs.Table.{IsRow}
 use Rattle.bounded_search.proofs.Leaving.{all_marked, fewer_wait, marked_begun, node_taken, taken_inside}
 use Rattle.bounded_search.proofs.MarkedNodes.{keeps_both, sized_here}
+use Rattle.bounded_search.proofs.MergedRows.{most}
 use Rattle.bounded_search.proofs.RowOfLabels.{row_of_labels}
 use Rattle.bounded_search.proofs.ClosedAtEnd.{closed_at_end}
 use Rattle.bounded_search.proofs.Underway.{begun}
@@ -71,7 +72,10 @@ take_entries-requires-clause-sized g c =
 pub take_entries-requires-clause-marked : goal.take_entries-requires-clause-marked
 take_entries-requires-clause-marked g c =
     let none : (c.loop-next.self.queue ≡ []) × (c.take.new.self ≡ []) = rw c.in_default.is at c.in_ok-next.ensures in
-    all_marked c.args.fans.now c.args.origin.0 c.loop-next.self none.0 c.loop-next.invariant.searching
+    let searching = c.loop-next.invariant.searching in (
+      all_marked c.args.fans.now c.args.origin.0 c.loop-next.self none.0 searching,
+      most c.args.fans.now c.loop-next.self.bound c.args.origin.0 c.loop-next.self.words.items c.loop-next.self.queue searching.underway,
+    )
 
 pub take_entries-requires-clause-none_waiting : goal.take_entries-requires-clause-none_waiting
 take_entries-requires-clause-none_waiting g c =

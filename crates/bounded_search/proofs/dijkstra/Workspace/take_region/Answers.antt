@@ -1,7 +1,7 @@
 use Rattle.std.proofs.lemmas.Result.{err_from_is_err_and}
 use Rattle.std.proofs.Common.{◌≡◌, ◌+◌, ◌*◌, ℕ, length, length-set, refl, subst, ◌∙◌, arith}
 use Rattle.std.proofs.lemmas.List.{get_or_read}
-use Rattle.bounded_search.specs.Marked.{IsTaken}
+use Rattle.bounded_search.specs.Marked.{IsTaken, lists_in}
 use Rattle.bounded_search.proofs.MarkedNodes.{as_many, keeps_both, keeps_none, region_gone, region_skipped, sized_here}
 use Rattle.bounded_search.proofs.dijkstra.Workspace.take_region.Goals as goal
 
@@ -68,7 +68,7 @@ returns-clause-sized c =
     record {
       bound = inv.sized.bound;
       words_count = inv.sized.words_count;
-      marks = λ count sized. as_many w.marks _ refl (length-set w.marks.regions.items c.args.region 0) refl count (inv.sized.marks count sized);
+      marks = λ count sized. as_many (lists_in w.marks) _ refl (length-set w.marks.regions.items c.args.region 0) refl count (inv.sized.marks count sized);
     }
 
 pub index-mark-requires : goal.index-mark-requires
