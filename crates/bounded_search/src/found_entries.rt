@@ -8,6 +8,7 @@ ghost use Rattle.bounded_search.specs.Octets.{IsOctet};
 
 use crate::free_places::make_places;
 use crate::label_words::{entry_by, no_label};
+use crate::marks::marked_octets;
 use crate::table_row::Entry;
 use road_network::NodeId;
 use std::alloc::{AllocError, Global};
@@ -122,36 +123,41 @@ fn take_octet_at(
     }
 }
 
-/// Eight octets next to each other, in a search within a bound.
+/// The 64 octets of a region, in a search within a bound.
 #[derive(Clone, Copy)]
-struct Group {
+struct Region {
     number: usize,
     bound: u32,
 }
 
-/// Removes the labels of the marked octets of a group and their marks, and puts the entries behind the first `count`
+/// Removes the labels of the marked octets of a region and their marks, and puts the entries after the first `count`
 /// places. The result is how many entries there are then.
+///
+/// The only branch on marks is the end of the loop.
 fn take_octets(
     words: &mut [u64],
     octets: &mut [u8],
     places: &mut [Entry],
-    group: Group,
+    region: Region,
     count: usize,
 ) -> usize
-    requires words { (group.bound ≤ 10_000_000) × (length words.old ≤ 1_000_000_000) }
-    requires octets { ((group.number + 1) * 8 ≤ length octets.old) × (length octets.old ≤ 1_000_000_000) }
-    requires room { count + 64 ≤ length places.old }
-    ensures takes { TakesMarked group.bound (group.number * 64) ((group.number + 1) * 64)
+    requires words { (region.bound ≤ 10_000_000) × (length words.old ≤ 1_000_000_000) }
+    requires octets { ((region.number + 1) * 64 ≤ length octets.old) × (length octets.old ≤ 1_000_000_000) }
+    requires room { count + 512 ≤ length places.old }
+    ensures takes { TakesMarked region.bound (region.number * 512) ((region.number + 1) * 512)
         (listing words.old octets.old (take count places.old)) (listing words.new octets.new (take result places.new)) }
     ensures room { result ≤ length places.new }
 {
     let mut end = count;
-    for octet in group.number * 8..(group.number + 1) * 8 {
-        if octets[octet] == 0 {
-            continue;
-        }
+    let mut octet = region.number * 64;
+    let mut marked = marked_octets(octets, region.number);
+    while marked != 0 {
+        let unmarked = marked.trailing_zeros();
+        octet += unmarked as usize;
         octets[octet] = 0;
-        end = take_octet_at(words, group.bound, octet * 8, places, end);
+        end = take_octet_at(words, region.bound, octet * 8, places, end);
+        octet += 1;
+        marked = marked >> unmarked >> 1;
     }
     end
 }
@@ -167,28 +173,26 @@ impl FoundEntries {
         }
     }
 
-    /// Removes the labels of the marked octets of a group and their marks, and appends the entries.
-    // Not inlined, so that the loop over the marks, most of which are not set, stays short.
-    #[inline(never)]
-    pub fn take_group(
+    /// Removes the labels of the marked octets of a region and their marks, and appends the entries.
+    pub fn take_region(
         &mut self,
         words: &mut [u64],
         octets: &mut [u8],
         bound: u32,
-        group: usize,
+        region: usize,
     ) -> Result<(), AllocError>
         requires words { (bound ≤ 10_000_000) × (length words.old ≤ 1_000_000_000) }
-        requires octets { ((group + 1) * 8 ≤ length octets.old) × (length octets.old ≤ 1_000_000_000) }
-        ensures { OnOk result (TakesMarked bound (group * 64) ((group + 1) * 64)
+        requires octets { ((region + 1) * 64 ≤ length octets.old) × (length octets.old ≤ 1_000_000_000) }
+        ensures { OnOk result (TakesMarked bound (region * 512) ((region + 1) * 512)
             (listing words.old octets.old self.old) (listing words.new octets.new self.new)) }
     {
-        make_places(&mut self.places, self.count.saturating_add(64), FREE)?;
+        make_places(&mut self.places, self.count.saturating_add(512), FREE)?;
         let places = self.places.as_mut_slice();
-        let group = Group {
-            number: group,
+        let region = Region {
+            number: region,
             bound,
         };
-        self.count = take_octets(words, octets, places, group, self.count);
+        self.count = take_octets(words, octets, places, region, self.count);
         Ok(())
     }
 

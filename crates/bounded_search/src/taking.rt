@@ -9,22 +9,19 @@ use crate::table_row::Entry;
 use std::alloc::{AllocError, Global};
 
 impl Workspace {
-    /// Takes the labels of a group of 8 octets of 8 nodes: those of its marked octets.
-    fn take_group(&mut self, group: usize) -> Result<(), AllocError>
-        requires group { (group + 1) * 8 ≤ length self.old.marks.octets.items }
+    /// Takes the labels of a region of 64 octets of 8 nodes: those of its marked octets.
+    fn take_octets(&mut self, region: usize) -> Result<(), AllocError>
+        requires region { (region + 1) * 64 ≤ length self.old.marks.octets.items }
         requires sized { IsSized (length self.old.words.items) self.old }
-        ensures takes { OnOk result (Takes (group * 64) ((group + 1) * 64) self.old self.new) }
+        ensures takes { OnOk result (Takes (region * 512) ((region + 1) * 512) self.old self.new) }
         ensures sized { KeepsSizes self.old self.new }
     {
-        if self.marks.none_in(group) {
-            return Ok(());
-        }
         let octets = self.marks.octets.as_mut_slice();
         self.found
-            .take_group(self.words.as_mut_slice(), octets, self.bound, group)
+            .take_region(self.words.as_mut_slice(), octets, self.bound, region)
     }
 
-    /// Takes the labels of a region of 8 groups, if it is marked.
+    /// Takes the labels of a region, if it is marked.
     fn take_region(&mut self, region: usize) -> Result<(), AllocError>
         requires region { region < length self.old.marks.regions.items }
         requires sized { IsSized (length self.old.words.items) self.old }
@@ -35,9 +32,7 @@ impl Workspace {
         if mark == 0 {
             return Ok(());
         }
-        for group in region * 8..(region + 1) * 8 {
-            self.take_group(group)?;
-        }
+        self.take_octets(region)?;
         self.marks.regions[region] = 0;
         Ok(())
     }

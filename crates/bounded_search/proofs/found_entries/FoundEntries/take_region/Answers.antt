@@ -3,7 +3,7 @@ use Rattle.std.proofs.lemmas.List.{take_at}
 use Rattle.std.proofs.lemmas.Result.{err_from_is_err_and}
 use Rattle.bounded_search.specs.declared.table_row.Entry.{Entry}
 use Rattle.bounded_search.proofs.FreePlaces.{items_still}
-use Rattle.bounded_search.proofs.found_entries.FoundEntries.take_group.Goals as goal
+use Rattle.bounded_search.proofs.found_entries.FoundEntries.take_region.Goals as goal
 
 pub returns-in_err-make_places : goal.returns-in_err-make_places
 returns-in_err-make_places c = let p = err_from_is_err_and c.from_residual.result c.from_residual.ensures.1 in rw p.1 tt
