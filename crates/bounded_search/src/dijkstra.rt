@@ -12,6 +12,7 @@ use crate::label_words::{ORIGIN, distance_in, no_label};
 use crate::marks::Marks;
 use crate::queue::{Queue, Waiting};
 use crate::table_row::Entry;
+use crate::taking::write_origin;
 use road_network::{EdgeId, Network, NodeId};
 use std::alloc::{AllocError, Global};
 
@@ -145,7 +146,9 @@ impl Workspace {
         while let Some(next) = self.queue.take()? {
             self.leave(fans, known, next)?;
         }
-        self.take_entries(alloc)
+        let mut entries = self.take_entries(alloc)?;
+        write_origin(entries.as_mut_slice(), origin);
+        Ok(entries)
     }
 
     /// Clears the arrays after an interrupted search, in time linear in the number of nodes.

@@ -2,12 +2,12 @@
 //! decided by `TakesNodes`.
 ghost use Rattle.std.specs.Prelude.{◌≡◌, ◌<◌, ◌≤◌, ◌+◌, ◌*◌, [], length, nat_lt, slice_set, take, IfOk, OnOk};
 ghost use Rattle.bounded_search.specs.LabelWords.{no_label, word_at};
-ghost use Rattle.bounded_search.specs.Labels.{entry_by};
+ghost use Rattle.bounded_search.specs.Labels.{edge_entry_by};
 ghost use Rattle.bounded_search.specs.Marked.{TakesMarked, TakesNodes, listing};
 ghost use Rattle.bounded_search.specs.Octets.{IsOctet};
 
 use crate::free_places::make_places;
-use crate::label_words::{entry_by, no_label};
+use crate::label_words::{edge_entry_by, no_label};
 use crate::marks::marked_octets;
 use crate::table_row::Entry;
 use road_network::NodeId;
@@ -49,18 +49,18 @@ impl Model for FoundEntries {
     ghost invariant = { IsFoundInside };
 }
 
-/// Removes the label of a node, and writes its entry to a place. Whether there was a label, and so is an entry: no
-/// word is beyond that of no label.
+/// Removes the label of a node, and writes its entry to a place, as if the label had a last edge. Whether there was a
+/// label, and so is an entry: no word is beyond that of no label.
 fn take_node(words: &mut [u64], bound: u32, node: usize, place: &mut Entry) -> bool
     requires bound { bound ≤ 10_000_000 }
     requires node { (node < length words.old) × (node ≤ 1_000_000_000) }
     ensures words { words.new ≡ slice_set words.old node (no_label bound) }
-    ensures place { place.new ≡ entry_by node (word_at bound words.old node) }
+    ensures place { place.new ≡ edge_entry_by node (word_at bound words.old node) }
     ensures labelled { result ≡ nat_lt (word_at bound words.old node) (no_label bound) }
 {
     let word = words[node];
     words[node] = no_label(bound);
-    *place = entry_by(NodeId(node as u32), word);
+    *place = edge_entry_by(NodeId(node as u32), word);
     word < no_label(bound)
 }
 

@@ -1,7 +1,7 @@
 //! Labels in eight bytes. Serves the search and the check by words; decided by `label_in_word`.
 ghost use Rattle.std.specs.Prelude.{◌≡◌, ◌≤◌, ◌/◌, ◌^◌};
 ghost use Rattle.bounded_search.specs.LabelWords.{no_label, word_by, word_of};
-ghost use Rattle.bounded_search.specs.Labels.{entry_by};
+ghost use Rattle.bounded_search.specs.Labels.{edge_entry_by};
 
 use crate::table_row::Entry;
 use road_network::{Arc, EdgeId, NodeId};
@@ -59,18 +59,13 @@ pub fn distance_in(word: u64) -> u32
     (word >> 32) as u32
 }
 
-/// The entry of a node by the word of its label.
-pub fn entry_by(node: NodeId, word: u64) -> Entry
-    ensures { result ≡ entry_by node.0 word }
+/// The entry of a node by the word of its label, if the label has a last edge.
+pub fn edge_entry_by(node: NodeId, word: u64) -> Entry
+    ensures { result ≡ edge_entry_by node.0 word }
 {
-    let last = (word & 0xffff_ffff) as u32;
     Entry {
         node,
         distance: distance_in(word),
-        last: if last == 0xffff_ffff {
-            None
-        } else {
-            Some(EdgeId(last))
-        },
+        last: Some(EdgeId((word & 0xffff_ffff) as u32)),
     }
 }

@@ -1,11 +1,16 @@
 //! Takes the labels of a search out as entries, by ascending node number. Serves `Workspace::entries`; decided by
 //! `ListsLabels`.
-ghost use Rattle.std.specs.Prelude.{◌≡◌, ◌<◌, ◌≤◌, ◌+◌, ◌*◌, [], length, IfOk, OnOk};
-ghost use Rattle.bounded_search.specs.Marked.{AllMarked, IsSized, KeepsSizes, NoneBeyond, Takes, labels_of};
+ghost use Rattle.std.specs.Prelude.{ℕ, ◌≡◌, ◌≢◌, ◌<◌, ◌≤◌, ◌+◌, ◌*◌, [], length, Some, IfOk, OnOk};
+ghost use Rattle.bounded_search.specs.Closed.{origin_label};
+ghost use Rattle.bounded_search.specs.Marked.{AllMarked, IsSized, KeepsSizes, NoneBeyond, Takes, edge_labels_of};
 ghost use Rattle.bounded_search.specs.Searching.{EndsClean, ListsLabels};
+ghost use Rattle.bounded_search.specs.Table.{RisesFrom, label_in};
+ghost use Rattle.bounded_search.specs.declared.table_row.Label.{Label};
 
 use crate::dijkstra::Workspace;
+use crate::places::place_between;
 use crate::table_row::Entry;
+use road_network::NodeId;
 use std::alloc::{AllocError, Global};
 
 impl Workspace {
@@ -53,14 +58,14 @@ impl Workspace {
         Ok(())
     }
 
-    /// Removes the labels and returns them as entries, by ascending node number. The 64 sectors of an area are looked
-    /// at only if it is marked.
+    /// Removes the labels and returns them as entries, by ascending node number, as if each had a last edge. The 64
+    /// sectors of an area are looked at only if it is marked.
     pub(crate) fn take_entries(&mut self, alloc: Global) -> Result<Vec<Entry>, AllocError>
         requires sized { IsSized (length self.old.words.items) self.old }
         requires marked { AllMarked self.old.bound self.old.words.items self.old.marks
             × NoneBeyond self.old.bound self.old.words.items }
         requires none_waiting { self.old.queue ≡ [] }
-        ensures entries { IfOk result (λ entries. ListsLabels (labels_of self.old) entries.items) }
+        ensures entries { IfOk result (λ entries. ListsLabels (edge_labels_of self.old) entries.items) }
         ensures clean { EndsClean result self.old self.new }
     {
         self.found.clear();
@@ -76,4 +81,21 @@ impl Workspace {
         self.marks.areas.fill(0);
         self.found.to_vec(alloc)
     }
+}
+
+/// Writes the entry of an origin anew: at distance 0, and without a last edge.
+// No other entry has no last edge. So entries are taken without a test for this.
+pub(crate) fn write_origin(entries: &mut [Entry], origin: NodeId)
+    requires rising { RisesFrom 0 entries.old }
+    requires listed { (l : Label) × (label_in entries.old origin.0 ≡ Some l) }
+    ensures rising { RisesFrom 0 entries.new }
+    ensures own { label_in entries.new origin.0 ≡ Some origin_label }
+    ensures others { (v : ℕ) → v ≢ origin.0 → label_in entries.new v ≡ label_in entries.old v }
+{
+    let place = place_between(entries, 0, entries.len(), origin).unwrap();
+    entries[place] = Entry {
+        node: origin,
+        distance: 0,
+        last: None,
+    };
 }

@@ -1,24 +1,18 @@
 use Rattle.std.proofs.lemmas.Result.{err_from_is_err_and}
-use Rattle.std.proofs.Common.{◌≡◌, ◌∷◌, ◌∙◌, List, [], ℕ, Result, Ok, Err, IfOk, length, length-set, set, refl, sym, subst, rules, arith}
+use Rattle.std.proofs.Common.{◌≡◌, ◌∷◌, ◌∙◌, List, [], ℕ, length, length-set, set, refl, sym, subst, rules, arith}
+use Rattle.std.proofs.lemmas.List.{with_items_is}
 use Rattle.std.proofs.lemmas.List.Sorted.{IsPermutation-refl}
-use Rattle.std.specs.Prelude.{OnOk}
 use Rattle.std.specs.List.Sorted.{IsPermutation}
 use Rattle.bounded_search.specs.declared.queue.Waiting.{Waiting}
-use Rattle.bounded_search.specs.LabelWords.{label_at, origin_word}
+use Rattle.bounded_search.specs.LabelWords.{origin_word}
 use Rattle.bounded_search.specs.Marked.{IsClean}
-use Rattle.bounded_search.specs.Searching.{ListsLabels}
-use Rattle.bounded_search.specs.Table.{IsRow}
 use Rattle.bounded_search.proofs.Leaving.{all_marked, fewer_wait, marked_begun, node_taken, taken_inside}
 use Rattle.bounded_search.proofs.MarkedNodes.{keeps_both, sized_here}
 use Rattle.bounded_search.proofs.MergedRows.{most}
-use Rattle.bounded_search.proofs.RowOfLabels.{row_of_labels}
+use Rattle.bounded_search.proofs.EdgeLabels.{origin_listed, row_by_edges}
 use Rattle.bounded_search.proofs.ClosedAtEnd.{closed_at_end}
 use Rattle.bounded_search.proofs.Underway.{begun}
 use Rattle.bounded_search.proofs.dijkstra.Workspace.entries.Goals as goal
-
-if_ok : {A E : Type 0} (P Q : A → Type 0) (r : Result A E) → IfOk r P → ((x : A) → P x → Q x) → IfOk r Q
-if_ok P Q (Ok x) p f = f x p
-if_ok P Q (Err e) p f = tt
 
 pub loop-next-init : goal.loop-next-init
 loop-next-init g c =
@@ -82,26 +76,46 @@ take_entries-requires-clause-none_waiting g c =
     let none : (c.loop-next.self.queue ≡ []) × (c.take.new.self ≡ []) = rw c.in_default.is at c.in_ok-next.ensures in
     none.1
 
+pub write_origin-requires-clause-rising : goal.write_origin-requires-clause-rising
+write_origin-requires-clause-rising g c = rw c.as_mut_slice.ensures.value c.in_ok-entries.ensures.entries.rising
+
+pub write_origin-requires-clause-listed : goal.write_origin-requires-clause-listed
+write_origin-requires-clause-listed g c =
+    let w = c.loop-next.self in
+    rw c.as_mut_slice.ensures.value (origin_listed c.args.fans.now w.bound c.args.origin.0 w.words.items w.queue c.in_ok-entries.entries.items c.loop-next.invariant.searching.underway c.in_ok-entries.ensures.entries)
+
 pub returns-clause-row : goal.returns-clause-row
 returns-clause-row g c =
     let n = c.args.fans.now in
     let w = c.loop-next.self in
     let s : ℕ = c.args.origin.0 in
     let labels : List ℕ = w.words.items in
-    let bound : ℕ = w.bound in
     let inv = c.loop-next.invariant in
     let none : (w.queue ≡ []) × (c.take.new.self ≡ []) = rw c.in_default.is at c.in_ok-next.ensures in
-    let closed = closed_at_end n bound s labels w.queue c.invariants.ensures none.0 inv.searching.underway in
-    if_ok (λ x. ListsLabels (label_at bound labels) x.items) (λ x. IsRow n c.args.self.now.bound s (record { origin = s; entries = x.items })) c.take_entries.result c.take_entries.ensures.entries
-    (λ x lists. subst (λ (k : ℕ). IsRow n k s (record { origin = s; entries = x.items })) inv.sized.bound (row_of_labels n bound s labels x.items c.invariants.ensures closed lists.rising lists.same))
+    let closed = closed_at_end n w.bound s labels w.queue c.invariants.ensures none.0 inv.searching.underway in
+    let written = with_items_is c.in_ok-entries.entries c.write_origin.new.entries (c.write_origin.auto.entries ∙ c.as_mut_slice.ensures.len) in
+    let e = c.write_origin.ensures in
+    let row = row_by_edges n w.bound s labels w.queue c.in_ok-entries.entries.items c.write_origin.new.entries c.invariants.ensures inv.searching.underway closed c.in_ok-entries.ensures.entries e.rising e.own (rw c.as_mut_slice.ensures.value at e.others) in
+    rw (written, ← inv.sized.bound) row
 
 pub returns-clause-clean : goal.returns-clause-clean
 returns-clause-clean g c =
     let s = c.loop-next.invariant.sized in
-    let ends = c.take_entries.ensures.clean in
+    let ends = c.in_ok-entries.ensures.clean in
     record {
       sized = keeps_both c.args.self.now _ c.take_entries.new.self (record { bound = s.bound; words_count = s.words_count; marks = s.marks }) ends.sized;
-      clean = subst (λ (k : ℕ). OnOk c.take_entries.result (IsClean k c.take_entries.new.self)) s.words_count ends.clean;
+      clean = subst (λ (k : ℕ). IsClean k c.take_entries.new.self) s.words_count ends.clean;
+    }
+
+pub returns-in_err-entries-clause-row : goal.returns-in_err-entries-clause-row
+returns-in_err-entries-clause-row g c = let p = err_from_is_err_and c.from_residual-in_err-entries.result c.from_residual-in_err-entries.ensures.1 in rw p.1 tt
+
+pub returns-in_err-entries-clause-clean : goal.returns-in_err-entries-clause-clean
+returns-in_err-entries-clause-clean g c =
+    let s = c.loop-next.invariant.sized in
+    record {
+      sized = keeps_both c.args.self.now _ c.take_entries.new.self (record { bound = s.bound; words_count = s.words_count; marks = s.marks }) c.in_err-entries.ensures.clean.sized;
+      clean = search rules;
     }
 
 pub returns-in_err-start-clause-row : goal.returns-in_err-start-clause-row

@@ -1,4 +1,4 @@
-use Rattle.bounded_search.specs.LabelWords.{label_at}
+use Rattle.bounded_search.specs.Labels.{edge_label_at}
 use Rattle.std.proofs.lemmas.Result.{IfOk-weaker, err_from_is_err_and}
 use Rattle.std.proofs.lemmas.List.{get_or_read}
 use Rattle.std.proofs.Common.{◌≡◌, ◌+◌, ◌*◌, ◌/◌, ◌<◌, ◌≤◌, ℕ, List, length, refl, ap, subst, arith, ◌∙◌}
@@ -87,5 +87,5 @@ returns-clause-entries c =
     let end : length w.words.items ≤ c.loop-sector.sector * 4_096 = omega (arith, c.loop-sector-test.false, c.len.ensures, inv.regions, inv.sized.words_count, old.areas, old.regions) in
     let all = all_taken words (c.loop-sector.sector * 4_096) w end inv.taken in
     IfOk-weaker c.to_vec.result _ _
-    (λ entries is. rw is (record { rising = inv.taken.taken.rising; same = λ v. (all v).1 ∙ ap (λ (k : ℕ). label_at k words v) inv.sized.bound }))
+    (λ entries is. rw is (record { rising = inv.taken.taken.rising; same = λ v. (all v).1 ∙ ap (λ (k : ℕ). edge_label_at k words v) inv.sized.bound }))
     c.to_vec.ensures
