@@ -1,5 +1,5 @@
 -- What the words of labels say.
-use Rattle.std.proofs.Common.{◌≡◌, ◌≢◌, ℕ, ◌-◌, ◌/◌, ◌%◌, ◌^◌, ◌<◌, ◌≤◌, inl, inr, List, length, set, length-set, get_or-set_same, get_or-set_other, Some, None, refl, ap, ◌∙◌, arith}
+use Rattle.std.proofs.Common.{◌≡◌, ◌≢◌, ℕ, ◌-◌, ◌/◌, ◌%◌, ◌^◌, ◌<◌, ◌≤◌, inl, inr, List, length, set, length-set, get_or-set_same, get_or-set_other, Some, refl, ap, ◌∙◌, arith}
 use Rattle.std.proofs.lemmas.Bool.{cases_eq, cases_lt, eq-eqb, ne_eqb}
 use Rattle.std.proofs.lemmas.Bool.Decides.{eqb_tells}
 use Rattle.std.proofs.lemmas.List.{get_or_past}
@@ -14,10 +14,6 @@ label_there bound word apart = elim (eqb_tells word (no_label bound)) [ inl t �
 -- where a word has a label it is another than that of no label
 pub word_there : (bound : ℕ) (word : ℕ) (l : Label) → label_in_word bound word ≡ Some l → word ≢ no_label bound
 word_there bound word l h same = none_some refl (rw (eq-eqb word (no_label bound) same) at h)
-
--- and that of no label has none
-pub none_in : (bound word : ℕ) → word ≡ no_label bound → label_in_word bound word ≡ None
-none_in bound word is = rw (eq-eqb word (no_label bound) is) refl
 
 pub last_there : (e : ℕ) → e < 2 ^ 32 - 1 → last_in e ≡ Some (record { 0 = e })
 last_there e lt = let apart : e ≢ 2 ^ 32 - 1 = omega arith in rw (ne_eqb e (2 ^ 32 - 1) apart) refl
