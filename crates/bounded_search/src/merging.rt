@@ -52,7 +52,8 @@ fn merge_entries(
         let Some(edge) = entry.last else {
             unreachable!()
         };
-        // Built anew, so that the compiler sees that it has an edge, and tests for none no more.
+        // Built anew with the edge that was just tested, so that its word needs no conditional move for an entry
+        // without one. The compare and the branch, which is never taken, remain.
         let entry = Entry {
             node: entry.node,
             distance: entry.distance,
@@ -87,10 +88,10 @@ impl Workspace {
         merge_entries(words, octets, regions, areas, before);
         mark_after(octets, regions, areas, 0, own.node);
         merge_entry(words, distance, own);
-        let behind = Merged {
+        let after = Merged {
             entries: &entries[middle + 1..],
             distance,
         };
-        merge_entries(words, octets, regions, areas, behind);
+        merge_entries(words, octets, regions, areas, after);
     }
 }
