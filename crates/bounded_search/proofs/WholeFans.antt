@@ -1,16 +1,22 @@
--- A whole fan stands for the arcs of its node.
-use Rattle.std.proofs.Common.{◌≡◌, ℕ, ◌+◌, ◌<◌, ◌≤◌, Bool, true, false, List, [], ◌∷◌, length, drop, length-set, slice_index_or, refl, sym, ap, subst, ◌∙◌, arith}
-use Rattle.std.specs.Prelude.{min}
+-- Trying the arcs of a whole fan does the same as trying all arcs of its node.
+use Rattle.std.proofs.Common.{◌≡◌, ℕ, ◌+◌, ◌-◌, ◌<◌, ◌≤◌, Bool, true, false, List, [], ◌∷◌, length, drop, length-set, slice_index_or, refl, sym, ap, subst, ◌∙◌, arith}
+use Rattle.std.specs.Prelude.{IsTrue, min}
 use Rattle.std.specs.List.{All}
 use Rattle.std.proofs.Math.ListN.{drop_of_length-le}
 use Rattle.std.proofs.lemmas.List.Elements.{All-cons, All-nil}
+use Rattle.std.proofs.lemmas.Option.{get_or_from_slice_get}
 use Rattle.road_network.specs.declared.Arc.{Arc}
 use Rattle.bounded_search.specs.declared.fans.Fan.{Fan}
-use Rattle.bounded_search.specs.Fans.{StandsFor}
+use Rattle.bounded_search.specs.Fans.{IsFan, arcs_in}
 use Rattle.bounded_search.specs.LabelWords.{word_by}
 use Rattle.bounded_search.specs.Underway.{IsTriable, SearchState, after_arc, after_arcs, is_better, words_after}
 use Rattle.bounded_search.proofs.AfterArcs.{AreTried, next_tried}
 use Rattle.bounded_search.proofs.Arcs.{no_arc}
+
+-- trying the arcs of the fan leaves what trying these arcs leaves
+pub record TriesAll (arcs : List Arc) (fan : Fan) : Type 0 where
+  pub triable : (count : ℕ) → All (IsTriable count) arcs → All (IsTriable count) (arcs_in fan)
+  pub same : (bound d : ℕ) (state : SearchState) → All (IsTriable (length state.words)) arcs → after_arcs bound d (arcs_in fan) state ≡ after_arcs bound d arcs state
 
 -- trying an arc leaves as many words as there were
 words_still : (bound d : ℕ) (a : Arc) (words : List ℕ) (b : Bool) → is_better bound d a words ≡ b → length (words_after bound d a words) ≡ length words
@@ -21,20 +27,20 @@ pub still : (bound d : ℕ) (a : Arc) (state : SearchState) → length (after_ar
 still bound d a state = words_still bound d a state.words (is_better bound d a state.words) refl
 
 -- what a fan is made of: the arcs at these places, and then the last one
-pub record IsMadeOf (arcs : List Arc) (last : ℕ) (fan : Fan) : Type 0 where
-  pub count : last + 1 ≡ length arcs
-  pub few : last < 4
-  pub first : fan.first ≡ slice_index_or arcs (min 0 last) no_arc
-  pub second : fan.second ≡ slice_index_or arcs (min 1 last) no_arc
-  pub third : fan.third ≡ slice_index_or arcs (min 2 last) no_arc
-  pub fourth : fan.fourth ≡ slice_index_or arcs (min 3 last) no_arc
+record IsMadeOf (arcs : List Arc) (last : ℕ) (fan : Fan) : Type 0 where
+  count : last + 1 ≡ length arcs
+  few : last < 4
+  first : fan.first ≡ slice_index_or arcs (min 0 last) no_arc
+  second : fan.second ≡ slice_index_or arcs (min 1 last) no_arc
+  third : fan.third ≡ slice_index_or arcs (min 2 last) no_arc
+  fourth : fan.fourth ≡ slice_index_or arcs (min 3 last) no_arc
 
 -- each of them is one of the arcs
 triable_at : (arcs : List Arc) (last i : ℕ) (a : Arc) (count : ℕ) → last + 1 ≡ length arcs → a ≡ slice_index_or arcs (min i last) no_arc → All (IsTriable count) arcs → IsTriable count a
 triable_at arcs last i a count many is all = subst (IsTriable count) (sym is) (all (min i last) no_arc (omega (arith, many)))
 
-pub stands_for : (arcs : List Arc) (last : ℕ) (fan : Fan) → IsMadeOf arcs last fan → StandsFor arcs fan
-stands_for arcs last fan h = record {
+made_tries_all : (arcs : List Arc) (last : ℕ) (fan : Fan) → IsMadeOf arcs last fan → TriesAll arcs fan
+made_tries_all arcs last fan h = record {
   triable = λ count all.
       let P : Arc → Type 0 = IsTriable count in
       let fourth : All P (fan.fourth ∷ []) = All-cons P fan.fourth [] (triable_at arcs last 3 fan.fourth count h.count h.fourth all) (All-nil P) in
@@ -63,3 +69,20 @@ stands_for arcs last fan h = record {
       let left : drop 4 arcs ≡ [] = drop_of_length-le arcs short in
       ap (λ (k : List Arc). after_arcs bound d k four) (sym left) ∙ after_four.tries;
 }
+
+-- a whole fan is made of its arcs
+pub tries_all : (arcs : List Arc) (fan : Fan) → IsFan arcs fan → IsTrue fan.is_whole → TriesAll arcs fan
+tries_all arcs fan is whole =
+    let has = is.has whole in
+    let some : 1 ≤ length arcs = (is.whole.0 whole).0 in
+    let few : length arcs ≤ 4 = (is.whole.0 whole).1 in
+    let last : ℕ = length arcs - 1 in
+    let zero : 0 ≡ min 0 last = omega arith in
+    made_tries_all arcs last fan (record {
+      count = omega (arith, some);
+      few = omega (arith, some, few);
+      first = sym (get_or_from_slice_get arcs 0 fan.first no_arc has.first) ∙ ap (λ (k : ℕ). slice_index_or arcs k no_arc) zero;
+      second = sym (get_or_from_slice_get arcs (min 1 last) fan.second no_arc has.second);
+      third = sym (get_or_from_slice_get arcs (min 2 last) fan.third no_arc has.third);
+      fourth = sym (get_or_from_slice_get arcs (min 3 last) fan.fourth no_arc has.fourth);
+    })

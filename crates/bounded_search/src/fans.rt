@@ -1,4 +1,4 @@
-//! The arcs of each node as four in one place. Serves the search; decided by `StandsFor`.
+//! The arcs of each node as four in one place. Serves the search; decided by `IsFan`.
 ghost use Rattle.std.specs.Prelude.{◌≡◌, IfOk, IsTrue, length, map};
 ghost use Rattle.road_network.specs.Net.{HasNode, IsLawful, arc_of, leaving};
 ghost use Rattle.bounded_search.specs.Fans.{IsFan};

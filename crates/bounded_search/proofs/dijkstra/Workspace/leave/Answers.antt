@@ -14,6 +14,7 @@ use Rattle.bounded_search.proofs.LeftByEdges.{left_by_edges, triable}
 use Rattle.bounded_search.proofs.LeftByMerging.{IsLeft, entries_inside, left_by_merging}
 use Rattle.bounded_search.proofs.Leaving.{marked_not_taken}
 use Rattle.bounded_search.proofs.Underway.{not_taken}
+use Rattle.bounded_search.proofs.WholeFans.{tries_all}
 use Rattle.bounded_search.proofs.dijkstra.Workspace.leave.Goals as goal
 
 pub returns-then-distance_in-next-clause-leaves : goal.returns-then-distance_in-next-clause-leaves
@@ -42,7 +43,7 @@ try_fan-requires-clause-arcs g c =
     let n = c.args.fans.now in
     let words : List ℕ = c.as_mut_slice-words.result.now in
     let count : length words ≡ length n.nodes = ap length c.as_mut_slice-words.ensures.value ∙ c.requires.sized.words_count in
-    (c.fan-fan.ensures c.if-fan.true).triable (length words) (triable n c.args.next.node (length words) c.invariants.ensures count)
+    (tries_all _ _ c.fan-fan.ensures c.if-fan.true).triable (length words) (triable n c.args.next.node (length words) c.invariants.ensures count)
 
 pub try_arcs-requires-clause-arcs : goal.try_arcs-requires-clause-arcs
 try_arcs-requires-clause-arcs g c =
@@ -64,7 +65,7 @@ returns-then-fan-clause-leaves g c =
     let tried : List ℕ = c.try_fan.new.words in
     let count = c.try_fan.ensures.count in
     let back : take w.words.len (tried ++ drop (length tried) w.words.items) ≡ tried = take_at tried (drop (length tried) w.words.items) w.words.len (count ∙ c.as_mut_slice-words.ensures.len) in
-    let stands = c.fan-fan.ensures c.if-fan.true in
+    let all = tries_all _ _ c.fan-fan.ensures c.if-fan.true in
     on_ok_weaker c.try_fan.result (λ is. left_by_edges n next w _ (record {
       lawful = c.invariants.ensures;
       node = c.requires.next.0;
@@ -72,7 +73,7 @@ returns-then-fan-clause-leaves g c =
       sized = c.requires.sized;
       keeps = record { bound = refl; words_count = ap length back ∙ (count ∙ ap length c.as_mut_slice-words.ensures.value); marks = c.mark.ensures.sized };
       marks = c.mark.ensures.marks;
-      tried = ap (λ (k : List ℕ). record { words = k; queue = c.try_fan.new.self }) back ∙ (is bound ∙ (ap (after_arcs bound next.distance (arcs_in c.fan-fan.result.now)) begun ∙ stands.same bound next.distance (state_of w) (triable n u (length w.words.items) c.invariants.ensures c.requires.sized.words_count)));
+      tried = ap (λ (k : List ℕ). record { words = k; queue = c.try_fan.new.self }) back ∙ (is bound ∙ (ap (after_arcs bound next.distance (arcs_in c.fan-fan.result.now)) begun ∙ all.same bound next.distance (state_of w) (triable n u (length w.words.items) c.invariants.ensures c.requires.sized.words_count)));
     }))
     c.try_fan.ensures.tries
 
