@@ -1,4 +1,4 @@
--- A row in parts: the entries before its origin's, this one, and those behind it.
+-- A row in parts: the entries before its origin's, this one, and those after it.
 use Rattle.std.proofs.Common.{◌≡◌, ◌≢◌, ℕ, zero, suc, ◌+◌, ◌-◌, ◌<◌, ◌≤◌, ◌⊎◌, inl, inr, List, [], ◌∷◌, ◌++◌, take, drop, length, slice_index_or, refl, sym, ap, subst, ◌∙◌, arith}
 use Rattle.std.proofs.lemmas.Bool.Decides.{eqb_tells}
 use Rattle.std.proofs.lemmas.List.{drop_more, get_or-drop, get_or-take, length-drop, length-take-le, take-append-drop, take_all}
@@ -57,8 +57,8 @@ edges_before s m row rises others at k d lt =
     let differs : (slice_index_or row k d).node.0 ≢ s = omega (arith, apart, own, inside) in
     subst (λ (x : Entry). IsSome x.last) (sym (get_or-take m row k d inside)) (others k d (omega (arith, inside, at.0)) differs).1
 
-pub edges_behind : (s m : ℕ) (row : List Entry) → RisesFrom 0 row → All (IsRowEntry s) row → IsPlaceOf row s m → All (λ x. IsSome x.last) (drop (m + 1) row)
-edges_behind s m row rises others at k d lt =
+pub edges_after : (s m : ℕ) (row : List Entry) → RisesFrom 0 row → All (IsRowEntry s) row → IsPlaceOf row s m → All (λ x. IsSome x.last) (drop (m + 1) row)
+edges_after s m row rises others at k d lt =
     let inside : m + 1 + k < length row = omega (arith, lt, length-drop (m + 1) row) in
     let apart = rises_apart 0 row rises m (1 + k) (m + 1 + k) d d (omega arith) inside in
     let own : (slice_index_or row m d).node.0 ≡ s = entry_node row s (slice_index_or row m d) (at.1 d) in
@@ -90,30 +90,30 @@ part_before count s m row h = (
   λ k d lt. let i = All-take (λ x. (x.node.0 < count) × (x.distance ≤ 10_000_000)) m row h.inside k d lt in (i.0, i.1, edges_before s m row h.rising h.others h.place k d lt),
 )
 
--- the part behind, as a slice gives it
-behind_all : (m : ℕ) (row : List Entry) → take (length row - (m + 1)) (drop (m + 1) row) ≡ drop (m + 1) row
-behind_all m row = take_all (length row - (m + 1)) (drop (m + 1) row) (omega (arith, length-drop (m + 1) row))
+-- the part after it, as a slice gives it
+after_all : (m : ℕ) (row : List Entry) → take (length row - (m + 1)) (drop (m + 1) row) ≡ drop (m + 1) row
+after_all m row = take_all (length row - (m + 1)) (drop (m + 1) row) (omega (arith, length-drop (m + 1) row))
 
-pub part_behind : (count s m : ℕ) (row : List Entry) → AreParts count s m row → IsPart count (take (length row - (m + 1)) (drop (m + 1) row))
-part_behind count s m row h = subst (IsPart count) (sym (behind_all m row)) (
+pub part_after : (count s m : ℕ) (row : List Entry) → AreParts count s m row → IsPart count (take (length row - (m + 1)) (drop (m + 1) row))
+part_after count s m row h = subst (IsPart count) (sym (after_all m row)) (
   rises_drop (m + 1) 0 row h.rising,
-  λ k d lt. let i = All-drop (λ x. (x.node.0 < count) × (x.distance ≤ 10_000_000)) (m + 1) row h.inside k d lt in (i.0, i.1, edges_behind s m row h.rising h.others h.place k d lt),
+  λ k d lt. let i = All-drop (λ x. (x.node.0 < count) × (x.distance ≤ 10_000_000)) (m + 1) row h.inside k d lt in (i.0, i.1, edges_after s m row h.rising h.others h.place k d lt),
 )
 
 -- together with the entry between them they are the row
 row_of_parts : (m : ℕ) (row : List Entry) (d : Entry) → m < length row → take m row ++ slice_index_or row m d ∷ take (length row - (m + 1)) (drop (m + 1) row) ≡ row
-row_of_parts m row d lt = ap (λ (k : List Entry). take m row ++ slice_index_or row m d ∷ k) (behind_all m row) ∙ (ap (λ (k : List Entry). take m row ++ k) (sym (drop_more row m d lt)) ∙ take-append-drop m row)
+row_of_parts m row d lt = ap (λ (k : List Entry). take m row ++ slice_index_or row m d ∷ k) (after_all m row) ∙ (ap (λ (k : List Entry). take m row ++ k) (sym (drop_more row m d lt)) ∙ take-append-drop m row)
 
 -- so merging them one after another merges the row
 pub merged_row : (bound d m : ℕ) (row : List Entry) (none : Entry) (old first own new : List ℕ) → m < length row → first ≡ merged bound d (take m row) old → own ≡ merged_entry bound d (slice_index_or row m none) first → new ≡ merged bound d (take (length row - (m + 1)) (drop (m + 1) row)) own → new ≡ merged bound d row old
 merged_row bound d m row none old first own new lt a b c =
     let x : Entry = slice_index_or row m none in
-    let behind : List Entry = take (length row - (m + 1)) (drop (m + 1) row) in
-    let last : new ≡ merged bound d behind (merged_entry bound d x (merged bound d (take m row) old)) = c ∙ ap (merged bound d behind) (b ∙ ap (merged_entry bound d x) a) in
-    last ∙ (sym (merged_parts bound d (take m row) (x ∷ behind) old) ∙ ap (λ (k : List Entry). merged bound d k old) (row_of_parts m row none lt))
+    let after : List Entry = take (length row - (m + 1)) (drop (m + 1) row) in
+    let last : new ≡ merged bound d after (merged_entry bound d x (merged bound d (take m row) old)) = c ∙ ap (merged bound d after) (b ∙ ap (merged_entry bound d x) a) in
+    last ∙ (sym (merged_parts bound d (take m row) (x ∷ after) old) ∙ ap (λ (k : List Entry). merged bound d k old) (row_of_parts m row none lt))
 
 pub also_row : (m : ℕ) (row : List Entry) (none : Entry) (old first own new : MarkLists) → m < length row → MarksAlso (take m row) old first → MarksNode first (slice_index_or row m none).node.0 own → MarksAlso (take (length row - (m + 1)) (drop (m + 1) row)) own new → MarksAlso row old new
 also_row m row none old first own new lt a b c =
     let x : Entry = slice_index_or row m none in
-    let behind : List Entry = take (length row - (m + 1)) (drop (m + 1) row) in
-    subst (λ (k : List Entry). MarksAlso k old new) (row_of_parts m row none lt) (also_both (take m row) (x ∷ behind) old first new a (also_more x behind first own new b c))
+    let after : List Entry = take (length row - (m + 1)) (drop (m + 1) row) in
+    subst (λ (k : List Entry). MarksAlso k old new) (row_of_parts m row none lt) (also_both (take m row) (x ∷ after) old first new a (also_more x after first own new b c))

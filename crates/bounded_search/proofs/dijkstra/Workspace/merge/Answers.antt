@@ -6,7 +6,7 @@ use Rattle.bounded_search.specs.Table.{TableRow}
 use Rattle.bounded_search.specs.Marked.{lists_in}
 use Rattle.bounded_search.proofs.Entries.{no_entry}
 use Rattle.bounded_search.proofs.MarkedNodes.{as_many}
-use Rattle.bounded_search.proofs.RowParts.{also_row, merged_row, part_before, part_behind, parts_inside}
+use Rattle.bounded_search.proofs.RowParts.{also_row, merged_row, part_before, part_after, parts_inside}
 use Rattle.bounded_search.proofs.dijkstra.Workspace.merge.Goals as goal
 
 pub merge_entries-requires-clause-entries : goal.merge_entries-requires-clause-entries
@@ -22,7 +22,7 @@ merge_entries-requires-2-clause-entries c =
     let row = c.as_slice-entries.result.now in
     let parts = parts_inside (length c.as_mut_slice-words.result.now) a c.args.row.now row c.row.invariant c.row.view_is c.as_slice-entries.ensures (rw c.as_mut_slice-words.ensures.value c.requires.inside) in
     let same = c.merge_entry.ensures.count ∙ c.merge_entries.auto.words in
-    rw same (part_behind (length c.as_mut_slice-words.result.now) a.origin.0 a.middle row parts)
+    rw same (part_after (length c.as_mut_slice-words.result.now) a.origin.0 a.middle row parts)
 
 pub returns : goal.returns
 returns c =
