@@ -8,6 +8,9 @@
 //! once for its edge and its twin, and both are inserted at once. [`candidates`] needs no square root:
 //! the network stores the offsets of the points of its lines.
 //!
+//! A [`CandidateSearch`] gives the result of [`candidates`] for one point after another, and keeps its
+//! memory from each to the next.
+//!
 //! An [`EdgeScan`] gives the same result for many points, by a scan of all edges that nearby points
 //! share.
 #![tactic(auto)]
@@ -23,4 +26,4 @@ mod visit;
 mod wanted;
 
 pub use edge_scan::EdgeScan;
-pub use search::{candidates, candidates_plain};
+pub use search::{CandidateSearch, candidates, candidates_plain};

@@ -1,5 +1,5 @@
 //! The candidates of a point. Decided by road_network's `candidates`.
-ghost use Rattle.std.specs.Prelude.{◌≡◌, ◌≤◌, All, IfOk, map};
+ghost use Rattle.std.specs.Prelude.{◌≡◌, ◌≤◌, All, IfOk, OnOk, map};
 ghost use Rattle.polyline_geometry.specs.Plane.{InRange};
 ghost use Rattle.cost_model.specs.Options.{IsAccepted};
 ghost use Rattle.road_network.specs.Near.{candidate_at, candidates};
@@ -66,32 +66,71 @@ fn candidates_of(
     Ok(list)
 }
 
-/// The nearest edges, by the runs of the grid; none for a point far from the whole network.
-fn nearest_edges(
-    alloc: Global,
+/// Finds the nearest edges by the runs of the grid; none for a point far from the whole network.
+fn find_nearest(
     net: &Network,
     grid: &Grid,
     search: Search,
     reach: u32,
-) -> Result<Vec<NearEdge>, AllocError>
+    found: &mut Vec<NearEdge>,
+) -> Result<(), AllocError>
     requires network { grid.now.net ≡ net.now }
     requires side { reach ≤ grid.now.side }
     requires reach { reach ≡ search.radius }
-    ensures { IfOk result (λ found. AreNearestEdges net.now search found.items) }
+    ensures { OnOk result (AreNearestEdges net.now search found.new.items) }
 {
     net.invariants();
     grid.invariants();
-    let mut found = Vec::new(alloc);
+    found.clear();
     if grid.is_far(search.at, reach) {
-        return Ok(found);
+        return Ok(());
     }
     let look = Look { net, grid, search };
-    look_at_cells(look, &mut found, grid.cells_near(search.at, reach))?;
-    look_at_wide(look, &mut found)?;
-    Ok(found)
+    look_at_cells(look, found, grid.cells_near(search.at, reach))?;
+    look_at_wide(look, found)
 }
 
-/// The candidates of a point, among the runs of the grid.
+/// Searches for the candidates of many points, one after another. It keeps the memory that one search
+/// needs for the next one.
+#[derive(Drop)]
+pub struct CandidateSearch {
+    alloc: Global,
+    found: Vec<NearEdge>,
+}
+
+impl CandidateSearch {
+    /// A search that has no memory yet.
+    pub fn new(alloc: Global) -> CandidateSearch {
+        CandidateSearch {
+            alloc,
+            found: Vec::new(alloc),
+        }
+    }
+
+    /// The candidates of a point, among the runs of the grid.
+    pub fn candidates(
+        &mut self,
+        net: &Network,
+        grid: &Grid,
+        p: &Params,
+        at: Point,
+    ) -> Result<List<Candidate>, AllocError>
+        requires options { IsAccepted p.now }
+        requires at_in { InRange at }
+        requires network { grid.now.net ≡ net.now }
+        requires side { p.now.radius ≤ grid.now.side }
+        ensures { IfOk result (λ list. list ≡ candidates net.now p.now.k p.now.radius at) }
+    {
+        net.invariants();
+        let search = search_for(p, at);
+        find_nearest(net, grid, search, p.radius, &mut self.found)?;
+        let list = candidates_of(self.alloc, net, search, self.found.as_slice())?;
+        Ok(List::from_vec(list))
+    }
+}
+
+/// The candidates of a point, among the runs of the grid. For many points a [`CandidateSearch`] is
+/// faster.
 pub fn candidates(
     alloc: Global,
     net: &Network,
@@ -105,11 +144,8 @@ pub fn candidates(
     requires side { p.now.radius ≤ grid.now.side }
     ensures { IfOk result (λ list. list ≡ candidates net.now p.now.k p.now.radius at) }
 {
-    net.invariants();
-    let search = search_for(p, at);
-    let found = nearest_edges(alloc, net, grid, search, p.radius)?;
-    let list = candidates_of(alloc, net, search, found.as_slice())?;
-    Ok(List::from_vec(list))
+    let mut search = CandidateSearch::new(alloc);
+    search.candidates(net, grid, p, at)
 }
 
 /// The candidates of a point, by a scan of all edges.

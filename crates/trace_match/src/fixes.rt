@@ -5,7 +5,7 @@ ghost use Rattle.trace_match.specs.Ground.{IsGridFor};
 ghost use Rattle.trace_reader.specs.Trace.{point_of_fix};
 ghost use Rattle.trace_match.specs.Match.{layer_of};
 
-use candidate_search::candidates;
+use candidate_search::CandidateSearch;
 use cost_model::Params;
 use grid_index::Grid;
 use matching::Layer;
@@ -26,10 +26,26 @@ pub fn layer(
     requires place { InRange (point_of_fix fix.now) }
     ensures { IfOk result (λ layer. layer ≡ layer_of net.now p.now fix.now) }
 {
+    let mut search = CandidateSearch::new(alloc);
+    next_layer(&mut search, net, grid, p, fix)
+}
+
+/// A position with its candidates, which this search finds.
+fn next_layer(
+    search: &mut CandidateSearch,
+    net: &Network,
+    grid: &Grid,
+    p: &Params,
+    fix: &Fix,
+) -> Result<Layer, AllocError>
+    requires ground { IsGridFor net.now p.now grid.now }
+    requires place { InRange (point_of_fix fix.now) }
+    ensures { IfOk result (λ layer. layer ≡ layer_of net.now p.now fix.now) }
+{
     let point = fix.point();
     Ok(Layer {
         point,
-        candidates: candidates(alloc, net, grid, p, point)?,
+        candidates: search.candidates(net, grid, p, point)?,
         time: fix.time,
     })
 }
@@ -46,9 +62,10 @@ pub fn layers(
     requires places { All (λ fix. InRange (point_of_fix fix)) fixes.now }
     ensures { IfOk result (λ layers. layers ≡ map (layer_of net.now p.now) fixes.now) }
 {
+    let mut search = CandidateSearch::new(alloc);
     let mut found = Vec::with_capacity(alloc, fixes.len())?;
     for fix in fixes {
-        found.push(layer(alloc, net, grid, p, fix)?)?;
+        found.push(next_layer(&mut search, net, grid, p, fix)?)?;
     }
     Ok(List::from_vec(found))
 }
