@@ -4,6 +4,7 @@ pub mod Taken
 pub mod ApartLists
 pub mod BestLists
 pub mod LastFound
+pub mod Inserting
 pub mod Pairs
 pub mod EdgeBoxes
 pub mod Parts

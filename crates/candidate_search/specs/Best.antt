@@ -84,6 +84,12 @@ pub record IsPlaceFor (found : List NearEdge) (near : NearEdge) (place : ℕ) : 
   pub before : (i : ℕ) (d : NearEdge) → i < place → ComesBefore (slice_index_or found i d) near
   pub after : (i : ℕ) (d : NearEdge) → place ≤ i → i < length found → ComesBefore near (slice_index_or found i d)
 
+-- it is put at its place
+pub record Inserts (old new : List NearEdge) (near : NearEdge) : Type 0 where
+  pub place : ℕ
+  pub place_is : IsPlaceFor old near place
+  pub list : new ≡ insert old place near
+
 -- it is put at its place, and what is then beyond the first k is dropped
 pub record Puts (k : ℕ) (old new : List NearEdge) (near : NearEdge) : Type 0 where
   pub place : ℕ

@@ -1,8 +1,8 @@
 //! The nearest edges so far, while runs are visited in any order. Serves `candidates`; decided by
 //! `Takes` and `TakesPair`.
-ghost use Rattle.std.specs.Prelude.{◌≡◌, ◌+◌, ◌*◌, ◌≤◌, ◌<◌, ◌↔◌, IsTrue, length, OnOk};
+ghost use Rattle.std.specs.Prelude.{◌≡◌, ◌+◌, ◌-◌, ◌*◌, ◌≤◌, ◌<◌, ◌↔◌, ◌++◌, ◌∷◌, [], IsTrue, length, take, OnOk};
 ghost use Rattle.std.specs.List.{All, remove};
-ghost use Rattle.candidate_search.specs.Best.{AreApart, ComesBefore, HasNeither, IsBehind, IsLimit, IsNewPair, IsNoLater, IsPlaceFor, IsPlaceOf, Puts, PutsPair, Takes, TakesPair};
+ghost use Rattle.candidate_search.specs.Best.{AreApart, ComesBefore, HasNeither, Inserts, IsBehind, IsLimit, IsNewPair, IsNoLater, IsPlaceOf, Puts, PutsPair, Takes, TakesPair};
 
 use crate::wanted::Search;
 use road_network::EdgeId;
@@ -70,28 +70,30 @@ fn place_of_edge(found: &[NearEdge], edge: EdgeId) -> usize
     place
 }
 
-/// The index of the first one that comes after it.
-fn place_for(found: &[NearEdge], near: NearEdge) -> usize
-    requires apart { AreApart found.now }
-    requires others { All (λ c. c.edge.0 ≡ near.edge.0 → ⊥) found.now }
-    ensures { IsPlaceFor found.now near result }
+/// Moves the last edge up to its place among the others.
+fn move_last_up(found: &mut [NearEdge], near: NearEdge)
+    requires apart { AreApart (take (length found.old - 1) found.old) }
+    requires others { All (λ c. c.edge.0 ≡ near.edge.0 → ⊥) (take (length found.old - 1) found.old) }
+    requires last { found.old ≡ take (length found.old - 1) found.old ++ near ∷ [] }
+    ensures { Inserts (take (length found.old - 1) found.old) found.new near }
 {
-    let mut place = found.len();
+    let mut place = found.len() - 1;
     while place > 0 && near.is_before(found[place - 1]) {
+        found[place] = found[place - 1];
+        found[place - 1] = near;
         place -= 1;
     }
-    place
 }
 
-/// Reserves memory for k + 2 edges, if none is found yet.
-fn make_room(found: &mut Vec<NearEdge>, k: usize) -> Result<(), AllocError>
-    ensures { found.new.items ≡ found.old.items }
+/// Inserts one more edge at its place.
+fn insert(found: &mut Vec<NearEdge>, near: NearEdge) -> Result<(), AllocError>
+    requires apart { AreApart found.old.items }
+    requires others { All (λ c. c.edge.0 ≡ near.edge.0 → ⊥) found.old.items }
+    ensures { OnOk result (Inserts found.old.items found.new.items near) }
 {
-    if found.is_empty() {
-        found.reserve(k.saturating_add(2))
-    } else {
-        Ok(())
-    }
+    found.push(near)?;
+    move_last_up(found.as_mut_slice(), near);
+    Ok(())
 }
 
 /// Inserts one more edge at its place, and drops what is then beyond the first k.
@@ -100,9 +102,7 @@ fn put(found: &mut Vec<NearEdge>, k: usize, near: NearEdge) -> Result<(), AllocE
     requires others { All (λ c. c.edge.0 ≡ near.edge.0 → ⊥) found.old.items }
     ensures { OnOk result (Puts k found.old.items found.new.items near) }
 {
-    make_room(found, k)?;
-    let place = place_for(found.as_slice(), near);
-    found.insert(place, near)?;
+    insert(found, near)?;
     found.truncate(k);
     Ok(())
 }
@@ -184,11 +184,8 @@ fn put_pair(
     requires pair { IsNewPair k found.old.items own twin }
     ensures { OnOk result (PutsPair k found.old.items found.new.items own twin) }
 {
-    make_room(found, k)?;
-    let place = place_for(found.as_slice(), own);
-    found.insert(place, own)?;
-    let next = place_for(found.as_slice(), twin);
-    found.insert(next, twin)?;
+    insert(found, own)?;
+    insert(found, twin)?;
     found.truncate(k);
     Ok(())
 }

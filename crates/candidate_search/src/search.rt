@@ -85,6 +85,7 @@ fn find_nearest(
     if grid.is_far(search.at, reach) {
         return Ok(());
     }
+    found.reserve(search.k.saturating_add(2))?;
     let look = Look { net, grid, search };
     look_at_cells(look, found, grid.cells_near(search.at, reach))?;
     look_at_wide(look, found)

@@ -1,4 +1,4 @@
-use Rattle.std.proofs.Common.{subst}
+use Rattle.std.proofs.Common.{◌∙◌, subst}
 use Rattle.road_network.specs.Net.{Net}
 use Rattle.grid_index.specs.GridOf.{HasNoneWithin}
 use Rattle.candidate_search.proofs.Visiting.{on_ok_both, rows_still}
@@ -6,7 +6,7 @@ use Rattle.candidate_search.proofs.Visited.{HoldsSquare, all_seen, none_best, no
 use Rattle.candidate_search.proofs.search.find_nearest.Goals as goal
 
 pub look_at_cells-requires-clause-best : goal.look_at_cells-requires-clause-best
-look_at_cells-requires-clause-best c = none_best c.args.net.now c.args.search c.clear.new.self.items c.clear.ensures.items
+look_at_cells-requires-clause-best c = none_best c.args.net.now c.args.search c.reserve.new.self.items (c.reserve.ensures.items ∙ c.clear.ensures.items)
 
 pub returns-then-is_far : goal.returns-then-is_far
 returns-then-is_far c =
