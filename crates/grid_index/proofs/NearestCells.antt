@@ -1,9 +1,7 @@
 -- The cell of the place of a run's box that is nearest to a point.
-use Rattle.std.proofs.Common.{◌≡◌, ℕ, ◌+◌, ◌-◌, ◌*◌, ◌/◌, ◌<◌, ◌≤◌, List, min, max, IsTrue, ltb, arith, ℤ, pos, negsuc, ◌-ℤ◌, ◌≤ℤ◌, ⊎_elim, mul-le-mul, ap, sym, inl, ◌∙◌}
-use Rattle.std.proofs.Math.Nat.{lt-div-mul-add}
-use Rattle.std.proofs.lemmas.Bool.{cases_lt, lt-ltb, ltb-true}
+use Rattle.std.proofs.Common.{◌≡◌, ℕ, ◌+◌, ◌-◌, ◌*◌, ◌/◌, ◌≤◌, List, min, max, arith, ℤ, pos, negsuc, ◌-ℤ◌, ◌≤ℤ◌, ⊎_elim, mul-le-mul, ap, sym, inl, ◌∙◌}
+use Rattle.std.proofs.lemmas.Bool.{cases_lt}
 use Rattle.std.proofs.lemmas.Int.{ints}
-use Rattle.std.proofs.lemmas.Nat.{div_below, le-div}
 use Rattle.std.specs.Int.RustNames.{unsigned_abs}
 use Rattle.polyline_geometry.specs.declared.plane.Point.{Point}
 use Rattle.polyline_geometry.specs.Boxes.{InBox, InSquare, IsBetween}
@@ -16,26 +14,6 @@ use Rattle.grid_index.specs.NearestCell.{IsNearestCell, apart2, nearest_between}
 use Rattle.grid_index.specs.Runs.{HasCorners, IsBelow, IsBoxDistance, IsRun, IsRunOf}
 use Rattle.grid_index.proofs.Places.{between, rises}
 use Rattle.grid_index.proofs.RunBoxes.{below_twice}
-
--- a number from a multiple of the side up to before the next has that many sides
-quotient_is : (x number side low : ℕ) → 1 ≤ side → low ≡ number * side → low ≤ x → x < low + side → x / side ≡ number
-quotient_is x number side low some is le lt =
-    let up = le-div number x side (omega (arith, some)) (omega (arith, is, le)) in
-    let down = div_below x side (number + 1) (omega (arith, some)) (omega (arith, is, lt)) in
-    omega (arith, up, down)
-
-below_next : (x number side low : ℕ) → 1 ≤ side → low ≡ number * side → x / side ≡ number → x < low + side
-below_next x number side low some is q =
-    let lt : x < x / side * side + side = lt-div-mul-add (omega (arith, some)) in
-    let e : x / side * side ≡ number * side = ap (λ v. v * side) q in
-    omega (arith, lt, e, is)
-
-pub within_side : (x number side low : ℕ) → 1 ≤ side → low ≡ number * side → low ≤ x
-    → (IsTrue (ltb x (low + side)) → x / side ≡ number) × (x / side ≡ number → IsTrue (ltb x (low + side)))
-within_side x number side low some is le = (
-  λ t. quotient_is x number side low some is le (ltb-true x (low + side) t),
-  λ q. lt-ltb x (low + side) (below_next x number side low some is q),
-)
 
 -- what lies apart in the plane does so when both are shifted
 apart_at_least : (p q : ℤ) → unsigned_abs p ≤ 1_000_000_000 → unsigned_abs q ≤ 1_000_000_000 → shifted p - shifted q + (shifted q - shifted p) ≤ unsigned_abs (p -ℤ q)

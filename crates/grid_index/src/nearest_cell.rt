@@ -1,6 +1,6 @@
 //! The one cell at which a run is considered: the cell of its box's nearest point. Serves `Grid`;
 //! decided by `IsNearestCell` and `IsBoxDistance`.
-ghost use Rattle.std.specs.Prelude.{◌≡◌, ℕ, ◌+◌, ◌-◌, ◌*◌, ◌/◌, ◌≤◌, ◌↔◌, IsTrue, MatchOption, max, min};
+ghost use Rattle.std.specs.Prelude.{◌≡◌, ℕ, ◌+◌, ◌-◌, ◌*◌, ◌/◌, ◌<◌, ◌≤◌, ◌↔◌, MatchOption, max, min};
 ghost use Rattle.std.specs.Int.RustNames.{unsigned_abs};
 ghost use Rattle.polyline_geometry.specs.Plane.{InRange};
 ghost use Rattle.road_network.specs.Net.{Net};
@@ -25,15 +25,14 @@ fn nearest_between(low: i32, high: i32, z: i32) -> u32
     shifted(low).max(shifted(z).min(shifted(high)))
 }
 
-/// Whether a shifted coordinate lies in the column, or the row, of a number.
-fn is_within(x: u32, number: u32, side: u32) -> bool
+/// How far a shifted coordinate is from the low end of the column, or the row, of a number; more than
+/// the side if it is before that.
+fn past(x: u32, number: u32, side: u32) -> u64
     requires some { 1 ≤ side }
     requires few { side ≤ 1_000_000 }
-    ensures { IsTrue result ↔ (x / side ≡ number) }
+    ensures { (result < side) ↔ (x / side ≡ number) }
 {
-    let (x, side) = (u64::from(x), u64::from(side));
-    let low = u64::from(number) * side;
-    low <= x && x < low + side
+    u64::from(x).wrapping_sub(u64::from(number) * u64::from(side))
 }
 
 /// A lower bound on the distance of a shifted coordinate from boxes whose nearest coordinate lies in
@@ -83,7 +82,8 @@ pub(crate) fn distance2_in_cell(
 {
     let x = nearest_between(run.low.x, run.high.x, p.x);
     let y = nearest_between(run.low.y, run.high.y, p.y);
-    if is_within(x, column, side) && is_within(y, row, side) {
+    // One test, since a branch for each coordinate is hard to predict.
+    if past(x, column, side).max(past(y, row, side)) < u64::from(side) {
         Some(apart2(x, shifted(p.x)) + apart2(y, shifted(p.y)))
     } else {
         None

@@ -1,14 +1,12 @@
 use Rattle.std.proofs.Common.{◌≡◌, ◌+◌, ◌/◌, ◌∙◌, ap, sym, arith}
-use Rattle.std.proofs.lemmas.Bool.{true≢false}
 use Rattle.grid_index.specs.Cells.{shifted}
 use Rattle.grid_index.specs.NearestCell.{apart2, nearest_between}
 use Rattle.grid_index.proofs.NearestCells.{box_distance}
 use Rattle.grid_index.proofs.Coordinates.{nearest_back, shifted_back, small_back}
 use Rattle.grid_index.proofs.nearest_cell.distance2_in_cell.Goals as goal
-use Rattle.grid_index.proofs.nearest_cell.distance2_in_cell.Goals.{else-is_within-via-then-is_within+else-is_within-2, else-is_within-via-else-is_within}
 
-pub returns-then-is_within-2 : goal.returns-then-is_within-2
-returns-then-is_within-2 c =
+pub returns-then-max-from : goal.returns-then-max-from
+returns-then-max-from c =
     let p = c.args.p in
     let r = c.args.run.now in
     let x = c.nearest_between-x.result in
@@ -16,41 +14,38 @@ returns-then-is_within-2 c =
     let xs : x ≡ nearest_between r.low.x r.high.x p.x = c.nearest_between-x.ensures.value ∙ nearest_back r.low.x r.high.x p.x c.requires.corners.0.low_in.x_abs c.requires.corners.0.high_in.x_abs c.requires.p_in.x_abs in
     let ys : y ≡ nearest_between r.low.y r.high.y p.y = c.nearest_between-y.ensures.value ∙ nearest_back r.low.y r.high.y p.y c.requires.corners.0.low_in.y_abs c.requires.corners.0.high_in.y_abs c.requires.p_in.y_abs in
     let px : c.shifted.result ≡ shifted p.x = c.shifted.ensures.value ∙ shifted_back p.x c.requires.p_in.x_abs in
-    let py : c.shifted-then-is_within-2.result ≡ shifted p.y = c.shifted-then-is_within-2.ensures.value ∙ shifted_back p.y c.requires.p_in.y_abs in
+    let py : c.shifted-then-max-from.result ≡ shifted p.y = c.shifted-then-max-from.ensures.value ∙ shifted_back p.y c.requires.p_in.y_abs in
     let across = c.apart2.ensures.value ∙ ap (apart2 x) px in
-    let up = c.apart2-then-is_within-2.ensures.value ∙ ap (apart2 y) py in
-    let value = ap (λ v. v + c.apart2-then-is_within-2.result) across ∙ ap (λ v. apart2 x (shifted p.x) + v) up in (
+    let up = c.apart2-then-max-from.ensures.value ∙ ap (apart2 y) py in
+    let value = ap (λ v. v + c.apart2-then-max-from.result) across ∙ ap (λ v. apart2 x (shifted p.x) + v) up in (
       record {
-        column_is = sym (ap (λ v. v / c.args.side) xs) ∙ c.is_within.ensures.0 c.if-is_within.true;
-        row_is = sym (ap (λ v. v / c.args.side) ys) ∙ c.is_within-then-is_within.ensures.0 c.if-is_within-2.true;
+        column_is = sym (ap (λ v. v / c.args.side) xs) ∙ c.past.ensures.0 (omega (arith, c.max.ensures, c.if-max-from.true));
+        row_is = sym (ap (λ v. v / c.args.side) ys) ∙ c.past-2.ensures.0 (omega (arith, c.max.ensures, c.if-max-from.true));
       },
-      box_distance r p x y (c.apart2.result + c.apart2-then-is_within-2.result) c.requires.corners.0 c.requires.corners.1 c.requires.p_in xs ys value,
+      box_distance r p x y (c.apart2.result + c.apart2-then-max-from.result) c.requires.corners.0 c.requires.corners.1 c.requires.p_in xs ys value,
     )
 
-pub returns-else-is_within : goal.returns-else-is_within
-returns-else-is_within c = λ cell.
+pub returns-else-max-from : goal.returns-else-max-from
+returns-else-max-from c = λ cell.
     let p = c.args.p in
     let r = c.args.run.now in
     let xs : c.nearest_between-x.result ≡ nearest_between r.low.x r.high.x p.x = c.nearest_between-x.ensures.value ∙ nearest_back r.low.x r.high.x p.x c.requires.corners.0.low_in.x_abs c.requires.corners.0.high_in.x_abs c.requires.p_in.x_abs in
     let ys : c.nearest_between-y.result ≡ nearest_between r.low.y r.high.y p.y = c.nearest_between-y.ensures.value ∙ nearest_back r.low.y r.high.y p.y c.requires.corners.0.low_in.y_abs c.requires.corners.0.high_in.y_abs c.requires.p_in.y_abs in
-    elim c.else-is_within.branch [
-      | else-is_within-via-then-is_within+else-is_within-2 w ↦
-          absurd (true≢false (sym (w.is_within-then-is_within.ensures.1 (ap (λ v. v / c.args.side) ys ∙ cell.row_is)) ∙ w.if-is_within-2.false))
-      | else-is_within-via-else-is_within w ↦
-          absurd (true≢false (sym (c.is_within.ensures.1 (ap (λ v. v / c.args.side) xs ∙ cell.column_is)) ∙ w.if-is_within.false))
-    ]
+    let across = c.past.ensures.1 (ap (λ v. v / c.args.side) xs ∙ cell.column_is) in
+    let up = c.past-2.ensures.1 (ap (λ v. v / c.args.side) ys ∙ cell.row_is) in
+    absurd (omega (arith, across, up, c.max.ensures, c.if-max-from.false))
 
-pub is_within-requires-clause-some : goal.is_within-requires-clause-some
-is_within-requires-clause-some c = c.requires.some
+pub past-requires-clause-some : goal.past-requires-clause-some
+past-requires-clause-some c = c.requires.some
 
-pub is_within-requires-clause-few : goal.is_within-requires-clause-few
-is_within-requires-clause-few c = c.requires.few
+pub past-requires-clause-few : goal.past-requires-clause-few
+past-requires-clause-few c = c.requires.few
 
-pub is_within-requires-then-is_within-clause-some : goal.is_within-requires-then-is_within-clause-some
-is_within-requires-then-is_within-clause-some c = c.requires.some
+pub past-requires-2-clause-some : goal.past-requires-2-clause-some
+past-requires-2-clause-some c = c.requires.some
 
-pub is_within-requires-then-is_within-clause-few : goal.is_within-requires-then-is_within-clause-few
-is_within-requires-then-is_within-clause-few c = c.requires.few
+pub past-requires-2-clause-few : goal.past-requires-2-clause-few
+past-requires-2-clause-few c = c.requires.few
 
 pub apart2-requires-clause-a_small : goal.apart2-requires-clause-a_small
 apart2-requires-clause-a_small c = c.nearest_between-x.ensures.small
@@ -58,14 +53,14 @@ apart2-requires-clause-a_small c = c.nearest_between-x.ensures.small
 pub apart2-requires-clause-b_small : goal.apart2-requires-clause-b_small
 apart2-requires-clause-b_small c = c.shifted.ensures.high
 
-pub apart2-requires-then-is_within-2-clause-a_small : goal.apart2-requires-then-is_within-2-clause-a_small
-apart2-requires-then-is_within-2-clause-a_small c = c.nearest_between-y.ensures.small
+pub apart2-requires-then-max-from-clause-a_small : goal.apart2-requires-then-max-from-clause-a_small
+apart2-requires-then-max-from-clause-a_small c = c.nearest_between-y.ensures.small
 
-pub apart2-requires-then-is_within-2-clause-b_small : goal.apart2-requires-then-is_within-2-clause-b_small
-apart2-requires-then-is_within-2-clause-b_small c = c.shifted-then-is_within-2.ensures.high
+pub apart2-requires-then-max-from-clause-b_small : goal.apart2-requires-then-max-from-clause-b_small
+apart2-requires-then-max-from-clause-b_small c = c.shifted-then-max-from.ensures.high
 
 pub overflow_add-result : goal.overflow_add-result
-overflow_add-result c = omega (arith, c.apart2.ensures.small, c.apart2-then-is_within-2.ensures.small)
+overflow_add-result c = omega (arith, c.apart2.ensures.small, c.apart2-then-max-from.ensures.small)
 
 pub nearest_between-x-requires-clause-low_in : goal.nearest_between-x-requires-clause-low_in
 nearest_between-x-requires-clause-low_in c = small_back c.args.run.now.low.x c.requires.corners.0.low_in.x_abs
@@ -88,5 +83,5 @@ nearest_between-y-requires-clause-z_in c = small_back c.args.p.y c.requires.p_in
 pub shifted-requires : goal.shifted-requires
 shifted-requires c = small_back c.args.p.x c.requires.p_in.x_abs
 
-pub shifted-requires-then-is_within-2 : goal.shifted-requires-then-is_within-2
-shifted-requires-then-is_within-2 c = small_back c.args.p.y c.requires.p_in.y_abs
+pub shifted-requires-then-max-from : goal.shifted-requires-then-max-from
+shifted-requires-then-max-from c = small_back c.args.p.y c.requires.p_in.y_abs
