@@ -36,8 +36,39 @@ fn nearest_of_twin(net: &Network, run: Run, twin: EdgeId, near: NearSegments) ->
     }
 }
 
-/// Visits a run, given the distance to its box: its segments are measured if the box is near enough,
-/// for its own edge and for the twin.
+/// Measures the segments of a run, for its own edge and for the twin, up to a limit.
+// Not inlined, so that the loop over the runs of a cell has only the test of their boxes.
+#[inline(never)]
+fn measure_run(
+    net: &Network,
+    found: &mut Vec<NearEdge>,
+    search: Search,
+    run: Run,
+    limit: u64,
+) -> Result<(), AllocError>
+    requires run { IsRun net.now run }
+    requires limit { IsLimit search found.old.items limit }
+    requires best { AreBest net.now search found.old.items }
+    ensures steps { OnOk result (Steps net.now search found.old.items found.new.items) }
+    ensures seen { OnOk result (HasSeen net.now search found.new.items run) }
+{
+    net.invariants();
+    let (first, end) = (run.first as usize, run.end as usize);
+    let Some(near) = nearest_segments(net.line(run.edge), first, end, search.at, limit) else {
+        return Ok(());
+    };
+    let own = NearEdge {
+        edge: run.edge,
+        segment: near.first as u32,
+        d2: near.d2,
+    };
+    match run.twin() {
+        None => take_near(found, search, own),
+        Some(twin) => take_pair(found, search, own, nearest_of_twin(net, run, twin, near)),
+    }
+}
+
+/// Visits a run, given the distance to its box: its segments are measured if the box is near enough.
 fn look_at_box(
     net: &Network,
     found: &mut Vec<NearEdge>,
@@ -56,19 +87,7 @@ fn look_at_box(
     if d2 >= limit {
         return Ok(());
     }
-    let (first, end) = (run.first as usize, run.end as usize);
-    let Some(near) = nearest_segments(net.line(run.edge), first, end, search.at, limit) else {
-        return Ok(());
-    };
-    let own = NearEdge {
-        edge: run.edge,
-        segment: near.first as u32,
-        d2: near.d2,
-    };
-    match run.twin() {
-        None => take_near(found, search, own),
-        Some(twin) => take_pair(found, search, own, nearest_of_twin(net, run, twin, near)),
-    }
+    measure_run(net, found, search, run, limit)
 }
 
 /// Visits a run.
