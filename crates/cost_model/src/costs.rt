@@ -15,7 +15,12 @@ pub fn emission(p: &Params, d2: u64) -> u64
     ensures small { result ≤ 5_000_000_000_000 }
 {
     let sigma = u64::from(p.sigma);
-    d2 * 1000 / (2 * (sigma * sigma))
+    // By default the divisor is known, and the compiler needs no division.
+    if sigma == 1000 {
+        d2 / 2000
+    } else {
+        d2 * 1000 / (2 * (sigma * sigma))
+    }
 }
 
 /// The scaled cost of a route of this length in cm between two points at this straight distance in
@@ -26,7 +31,13 @@ pub fn transition(p: &Params, route: u32, straight: u32) -> u64
     ensures value { result ≡ transition p.now route straight }
     ensures small { route ≤ 210_000_000 → straight ≤ 2_828_427_124 → result ≤ 2_828_427_124_000 }
 {
-    u64::from(route.abs_diff(straight)) * 1000 / u64::from(p.beta)
+    let difference = u64::from(route.abs_diff(straight));
+    // By default the scale and beta cancel out. A division would take longer than the rest of the call.
+    if p.beta == 1000 {
+        difference
+    } else {
+        difference * 1000 / u64::from(p.beta)
+    }
 }
 
 /// A law, with nothing to run: one point adds at most 7,900,000,000,000 to the cost of a sequence, if its
