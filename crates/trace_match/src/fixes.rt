@@ -27,11 +27,11 @@ pub fn layer(
     ensures { IfOk result (λ layer. layer ≡ layer_of net.now p.now fix.now) }
 {
     let mut search = CandidateSearch::new(alloc);
-    next_layer(&mut search, net, grid, p, fix)
+    layer_by(&mut search, net, grid, p, fix)
 }
 
 /// A position with its candidates, which this search finds.
-fn next_layer(
+fn layer_by(
     search: &mut CandidateSearch,
     net: &Network,
     grid: &Grid,
@@ -65,7 +65,7 @@ pub fn layers(
     let mut search = CandidateSearch::new(alloc);
     let mut found = Vec::with_capacity(alloc, fixes.len())?;
     for fix in fixes {
-        found.push(next_layer(&mut search, net, grid, p, fix)?)?;
+        found.push(layer_by(&mut search, net, grid, p, fix)?)?;
     }
     Ok(List::from_vec(found))
 }

@@ -23,7 +23,7 @@ loop-fix-init c = c.in_ok-found.ensures.items
 
 pub loop-fix-preserved : goal.loop-fix-preserved
 loop-fix-preserved c =
-    one_more (layer_of c.args.net.now c.args.p.now) c.args.fixes.now c.loop-fix.fix-index c.loop-fix.found.items c.push.new.self.items c.in_ok-next_layer.field-0 c.loop-fix.invariant c.loop-fix-test.true c.in_ok-push.ensures.items c.in_ok-next_layer.ensures
+    one_more (layer_of c.args.net.now c.args.p.now) c.args.fixes.now c.loop-fix.fix-index c.loop-fix.found.items c.push.new.self.items c.in_ok-layer_by.field-0 c.loop-fix.invariant c.loop-fix-test.true c.in_ok-push.ensures.items c.in_ok-layer_by.ensures
 
 pub returns : goal.returns
 returns c = c.from_vec.ensures ∙ c.loop-fix.invariant ∙ ap (map (layer_of c.args.net.now c.args.p.now)) (take_all c.loop-fix.fix-index c.args.fixes.now c.loop-fix-test.false)
