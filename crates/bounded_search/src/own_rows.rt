@@ -96,8 +96,8 @@ impl<'n> OwnRows<'n> {
         rows_in(alloc, self.rows, self.count)
     }
 
-    /// Finds the row of a node, if it is not known.
-    pub(crate) fn fill(&mut self, n: NodeId) -> Result<(), AllocError>
+    /// Finds the row of a node, if it is not known, and keeps it. A known node needs no memory.
+    pub fn fill(&mut self, n: NodeId) -> Result<(), AllocError>
         requires { HasNode self.old.network n.0 }
         ensures asks { AsksFor self.old (λ v. v ≡ n.0) result self.new }
         ensures err { OnErr result (self.new ≡ self.old) }
@@ -113,8 +113,8 @@ impl<'n> OwnRows<'n> {
         Ok(())
     }
 
-    /// The row of a known node.
-    pub(crate) fn get(&self, n: NodeId) -> &Row
+    /// The row of a known node. Allocates nothing.
+    pub fn get(&self, n: NodeId) -> &Row
         requires { Contains self.now.known n.0 }
         ensures { IsRow self.now.network self.now.bound n.0 result.now }
     {

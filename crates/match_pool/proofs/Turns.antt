@@ -12,7 +12,7 @@ use Rattle.bounded_search.specs.Rows.{AsksAll, AsksOnly}
 use Rattle.bounded_search.specs.Table.{TableRow}
 use Rattle.bounded_search.proofs.KnownNodes.{known_inside, knows_by}
 use Rattle.match_text.specs.declared.matched.MatchedTrace.{MatchedTrace}
-use Rattle.row_store.specs.Store.{Reading, knows, rows_state}
+use Rattle.row_store.specs.Store.{Reading, Stored, knows, rows_state}
 use Rattle.tickets.specs.Tickets.{Drawn}
 use Rattle.trace_match.specs.Match.{asks}
 use Rattle.trace_reader.specs.declared.trace.Trace.{Trace}
@@ -136,6 +136,13 @@ drawn_below same at =
     let low = at.1 in
     omega (arith, same, is, low)
 
+-- a store is told by what its rows' state says of it
+same_store : (a b : Stored) → b.network ≡ a.network → b.bound ≡ a.bound → b.reach ∷ b.cells ≡ a.reach ∷ a.cells → b ≡ a
+same_store a b network bound source =
+    let reach : b.reach ≡ a.reach = cc in
+    let cells : b.cells ≡ a.cells = cc in
+    λ i. record { network = network i; bound = bound i; reach = reach i; cells = cells i }
+
 -- one more draw, and rows that became known for the trace of number k
 pub stays_more : {j : Job} {reader mid after : Reading} {ticket drawn drawn' : Drawn} (k : ℕ) → k < length j.traces → Stays j reader ticket mid drawn → AsksOnly (rows_state mid) (rows_state after) (λ v. asks_at j v k ≡ true)
     → drawn'.claims ≡ drawn.claims → Stays j reader ticket after drawn'
@@ -145,7 +152,7 @@ stays_more {j} {reader} {mid} {after} k inside stays asked same =
     record {
       reader = record {
         stays = record {
-          store = (λ i. record { network = keeps.network i; bound = keeps.bound i; cells = keeps.source i }) ∙ before.store;
+          store = same_store mid.store after.store keeps.network keeps.bound keeps.source ∙ before.store;
           held = λ n row e. keeps.held n row (before.held n row e);
         };
         only = λ v known. ⊎_elim

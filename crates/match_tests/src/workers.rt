@@ -14,6 +14,7 @@ use std::alloc::{AllocError, Global};
 use std::thread::Threads;
 use town::{town_network, town_traces};
 use trace_reader::{Fix, Trace, TraceReader};
+use trellis::near_reach;
 
 pub const DEFAULTS: Params = Params::DEFAULT;
 
@@ -123,8 +124,13 @@ fn is_town_matched<R: Threads + Sync>(rt: &R, alloc: Global) -> Option<bool> {
     let text = town_network(alloc, 20).ok()?;
     let net = read_network(alloc, text.as_slice()).ok()?;
     let traces = town_traces_of(alloc)?;
-    let store = RowStore::open(alloc, &net, DEFAULTS.bound).ok()?;
-    are_matched(rt, alloc, &net, &store, traces.as_slice()).ok()
+    let traces = traces.as_slice();
+    let bound = DEFAULTS.bound;
+    let whole = RowStore::open(alloc, &net, bound).ok()?;
+    let near = RowStore::open_near(alloc, &net, bound, near_reach(bound)).ok()?;
+    let by_whole = are_matched(rt, alloc, &net, &whole, traces).ok()?;
+    let by_near = are_matched(rt, alloc, &net, &near, traces).ok()?;
+    Some(by_whole && by_near)
 }
 
 // A worker whose reader takes a row from the store unchecked, or that puts a wrong one there, fails here.

@@ -16,9 +16,18 @@ use trace_reader::Trace;
 
 /// A store for the rows of the network within the bound of the options.
 pub fn open_store<'n>(alloc: Global, matcher: &Matcher<'n>) -> Result<RowStore<'n>, AllocError>
-    ensures { IfOk result (IsStoreFor matcher.now) }
+    ensures store { IfOk result (IsStoreFor matcher.now) }
+    ensures whole { IfOk result (λ store. store.reach ≡ matcher.now.params.bound) }
 {
     RowStore::open(alloc, matcher.network(), matcher.params().bound)
+}
+
+/// A store of shorter rows, for matching along traces. Its readers answer rows within the bound of the options.
+pub fn open_near_store<'n>(alloc: Global, matcher: &Matcher<'n>) -> Result<RowStore<'n>, AllocError>
+    ensures { IfOk result (IsStoreFor matcher.now) }
+{
+    let (network, bound) = (matcher.network(), matcher.params().bound);
+    RowStore::open_near(alloc, network, bound, matcher.near_reach())
 }
 
 /// As many readers of a store as the options have workers, from 1 to 64. They know nothing.

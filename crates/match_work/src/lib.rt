@@ -5,7 +5,7 @@
 //!   [`match_file`] is its part after the network, for callers that have a store already.
 //! - [`match_with_table`] first offers the rows of a table file to the store. Its plan is
 //!   `table_match_plan` in `specs/TableMatch.antt`.
-//! - [`open_store`], [`open_readers`] and [`match_batch`] are for callers that match traces by workers:
+//! - [`open_near_store`], [`open_readers`] and [`match_batch`] are for callers that match traces by workers:
 //!   the store, a reader of it for each worker, and the matches of some traces. Their effect is
 //!   `MatchesBatch` in `specs/Sharing.antt`.
 #![tactic(auto)]
@@ -14,6 +14,6 @@ mod batches;
 mod matches;
 mod tabled;
 
-pub use batches::{match_batch, open_readers, open_store};
+pub use batches::{match_batch, open_near_store, open_readers};
 pub use matches::{match_file, match_traces};
 pub use tabled::match_with_table;

@@ -11,7 +11,7 @@ ghost use Rattle.match_work.specs.Sharing.{IsStoreFor, MatchesBatch, MatchesBatc
 ghost use Rattle.match_work.specs.Matches.{match_plan, match_text};
 ghost use Rattle.match_work.specs.MatchesDone.{HasMatched};
 
-use crate::batches::{match_batch, open_readers, open_store};
+use crate::batches::{match_batch, open_near_store, open_readers};
 use cost_model::Params;
 use edge_io::{Shelf, Sink};
 use match_pool::Gate;
@@ -144,7 +144,7 @@ pub fn match_traces<R: Threads + Sync, G: Gate, S: Shelf, K: Sink>(
 {
     let roads = load_network(alloc, shelf, network)?;
     let matcher = Matcher::open(alloc, &roads, options)?;
-    let store = open_store(alloc, &matcher)?;
+    let store = open_near_store(alloc, &matcher)?;
     let done = match_file(rt, alloc, &matcher, &store, traces, shelf, out, gate);
     // The process ends soon, and the system then takes the memory of all rows at once.
     forget(store);

@@ -53,7 +53,7 @@ all_fit F places n q mine others k p e = dite (ℕ_discrete k n)
     at_set (x ∷ xs) (suc n) q zero p same e = absurd (omega arith)
     at_set (x ∷ xs) (suc n) q (suc k) p same e = at_set xs n q k p (omega arith) e
 
-pub fits_at : (store : Stored) (places : List Place) (n : ℕ) (x : Place) → AllFit store places → n < length places → x ≡ get_or places n x → Fits store.network store.bound n (slice_index store.cells n) x
+pub fits_at : (store : Stored) (places : List Place) (n : ℕ) (x : Place) → AllFit store places → n < length places → x ≡ get_or places n x → Fits store.network store.reach n (slice_index store.cells n) x
 fits_at store places n x all h e = all n x (get_at places n x h ∙ ap Some (sym e))
 
 pub there : (places : List Place) (n : ℕ) (x : Place) → n < length places → x ≡ get_or places n x → slice_get (map known_of places) n ≡ Some x.note.known
@@ -129,20 +129,20 @@ unseen r store places n x q looked is h e unfound either =
 pub not_blind : (s : Seen) (k : Option TableRow) (ps : List (Option TableRow)) (n : ℕ) → k ≡ row_in s → slice_get ps n ≡ Some k → (row : TableRow) × (slice_get ps n ≡ Some (Some row)) → s ≡ Nothing → ⊥
 not_blind s k ps n e f t none = known_not k ps n f t (e ∙ ap row_in none)
 
-pub sight_row : (r : Reading) (store : Stored) (places : List Place) (n name : ℕ) (x : Place) (s : Seen) → reading store places ≡ r → n < length places → x ≡ get_or places n x → Fits store.network store.bound n name x → x.seen ≡ s
+pub sight_row : (r : Reading) (store : Stored) (places : List Place) (n name : ℕ) (x : Place) (s : Seen) → reading store places ≡ r → n < length places → x ≡ get_or places n x → Fits store.network store.reach n name x → x.seen ≡ s
     → slice_get r.places n ≡ Some (row_in s)
 sight_row r store places n name x s is h e f seen = known_there r store places n x is h e ∙ ap Some (f.known ∙ ap row_in seen)
 
-pub sight_checked : (r : Reading) (store : Stored) (places : List Place) (n name : ℕ) (x : Place) (s : Seen) → reading store places ≡ r → Fits store.network store.bound n name x → x.seen ≡ s
-    → IsCheckedFor r.store.network r.store.bound n s
+pub sight_checked : (r : Reading) (store : Stored) (places : List Place) (n name : ℕ) (x : Place) (s : Seen) → reading store places ≡ r → Fits store.network store.reach n name x → x.seen ≡ s
+    → IsCheckedFor r.store.network r.store.reach n s
 sight_checked r store places n name x s is f seen =
-    subst (λ (y : Reading). IsCheckedFor y.store.network y.store.bound n s) is
-    (subst (IsCheckedFor store.network store.bound n) seen f.checked)
+    subst (λ (y : Reading). IsCheckedFor y.store.network y.store.reach n s) is
+    (subst (IsCheckedFor store.network store.reach n) seen f.checked)
 
 -- a new place at the end
-pub fits_more : (store : Stored) (places : List Place) (x : Place) → AllFit store places → Fits store.network store.bound (length places) (slice_index store.cells (length places)) x → AllFit store (places ++ x ∷ [])
+pub fits_more : (store : Stored) (places : List Place) (x : Place) → AllFit store places → Fits store.network store.reach (length places) (slice_index store.cells (length places)) x → AllFit store (places ++ x ∷ [])
 fits_more store places x all mine k p e = dite (ℕ_discrete k (length places))
-    (λ (same : k ≡ length places). subst (λ (y : ℕ). Fits store.network store.bound y (slice_index store.cells y) p) (sym same) (subst (λ (q : Place). Fits store.network store.bound (length places) (slice_index store.cells (length places)) q) (last places x k p same e) mine))
+    (λ (same : k ≡ length places). subst (λ (y : ℕ). Fits store.network store.reach y (slice_index store.cells y) p) (sym same) (subst (λ (q : Place). Fits store.network store.reach (length places) (slice_index store.cells (length places)) q) (last places x k p same e) mine))
     (λ ne. all k p (front places x k p ne e))
   where
     last : (l : List Place) (x : Place) (k : ℕ) (p : Place) → k ≡ length l → slice_get (l ++ x ∷ []) k ≡ Some p → x ≡ p
@@ -157,11 +157,11 @@ fits_more store places x all mine k p e = dite (ℕ_discrete k (length places))
     front (y ∷ ys) x zero p ne e = e
     front (y ∷ ys) x (suc k) p ne e = front ys x k p (λ q. ne (ap suc q)) e
 
-pub empty_fits : (store : Stored) (n name : ℕ) (x : Place) → x.note.cell ≡ name → x.note.known ≡ None → x.seen ≡ Nothing → Fits store.network store.bound n name x
+pub empty_fits : (store : Stored) (n name : ℕ) (x : Place) → x.note.cell ≡ name → x.note.known ≡ None → x.seen ≡ Nothing → Fits store.network store.reach n name x
 empty_fits store n name x cell known seen = record {
   cell = cell;
   known = known ∙ sym (ap row_in seen);
-  checked = subst (IsCheckedFor store.network store.bound n) (sym seen) tt;
+  checked = subst (IsCheckedFor store.network store.reach n) (sym seen) tt;
 }
 
 pub none_more : (places : List Place) (x : Place) (n : ℕ) → map known_of places ≡ replicate n None → x.note.known ≡ None → map known_of (places ++ x ∷ []) ≡ replicate (n + 1) None
@@ -246,7 +246,7 @@ sees_asks before n row after s =
         keeps = record {
           network = ap (λ (y : Stored). y.network) s.store;
           bound = ap (λ (y : Stored). y.bound) s.store;
-          source = ap (λ (y : Stored). y.cells) s.store;
+          source = ap (λ (y : Stored). y.reach ∷ y.cells) s.store;
           held = sees_extends before n row after s;
           known = λ v k. (learnt v).1 (inr k);
         };

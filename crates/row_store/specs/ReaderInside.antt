@@ -2,6 +2,8 @@
 use Rattle.std.specs.Prelude.{◌≡◌, ℕ, List, Some, map, length, slice_get, slice_index}
 use Rattle.row_store.specs.Places.{Fits, IsSearcherOf}
 use Rattle.row_store.specs.Store.{Stored, Reading}
+use Rattle.std.specs.Option.{IfSome}
+use Rattle.row_store.specs.WholeRows.{AreWholeFor}
 use Rattle.row_store.specs.declared.place.Place.{Place}
 use Rattle.row_store.specs.declared.reader.Reader.TheInside.{Inside}
 
@@ -12,7 +14,7 @@ reading store places = record { store = store; places = map (λ p. p.note.known)
 abbrev pub AllFit : Stored → List Place → Type 0
 AllFit store places =
     (k : ℕ) (p : Place) → slice_get places k ≡ Some p
-    → Fits store.network store.bound k (slice_index store.cells k) p
+    → Fits store.network store.reach k (slice_index store.cells k) p
 
 abbrev pub reading_of : Inside → Reading
 reading_of a = reading a.store.now a.places.items
@@ -23,3 +25,4 @@ pub record IsKept (a : Inside) : Type 0 where
   pub places_count : length a.places.items ≡ length a.store.now.network.nodes
   pub fit : AllFit a.store.now a.places.items
   pub searcher : IsSearcherOf a.store.now a.searcher
+  pub whole : IfSome a.whole (AreWholeFor a.store.now)

@@ -6,10 +6,12 @@ use Rattle.bounded_search.specs.Known.{known_nodes}
 use Rattle.bounded_search.specs.Rows.{RowsState}
 use Rattle.bounded_search.specs.Table.{TableRow, IsRow}
 
--- a store: the network and the bound of its rows, and the names of its cells, one for each node
+-- a store: the network, the bound of the rows that its readers answer, the bound of the rows in its cells, and the
+-- names of its cells, one for each node
 pub record Stored : Type 0 where
   pub network : Net
   pub bound : ℕ
+  pub reach : ℕ
   pub cells : List ℕ
 
 -- a reader: the store that it is of, and for each node nothing, or the row that it knows
@@ -26,7 +28,7 @@ IsKnown r v = (row : TableRow) × (slice_get r.places v ≡ Some (Some row))
 
 -- the row that it knows for node v is the row of v
 abbrev pub KnowsRow : Reading → ℕ → Type 0
-KnowsRow r v = (row : TableRow) × (slice_get r.places v ≡ Some (Some row)) × IsRow r.store.network r.store.bound v row
+KnowsRow r v = (row : TableRow) × (slice_get r.places v ≡ Some (Some row)) × IsRow r.store.network r.store.reach v row
 
 -- the reader is of the same store, and knows this row for node v, and else what it knew
 pub record Sees (before : Reading) (v : ℕ) (row : TableRow) (after : Reading) : Type 0 where
@@ -49,7 +51,7 @@ abbrev pub rows_state : Reading → RowsState
 rows_state r = record {
   network = r.store.network;
   bound = r.store.bound;
-  source = r.store.cells;
+  source = r.store.reach ∷ r.store.cells;
   known = known_nodes r.places;
   held = r.places;
 }

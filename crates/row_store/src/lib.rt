@@ -13,10 +13,12 @@
 
 mod accepted;
 mod counting;
+mod lending;
 mod place;
 mod reader;
 mod sight;
 mod store;
+mod whole_rows;
 
 pub use counting::known_count;
 pub use reader::{Reader, agree};

@@ -13,16 +13,18 @@ use crate::accepted::Accepted;
 use crate::place::{Place, Seen};
 use crate::sight::Sight;
 use crate::store::RowStore;
-use bounded_search::{Row, Rows, Searcher};
+use bounded_search::{OwnRows, Row, Searcher};
 use road_network::NodeId;
 use std::alloc::AllocError;
 use std::marker::Model;
 
 /// What one thread has seen of a store and found out about it.
 pub struct Reader<'s> {
-    store: &'s RowStore<'s>,
-    searcher: Searcher<'s>,
-    places: Vec<Place<'s>>,
+    pub(crate) store: &'s RowStore<'s>,
+    pub(crate) searcher: Searcher<'s>,
+    pub(crate) places: Vec<Place<'s>>,
+    /// Rows within the whole bound, if the cells have shorter ones. Opened for the first.
+    pub(crate) whole: Option<OwnRows<'s>>,
 }
 
 // By hand, so that the functions that drop one call this.
@@ -32,6 +34,7 @@ impl<'s> Drop for Reader<'s> {
             store: _,
             searcher: _,
             places: _,
+            whole: _,
         } = self;
     }
 }
@@ -66,7 +69,7 @@ impl<'s> Reader<'s> {
         ensures { IfOk result (λ r. (r.store ≡ store.now)
             × (r.places ≡ replicate (length store.now.network.nodes) None)) }
     {
-        let searcher = Searcher::open(store.alloc, store.network, store.bound)?;
+        let searcher = Searcher::open(store.alloc, store.network, store.reach)?;
         let mut places = Vec::with_capacity(store.alloc, store.cells.len())?;
         for cell in &store.cells {
             places.push(Place::empty(cell))?;
@@ -75,6 +78,7 @@ impl<'s> Reader<'s> {
             store,
             searcher,
             places,
+            whole: None,
         })
     }
 
@@ -97,14 +101,14 @@ impl<'s> Reader<'s> {
     fn find(&mut self, n: NodeId) -> Result<Row, AllocError>
         requires { HasNode self.old.store.network n.0 }
         ensures same { self.new ≡ self.old }
-        ensures row { IfOk result (IsRow self.old.store.network self.old.store.bound n.0) }
+        ensures row { IfOk result (IsRow self.old.store.network self.old.store.reach n.0) }
     {
         let known = Accepted::of(self.store, self.places.as_slice());
         self.searcher.row_from(&known, n)
     }
 
     /// Makes the row of the cell of n known. An empty cell is filled with the row of n.
-    fn settle(&mut self, n: NodeId) -> Result<(), AllocError>
+    pub(crate) fn settle(&mut self, n: NodeId) -> Result<(), AllocError>
         requires { HasNode self.old.store.network n.0 }
         ensures seen { OnOk result ((row : TableRow) × Sees self.old n.0 row self.new) }
         ensures err { OnErr result (self.new ≡ self.old) }
@@ -135,7 +139,7 @@ impl<'s> Reader<'s> {
     /// Makes the row of the cell of n known; it is this row if the cell was empty.
     fn settle_right(&mut self, n: NodeId, row: Row) -> Result<(), AllocError>
         requires node { HasNode self.old.store.network n.0 }
-        requires right { IsRow self.old.store.network self.old.store.bound n.0 row }
+        requires right { IsRow self.old.store.network self.old.store.reach n.0 row }
         ensures seen { OnOk result ((row : TableRow) × Sees self.old n.0 row self.new) }
         ensures err { OnErr result (self.new ≡ self.old) }
         ensures again { IsKnown self.old n.0 → IsOk result }
@@ -150,7 +154,7 @@ impl<'s> Reader<'s> {
         requires { (HasNode self.now.store.network n.0) × IsKnown self.now n.0 }
         ensures row { slice_get self.now.places n.0 ≡ Some (Some (row_seen result)) }
         ensures table { IsTable result
-            ↔ IsRow self.now.store.network self.now.store.bound n.0 (row_seen result) }
+            ↔ IsRow self.now.store.network self.now.store.reach n.0 (row_seen result) }
     {
         match &self.places[n.0 as usize].seen {
             Seen::Right(row) => Sight::Table(*row),
@@ -179,7 +183,7 @@ impl<'s> Reader<'s> {
         requires { HasNode self.old.store.network n.0 }
         ensures seen { IfOk result (λ s. Sees self.old n.0 (row_seen s) self.new) }
         ensures table { IfOk result (λ s. IsTable s
-            ↔ IsRow self.old.store.network self.old.store.bound n.0 (row_seen s)) }
+            ↔ IsRow self.old.store.network self.old.store.reach n.0 (row_seen s)) }
         ensures err { OnErr result (self.new ≡ self.old) }
         ensures again { IsKnown self.old n.0 → IsOk result }
     {
@@ -209,7 +213,7 @@ impl<'s> Reader<'s> {
     /// `Err` means out of memory. At a known node the call is Ok, even if memory is refused.
     pub fn offer_right(&mut self, n: NodeId, row: Row) -> Result<&'s Row, AllocError>
         requires node { HasNode self.old.store.network n.0 }
-        requires right { IsRow self.old.store.network self.old.store.bound n.0 row }
+        requires right { IsRow self.old.store.network self.old.store.reach n.0 row }
         ensures seen { IfOk result (λ r. Sees self.old n.0 r.now self.new) }
         ensures err { OnErr result (self.new ≡ self.old) }
         ensures again { IsKnown self.old n.0 → IsOk result }
@@ -242,38 +246,4 @@ pub fn agree<'s>(a: &mut Reader<'s>, b: &mut Reader<'s>, n: NodeId) -> &'s Row
 {
     a.compare(b, n);
     a.seen(n)
-}
-
-impl<'s> Rows for Reader<'s> {
-    ghost state = { λ r. rows_state r };
-
-    /// If the cell contains another row, the reader makes the row of n for itself. It keeps this row for
-    /// later calls, which the clauses do not promise. If the known row is the row of n, the call is Ok,
-    /// even if memory is refused.
-    fn row(&mut self, n: NodeId) -> Result<&Row, AllocError>
-        requires { HasNode self.old.store.network n.0 }
-        ensures value { IfOk result (λ row. IsRow self.old.store.network self.old.store.bound n.0 row.now) }
-        ensures again { KnowsRow self.old n.0 → IsOk result }
-        ensures* after { sem 𝓛 (Rests reader_type self.entry
-            (λ new. AsksFor (rows_state self.old) (λ v. v ≡ n.0) result (rows_state new))) }
-    {
-        self.settle(n)?;
-        let store = self.store;
-        let at = n.0 as usize;
-        self.places[at].make_own(store, &mut self.searcher, n)?;
-        Ok(self.places[at].lend(store, n))
-    }
-
-    /// The row within the whole bound, as `row` returns it.
-    fn near_row(&mut self, n: NodeId, reach: u32) -> Result<&Row, AllocError>
-        requires node { HasNode self.old.store.network n.0 }
-        requires reach { reach ≤ self.old.store.bound }
-        ensures value { IfOk result
-            (λ row. IsNearRow self.old.store.network reach self.old.store.bound n.0 row.now) }
-        ensures again { KnowsRow self.old n.0 → IsOk result }
-        ensures* after { sem 𝓛 (Rests reader_type self.entry
-            (λ new. AsksFor (rows_state self.old) (λ v. v ≡ n.0) result (rows_state new))) }
-    {
-        self.row(n)
-    }
 }

@@ -1,5 +1,5 @@
-//! What two readers of one store see of a row that was found, and of rows that were offered.
-ghost use Rattle.std.specs.Prelude.{◌≡◌};
+//! What readers of one store see of a row that was found, and of rows that were offered; shorter rows.
+ghost use Rattle.std.specs.Prelude.{◌≡◌, ◌≤◌};
 ghost use Rattle.road_network.specs.Net.{HasNode};
 
 use crate::small::{TWO_EDGES, entry, offered, wrong};
@@ -86,6 +86,35 @@ fn see_offered(alloc: Global, second: Option<Entry>) -> Option<bool> {
     }
     let store = RowStore::open(alloc, &net, 300_000).ok()?;
     offer_and_see(&store, row, second).ok()
+}
+
+/// Whether a reader of a store of shorter rows sees and gives that of node 1, and another one gives the whole row.
+fn see_short(store: &RowStore<'_>) -> Result<bool, AllocError>
+    requires node { HasNode store.now.network 1 }
+    requires bound { 5_000 ≤ store.now.bound }
+{
+    let mut reader = store.reader()?;
+    let short = match reader.look(NodeId(1))? {
+        Sight::Table(row) => has_second(row, None),
+        Sight::Foreign(_) => false,
+    };
+    let near = has_second(reader.near_row(NodeId(1), 5_000)?, None);
+    let mut other = store.reader()?;
+    Ok(short && near && give_right(&mut other)?)
+}
+
+fn see_shorter(alloc: Global) -> Option<bool> {
+    let net = read_network(alloc, TWO_EDGES).ok()?;
+    if net.node_count() < 2 {
+        return None;
+    }
+    let store = RowStore::open_near(alloc, &net, 300_000, 5_000).ok()?;
+    see_short(&store).ok()
+}
+
+#[test]
+fn a_reader_of_shorter_rows_gives_whole_ones(rt: HostRuntime) {
+    assert!(rt; see_shorter(rt.alloc()) == Some(true));
 }
 
 #[test]

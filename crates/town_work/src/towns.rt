@@ -17,7 +17,7 @@ use edge_io::Sink;
 use itoa::Buffer;
 use match_pool::Gate;
 use match_text::MatchedTrace;
-use match_work::{match_batch, open_readers, open_store};
+use match_work::{match_batch, open_near_store, open_readers};
 use polyline_geometry::List;
 use program_frame::{Stop, Tally, put_text};
 use road_network::{Network, read_network};
@@ -140,7 +140,7 @@ fn town_report<R: Threads + Sync, G: Gate>(
     let network = open_network(alloc, side)?;
     let traces = read_traces(alloc, side, count, seed)?;
     let matcher = Matcher::open(alloc, &network, options)?;
-    let store = open_store(alloc, &matcher)?;
+    let store = open_near_store(alloc, &matcher)?;
     report(rt, alloc, &matcher, &store, traces.as_slice(), gate)
 }
 

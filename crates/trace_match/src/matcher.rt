@@ -1,6 +1,6 @@
 //! What traces are matched on: a network with the grid of its edges, and the options. Serves the jobs of
 //! every program; decided by `Setting`.
-ghost use Rattle.std.specs.Prelude.{◌≡◌, IfOk};
+ghost use Rattle.std.specs.Prelude.{◌≡◌, ◌≤◌, IfOk};
 ghost use Rattle.bounded_search.specs.Rows.{no_rows};
 ghost use Rattle.cost_model.specs.Options.{IsAccepted};
 ghost use Rattle.trace_match.specs.Ground.{IsGridFor};
@@ -87,12 +87,19 @@ impl<'n> Matcher<'n> {
         &self.params
     }
 
+    /// How far, in cm, rows are to reach that are read along a trace, before any longer ones are found.
+    pub fn near_reach(&self) -> u32
+        ensures { result ≤ self.now.params.bound }
+    {
+        near_reach(self.params.bound)
+    }
+
     /// Rows of the network within the bound of the options, for matching along traces. No node is known.
     pub fn rows(&self, alloc: Global) -> Result<NearRows<'n>, AllocError>
         ensures { IfOk result
             (λ rows. rows ≡ no_rows self.now.network self.now.params.bound) }
     {
         let bound = self.params.bound;
-        NearRows::open(alloc, self.network, bound, near_reach(bound))
+        NearRows::open(alloc, self.network, bound, self.near_reach())
     }
 }

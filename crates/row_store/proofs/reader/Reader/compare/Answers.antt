@@ -10,8 +10,8 @@ compare-requires c =
     let n = c.args.n.0 in
     let h = within _ _ _ n c.self.view_is i.places_count c.requires.known.0 in
     let k = within _ _ _ n c.other.view_is j.places_count (subst (λ (s : Stored). n < length s.network.nodes) c.requires.store c.requires.known.0) in
-    let f = fits_at _ _ _ _ i.fit h c.index_mut-mine.ensures.value in
-    let g = fits_at _ _ _ _ j.fit k c.index_mut-theirs.ensures.value in
+    let f = fits_at c.self.inside.store.now _ _ _ i.fit h c.index_mut-mine.ensures.value in
+    let g = fits_at c.other.inside.store.now _ _ _ j.fit k c.index_mut-theirs.ensures.value in
     one_cell _ _ _ _ _ _ n _ _ c.self.view_is c.other.view_is c.requires.store f.cell g.cell
 
 pub invariant_of-self : goal.invariant_of-self
@@ -21,8 +21,9 @@ invariant_of-self c =
     record {
       cells_count = i.cells_count;
       places_count = length-set _ _ _ ∙ i.places_count;
-      fit = same_fit _ _ _ _ _ i.fit h c.index_mut-mine.ensures.value c.compare.ensures.same.0;
+      fit = same_fit c.self.inside.store.now _ _ _ _ i.fit h c.index_mut-mine.ensures.value c.compare.ensures.same.0;
       searcher = i.searcher;
+      whole = i.whole;
     }
 
 pub invariant_of-other : goal.invariant_of-other
@@ -33,8 +34,9 @@ invariant_of-other c =
     record {
       cells_count = j.cells_count;
       places_count = length-set _ _ _ ∙ j.places_count;
-      fit = same_fit _ _ _ _ _ j.fit k c.index_mut-theirs.ensures.value c.compare.ensures.same.1;
+      fit = same_fit c.other.inside.store.now _ _ _ _ j.fit k c.index_mut-theirs.ensures.value c.compare.ensures.same.1;
       searcher = j.searcher;
+      whole = j.whole;
     }
 
 pub returns-clause-agree : goal.returns-clause-agree

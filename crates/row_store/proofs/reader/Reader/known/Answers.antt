@@ -9,6 +9,6 @@ returns c =
     let items = c.self.inside.places.items in
     let h = within _ _ items n c.self.view_is i.places_count c.requires in
     let x = c.index.result.now in
-    let f = fits_at _ items n x i.fit h c.index.ensures in
+    let f = fits_at c.self.inside.store.now items n x i.fit h c.index.ensures in
     let k = known_there c.args.self.now _ items n x c.self.view_is h c.index.ensures in
     c.is_known.ensures ∙ shows x.seen x.note.known c.args.self.now n f.known k

@@ -39,7 +39,8 @@ invariant_of-result c =
       cells_count = omega (arith, c.store.invariant.0, nodes, seen, length-map cells cell_name);
       places_count = omega (arith, c.loop-cell.invariant.count, c.store.invariant.0, nodes, all);
       fit = c.loop-cell.invariant.fit;
-      searcher = c.in_ok-searcher.ensures ∙ ap (λ (s : Stored). let t : BoundedTable = record { network = s.network; bound = s.bound } in t) c.store.view_is;
+      searcher = c.in_ok-searcher.ensures ∙ ap (λ (s : Stored). let t : BoundedTable = record { network = s.network; bound = s.reach } in t) c.store.view_is;
+      whole = tt;
     }
 
 pub returns : goal.returns

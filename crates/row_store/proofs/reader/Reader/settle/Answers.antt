@@ -12,7 +12,7 @@ look-held-requires c =
       node = subst (λ (m : ℕ). c.args.n.0 < m) i.places_count h;
       cells_count = i.cells_count;
       searcher = i.searcher;
-      fits = fits_at _ _ _ _ i.fit h c.index_mut-place.ensures.value;
+      fits = fits_at c.self.inside.store.now _ _ _ i.fit h c.index_mut-place.ensures.value;
     }
 
 pub invariant_of-self : goal.invariant_of-self
@@ -23,6 +23,7 @@ invariant_of-self c =
       places_count = length-set _ _ _ ∙ i.places_count;
       fit = all_fit _ _ _ _ c.look-held.ensures.place.fits i.fit;
       searcher = c.look-held.ensures.place.searcher;
+      whole = i.whole;
     }
 
 pub returns-then-held-clause-seen : goal.returns-then-held-clause-seen
@@ -38,6 +39,7 @@ invariant_of-self-2 c =
       places_count = length-set _ _ _ ∙ i.places_count;
       fit = all_fit _ _ _ _ c.look-held.ensures.place.fits i.fit;
       searcher = c.look-held.ensures.place.searcher;
+      whole = i.whole;
     }
 
 pub returns-in_err-row-clause-err : goal.returns-in_err-row-clause-err

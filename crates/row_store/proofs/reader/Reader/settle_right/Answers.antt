@@ -10,7 +10,7 @@ offer_right-requires-clause-place c =
       node = subst (λ (m : ℕ). c.args.n.0 < m) i.places_count h;
       cells_count = i.cells_count;
       searcher = i.searcher;
-      fits = fits_at _ _ _ _ i.fit h c.index_mut-place.ensures.value;
+      fits = fits_at c.self.inside.store.now _ _ _ i.fit h c.index_mut-place.ensures.value;
     }
 
 pub invariant_of-self : goal.invariant_of-self
@@ -21,6 +21,7 @@ invariant_of-self c =
       places_count = length-set _ _ _ ∙ i.places_count;
       fit = all_fit _ _ _ _ c.offer_right.ensures.place.fits i.fit;
       searcher = c.offer_right.ensures.place.searcher;
+      whole = i.whole;
     }
 
 pub returns-clause-seen : goal.returns-clause-seen
