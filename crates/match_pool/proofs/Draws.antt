@@ -12,15 +12,15 @@ use Rattle.match_pool.specs.Turns.{IsTaken}
 use Rattle.match_pool.specs.Working.{IsReaderFor, Job, ReadsWithin, StaysReader}
 
 stays_none : (r : Reading) → StaysReader r r
-stays_none r = record { store = refl; held = λ k row e. e }
+stays_none r = record { store = refl; bound = refl; held = λ k row e. e }
 
 stays_then : (a b c : Reading) → StaysReader a b → StaysReader b c → StaysReader a c
-stays_then a b c first second = record { store = second.store ∙ first.store; held = λ k row e. second.held k row (first.held k row e) }
+stays_then a b c first second = record { store = second.store ∙ first.store; bound = second.bound ∙ first.bound; held = λ k row e. second.held k row (first.held k row e) }
 
 pub reads_on : (j : Job) (a b : Reading) → StaysReader a b → IsReaderFor j.network j.params a → IsReaderFor j.network j.params b
 reads_on j a b stays reads = record {
   network = ap (λ s. s.network) stays.store ∙ reads.network;
-  bound = ap (λ s. s.bound) stays.store ∙ reads.bound;
+  bound = stays.bound ∙ reads.bound;
 }
 
 row_known : (l : List (Option TableRow)) (v : ℕ) → is_some (slice_index_or l v None) ≡ true → (row : TableRow) × (slice_get l v ≡ Some (Some row))

@@ -137,11 +137,11 @@ drawn_below same at =
     omega (arith, same, is, low)
 
 -- a store is told by what its rows' state says of it
-same_store : (a b : Stored) → b.network ≡ a.network → b.bound ≡ a.bound → b.reach ∷ b.cells ≡ a.reach ∷ a.cells → b ≡ a
-same_store a b network bound source =
-    let reach : b.reach ≡ a.reach = cc in
+same_store : (a b : Stored) → b.network ≡ a.network → b.bound ∷ b.cells ≡ a.bound ∷ a.cells → b ≡ a
+same_store a b network source =
+    let bound : b.bound ≡ a.bound = cc in
     let cells : b.cells ≡ a.cells = cc in
-    λ i. record { network = network i; bound = bound i; reach = reach i; cells = cells i }
+    λ i. record { network = network i; bound = bound i; cells = cells i }
 
 -- one more draw, and rows that became known for the trace of number k
 pub stays_more : {j : Job} {reader mid after : Reading} {ticket drawn drawn' : Drawn} (k : ℕ) → k < length j.traces → Stays j reader ticket mid drawn → AsksOnly (rows_state mid) (rows_state after) (λ v. asks_at j v k ≡ true)
@@ -152,7 +152,8 @@ stays_more {j} {reader} {mid} {after} k inside stays asked same =
     record {
       reader = record {
         stays = record {
-          store = same_store mid.store after.store keeps.network keeps.bound keeps.source ∙ before.store;
+          store = same_store mid.store after.store keeps.network keeps.source ∙ before.store;
+          bound = keeps.bound ∙ before.bound;
           held = λ n row e. keeps.held n row (before.held n row e);
         };
         only = λ v known. ⊎_elim

@@ -8,7 +8,7 @@ use Rattle.trace_match.specs.Match.{asks}
 use Rattle.trace_reader.specs.declared.trace.Trace.{Trace}
 use Rattle.match_pool.specs.Working.{IsReaderFor}
 
--- 1 to 64 readers of stores for this network and the bound of these options
+-- 1 to 64 readers of stores for this network, which return rows within the bound of these options
 pub record AreReadersFor (n : Net) (p : Params) (readers : List Reading) : Type 0 where
   pub some : 1 ≤ length readers
   pub few : length readers ≤ 64

@@ -36,14 +36,15 @@ pub record CanDraw (count : ℕ) (claims : Opened) (ticket : Drawn) : Type 0 whe
   pub own : ticket.claims ≡ claims.name
   pub opened : IsOpenTicket claims.count ticket
 
--- the reader is of a store for this network and the bound of these options
+-- the reader is of a store for this network, and returns rows within the bound of these options
 pub record IsReaderFor (n : Net) (p : Params) (reader : Reading) : Type 0 where
   pub network : reader.store.network ≡ n
-  pub bound : reader.store.bound ≡ p.bound
+  pub bound : reader.bound ≡ p.bound
 
--- the reader is of the same store, and what it knew it knows
+-- the reader is of the same store and bound, and what it knew it knows
 pub record StaysReader (before after : Reading) : Type 0 where
   pub store : after.store ≡ before.store
+  pub bound : after.bound ≡ before.bound
   pub held : Extends before.places after.places
 
 -- whether some trace of the job asks for the row of node v

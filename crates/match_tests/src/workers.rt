@@ -37,13 +37,13 @@ fn readers_of<'s>(
     store: &'s RowStore<'s>,
     count: u32,
 ) -> Result<List<Reader<'s>>, AllocError>
-    requires bound { store.now.bound ≡ DEFAULTS.bound }
+    requires bound { store.now.bound ≤ DEFAULTS.bound }
     requires count { (1 ≤ count) × (count ≤ 64) }
     ensures { IfOk result (AreReadersFor store.now.network DEFAULTS) }
 {
     let mut readers = List::new(alloc);
     for _ in 0..count {
-        readers.push(store.reader()?)?;
+        readers.push(store.reader_within(DEFAULTS.bound)?)?;
     }
     Ok(readers)
 }
@@ -97,7 +97,7 @@ fn are_matched<R: Threads + Sync>(
     store: &RowStore<'_>,
     traces: &[Trace],
 ) -> Result<bool, AllocError>
-    requires { (store.now.network ≡ net.now) × (store.now.bound ≡ DEFAULTS.bound) }
+    requires { (store.now.network ≡ net.now) × (store.now.bound ≤ DEFAULTS.bound) }
 {
     let readers = readers_of(alloc, store, 4)?;
     let Some((all, readers)) = matched_with(rt, alloc, net, traces, readers)? else {
@@ -127,7 +127,7 @@ fn is_town_matched<R: Threads + Sync>(rt: &R, alloc: Global) -> Option<bool> {
     let traces = traces.as_slice();
     let bound = DEFAULTS.bound;
     let whole = RowStore::open(alloc, &net, bound).ok()?;
-    let near = RowStore::open_near(alloc, &net, bound, near_reach(bound)).ok()?;
+    let near = RowStore::open(alloc, &net, near_reach(bound)).ok()?;
     let by_whole = are_matched(rt, alloc, &net, &whole, traces).ok()?;
     let by_near = are_matched(rt, alloc, &net, &near, traces).ok()?;
     Some(by_whole && by_near)

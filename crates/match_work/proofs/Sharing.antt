@@ -31,14 +31,14 @@ no_places zero v = refl
 no_places (suc n) zero = refl
 no_places (suc n) (suc v) = no_places n v
 
-nothing_known : (store : Stored) (k v : ℕ) → is_known_to_any (replicate k (fresh_reader store)) v ≡ false
-nothing_known store zero v = refl
-nothing_known store (suc k) v =
-    ap (λ b. b || is_known_to_any (replicate k (fresh_reader store)) v) (no_places (length store.network.nodes) v) ∙ nothing_known store k v
+nothing_known : (store : Stored) (bound k v : ℕ) → is_known_to_any (replicate k (fresh_reader store bound)) v ≡ false
+nothing_known store bound zero v = refl
+nothing_known store bound (suc k) v =
+    ap (λ b. b || is_known_to_any (replicate k (fresh_reader store bound)) v) (no_places (length store.network.nodes) v) ∙ nothing_known store bound k v
 
 pub know_nothing : (on : Setting) (store : Stored) → KnowAsked on [] (fresh_readers on store)
 know_nothing on store v = (
-  λ is. absurd (true≢false (sym is ∙ nothing_known store on.params.workers v)),
+  λ is. absurd (true≢false (sym is ∙ nothing_known store on.params.bound on.params.workers v)),
   λ (is : false ≡ true). cc,
 )
 
@@ -49,15 +49,15 @@ length-replicate (suc k) r = omega (arith, length-replicate k r)
 pub share_fresh : (on : Setting) (store : Stored) → IsAccepted on.params → IsStoreFor on store → ShareStore on (fresh_readers on store)
 share_fresh on store accepted is =
     let workers = accepted.workers in
-    let size = length-replicate on.params.workers (fresh_reader store) in
+    let size = length-replicate on.params.workers (fresh_reader store on.params.bound) in
     record {
       readers_are = record {
         some = omega (arith, size, workers.0);
         few = omega (arith, size, workers.1);
-        each = All-replicate (IsReaderFor on.network on.params) on.params.workers (fresh_reader store) (record { network = is.network; bound = is.bound });
+        each = All-replicate (IsReaderFor on.network on.params) on.params.workers (fresh_reader store on.params.bound) (record { network = is.network; bound = refl });
       };
       store = store;
-      each = All-replicate (λ (r : Reading). r.store ≡ store) on.params.workers (fresh_reader store) refl;
+      each = All-replicate (λ (r : Reading). r.store ≡ store) on.params.workers (fresh_reader store on.params.bound) refl;
     }
 
 -- readers that stay those of their stores
@@ -76,7 +76,7 @@ share_on on old new share stay =
       readers_are = record {
         some = (let some = readers.some in omega (arith, size, some));
         few = (let few = readers.few in omega (arith, size, few));
-        each = all_stay (IsReaderFor on.network on.params) old new (λ a b stays is. record { network = ap (λ (s : Stored). s.network) stays.store ∙ is.network; bound = ap (λ (s : Stored). s.bound) stays.store ∙ is.bound }) stay readers.each;
+        each = all_stay (IsReaderFor on.network on.params) old new (λ a b stays is. record { network = ap (λ (s : Stored). s.network) stays.store ∙ is.network; bound = stays.bound ∙ is.bound }) stay readers.each;
       };
       store = share.store;
       each = all_stay (λ (r : Reading). r.store ≡ share.store) old new (λ a b stays is. stays.store ∙ is) stay share.each;

@@ -1,5 +1,5 @@
 -- Readers of one store, and what matching by them leaves.
-use Rattle.std.specs.Prelude.{◌≡◌, ℕ, List, All, Result, IfOk, OnOk, None, length, replicate}
+use Rattle.std.specs.Prelude.{◌≡◌, ◌≤◌, ℕ, List, All, Result, IfOk, OnOk, None, length, replicate}
 use Rattle.std.specs.List.{AllZip}
 use Rattle.std.specs.declared.alloc.AllocError.{AllocError}
 use Rattle.match_pool.specs.Learning.{AreReadersFor, LearnAsked}
@@ -12,18 +12,18 @@ use Rattle.trace_match.specs.Setting.{Setting}
 use denote.Ref.{Bor, MutBor}
 use denote.Param.Members.{Shared}
 
--- the store is for the network of this setting and the bound of its options
+-- the store is for the network of this setting, and its rows reach no further than the bound of the options
 pub record IsStoreFor (on : Setting) (store : Stored) : Type 0 where
   pub network : store.network ≡ on.network
-  pub bound : store.bound ≡ on.params.bound
+  pub bound : store.bound ≤ on.params.bound
 
--- a reader that knows nothing
-abbrev pub fresh_reader : Stored → Reading
-fresh_reader store = record { store = store; places = replicate (length store.network.nodes) None }
+-- a reader that knows nothing, and returns rows within this bound
+abbrev pub fresh_reader : Stored → ℕ → Reading
+fresh_reader store bound = record { store = store; bound = bound; places = replicate (length store.network.nodes) None }
 
 -- as many readers as the setting has workers, which know nothing
 abbrev pub fresh_readers : Setting → Stored → List Reading
-fresh_readers on store = replicate on.params.workers (fresh_reader store)
+fresh_readers on store = replicate on.params.workers (fresh_reader store on.params.bound)
 
 -- readers for this setting, all of one store
 pub record ShareStore (on : Setting) (readers : List Reading) : Type 0 where

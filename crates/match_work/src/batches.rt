@@ -16,18 +16,19 @@ use trace_reader::Trace;
 
 /// A store for the rows of the network within the bound of the options.
 pub fn open_store<'n>(alloc: Global, matcher: &Matcher<'n>) -> Result<RowStore<'n>, AllocError>
-    ensures store { IfOk result (IsStoreFor matcher.now) }
-    ensures whole { IfOk result (λ store. store.reach ≡ matcher.now.params.bound) }
+    ensures { IfOk result (λ store. (store.network ≡ matcher.now.network)
+        × (store.bound ≡ matcher.now.params.bound)) }
 {
     RowStore::open(alloc, matcher.network(), matcher.params().bound)
 }
 
-/// A store of shorter rows, for matching along traces. Its readers answer rows within the bound of the options.
+/// A store for shorter rows of the network, which serve most steps along a trace.
 pub fn open_near_store<'n>(alloc: Global, matcher: &Matcher<'n>) -> Result<RowStore<'n>, AllocError>
     ensures { IfOk result (IsStoreFor matcher.now) }
 {
-    let (network, bound) = (matcher.network(), matcher.params().bound);
-    RowStore::open_near(alloc, network, bound, matcher.near_reach())
+    // The bound of accepted options is small enough for a store.
+    matcher.params();
+    RowStore::open(alloc, matcher.network(), matcher.near_reach())
 }
 
 /// As many readers of a store as the options have workers, from 1 to 64. They know nothing.
@@ -43,7 +44,7 @@ pub fn open_readers<'s>(
     let params = matcher.params();
     let mut readers = List::new(alloc);
     for _ in 0..params.workers {
-        readers.push(store.reader()?)?;
+        readers.push(store.reader_within(params.bound)?)?;
     }
     Ok(readers)
 }

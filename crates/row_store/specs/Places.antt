@@ -46,11 +46,11 @@ StaysBlind before after = (before ≡ None) × (after ≡ None)
 
 -- searches for rows of this store
 abbrev pub IsSearcherOf : Stored → BoundedTable → Type 0
-IsSearcherOf store t = t ≡ record { network = store.network; bound = store.reach }
+IsSearcherOf store t = t ≡ record { network = store.network; bound = store.bound }
 
 -- the place of node v of a store, and a searcher for the store's rows
 pub record IsPlaceOf (store : Stored) (v : ℕ) (t : BoundedTable) (p : Place) : Type 0 where
   pub node : HasNode store.network v
   pub cells_count : length store.cells ≡ length store.network.nodes
   pub searcher : IsSearcherOf store t
-  pub fits : Fits store.network store.reach v (slice_index store.cells v) p
+  pub fits : Fits store.network store.bound v (slice_index store.cells v) p

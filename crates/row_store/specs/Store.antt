@@ -6,17 +6,17 @@ use Rattle.bounded_search.specs.Known.{known_nodes}
 use Rattle.bounded_search.specs.Rows.{RowsState}
 use Rattle.bounded_search.specs.Table.{TableRow, IsRow}
 
--- a store: the network, the bound of the rows that its readers answer, the bound of the rows in its cells, and the
--- names of its cells, one for each node
+-- a store: the network and the bound of its rows, and the names of its cells, one for each node
 pub record Stored : Type 0 where
   pub network : Net
   pub bound : ℕ
-  pub reach : ℕ
   pub cells : List ℕ
 
--- a reader: the store that it is of, and for each node nothing, or the row that it knows
+-- a reader: the store that it is of, the bound of the rows that it returns, and for each node nothing, or the row that it
+-- knows
 pub record Reading : Type 0 where
   pub store : Stored
+  pub bound : ℕ
   pub places : List (Option TableRow)
 
 -- whether a reader knows a row for node v
@@ -28,11 +28,12 @@ IsKnown r v = (row : TableRow) × (slice_get r.places v ≡ Some (Some row))
 
 -- the row that it knows for node v is the row of v
 abbrev pub KnowsRow : Reading → ℕ → Type 0
-KnowsRow r v = (row : TableRow) × (slice_get r.places v ≡ Some (Some row)) × IsRow r.store.network r.store.reach v row
+KnowsRow r v = (row : TableRow) × (slice_get r.places v ≡ Some (Some row)) × IsRow r.store.network r.store.bound v row
 
--- the reader is of the same store, and knows this row for node v, and else what it knew
+-- the reader is of the same store and bound, and knows this row for node v, and else what it knew
 pub record Sees (before : Reading) (v : ℕ) (row : TableRow) (after : Reading) : Type 0 where
   pub store : after.store ≡ before.store
+  pub bound : after.bound ≡ before.bound
   pub places : after.places ≡ slice_set before.places v (Some row)
   pub stays : (r : TableRow) → slice_get before.places v ≡ Some (Some r) → row ≡ r
   pub known : slice_get after.places v ≡ Some (Some row)
@@ -50,8 +51,8 @@ count_known (r ∷ rs) = count_by (is_known_to_any (r ∷ rs)) (range_with_len 0
 abbrev pub rows_state : Reading → RowsState
 rows_state r = record {
   network = r.store.network;
-  bound = r.store.bound;
-  source = r.store.reach ∷ r.store.cells;
+  bound = r.bound;
+  source = r.store.bound ∷ r.store.cells;
   known = known_nodes r.places;
   held = r.places;
 }

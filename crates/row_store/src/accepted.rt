@@ -31,7 +31,7 @@ impl<'a, 's> Model for Accepted<'a, 's> {
 
     ghost Value = { BoundedTable };
 
-    ghost view = { λ a. record { network = a.store.now.network; bound = a.store.now.reach } };
+    ghost view = { λ a. record { network = a.store.now.network; bound = a.store.now.bound } };
 
     ghost invariant = { λ a. (length a.places.now ≡ length a.store.now.network.nodes)
         × AllFit a.store.now a.places.now };
@@ -42,7 +42,7 @@ impl<'a, 's> Accepted<'a, 's> {
     pub fn of(store: &'s RowStore<'s>, places: &'a [Place<'s>]) -> Accepted<'a, 's>
         requires count { length places.now ≡ length store.now.network.nodes }
         requires fit { AllFit store.now places.now }
-        ensures { result ≡ record { network = store.now.network; bound = store.now.reach } }
+        ensures { result ≡ record { network = store.now.network; bound = store.now.bound } }
     {
         Accepted { store, places }
     }

@@ -15,14 +15,14 @@ use road_network::NodeId;
 use std::alloc::AllocError;
 
 impl<'s> Reader<'s> {
-    /// The row of n within the bound of the cells.
+    /// The row of n within the bound of the store.
     ///
     /// If the cell contains another row, the reader makes the row of n for itself. It keeps this row for
     /// later calls, which the clauses do not promise. If the known row is the row of n, the call is Ok,
     /// even if memory is refused.
-    fn cell_row(&mut self, n: NodeId) -> Result<&Row, AllocError>
+    fn store_row(&mut self, n: NodeId) -> Result<&Row, AllocError>
         requires { HasNode self.old.store.network n.0 }
-        ensures value { IfOk result (λ row. IsRow self.old.store.network self.old.store.reach n.0 row.now) }
+        ensures value { IfOk result (λ row. IsRow self.old.store.network self.old.store.bound n.0 row.now) }
         ensures again { KnowsRow self.old n.0 → IsOk result }
         ensures* after { sem 𝓛 (Rests reader_type self.entry
             (λ new. AsksFor (rows_state self.old) (λ v. v ≡ n.0) result (rows_state new))) }
@@ -38,37 +38,37 @@ impl<'s> Reader<'s> {
 impl<'s> Rows for Reader<'s> {
     ghost state = { λ r. rows_state r };
 
-    /// If the cells have shorter rows, the reader makes the whole row for itself, and keeps it for later calls.
-    /// If they do not, and the known row is the row of n, the call is Ok, even if memory is refused.
+    /// The row of n within the bound of this reader. If the rows of the store are shorter, the reader finds this row for
+    /// itself, and keeps it. If they are not, and the known row is the row of n, the call is Ok, even if memory is refused.
     fn row(&mut self, n: NodeId) -> Result<&Row, AllocError>
         requires { HasNode self.old.store.network n.0 }
-        ensures value { IfOk result (λ row. IsRow self.old.store.network self.old.store.bound n.0 row.now) }
-        ensures again { self.old.store.reach ≡ self.old.store.bound → KnowsRow self.old n.0 → IsOk result }
+        ensures value { IfOk result (λ row. IsRow self.old.store.network self.old.bound n.0 row.now) }
+        ensures again { self.old.bound ≡ self.old.store.bound → KnowsRow self.old n.0 → IsOk result }
         ensures* after { sem 𝓛 (Rests reader_type self.entry
             (λ new. AsksFor (rows_state self.old) (λ v. v ≡ n.0) result (rows_state new))) }
     {
-        let store = self.store;
-        if store.reach == store.bound {
-            return self.cell_row(n);
+        let (store, bound) = (self.store, self.bound);
+        if bound == store.bound {
+            return self.store_row(n);
         }
         self.settle(n)?;
-        fill_whole(store, &mut self.whole, n)?;
-        Ok(whole_row(store, &self.whole, n))
+        fill_whole(store, &mut self.whole, bound, n)?;
+        Ok(whole_row(&self.whole, n))
     }
 
-    /// The row within the bound of the cells, if that is at least `reach`, and otherwise the one that `row` returns.
+    /// The row within the bound of the store, if that is at least `reach`, and otherwise the one that `row` returns.
     fn near_row(&mut self, n: NodeId, reach: u32) -> Result<&Row, AllocError>
         requires node { HasNode self.old.store.network n.0 }
-        requires reach { reach ≤ self.old.store.bound }
+        requires reach { reach ≤ self.old.bound }
         ensures value { IfOk result
-            (λ row. IsNearRow self.old.store.network reach self.old.store.bound n.0 row.now) }
-        ensures again { reach ≤ self.old.store.reach → KnowsRow self.old n.0 → IsOk result }
+            (λ row. IsNearRow self.old.store.network reach self.old.bound n.0 row.now) }
+        ensures again { reach ≤ self.old.store.bound → KnowsRow self.old n.0 → IsOk result }
         ensures* after { sem 𝓛 (Rests reader_type self.entry
             (λ new. AsksFor (rows_state self.old) (λ v. v ≡ n.0) result (rows_state new))) }
     {
         let store = self.store;
-        if reach <= store.reach {
-            self.cell_row(n)
+        if reach <= store.bound {
+            self.store_row(n)
         } else {
             self.row(n)
         }

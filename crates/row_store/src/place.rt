@@ -123,7 +123,7 @@ impl<'s> Place<'s> {
         row: Row,
     ) -> Result<(), AllocError>
         requires place { IsPlaceOf store.now n.0 searcher.old self.old }
-        requires right { IsRow store.now.network store.now.reach n.0 row }
+        requires right { IsRow store.now.network store.now.bound n.0 row }
         ensures place { IsPlaceOf store.now n.0 searcher.new self.new }
         ensures seen { OnOk result (KeepsSight self.old.note.known self.new.note.known) }
         ensures err { OnErr result (StaysBlind self.old.note.known self.new.note.known) }
@@ -175,11 +175,11 @@ impl<'s> Place<'s> {
 
     /// The node's row: its own if it has one, and otherwise the known one.
     pub fn lend(&self, store: &RowStore<'_>, n: NodeId) -> &Row
-        requires fits { Fits store.now.network store.now.reach n.0
+        requires fits { Fits store.now.network store.now.bound n.0
             (slice_index store.now.cells n.0) self.now }
         requires known { IsSome self.now.note.known }
         requires ready { IsReady self.now.seen }
-        ensures { IsRow store.now.network store.now.reach n.0 result.now }
+        ensures { IsRow store.now.network store.now.bound n.0 result.now }
     {
         match &self.seen {
             Seen::Right(row) => row,

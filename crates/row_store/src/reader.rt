@@ -21,9 +21,11 @@ use std::marker::Model;
 /// What one thread has seen of a store and found out about it.
 pub struct Reader<'s> {
     pub(crate) store: &'s RowStore<'s>,
+    /// The bound of the rows that this reader returns as [`bounded_search::Rows`], at least that of the store.
+    pub(crate) bound: u32,
     pub(crate) searcher: Searcher<'s>,
     pub(crate) places: Vec<Place<'s>>,
-    /// Rows within the whole bound, if the cells have shorter ones. Opened for the first.
+    /// The reader's own rows within its bound, if the rows of the store are shorter. They are opened when the first is needed.
     pub(crate) whole: Option<OwnRows<'s>>,
 }
 
@@ -32,6 +34,7 @@ impl<'s> Drop for Reader<'s> {
     fn drop(self) {
         let Reader {
             store: _,
+            bound: _,
             searcher: _,
             places: _,
             whole: _,
@@ -56,26 +59,45 @@ impl<'n> RowStore<'n> {
     ///
     /// It stores a place for each node and the arrays of a search.
     pub fn reader<'s>(&'s self) -> Result<Reader<'s>, AllocError>
-        ensures { IfOk result (λ r. (r.store ≡ self.now)
+        ensures fresh { IfOk result (λ r. (r.store ≡ self.now)
             × (r.places ≡ replicate (length self.now.network.nodes) None)) }
+        ensures bound { IfOk result (λ r. r.bound ≡ self.now.bound) }
     {
-        Reader::of(self)
+        Reader::of(self, self.bound)
+    }
+
+    /// A reader of this store that knows nothing, and returns rows within this bound, in cm. If the store's bound is
+    /// shorter, the reader finds these rows for itself.
+    ///
+    /// This serves those who match along a trace, where most rows need not reach far.
+    pub fn reader_within<'s>(&'s self, bound: u32) -> Result<Reader<'s>, AllocError>
+        requires no_shorter { self.now.bound ≤ bound }
+        requires bounded { bound ≤ 10_000_000 }
+        ensures fresh { IfOk result (λ r. (r.store ≡ self.now)
+            × (r.places ≡ replicate (length self.now.network.nodes) None)) }
+        ensures bound { IfOk result (λ r. r.bound ≡ bound) }
+    {
+        Reader::of(self, bound)
     }
 }
 
 impl<'s> Reader<'s> {
-    /// A reader of a store that knows nothing.
-    fn of(store: &'s RowStore<'s>) -> Result<Reader<'s>, AllocError>
-        ensures { IfOk result (λ r. (r.store ≡ store.now)
+    /// A reader of a store that knows nothing, and returns rows within this bound.
+    fn of(store: &'s RowStore<'s>, bound: u32) -> Result<Reader<'s>, AllocError>
+        requires no_shorter { store.now.bound ≤ bound }
+        requires bounded { bound ≤ 10_000_000 }
+        ensures fresh { IfOk result (λ r. (r.store ≡ store.now)
             × (r.places ≡ replicate (length store.now.network.nodes) None)) }
+        ensures bound { IfOk result (λ r. r.bound ≡ bound) }
     {
-        let searcher = Searcher::open(store.alloc, store.network, store.reach)?;
+        let searcher = Searcher::open(store.alloc, store.network, store.bound)?;
         let mut places = Vec::with_capacity(store.alloc, store.cells.len())?;
         for cell in &store.cells {
             places.push(Place::empty(cell))?;
         }
         Ok(Reader {
             store,
+            bound,
             searcher,
             places,
             whole: None,
@@ -101,7 +123,7 @@ impl<'s> Reader<'s> {
     fn find(&mut self, n: NodeId) -> Result<Row, AllocError>
         requires { HasNode self.old.store.network n.0 }
         ensures same { self.new ≡ self.old }
-        ensures row { IfOk result (IsRow self.old.store.network self.old.store.reach n.0) }
+        ensures row { IfOk result (IsRow self.old.store.network self.old.store.bound n.0) }
     {
         let known = Accepted::of(self.store, self.places.as_slice());
         self.searcher.row_from(&known, n)
@@ -139,7 +161,7 @@ impl<'s> Reader<'s> {
     /// Makes the row of the cell of n known; it is this row if the cell was empty.
     fn settle_right(&mut self, n: NodeId, row: Row) -> Result<(), AllocError>
         requires node { HasNode self.old.store.network n.0 }
-        requires right { IsRow self.old.store.network self.old.store.reach n.0 row }
+        requires right { IsRow self.old.store.network self.old.store.bound n.0 row }
         ensures seen { OnOk result ((row : TableRow) × Sees self.old n.0 row self.new) }
         ensures err { OnErr result (self.new ≡ self.old) }
         ensures again { IsKnown self.old n.0 → IsOk result }
@@ -154,7 +176,7 @@ impl<'s> Reader<'s> {
         requires { (HasNode self.now.store.network n.0) × IsKnown self.now n.0 }
         ensures row { slice_get self.now.places n.0 ≡ Some (Some (row_seen result)) }
         ensures table { IsTable result
-            ↔ IsRow self.now.store.network self.now.store.reach n.0 (row_seen result) }
+            ↔ IsRow self.now.store.network self.now.store.bound n.0 (row_seen result) }
     {
         match &self.places[n.0 as usize].seen {
             Seen::Right(row) => Sight::Table(*row),
@@ -183,7 +205,7 @@ impl<'s> Reader<'s> {
         requires { HasNode self.old.store.network n.0 }
         ensures seen { IfOk result (λ s. Sees self.old n.0 (row_seen s) self.new) }
         ensures table { IfOk result (λ s. IsTable s
-            ↔ IsRow self.old.store.network self.old.store.reach n.0 (row_seen s)) }
+            ↔ IsRow self.old.store.network self.old.store.bound n.0 (row_seen s)) }
         ensures err { OnErr result (self.new ≡ self.old) }
         ensures again { IsKnown self.old n.0 → IsOk result }
     {
@@ -213,7 +235,7 @@ impl<'s> Reader<'s> {
     /// `Err` means out of memory. At a known node the call is Ok, even if memory is refused.
     pub fn offer_right(&mut self, n: NodeId, row: Row) -> Result<&'s Row, AllocError>
         requires node { HasNode self.old.store.network n.0 }
-        requires right { IsRow self.old.store.network self.old.store.reach n.0 row }
+        requires right { IsRow self.old.store.network self.old.store.bound n.0 row }
         ensures seen { IfOk result (λ r. Sees self.old n.0 r.now self.new) }
         ensures err { OnErr result (self.new ≡ self.old) }
         ensures again { IsKnown self.old n.0 → IsOk result }

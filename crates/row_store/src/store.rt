@@ -7,13 +7,11 @@ use road_network::Network;
 use std::alloc::{AllocError, Global};
 use std::marker::Model;
 
-/// A cell for the row of each node of a network, within the bound of the rows that readers answer or a shorter one.
+/// A cell for the row of each node of a network within a bound.
 pub struct RowStore<'n> {
     pub(crate) alloc: Global,
     pub(crate) network: &'n Network,
     pub(crate) bound: u32,
-    /// The bound of the rows in the cells.
-    pub(crate) reach: u32,
     pub(crate) cells: Vec<OnceBox<Row>>,
 }
 
@@ -24,7 +22,6 @@ impl<'n> Drop for RowStore<'n> {
             alloc: _,
             network: _,
             bound: _,
-            reach: _,
             cells: _,
         } = self;
     }
@@ -40,39 +37,19 @@ impl<'n> Model for RowStore<'n> {
     ghost view = { λ s. record {
       network = s.network.now;
       bound = s.bound;
-      reach = s.reach;
       cells = map cell_name s.cells.items;
     } };
 
     ghost invariant = { λ s. (length s.cells.items ≡ length s.network.now.nodes)
-        × (s.bound ≤ 10_000_000) × (s.reach ≤ s.bound) };
+        × (s.bound ≤ 10_000_000) };
 }
 
 impl<'n> RowStore<'n> {
     /// An empty cell for each node of this network, for rows with a bound in cm of at most 10,000,000.
     pub fn open(alloc: Global, network: &'n Network, bound: u32) -> Result<RowStore<'n>, AllocError>
         requires { bound ≤ 10_000_000 }
-        ensures store { IfOk result (λ s. (s.network ≡ network.now) × (s.bound ≡ bound)
+        ensures { IfOk result (λ s. (s.network ≡ network.now) × (s.bound ≡ bound)
             × (length s.cells ≡ length network.now.nodes)) }
-        ensures whole { IfOk result (λ s. s.reach ≡ bound) }
-    {
-        RowStore::open_near(alloc, network, bound, bound)
-    }
-
-    /// An empty cell for each node of this network, for rows within a shorter bound, `reach`, in cm. Readers answer
-    /// rows within the whole bound of at most 10,000,000, and make those for themselves.
-    ///
-    /// This serves those who match along a trace, where most rows need not reach far.
-    pub fn open_near(
-        alloc: Global,
-        network: &'n Network,
-        bound: u32,
-        reach: u32,
-    ) -> Result<RowStore<'n>, AllocError>
-        requires bound { bound ≤ 10_000_000 }
-        requires reach { reach ≤ bound }
-        ensures rows { IfOk result (λ s. (s.network ≡ network.now) × (s.bound ≡ bound) × (s.reach ≡ reach)) }
-        ensures cells { IfOk result (λ s. length s.cells ≡ length network.now.nodes) }
     {
         network.invariants();
         let mut cells = Vec::with_capacity(alloc, network.node_count() as usize)?;
@@ -83,7 +60,6 @@ impl<'n> RowStore<'n> {
             alloc,
             network,
             bound,
-            reach,
             cells,
         })
     }

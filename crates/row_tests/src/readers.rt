@@ -88,18 +88,19 @@ fn see_offered(alloc: Global, second: Option<Entry>) -> Option<bool> {
     offer_and_see(&store, row, second).ok()
 }
 
-/// Whether a reader of a store of shorter rows sees and gives that of node 1, and another one gives the whole row.
+/// Whether a reader that returns longer rows than those of its store sees and gives the short row of node 1, and another
+/// one gives the whole row.
 fn see_short(store: &RowStore<'_>) -> Result<bool, AllocError>
     requires node { HasNode store.now.network 1 }
-    requires bound { 5_000 ≤ store.now.bound }
+    requires bound { store.now.bound ≤ 300_000 }
 {
-    let mut reader = store.reader()?;
+    let mut reader = store.reader_within(300_000)?;
     let short = match reader.look(NodeId(1))? {
         Sight::Table(row) => has_second(row, None),
         Sight::Foreign(_) => false,
     };
     let near = has_second(reader.near_row(NodeId(1), 5_000)?, None);
-    let mut other = store.reader()?;
+    let mut other = store.reader_within(300_000)?;
     Ok(short && near && give_right(&mut other)?)
 }
 
@@ -108,7 +109,7 @@ fn see_shorter(alloc: Global) -> Option<bool> {
     if net.node_count() < 2 {
         return None;
     }
-    let store = RowStore::open_near(alloc, &net, 300_000, 5_000).ok()?;
+    let store = RowStore::open(alloc, &net, 5_000).ok()?;
     see_short(&store).ok()
 }
 

@@ -87,7 +87,7 @@ fn offer_row(
 ) -> Result<(), Stop>
     requires networks { (checker.old.network ≡ roads.now)
         × (reader.old.store.network ≡ roads.now) }
-    requires bounds { reader.old.store.reach ≡ checker.old.bound }
+    requires bounds { reader.old.store.bound ≡ checker.old.bound }
     requires node { HasNode roads.now row.origin }
     ensures same { (checker.new ≡ checker.old) × (reader.new.store ≡ reader.old.store) }
     ensures said { Accepts Refusal.Table (row_said roads.now checker.old.bound row) result }
@@ -112,7 +112,7 @@ fn offer_rows(
 ) -> Result<(), Stop>
     requires networks { (checker.old.network ≡ roads.now)
         × (reader.old.store.network ≡ roads.now) }
-    requires bounds { reader.old.store.reach ≡ checker.old.bound }
+    requires bounds { reader.old.store.bound ≡ checker.old.bound }
     requires nodes { All (λ row. HasNode roads.now row.origin) rows }
     ensures { Accepts Refusal.Table (rows_said roads.now checker.old.bound rows) result }
 {
@@ -131,7 +131,7 @@ fn accept_table(
     store: &RowStore<'_>,
 ) -> Result<(), Stop>
     requires bound { bound ≤ 10_000_000 }
-    requires store { (store.now.network ≡ roads.now) × (store.now.reach ≡ bound) }
+    requires store { (store.now.network ≡ roads.now) × (store.now.bound ≡ bound) }
     ensures { Accepts Refusal.Table (table_file_said roads.now bound text.items) result }
 {
     let rows = read_rows(alloc, roads, bound, text)?;
@@ -140,8 +140,7 @@ fn accept_table(
     offer_rows(alloc, roads, &mut checker, &mut reader, rows)
 }
 
-/// Reads a table file, and accepts or refuses it. All rows of an accepted file are offered to the store, whose
-/// cells are for rows within this bound.
+/// Reads a table file, and accepts or refuses it. All rows of an accepted file are offered to the store.
 ///
 /// The text is in memory at once, and dropped once its rows are read. A row is moved into the store.
 pub fn preload<S: Shelf>(
@@ -153,7 +152,7 @@ pub fn preload<S: Shelf>(
     store: &RowStore<'_>,
 ) -> Result<(), Stop>
     requires bound { bound ≤ 10_000_000 }
-    requires store { (store.now.network ≡ roads.now) × (store.now.reach ≡ bound) }
+    requires store { (store.now.network ≡ roads.now) × (store.now.bound ≡ bound) }
     ensures { Loads Refusal.Table File.Table table.now text_limit (table_file_said roads.now bound)
         (S.state shelf.old) (S.state shelf.new) result }
 {

@@ -6,7 +6,7 @@ use Rattle.row_store.specs.Store.{Reading, Stored}
 use Rattle.match_tests.proofs.workers.readers_of.Goals as goal
 
 abbrev fresh : Stored → Reading
-fresh store = record { store = store; places = replicate (length store.network.nodes) None }
+fresh store = record { store = store; bound = 300_000; places = replicate (length store.network.nodes) None }
 
 length-replicate : (k : ℕ) (r : Reading) → length (replicate k r) ≡ k
 length-replicate zero r = refl
@@ -23,5 +23,5 @@ returns c =
     subst (AreReadersFor store.network _) (sym (c.loop.invariant ∙ ap (λ n. replicate n (fresh store)) all)) (record {
       some = omega (arith, size, count.0);
       few = omega (arith, size, count.1);
-      each = All-replicate (IsReaderFor store.network _) c.args.count (fresh store) (record { network = refl; bound = c.requires.bound });
+      each = All-replicate (IsReaderFor store.network _) c.args.count (fresh store) (record { network = refl; bound = refl });
     })

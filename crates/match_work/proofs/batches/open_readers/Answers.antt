@@ -11,7 +11,7 @@ returns-clause-fresh c =
     let high = c.loop.auto.counter-end in
     let view = ap (λ (p : Params). p.workers) c.params-params.ensures.is in
     let all : c.loop.counter ≡ c.args.matcher.now.params.workers = omega (arith, low, high, view) in
-    c.loop.invariant ∙ ap (λ n. replicate n (fresh_reader c.args.store.now)) all
+    c.loop.invariant ∙ ap (λ n. replicate n (fresh_reader c.args.store.now c.params-params.result.now.bound)) all ∙ ap (λ (p : Params). replicate c.args.matcher.now.params.workers (fresh_reader c.args.store.now p.bound)) c.params-params.ensures.is
 
 pub returns-clause-shared : goal.returns-clause-shared
 returns-clause-shared c =
@@ -19,6 +19,6 @@ returns-clause-shared c =
     let high = c.loop.auto.counter-end in
     let view = ap (λ (p : Params). p.workers) c.params-params.ensures.is in
     let all : c.loop.counter ≡ c.args.matcher.now.params.workers = omega (arith, low, high, view) in
-    let fresh = c.loop.invariant ∙ ap (λ n. replicate n (fresh_reader c.args.store.now)) all in
+    let fresh = c.loop.invariant ∙ ap (λ n. replicate n (fresh_reader c.args.store.now c.params-params.result.now.bound)) all ∙ ap (λ (p : Params). replicate c.args.matcher.now.params.workers (fresh_reader c.args.store.now p.bound)) c.params-params.ensures.is in
     let accepted = subst IsAccepted c.params-params.ensures.is c.params-params.ensures.accepted in
     subst (ShareStore c.args.matcher.now) (sym fresh) (share_fresh c.args.matcher.now c.args.store.now accepted c.requires)

@@ -23,6 +23,8 @@ invariant_of-self c =
       places_count = length-set _ _ _ ∙ i.places_count;
       fit = same_fit c.self.inside.store.now _ _ _ _ i.fit h c.index_mut-mine.ensures.value c.compare.ensures.same.0;
       searcher = i.searcher;
+      no_shorter = i.no_shorter;
+      bounded = i.bounded;
       whole = i.whole;
     }
 
@@ -36,6 +38,8 @@ invariant_of-other c =
       places_count = length-set _ _ _ ∙ j.places_count;
       fit = same_fit c.other.inside.store.now _ _ _ _ j.fit k c.index_mut-theirs.ensures.value c.compare.ensures.same.1;
       searcher = j.searcher;
+      no_shorter = j.no_shorter;
+      bounded = j.bounded;
       whole = j.whole;
     }
 

@@ -39,7 +39,9 @@ invariant_of-result c =
       cells_count = omega (arith, c.store.invariant.0, nodes, seen, length-map cells cell_name);
       places_count = omega (arith, c.loop-cell.invariant.count, c.store.invariant.0, nodes, all);
       fit = c.loop-cell.invariant.fit;
-      searcher = c.in_ok-searcher.ensures ∙ ap (λ (s : Stored). let t : BoundedTable = record { network = s.network; bound = s.reach } in t) c.store.view_is;
+      searcher = c.in_ok-searcher.ensures ∙ ap (λ (s : Stored). let t : BoundedTable = record { network = s.network; bound = s.bound } in t) c.store.view_is;
+      no_shorter = c.requires.no_shorter;
+      bounded = c.requires.bounded;
       whole = tt;
     }
 
@@ -48,4 +50,4 @@ returns c =
     let all : length c.deref-cell-items.result.now ≡ length c.store.inside.cells.items = ap (λ (l : List (Heap × ℕ)). length l) c.deref-cell-items.ensures.value in
     let nodes = ap (λ (s : Stored). length s.network.nodes) c.store.view_is in
     let count : c.loop-cell.cell-index ≡ length c.args.store.now.network.nodes = omega (arith, c.store.invariant.0, nodes, all) in
-    (refl, c.loop-cell.invariant.none ∙ ap (λ (k : ℕ). replicate k (let none : Option TableRow = None in none)) count)
+    record { fresh = (refl, c.loop-cell.invariant.none ∙ ap (λ (k : ℕ). replicate k (let none : Option TableRow = None in none)) count); bound = refl }

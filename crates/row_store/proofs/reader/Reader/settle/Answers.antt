@@ -23,6 +23,8 @@ invariant_of-self c =
       places_count = length-set _ _ _ ∙ i.places_count;
       fit = all_fit _ _ _ _ c.look-held.ensures.place.fits i.fit;
       searcher = c.look-held.ensures.place.searcher;
+      no_shorter = i.no_shorter;
+      bounded = i.bounded;
       whole = i.whole;
     }
 
@@ -39,6 +41,8 @@ invariant_of-self-2 c =
       places_count = length-set _ _ _ ∙ i.places_count;
       fit = all_fit _ _ _ _ c.look-held.ensures.place.fits i.fit;
       searcher = c.look-held.ensures.place.searcher;
+      no_shorter = i.no_shorter;
+      bounded = i.bounded;
       whole = i.whole;
     }
 

@@ -21,6 +21,8 @@ invariant_of-self c =
       places_count = length-set _ _ _ ∙ i.places_count;
       fit = all_fit _ _ _ _ c.offer_right.ensures.place.fits i.fit;
       searcher = c.offer_right.ensures.place.searcher;
+      no_shorter = i.no_shorter;
+      bounded = i.bounded;
       whole = i.whole;
     }
 

@@ -6,7 +6,7 @@ use Rattle.row_store.specs.Store.{Stored, Reading, rows_state}
 use Rattle.row_store.specs.declared.place.Place.{Place}
 use Rattle.std.proofs.lemmas.Result.{IfOk-from_err}
 use Rattle.row_store.proofs.Places.{sees_asks, some_is, read_back, within, all_fit, fits_at, same_reading, known_there, known_here, known_as, right_ready}
-use Rattle.row_store.proofs.reader.Reader.cell_row.Goals as goal
+use Rattle.row_store.proofs.reader.Reader.store_row.Goals as goal
 
 pub make_own-requires : goal.make_own-requires
 make_own-requires c =
@@ -30,6 +30,8 @@ invariant_of-self c =
       places_count = length-set _ _ _ ∙ i.places_count;
       fit = all_fit _ _ _ _ c.make_own.ensures.place.fits i.fit;
       searcher = c.make_own.ensures.place.searcher;
+      no_shorter = i.no_shorter;
+      bounded = i.bounded;
       whole = i.whole;
     }
 
@@ -41,6 +43,8 @@ invariant_of-self-2 c =
       places_count = length-set _ _ _ ∙ i.places_count;
       fit = all_fit _ _ _ _ c.make_own.ensures.place.fits i.fit;
       searcher = c.make_own.ensures.place.searcher;
+      no_shorter = i.no_shorter;
+      bounded = i.bounded;
       whole = i.whole;
     }
 
@@ -59,9 +63,9 @@ returns-in_err-make_own c =
             let h = within _ _ _ n c.self.view_is i.places_count here in
             let there = known_there c.settle.new.self _ _ n _ c.self.view_is h c.index_mut.ensures.value in
             let some = known_as _ c.settle.new.self.places n s.0 there s.1.known in
-            let is = subst (λ (y : TableRow). IsRow c.args.self.now.store.network c.args.self.now.store.reach n y) (sym (s.1.stays known.0 known.1)) known.2 in
+            let is = subst (λ (y : TableRow). IsRow c.args.self.now.store.network c.args.self.now.store.bound n y) (sym (s.1.stays known.0 known.1)) known.2 in
             let store = ap (λ (y : Reading). y.store) c.self.view_is ∙ s.1.store in
-            let row = subst (λ (y : Stored). IsRow y.network y.reach n s.0) (sym store) is in
+            let row = subst (λ (y : Stored). IsRow y.network y.bound n s.0) (sym store) is in
             let fits = fits_at c.self.inside.store.now _ n _ i.fit h c.index_mut.ensures.value in
             let ready = right_ready _ _ n _ s.0 fits.checked (sym fits.known ∙ some) row in
             absurd (true≢false (sym (c.in_err-make_own.ensures.again ready).0));
@@ -90,5 +94,5 @@ returns c =
     let same = same_reading c.settle.new.self _ _ n _ _ c.self.view_is (within _ _ _ n c.self.view_is i.places_count here) c.index_mut.ensures.value c.make_own.ensures.same in
     let asks = subst (λ (y : Reading). AsksAll (rows_state c.args.self.now) (rows_state y) (λ v. v ≡ n)) (sym same) (sees_asks c.args.self.now n s.0 c.settle.new.self s.1) in (
       (refl, λ _. tt, asks_done asks),
-      record { value = subst (λ (y : Stored). IsRow y.network y.reach n c.lend.result.now) (ap (λ (y : Reading). y.store) same ∙ s.1.store) c.lend.ensures; again = λ known. refl; after = tt },
+      record { value = subst (λ (y : Stored). IsRow y.network y.bound n c.lend.result.now) (ap (λ (y : Reading). y.store) same ∙ s.1.store) c.lend.ensures; again = λ known. refl; after = tt },
     )

@@ -1,7 +1,7 @@
 use Rattle.std.proofs.Common.{◌≡◌, ◌+◌, ℕ, length, refl, ap, ◌∙◌, arith}
 use Rattle.std.proofs.lemmas.List.{length-map, length_push}
 use Rattle.once_cell.specs.Once.{cell_name}
-use Rattle.row_store.proofs.store.RowStore.open_near.Goals as goal
+use Rattle.row_store.proofs.store.RowStore.open.Goals as goal
 
 pub loop-init : goal.loop-init
 loop-init c = ap (λ xs. length xs) c.in_ok-cells.ensures.items
@@ -15,7 +15,7 @@ invariant_of-result c =
     let high = c.loop.auto.counter-end in
     let end = c.node_count-end.ensures in
     let all : c.loop.counter ≡ length c.args.network.now.nodes = omega (arith, low, high, end) in
-    (c.loop.invariant ∙ all, c.requires.bound, c.requires.reach)
+    (c.loop.invariant ∙ all, c.requires)
 
 pub returns : goal.returns
 returns c =
@@ -23,4 +23,4 @@ returns c =
     let high = c.loop.auto.counter-end in
     let end = c.node_count-end.ensures in
     let all : c.loop.counter ≡ length c.args.network.now.nodes = omega (arith, low, high, end) in
-    record { rows = (refl, refl, refl); cells = length-map c.loop.cells.items cell_name ∙ c.loop.invariant ∙ all }
+    (refl, refl, length-map c.loop.cells.items cell_name ∙ c.loop.invariant ∙ all)
