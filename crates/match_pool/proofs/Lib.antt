@@ -1,6 +1,7 @@
 pub mod Columns
 pub mod Draws
 pub mod Found
+pub mod Items
 pub mod Learning
 pub mod Lists
 pub mod OneFix

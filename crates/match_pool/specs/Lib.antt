@@ -5,6 +5,7 @@ pub mod Gathering
 pub mod Learning
 pub mod OneFix
 pub mod Partitions
+pub mod Running
 pub mod Tables
 pub mod Turns
 pub mod Unmatched

@@ -29,6 +29,7 @@ mod gathering;
 mod one_fix;
 mod partitions;
 mod routes;
+mod running;
 mod tables;
 mod turn;
 mod worker;

@@ -7,12 +7,13 @@ ghost use Rattle.match_pool.specs.Working.{ReadsWithin};
 
 use crate::batch::Batch;
 use crate::gate::Gate;
+use crate::running::run_each;
 use crate::turn::{Partition, Turn};
 use polyline_geometry::List;
 use row_store::Reader;
 use std::alloc::{AllocError, Global};
+use std::mem;
 use std::thread::Threads;
-use std::{mem, thread};
 
 /// A reader, its turn at each partition, and whether memory was refused in one of them.
 pub struct Worker<'s> {
@@ -105,10 +106,9 @@ fn run_all<'s, R: Threads + Sync, G: Gate>(
     ensures { (i : ℕ) (d : _) → i < length workers.old → Ran (job_of batch.now) partitions.now
         (slice_index_or workers.old i d) (slice_index_or workers.new i d) }
 {
-    thread::for_each_mut(
+    run_each(
         rt,
         workers,
-        64,
         &|place, worker: &mut Worker<'_>|
             requires { (place < length partitions.now)
                 × CanDrawFrom (job_of batch.now) partitions.now 0 (length partitions.now) worker.now }
