@@ -1,9 +1,9 @@
 -- The matches of traces, and their texts one after the other.
-use Rattle.std.proofs.Common.{◌≡◌, ℕ, ◌+◌, ◌≤◌, ◌<◌, List, [], ◌∷◌, ◌++◌, All, map, length, take, get_or, refl, sym, ◌∙◌, ap, subst, arith, append_assoc, append-nil}
+use Rattle.std.proofs.Common.{◌≡◌, ℕ, ◌+◌, ◌≤◌, ◌<◌, List, [], ◌∷◌, ◌++◌, All, map, length, take, drop, get_or, refl, sym, ◌∙◌, ap, subst, arith, append_assoc, append-nil}
 use Rattle.std.proofs.lemmas.List.{take_more}
 use Rattle.std.proofs.lemmas.List.Concat.{flat_map-append}
-use Rattle.std.proofs.lemmas.List.Elements.{All-head, All-map, All-tail, All-weaker}
-use Rattle.std.proofs.lemmas.List.Sums.{sum_by-cons, sum_by_more, sum_by_more_le}
+use Rattle.std.proofs.lemmas.List.Elements.{All-drop, All-head, All-map, All-tail, All-take, All-weaker}
+use Rattle.std.proofs.lemmas.List.Sums.{sum_by-append, sum_by-cons, sum_by_more, sum_by_more_le}
 use Rattle.cost_model.specs.Options.{IsAccepted}
 use Rattle.match_text.specs.MatchText.{IsLawful, text_of}
 use Rattle.match_text.specs.declared.matched.MatchedTrace.{MatchedTrace}
@@ -84,3 +84,13 @@ room_next matches i m low is =
     let all = sum_by_more_le (λ (x : MatchedTrace). length x.pieces) matches i m low in
     let here : length m.pieces ≡ length (get_or matches i m).pieces = ap (λ (x : MatchedTrace). length x.pieces) is in
     omega (arith, all, here)
+
+-- a front part of the matches and the part after it
+pub parts_lawful : (n : ℕ) (all front last : List MatchedTrace) → front ≡ take n all → last ≡ drop n all → All IsLawful all → All IsLawful front × All IsLawful last
+parts_lawful n all front last before after lawful = (
+  subst (All IsLawful) (sym before) (All-take IsLawful n all lawful),
+  subst (All IsLawful) (sym after) (All-drop IsLawful n all lawful),
+)
+
+pub pieces_joined : (all front last : List MatchedTrace) → all ≡ front ++ last → pieces_in all ≡ pieces_in front + pieces_in last
+pieces_joined all front last whole = ap pieces_in whole ∙ sum_by-append (λ (m : MatchedTrace). length m.pieces) front last

@@ -13,6 +13,7 @@
 mod batches;
 mod matches;
 mod tabled;
+mod texts;
 
 pub use batches::{match_batch, open_near_store, open_readers};
 pub use matches::{match_file, match_traces};

@@ -7,15 +7,16 @@ ghost use Rattle.match_text.specs.MatchText.{IsLawful};
 ghost use Rattle.program_frame.specs.Performs.{Performs};
 ghost use Rattle.program_frame.specs.Stream.{works_traces};
 ghost use Rattle.match_work.specs.Matched.{pieces_in, text_of_matches};
-ghost use Rattle.match_work.specs.Sharing.{IsStoreFor, MatchesBatch, MatchesBatches};
+ghost use Rattle.match_work.specs.Sharing.{IsStoreFor, MatchesBatch, MatchesBatches, WritesMatches};
 ghost use Rattle.match_work.specs.Matches.{match_plan, match_text};
 ghost use Rattle.match_work.specs.MatchesDone.{HasMatched};
 
 use crate::batches::{match_batch, open_near_store, open_readers};
+use crate::texts::write_in_threads;
 use cost_model::Params;
 use edge_io::{Shelf, Sink};
 use match_pool::Gate;
-use match_text::{MatchedTrace, write_match};
+use match_text::MatchedTrace;
 use polyline_geometry::List;
 use program_frame::{Job, NetworkFile, Stop, Tally, load_network, work_traces};
 use row_store::{Reader, RowStore, known_count};
@@ -28,30 +29,12 @@ use trace_reader::Trace;
 // Matches traces batch by batch, and counts them. The readers belong to the workers, over all
 // batches.
 #[derive(Drop)]
-struct MatchJob<'s, F> {
+struct MatchJob<'s, F, W> {
     matcher: &'s Matcher<'s>,
     readers: List<Reader<'s>>,
     match_batch: F,
+    write: W,
     tally: Tally,
-}
-
-// Appends the texts of matches, and returns the number of their pieces.
-fn write_matches(
-    alloc: Global,
-    matches: &[MatchedTrace],
-    into: &mut List<u8>,
-) -> Result<u64, AllocError>
-    requires lawful { All IsLawful matches.now }
-    requires few { pieces_in matches.now ≤ 2 ^ 62 }
-    ensures text { OnOk result (into.new ≡ into.old ++ text_of_matches matches.now) }
-    ensures pieces { IfOk result (λ pieces. pieces ≡ pieces_in matches.now) }
-{
-    let mut pieces = 0;
-    for matched in matches {
-        write_match(alloc, matched, into)?;
-        pieces += matched.pieces.len() as u64;
-    }
-    Ok(pieces)
 }
 
 // The matches of a batch by this call, which is a call of `match_batch` with this matcher.
@@ -72,20 +55,34 @@ where
     call(first, traces, readers)
 }
 
-impl<'s, F> Job for MatchJob<'s, F>
+// The text of matches by this call, which is a call of `write_in_threads`.
+fn write_by<W>(call: &W, matches: &[MatchedTrace], into: &mut List<u8>) -> Result<u64, AllocError>
+where
+    W: Fn(&[MatchedTrace], &mut List<u8>) -> Result<u64, AllocError>,
+    requires call { WritesMatches W.Fn call.now }
+    requires lawful { All IsLawful matches.now }
+    requires few { pieces_in matches.now ≤ 2 ^ 62 }
+    ensures text { OnOk result (into.new ≡ into.old ++ text_of_matches matches.now) }
+    ensures pieces { IfOk result (λ pieces. pieces ≡ pieces_in matches.now) }
+{
+    call(matches, into)
+}
+
+impl<'s, F, W> Job for MatchJob<'s, F, W>
 where
     F: Fn(u64, &[Trace], &mut List<Reader<'s>>) -> Result<List<MatchedTrace>, AllocError>,
+    W: Fn(&[MatchedTrace], &mut List<u8>) -> Result<u64, AllocError>,
 {
     ghost text = { λ job. match_text job.matcher.now };
 
     ghost has = { λ job traces. HasMatched job.matcher.now job.readers job.tally traces
-        × MatchesBatches F.Fn job.matcher.now job.match_batch };
+        × MatchesBatches F.Fn job.matcher.now job.match_batch × WritesMatches W.Fn job.write };
 
     fn take(&mut self, alloc: Global, traces: &[Trace], into: &mut List<u8>) -> Result<(), Stop> {
         let first = self.tally.traces;
         let call = &self.match_batch;
         let matches = match_by(call, self.matcher, first, traces, &mut self.readers)?;
-        let pieces = write_matches(alloc, matches.as_slice(), into)?;
+        let pieces = write_by(&self.write, matches.as_slice(), into)?;
         self.tally.add(traces, pieces);
         Ok(())
     }
@@ -121,10 +118,17 @@ pub fn match_file<'s, R: Threads + Sync, G: Gate, S: Shelf, K: Sink>(
         ensures { MatchesBatch matcher.entry.now batch.now readers.entry.now result
             readers.exit.now }
     { match_batch(rt, alloc, matcher, first, batch, readers, gate) };
+    let workers = matcher.params().workers;
+    let write = |matches: &[MatchedTrace], into: &mut List<u8>|
+        requires { All IsLawful matches.now × (pieces_in matches.now ≤ 2 ^ 62) }
+        ensures text { OnOk result (into.exit.now ≡ into.entry.now ++ text_of_matches matches.now) }
+        ensures pieces { IfOk result (λ pieces. pieces ≡ pieces_in matches.now) }
+    { write_in_threads(rt, alloc, workers, matches, into) };
     let job = MatchJob {
         matcher,
         readers,
         match_batch,
+        write,
         tally: Tally::NONE,
     };
     work_traces(alloc, job, shelf, traces, out)

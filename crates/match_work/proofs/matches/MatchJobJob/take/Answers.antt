@@ -19,11 +19,11 @@ match_by-requires g c lifetimes = (
   ),
 )
 
-pub write_matches-requires-clause-lawful : goal.write_matches-requires-clause-lawful
-write_matches-requires-clause-lawful g c = rw c.as_slice.ensures c.in_ok-matches.ensures.matched.lawful
+pub write_by-requires-clause-lawful : goal.write_by-requires-clause-lawful
+write_by-requires-clause-lawful g c = rw c.as_slice.ensures c.in_ok-matches.ensures.matched.lawful
 
-pub write_matches-requires-clause-few : goal.write_matches-requires-clause-few
-write_matches-requires-clause-few g c =
+pub write_by-requires-clause-few : goal.write_by-requires-clause-few
+write_by-requires-clause-few g c =
     let bounded = c.requires.2.few_points in
     let few = c.in_ok-matches.ensures.matched.few in
     let pieces = ap pieces_in c.as_slice.ensures in
@@ -42,7 +42,7 @@ returns-clause-takes g c before has bounded =
     let batch = c.in_ok-matches.ensures in
     let are = pieces_found on traces c.in_ok-matches.matches c.in_ok-pieces.pieces batch.matched (c.in_ok-pieces.ensures.pieces ∙ ap pieces_in c.as_slice.ensures) in
     let grown = c.in_ok-pieces.ensures.text ∙ ap (λ m. c.args.into.now ++ text_of_matches m) c.as_slice.ensures in (
-      (matched_more on before traces c.args.self.now.readers c.match_by.new.readers c.args.self.now.tally c.add.new.self c.in_ok-pieces.pieces has.0 are batch.stay batch.learn c.add.ensures, has.1),
+      (matched_more on before traces c.args.self.now.readers c.match_by.new.readers c.args.self.now.tally c.add.new.self c.in_ok-pieces.pieces has.0 are batch.stay batch.learn c.add.ensures, has.1, has.2),
       refl,
-      text_grows on before traces c.args.into.now c.write_matches.new.into (texts_written on traces c.in_ok-matches.matches c.args.into.now c.write_matches.new.into batch.matched grown),
+      text_grows on before traces c.args.into.now c.write_by.new.into (texts_written on traces c.in_ok-matches.matches c.args.into.now c.write_by.new.into batch.matched grown),
     )

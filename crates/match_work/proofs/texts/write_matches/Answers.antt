@@ -2,7 +2,7 @@ use Rattle.std.proofs.Common.{◌≡◌, ◌++◌, refl, sym, subst, append-nil}
 use Rattle.std.proofs.lemmas.List.{take_all}
 use Rattle.match_work.specs.Matched.{pieces_in, text_of_matches}
 use Rattle.match_work.proofs.TraceMatches.{pieces_next, texts_next}
-use Rattle.match_work.proofs.matches.write_matches.Goals as goal
+use Rattle.match_work.proofs.texts.write_matches.Goals as goal
 
 pub loop-matched-init : goal.loop-matched-init
 loop-matched-init c = record { text = sym (append-nil c.args.into.now); pieces = refl }

@@ -1,6 +1,6 @@
 use Rattle.std.proofs.Common.{◌≡◌, ◌++◌, take}
 use Rattle.match_work.specs.Matched.{pieces_in, text_of_matches}
-use Rattle.match_work.proofs.matches.write_matches.Given as goal
+use Rattle.match_work.proofs.texts.write_matches.Given as goal
 
 abbrev pub invariant-loop-matched : goal.invariant-loop-matched
 invariant-loop-matched l = record {
