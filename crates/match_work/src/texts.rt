@@ -9,6 +9,9 @@ use polyline_geometry::List;
 use std::alloc::{AllocError, Global};
 use std::thread::{Threads, join_mut};
 
+// The number of lines below which a text is written sooner than a thread is started.
+const FEW_LINES: usize = 4096;
+
 // The text of some matches, and the number of their pieces.
 #[derive(Drop)]
 struct Part {
@@ -34,10 +37,19 @@ pub fn write_in_threads<R: Threads + Sync>(
     ensures text { OnOk result (into.new ≡ into.old ++ text_of_matches matches.now) }
     ensures pieces { IfOk result (λ pieces. pieces ≡ pieces_in matches.now) }
 {
-    if threads < 2 || matches.len() < 2 {
+    if threads < 2 || matches.len() < 2 || has_few_lines(matches) {
         return write_matches(alloc, matches, into);
     }
     write_last_apart(rt, alloc, threads, matches, into)
+}
+
+// Whether the text of matches is too short for threads. Only speed depends on it.
+fn has_few_lines(matches: &[MatchedTrace]) -> bool {
+    let mut lines: usize = 0;
+    for matched in matches {
+        lines = lines.saturating_add(matched.labels.len());
+    }
+    lines < FEW_LINES
 }
 
 /// Writes the last part of the matches in a new thread, and meanwhile the matches before it in the other
