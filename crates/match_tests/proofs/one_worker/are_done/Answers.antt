@@ -13,4 +13,4 @@ worked-requires c =
     let opened = of_some _ c.in_ok-store.store c.open.result c.in_ok-store.ensures.value c.open.ensures in
     let fresh = of_some _ c.in_ok-reader.reader c.reader.result c.in_ok-reader.ensures.value c.reader.ensures.fresh in
     let bound = of_some _ c.in_ok-reader.reader c.reader.result c.in_ok-reader.ensures.value c.reader.ensures.bound in
-    (ap (λ (s : Stored). s.network) fresh.0 ∙ opened.0, bound ∙ opened.1.0)
+    (ap (λ (s : Stored). s.network) fresh.0 ∙ opened.0, bound ∙ opened.1)
