@@ -7,6 +7,7 @@
   city-small-traces.csv                 the first 200 of these traces
   city-small-stream.csv                 the points of these 200 traces as they come in one stream, those of each trace in their order
   city-points.csv                       the points of the city's traces, each as a trace of its own
+  city-sparse-traces.csv                200 traces of 200 points in the city, one a minute, 1,500 m apart in the median
   country-net.csv, country-traces.csv   16,907 nodes and 55,465 edges (towns, villages, winding roads, motorways with ramps), 200
                                         traces of 900 points, one a second, and 400 of 45 points, one a minute
   long-net.csv, long-traces.csv         one edge of 1,000,000 points, and 20 traces of 100 points beside it
@@ -199,6 +200,23 @@ class Driver:
         return rows
 
 
+def sparse_trace(city, number, count):
+    """A position a minute: by nodes some 1,500 m apart, in a direction that turns slowly, and back into the city at its borders."""
+    rng, side = city.rng, city.side
+    noise = rng.uniform(5, 20) * 100 / 1.5
+    row, column, heading = rng.uniform(0, side - 1), rng.uniform(0, side - 1), rng.uniform(0, 2 * math.pi)
+    rows = []
+    for minute in range(count):
+        x, y = city.at[round(row), round(column)]
+        rows.append(f"{number},{round(100 * x + rng.gauss(0, noise))},{round(100 * y + rng.gauss(0, noise))},{60 * minute}\n")
+        heading += rng.gauss(0, 0.3)
+        ahead = rng.uniform(9, 18)
+        if not (0 <= row + ahead * math.sin(heading) <= side - 1 and 0 <= column + ahead * math.cos(heading) <= side - 1):
+            heading = math.atan2(side / 2 - row, side / 2 - column)
+        row, column = row + ahead * math.sin(heading), column + ahead * math.cos(heading)
+    return rows
+
+
 def city(folder, side=224, count=2000, length=200, seed=7):
     town = City(random.Random(seed), side)
     town.write(os.path.join(folder, "city-net.csv"))
@@ -222,6 +240,10 @@ def city(folder, side=224, count=2000, length=200, seed=7):
                 points.write(f"{number},{x},{y}\n")
                 number += 1
     interleave(os.path.join(folder, "city-small-stream.csv"), first, random.Random(seed))
+    with open(os.path.join(folder, "city-sparse-traces.csv"), "w") as f:
+        f.write("trace,x,y,time\n")
+        for trace in range(count // 10):
+            f.writelines(sparse_trace(town, trace, length))
 
 
 def interleave(path, traces, rng):

@@ -23,6 +23,7 @@ import time
 ONE_WORKER = ["--workers", "1"]
 ONE_KILOMETRE = ["--bound", "100000"]
 HALF_MORE = ["--bound", "150000"]
+SPARSE = ["match", "city-net.csv", "city-sparse-traces.csv", "--bound", "600000"]
 JOBS = [
     # name, file whose lines are counted, words
     ("load network", "city-net.csv", ["match", "city-net.csv", "no-traces.csv", *ONE_WORKER]),
@@ -37,6 +38,8 @@ JOBS = [
     ("long edge", "long-traces.csv", ["match", "long-net.csv", "long-traces.csv", *ONE_WORKER]),
     ("city 2 threads", "city-traces.csv", ["match", "city-net.csv", "city-traces.csv", "--workers", "2"]),
     ("city 4 threads", "city-traces.csv", ["match", "city-net.csv", "city-traces.csv", "--workers", "4"]),
+    ("match sparse", "city-sparse-traces.csv", [*SPARSE, *ONE_WORKER]),
+    ("sparse 4 thr.", "city-sparse-traces.csv", [*SPARSE, "--workers", "4"]),
     ("match small", "city-small-traces.csv", ["match", "city-net.csv", "city-small-traces.csv", *ONE_WORKER]),
     ("follow small", "city-small-traces.csv", ["follow", "city-net.csv", "city-small-traces.csv", *ONE_WORKER]),
     ("follow city", "city-traces.csv", ["follow", "city-net.csv", "city-traces.csv", *ONE_WORKER]),

@@ -1,12 +1,10 @@
-"""What tools/package reads from the sources: the commands, options and ranges of the programs, and the recipes.
+"""What tools/package reads from the sources: commands, options and ranges of the programs, commands of the Python package.
 
-Commands and options come from crates/command_line/src, the ranges and defaults of options from crates/cost_model/src, descriptions
-from docs/fmm.1. If these do not agree, `Wrong` says how, so that no option is left out of the completions.
+Commands and options come from crates/command_line/src, the ranges and defaults of options from crates/cost_model/src, and
+descriptions from docs/fmm.1. If these do not agree, `Wrong` says how, so that no option is left out of the completions.
 """
-import functools
 import os
 import re
-import subprocess
 
 WIDEST = 4_294_967_295
 KINDS = {"NET": "file", "TRACES": "file", "CERT": "file", "N": "number", "T": "number", "SEED": "number"}
@@ -38,13 +36,6 @@ class Command:
 
     def __init__(self, name, arguments, options, text):
         self.name, self.arguments, self.options, self.text = name, arguments, options, text
-
-
-class Recipe:
-    """A recipe: the name of its script, and its description."""
-
-    def __init__(self, name, text):
-        self.name, self.text = name, text
 
 
 def read(*path):
@@ -145,20 +136,17 @@ def commands(top):
     return answer
 
 
-@functools.cache
-def recipes(top):
-    """The scripts of the folder recipes that are called by name. The description is the first sentence of their help."""
-    folder, answer = os.path.join(top, "recipes"), []
-    for name in sorted(os.listdir(folder)):
-        kind = os.path.splitext(name)[1]
-        if kind not in (".awk", ".sh", ".py") or kind == ".py" and not read(folder, name).startswith("#!"):
-            continue
-        path, text = os.path.join(folder, name), ""
-        call = {".awk": ["awk", "-f", path, "--"], ".sh": ["bash", path], ".py": ["python3", "-B", path]}[kind]
-        run = subprocess.run([*call, "--help"], stdin=subprocess.DEVNULL, capture_output=True, text=True, timeout=30,
-                             env={**os.environ, "LC_ALL": "C.UTF-8", "COLUMNS": "132"})
-        if run.returncode == 0 and "\n\n" in run.stdout:
-            paragraph = " ".join(run.stdout.split("\n\n")[1].split())
-            text = re.match(r"(?:[A-Z].*?[^ .][.:](?= |$))?", paragraph)[0].replace(":", ".")
-        answer.append(Recipe(name, text))
+def package_commands(top):
+    """The commands of the Python package with their descriptions: the first lines of the docstrings of their modules."""
+    folder, answer = os.path.join(top, "python", "src", "fmm", "commands"), []
+    for name in sorted(os.listdir(folder)) if os.path.isdir(folder) else []:
+        if re.fullmatch(r"[a-z]\w*\.py", name):
+            text = found(r'^"""([^"\n]+?)\.?("""|\n)', read(folder, name), f"the description of the command {name[:-3]}")[1]
+            answer.append((name[:-3], text))
     return answer
+
+
+def debian_packages(top, group):
+    """The names of a group of packaging/debian-packages."""
+    lines = [line.split() for line in read(top, "packaging", "debian-packages").splitlines() if line and line[0] != "#"]
+    return [words[1] for words in lines if words[0] == group]

@@ -7,6 +7,12 @@ _fmm_commands() {
         @COMMANDS@
 }
 
+# Prints each command of the Python package and its description, with a tab between.
+_fmm_package_commands() {
+    printf '%s\n' \
+        @PACKAGE_COMMANDS@
+}
+
 # Prints each option of a command and its description, with a tab between.
 _fmm_options() {
     printf '%s\n' \
@@ -72,7 +78,8 @@ _fmm() {
     elif [[ -n $option ]]; then
         if [[ " @FILE_OPTIONS@ " == *" $option "* ]]; then _fmm_files "$current" ''; fi
     elif [[ -z $command ]]; then
-        _fmm_offer "$current" "$used" < <(_fmm_commands; [[ $current != -* ]] || printf -- '--help\tprints the manual\n')
+        _fmm_offer "$current" "$used" < <(_fmm_commands; [[ ${1##*/} != fmm ]] || _fmm_package_commands; [[ $current != -* ]] || printf -- '--help\tprints the manual\n--version\tprints the version\n')
+    elif [[ ${1##*/} == fmm && " @PACKAGE_NAMES@ " == *" $command "* ]]; then _fmm_files "$current" ''
     elif [[ ${#arguments[@]} == 0 ]]; then return
     elif [[ -z $only_arguments && ($current == -* || $given -ge ${#arguments[@]}) ]]; then
         _fmm_offer "$current" "$used" < <(_fmm_options "$command")
@@ -81,17 +88,4 @@ _fmm() {
     fi
 }
 
-_fmm_recipe() {
-    local current=${COMP_WORDS[COMP_CWORD]}
-    COMPREPLY=()
-    if [[ $COMP_CWORD == 1 || $COMP_CWORD == 2 && ${COMP_WORDS[1]} == --path ]]; then
-        _fmm_offer "$current" '' < <(printf '%s\n' \
-            @RECIPES@
-            [[ $current != -* ]] || printf '%s\n' $'--help\tprints how to call fmm-recipe' $'--path\tprints the path of a recipe')
-    else
-        _fmm_files "$current" ''
-    fi
-}
-
 complete -F _fmm @PROGRAMS@
-complete -F _fmm_recipe fmm-recipe

@@ -1,4 +1,4 @@
-#compdef @PROGRAMS@ fmm-recipe
+#compdef @PROGRAMS@
 # Completions for zsh, made by tools/package: commands, options with their descriptions, ranges of numbers, and files. The
 # descriptions are those of the manual page.
 
@@ -9,6 +9,7 @@ _fmm_words() {
     )
     case $1 in
         @COMMANDS_WORDS@
+        @PACKAGE_NAMES@) _files ;;
     esac
 }
 
@@ -16,18 +17,13 @@ _fmm() {
     local -a commands=(
         @COMMANDS@
     )
-    local -a recipes=(
-        @RECIPES@
+    [[ $service != fmm ]] || commands+=(
+        @PACKAGE_COMMANDS@
     )
     case $service in
-        fmm-recipe)
-            if (( CURRENT == 2 )) && [[ $words[2] == -* ]]; then _arguments '--help[print how to call fmm-recipe]' '--path[print the path of a recipe]'
-            elif (( CURRENT == 2 )) || [[ $CURRENT == 3 && $words[2] == --path ]]; then _describe -t recipes recipe recipes
-            else _files; fi
-            ;;
         fmm_live) _fmm_words follow ;;
         *)
-            if (( CURRENT == 2 )) && [[ $words[2] == -* ]]; then _arguments '--help[print the manual]'
+            if (( CURRENT == 2 )) && [[ $words[2] == -* ]]; then _arguments '--help[print the manual]' '--version[print the version]'
             elif (( CURRENT == 2 )); then _describe -t commands command commands
             else
                 local command=$words[2]

@@ -1,4 +1,4 @@
-"""Tests of fleet.py on Slurm and Dask: the daemons are started here, and ended after the tests."""
+"""Tests of fmm fleet on Slurm and Dask: the daemons are started here, and ended after the tests."""
 import json
 import os
 import shutil
@@ -6,10 +6,7 @@ import signal
 import socket
 import subprocess
 
-from .place import check, run_all, wait_for
-
-DEBIAN_PYTHON = "/usr/bin/python3"
-
+from .place import PYTHON, check, run_all, wait_for
 
 # ---- Slurm
 
@@ -135,7 +132,26 @@ def slurm_cases(place, env):
         done = place.fleet("slurm_unfit", "--engine", "slurm", "--memory", "999999", env=env)
         place.refused("Slurm: more memory than a host has", done, "sbatch: ")
 
-    run_all([killed, interrupted, unfit])
+    def pattern():
+        done = place.fleet("slurm %j", *more, env=env)
+        place.good("Slurm: a folder named like a pattern", "slurm %j", done)
+        check("Slurm: its logs are there", os.listdir(place.path("slurm %j/logs")))
+
+    def foreign():
+        """The job of somebody else, whose number is in the folder, goes on."""
+        words = ["sbatch", "--parsable", "--hold", "--wrap", "true", f"--output={place.path('foreign.log')}"]
+        job = subprocess.run(words, capture_output=True, text=True, env={**os.environ, **env}).stdout.strip()
+        place.fleet("slurm_foreign", "--points", "300", "--engine", "none")
+        os.makedirs(place.path("slurm_foreign/slurm"))
+        with open(place.path("slurm_foreign/slurm/job"), "w") as file:
+            file.write(job)
+        place.good("Slurm: a number of another job", "slurm_foreign", place.fleet("slurm_foreign", *more[:4], env=env))
+        state = subprocess.run(["squeue", "-h", "-j", job, "-o", "%T"], capture_output=True, text=True,
+                               env={**os.environ, **env}).stdout
+        check("Slurm: the other job is not cancelled", state == "PENDING\n", state)
+        subprocess.run(["scancel", job], env={**os.environ, **env})
+
+    run_all([killed, interrupted, unfit, pattern, foreign])
 
 
 # ---- Dask
@@ -146,7 +162,7 @@ def test_dask(place):
         folder = place.path("dask")
         os.makedirs(folder)
         note, log = f"{folder}/scheduler.json", f"{folder}/log"
-        daemons.start("dask-scheduler", "--port", "0", "--host", "127.0.0.1", "--no-dashboard", "--scheduler-file", note, log=log)
+        scheduler = daemons.start("dask-scheduler", "--port", "0", "--host", "127.0.0.1", "--no-dashboard", "--scheduler-file", note, log=log)
         workers = [daemons.start("dask-worker", "--scheduler-file", note, "--nthreads", "1", "--no-nanny", "--no-dashboard",
                                  "--memory-limit", "0", "--local-directory", folder, log=log) for _ in range(2)]
         if not wait_for(lambda: os.path.exists(note) and os.path.getsize(note), 30):
@@ -155,10 +171,20 @@ def test_dask(place):
             address = json.load(file)["address"]
         program = place.stub("dask_killing",
                              'if mkdir "$mark" 2>/dev/null; then kill -9 $(cut -d " " -f 4 /proc/$PPID/stat); sleep 5; fi')
-        done = place.fleet("dask_killed", "--engine", "dask", "--points", "300", program=program, python=DEBIAN_PYTHON,
+        done = place.fleet("dask_killed", "--engine", "dask", "--points", "300", program=program,
                            env={"DASK_SCHEDULER_ADDRESS": address})
         check("Dask: one of two workers was killed", sorted(worker.poll() is None for worker in workers) == [False, True])
         place.good("Dask: a worker killed", "dask_killed", done)
+        address = {"DASK_SCHEDULER_ADDRESS": address}
+        for worker in workers:
+            worker.kill()
+        done = place.fleet("dask_alone", "--engine", "dask", "--points", "300", "--wait", "3", env=address)
+        place.refused("Dask: no worker", done, "no worker of Dask within 3 seconds")
+        check("Dask: it says what it waits for", "waiting for worker of Dask; --wait" in done.stderr, done.stderr)
+        scheduler.kill()
+        scheduler.wait()
+        done = place.fleet("dask_alone", "--engine", "dask", "--points", "300", "--wait", "3", env=address)
+        place.refused("Dask: no scheduler", done, "no Dask scheduler at tcp")
     except RuntimeError as fault:
         check("dask", False, str(fault))
     finally:
@@ -173,7 +199,7 @@ def engines():
     missing = [name for name in programs if not shutil.which(name)]
     reasons = {"slurm": "it is not root" if os.getuid() else f"there is no {missing[0]}" if missing else "",
                "dask": "there is no dask-scheduler" if not shutil.which("dask-scheduler") else
-               f"{DEBIAN_PYTHON} has no distributed" if subprocess.run([DEBIAN_PYTHON, "-c", "import distributed"],
+               f"{PYTHON} has no distributed" if subprocess.run([PYTHON, "-c", "import distributed"],
                                                                       capture_output=True).returncode else ""}
     for name, test in (("slurm", test_slurm), ("dask", test_dask)):
         why = reasons[name] or ("FLEET_ENGINES=0" if wanted == "0" else "")
@@ -182,5 +208,5 @@ def engines():
         elif wanted == "1":
             check(name, False, why)
         else:
-            print(f"tests/fleet: {name} skipped: {why}", flush=True)
+            print(f"tests/fleet: left out: fleets by {name.title()}, since {why}", flush=True)
     return tests

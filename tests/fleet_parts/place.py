@@ -1,15 +1,16 @@
-"""What the tests of fleet.py share: inputs, calls, and checks that are counted."""
+"""What the tests of fmm fleet share: inputs, calls, and checks that are counted."""
 import concurrent.futures
 import os
 import random
 import shutil
 import subprocess
-import sys
 import threading
 import time
 
 TOP = os.path.dirname(os.path.dirname(os.path.dirname(os.path.realpath(__file__))))
-FLEET = os.path.join(TOP, "recipes", "fleet.py")
+FOUND = subprocess.run([os.path.join(TOP, "tests", "find_python")], capture_output=True, text=True)
+PYTHON = FOUND.stdout.strip()
+os.environ["PYTHONPATH"] = os.path.join(TOP, "python", "src")
 lock = threading.Lock()
 counts = {True: 0, False: 0}
 
@@ -107,10 +108,10 @@ class Place:
         os.chmod(path, 0o755)
         return path
 
-    def words(self, into, *more, program=None, network=None, traces=None, options=None, python=sys.executable):
-        quick = ["-S"] if python == sys.executable else []  # the standard library is enough, but for Dask
-        return [python, *quick, FLEET, network or self.network, traces or self.traces, "--into", self.path(into), "--program",
-                program or self.program, "--jobs", "2", *more, "--", *(self.options if options is None else options)]
+    def words(self, into, *more, program=None, network=None, traces=None, options=None):
+        return [PYTHON, "-m", "fmm", "fleet", network or self.network, traces or self.traces, "--into", self.path(into),
+                "--program", program or self.program, "--jobs", "2", *more, "--",
+                *(self.options if options is None else options)]
 
     def fleet(self, into, *more, env=None, **named):
         return subprocess.run(self.words(into, *more, **named), capture_output=True, text=True, stdin=subprocess.DEVNULL,
@@ -131,7 +132,7 @@ class Place:
         """The call ended with one line that has these words, after the notes."""
         last = done.stderr.strip().splitlines()[-1:]
         check(name, done.returncode == status and "Traceback" not in done.stderr and last and words in last[0]
-              and last[0].startswith("fleet.py: ") and not done.stdout, f"status {done.returncode}: {done.stderr.strip()[-400:]}")
+              and last[0].startswith("fmm fleet: ") and not done.stdout, f"status {done.returncode}: {done.stderr.strip()[-400:]}")
 
     def copy(self, into, name):
         shutil.copytree(self.path(into), self.path(name))

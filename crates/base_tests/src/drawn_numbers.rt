@@ -130,3 +130,20 @@ fn drawn_by_two(alloc: Global) -> Option<[u64; 2]> {
 fn two_tickets_meet(rt: HostRuntime) {
     assert_eq!(rt; drawn_by_two(rt.alloc()), Some([0, 1]));
 }
+
+// The numbers of the second ticket, where the first draws none.
+fn drawn_by_the_second(alloc: Global) -> Option<[u64; 2]> {
+    let (claims, mut a, mut b) = two_tickets(alloc)?;
+    let numbers = draw_two(&claims, &mut b)?;
+    let None = claims.draw(&mut a) else {
+        return None;
+    };
+    gather_two(alloc, claims, a, b).ok()?;
+    Some(numbers)
+}
+
+// Tickets with fixed shares of the numbers fail here.
+#[test]
+fn one_of_two_tickets_draws_each_number(rt: HostRuntime) {
+    assert_eq!(rt; drawn_by_the_second(rt.alloc()), Some([0, 1]));
+}

@@ -94,14 +94,14 @@ impl<'n> Fans<'n> {
     }
 
     /// What the network always meets.
-    pub fn invariants(&self)
+    pub(crate) fn invariants(&self)
         ensures { IsLawful self.now }
     {
         self.network.invariants();
     }
 
     /// The fan of a node.
-    pub fn fan(&self, n: NodeId) -> &Fan
+    pub(crate) fn fan(&self, n: NodeId) -> &Fan
         requires { HasNode self.now n.0 }
         ensures { IsFan (map (arc_of self.now) (leaving self.now n.0)) result.now }
     {
@@ -109,7 +109,7 @@ impl<'n> Fans<'n> {
     }
 
     /// The arcs of a node.
-    pub fn arcs(&self, n: NodeId) -> &[Arc]
+    pub(crate) fn arcs(&self, n: NodeId) -> &[Arc]
         requires { HasNode self.now n.0 }
         ensures { result.now ≡ map (arc_of self.now) (leaving self.now n.0) }
     {

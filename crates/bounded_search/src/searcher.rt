@@ -1,6 +1,7 @@
 //! Searches for many rows of one network. Serves `search` and `OwnRows`; decided by `IsRow`.
-ghost use Rattle.std.specs.Prelude.{◌≡◌, ◌≤◌, ◌↔◌, IfOk, IfSome, IsTrue, OnErr, OnOk, Some};
+ghost use Rattle.std.specs.Prelude.{◌≡◌, ◌≤◌, ◌↔◌, IfOk, IfSome, IsTrue, OnErr, OnOk, Some, length};
 ghost use Rattle.road_network.specs.Net.{HasNode, IsLawful};
+ghost use Rattle.bounded_search.specs.Marked.{IsClean};
 ghost use Rattle.bounded_search.specs.Table.{IsRow};
 
 use crate::dijkstra::Workspace;
@@ -17,12 +18,13 @@ use std::marker::Model;
 /// Searches for rows of one network within one bound.
 ///
 /// It keeps its arrays over many rows, and leaves them empty: a row costs what it reaches, whatever the size of
-/// the network. Its first search looks at every edge, and makes an array of 52 bytes for each node.
+/// the network. If it shares no fans, its first search looks at every edge, and makes them.
 pub struct Searcher<'n> {
     alloc: Global,
     network: &'n Network,
-    // Made for the first search.
+    // Made for the first search, if none are shared.
     fans: Option<Fans<'n>>,
+    shared: Option<&'n Fans<'n>>,
     workspace: Workspace,
 }
 
@@ -33,6 +35,7 @@ impl<'n> Drop for Searcher<'n> {
             alloc: _,
             network: _,
             fans: _,
+            shared: _,
             workspace: _,
         } = self;
     }
@@ -61,6 +64,28 @@ impl<'n> Searcher<'n> {
             alloc,
             network,
             fans: None,
+            shared: None,
+            workspace,
+        })
+    }
+
+    /// A searcher as `open` makes it, which shares these fans with others.
+    pub fn open_with(
+        alloc: Global,
+        network: &'n Network,
+        fans: &'n Fans<'n>,
+        bound: u32,
+    ) -> Result<Searcher<'n>, AllocError>
+        requires bound { bound ≤ 10_000_000 }
+        requires fans { fans.now ≡ network.now }
+        ensures { IfOk result (λ searcher. searcher ≡ record { network = network.now; bound = bound }) }
+    {
+        let workspace = Workspace::new(alloc, network, bound)?;
+        Ok(Searcher {
+            alloc,
+            network,
+            fans: None,
+            shared: Some(fans),
             workspace,
         })
     }
@@ -121,21 +146,41 @@ impl<'n> Searcher<'n> {
         ensures same { self.new ≡ self.old }
         ensures row { IfOk result (IsRow self.old.network self.old.bound origin.0) }
     {
-        let alloc = self.alloc;
-        let network = self.network;
-        network.invariants();
-        make_fans(alloc, network, &mut self.fans)?;
+        self.network.invariants();
+        if let Some(fans) = self.shared {
+            return find_row(self.alloc, &mut self.workspace, fans, known, origin);
+        }
+        make_fans(self.alloc, self.network, &mut self.fans)?;
         let fans = self.fans.as_ref().unwrap();
-        match self.workspace.entries(alloc, fans, known, origin) {
-            Ok(entries) => Ok(Row {
-                origin,
-                middle: place_between(&entries, 0, entries.len(), origin).unwrap(),
-                entries: List::from_vec(entries),
-            }),
-            Err(error) => {
-                self.workspace.clear();
-                Err(error)
-            }
+        find_row(self.alloc, &mut self.workspace, fans, known, origin)
+    }
+}
+
+// The row of an origin, found in these arrays, which are left empty.
+fn find_row<K: KnownRows>(
+    alloc: Global,
+    workspace: &mut Workspace,
+    fans: &Fans<'_>,
+    known: &K,
+    origin: NodeId,
+) -> Result<Row, AllocError>
+    requires known { K.table known.now ≡ record { network = fans.now; bound = workspace.old.bound } }
+    requires origin { HasNode fans.now origin.0 }
+    requires clean { IsClean (length fans.now.nodes) workspace.old }
+    ensures bound { workspace.new.bound ≡ workspace.old.bound }
+    ensures clean { IsClean (length fans.now.nodes) workspace.new }
+    ensures row { IfOk result (IsRow fans.now workspace.old.bound origin.0) }
+{
+    fans.invariants();
+    match workspace.entries(alloc, fans, known, origin) {
+        Ok(entries) => Ok(Row {
+            origin,
+            middle: place_between(&entries, 0, entries.len(), origin).unwrap(),
+            entries: List::from_vec(entries),
+        }),
+        Err(error) => {
+            workspace.clear();
+            Err(error)
         }
     }
 }

@@ -4,7 +4,6 @@ use Rattle.std.specs.Prelude.{Result, Ok, Err}
 use Rattle.decimal_text.specs.Number.{unsigned_within}
 use Rattle.decimal_text.specs.declared.number.NumberFault.{NumberFault}
 use Rattle.cost_model.specs.declared.params.ValueRange.{ValueRange}
-use Rattle.cost_model.specs.declared.params.TheConstants.Params.{K_RANGE, RADIUS_RANGE, SIGMA_RANGE, BETA_RANGE, BOUND_RANGE, WORKERS_RANGE, BACK_RANGE}
 use Rattle.command_line.specs.declared.fault.WordsFault.{WordsFault}
 use Rattle.command_line.specs.declared.fault.WordsFault.TheVariants.{BadValue}
 use Rattle.command_line.specs.declared.value.ValueName.{ValueName}
@@ -23,15 +22,15 @@ name_of N = codes "N"
 name_of T = codes "T"
 name_of Seed = codes "SEED"
 
--- the ranges of the options that `check` tests are the constants that it tests against `IsAccepted`
+-- each value is in its range, both ends included
 abbrev pub range_of : ValueName → ValueRange
-range_of K = K_RANGE
-range_of Radius = RADIUS_RANGE
-range_of Sigma = SIGMA_RANGE
-range_of Beta = BETA_RANGE
-range_of Bound = BOUND_RANGE
-range_of Workers = WORKERS_RANGE
-range_of Back = BACK_RANGE
+range_of K = record { least = 1; most = 32 }
+range_of Radius = record { least = 1; most = 100_000 }
+range_of Sigma = record { least = 1; most = 100_000 }
+range_of Beta = record { least = 1; most = 1_000_000 }
+range_of Bound = record { least = 0; most = 10_000_000 }
+range_of Workers = record { least = 1; most = 64 }
+range_of Back = record { least = 0; most = 100_000 }
 range_of Gap = record { least = 0; most = 4_294_967_295 }
 range_of N = record { least = 2; most = 100 }
 range_of T = record { least = 1; most = 2_000 }

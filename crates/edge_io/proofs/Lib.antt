@@ -1,2 +1,4 @@
 pub mod Counts
 pub mod KnownBytes
+pub mod Sources
+pub mod Writing

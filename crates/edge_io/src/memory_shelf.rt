@@ -1,9 +1,10 @@
 //! A shelf in memory whose calls fail on request. Serves tests; decided by `Serves`.
-ghost use Rattle.std.specs.Prelude.{◌≡◌, ◌≤◌, ◌-◌, ◌^◌, min, option_copied};
+ghost use Rattle.std.specs.Prelude.{◌≡◌, ◌≤◌, ◌-◌, ◌^◌, min};
 ghost use Rattle.edge_io.specs.Files.{lookup};
 ghost use Rattle.edge_io.specs.Memory.{FilesInMemory, Serves, ServesFile, fails_next, files_after, new_files, state_of_files};
 ghost use Rattle.edge_io.specs.Shelf.{Grows, Reads, ReadsFile};
 
+use crate::named_files::find;
 use crate::noting::fail_read;
 use crate::{Shelf, Taken};
 use polyline_geometry::List;
@@ -77,20 +78,6 @@ impl MemoryShelf {
             failed: List::new(alloc),
         }
     }
-}
-
-// The bytes of the first file with this name.
-fn find<'a>(files: &'a [(List<u8>, List<u8>)], name: &[u8]) -> Option<&'a List<u8>>
-    ensures { option_copied result ≡ lookup files.now name.now }
-{
-    let mut rest = files;
-    while let [(key, bytes), after @ ..] = rest {
-        if key.as_slice() == name {
-            return Some(bytes);
-        }
-        rest = after;
-    }
-    None
 }
 
 impl Shelf for MemoryShelf {

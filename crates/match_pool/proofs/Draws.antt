@@ -12,31 +12,20 @@ use Rattle.match_pool.specs.Turns.{IsTaken}
 use Rattle.match_pool.specs.Working.{IsReaderFor, Job, ReadsWithin, StaysReader}
 
 stays_none : (r : Reading) → StaysReader r r
-stays_none r = record { store = refl; bound = refl; held = λ k row e. e }
+stays_none r = record { store = refl; known = λ v k. k; held = λ k row e. e }
 
 stays_then : (a b c : Reading) → StaysReader a b → StaysReader b c → StaysReader a c
-stays_then a b c first second = record { store = second.store ∙ first.store; bound = second.bound ∙ first.bound; held = λ k row e. second.held k row (first.held k row e) }
+stays_then a b c first second = record { store = second.store ∙ first.store; known = λ v k. second.known v (first.known v k); held = λ k row e. second.held k row (first.held k row e) }
 
 pub reads_on : (j : Job) (a b : Reading) → StaysReader a b → IsReaderFor j.network j.params a → IsReaderFor j.network j.params b
 reads_on j a b stays reads = record {
   network = ap (λ s. s.network) stays.store ∙ reads.network;
-  bound = stays.bound ∙ reads.bound;
+  bound = ap (λ s. s.bound) stays.store ∙ reads.bound;
 }
-
-row_known : (l : List (Option TableRow)) (v : ℕ) → is_some (slice_index_or l v None) ≡ true → (row : TableRow) × (slice_get l v ≡ Some (Some row))
-row_known [] v is = absurd (true≢false (sym is))
-row_known (None ∷ l) zero is = absurd (true≢false (sym is))
-row_known (Some row ∷ l) zero is = (row, refl)
-row_known (x ∷ l) (suc v) is = row_known l v is
-
-known_row : (l : List (Option TableRow)) (v : ℕ) (row : TableRow) → slice_get l v ≡ Some (Some row) → is_some (slice_index_or l v None) ≡ true
-known_row [] v row e = absurd (cc)
-known_row (x ∷ l) zero row e = let same : x ≡ Some row = cc in ap (λ (o : Option TableRow). is_some o) same
-known_row (x ∷ l) (suc v) row e = known_row l v row e
 
 -- what a reader knew it knows
 pub still_knows : (a b : Reading) → StaysReader a b → (v : ℕ) → knows a v ≡ true → knows b v ≡ true
-still_knows a b stays v known = let r = row_known a.places v known in known_row b.places v r.0 (stays.held v r.0 r.1)
+still_knows a b stays v known = stays.known v known
 
 pub reads_none : (j : Job) (r : Reading) → ReadsWithin j r r
 reads_none j r = record { stays = stays_none r; only = λ v known. inl known }

@@ -3,7 +3,7 @@ use Rattle.std.proofs.Common.{◌≡◌, ◌⊎◌, ◌↔◌, ℕ, zero, suc, �
 use Rattle.std.proofs.lemmas.Bool.{or_cases, or_left, or_right}
 use Rattle.std.specs.Prelude.{slice_get, slice_index_or}
 use Rattle.std.proofs.lemmas.List.{map-append}
-use Rattle.std.proofs.lemmas.List.Elements.{All-head, All-nil, All-push, All-tail}
+use Rattle.std.proofs.lemmas.List.Elements.{All-head, All-nil, All-push, All-tail, Contains-append_cases, Contains-append_left, Contains-append_right}
 use Rattle.std.proofs.lemmas.List.FromFn.{get_or-range_with_len, length-range_with_len}
 use Rattle.std.proofs.lemmas.List.Folds.{list_any-append, list_any_at}
 use Rattle.std.specs.List.{list_any, range_with_len}
@@ -12,7 +12,7 @@ use Rattle.bounded_search.specs.Rows.{AsksAll, AsksOnly}
 use Rattle.bounded_search.specs.Table.{TableRow}
 use Rattle.bounded_search.proofs.KnownNodes.{known_inside, knows_by}
 use Rattle.match_text.specs.declared.matched.MatchedTrace.{MatchedTrace}
-use Rattle.row_store.specs.Store.{Reading, Stored, knows, rows_state}
+use Rattle.row_store.specs.Store.{NearSlots, Reading, Stored, knows, near_source, rows_state, source_of}
 use Rattle.tickets.specs.Tickets.{Drawn}
 use Rattle.trace_match.specs.Match.{asks}
 use Rattle.trace_reader.specs.declared.trace.Trace.{Trace}
@@ -57,14 +57,28 @@ beyond [] i long = refl
 beyond (x ∷ xs) zero long = absurd (omega arith)
 beyond (x ∷ xs) (suc i) long = beyond xs i (omega arith)
 
-pub knows_node : (r : Reading) (v : ℕ) → (knows r v ≡ true) ↔ Contains (known_nodes r.places) v
-knows_node r v = ⊎_elim
+seen_node : (l : List (Option TableRow)) (v : ℕ) → (is_some (slice_index_or l v None) ≡ true) ↔ Contains (known_nodes l) v
+seen_node l v = ⊎_elim
     (λ none.
-    let far = none_inside r.places v none in
-    let not = beyond r.places v far in
-    (λ is. absurd (true≢false (sym is ∙ not)), λ has. absurd (let near = known_inside r.places v has in omega arith)))
-    (λ some. knows_by r.places v (slice_index_or r.places v None) some)
-    (get_default r.places v)
+    let far = none_inside l v none in
+    let not = beyond l v far in
+    (λ is. absurd (true≢false (sym is ∙ not)), λ has. absurd (let near = known_inside l v has in omega arith)))
+    (λ some. knows_by l v (slice_index_or l v None) some)
+    (get_default l v)
+
+pub knows_node : (r : Reading) (v : ℕ) → (knows r v ≡ true) ↔ Contains (known_nodes r.places ++ known_nodes r.near) v
+knows_node r v =
+    let table = is_some (slice_index_or r.places v None) in
+    let near = is_some (slice_index_or r.near v None) in (
+      λ is. ⊎_elim
+          (λ there. Contains-append_left (known_nodes r.places) (known_nodes r.near) v ((seen_node r.places v).0 there))
+          (λ there. Contains-append_right (known_nodes r.places) (known_nodes r.near) v ((seen_node r.near v).0 there))
+          (or_cases table near is),
+      λ has. ⊎_elim
+          (λ there. or_left table near ((seen_node r.places v).1 there))
+          (λ there. or_right table near ((seen_node r.near v).1 there))
+          (Contains-append_cases (known_nodes r.places) (known_nodes r.near) v has),
+    )
 
 asked_more : (j : Job) (numbers : List ℕ) (k v : ℕ) → list_any (asks_at j v) (numbers ++ k ∷ []) ≡ (list_any (asks_at j v) numbers || asks_at j v k)
 asked_more j numbers k v = list_any-append (asks_at j v) numbers (k ∷ []) ∙ ap (λ b. list_any (asks_at j v) numbers || b) (last_of (asks_at j v k))
@@ -137,11 +151,33 @@ drawn_below same at =
     omega (arith, same, is, low)
 
 -- a store is told by what its rows' state says of it
-same_store : (a b : Stored) → b.network ≡ a.network → b.bound ∷ b.cells ≡ a.bound ∷ a.cells → b ≡ a
+same_parts : (xs ys zs ws : List ℕ) → length xs ≡ length ys → xs ++ zs ≡ ys ++ ws → (xs ≡ ys) × (zs ≡ ws)
+same_parts [] [] zs ws long same = (refl, same)
+same_parts [] (y ∷ ys) zs ws long same = absurd (omega (arith, long))
+same_parts (x ∷ xs) [] zs ws long same = absurd (omega (arith, long))
+same_parts (x ∷ xs) (y ∷ ys) zs ws long same =
+    let head : x ≡ y = cc in
+    let tail : xs ++ zs ≡ ys ++ ws = cc in
+    let rest = same_parts xs ys zs ws (omega (arith, long)) tail in
+    (λ i. head i ∷ rest.0 i, rest.1)
+
+same_near : (a b : Option NearSlots) → near_source b ≡ near_source a → b ≡ a
+same_near None None same = refl
+same_near None (Some y) same = absurd (cc)
+same_near (Some x) None same = absurd (cc)
+same_near (Some x) (Some y) same =
+    let bound : y.bound ≡ x.bound = cc in
+    let cells : y.cells ≡ x.cells = cc in
+    λ i. Some (record { bound = bound i; cells = cells i })
+
+same_store : (a b : Stored) → b.network ≡ a.network → source_of b ≡ source_of a → b ≡ a
 same_store a b network source =
     let bound : b.bound ≡ a.bound = cc in
-    let cells : b.cells ≡ a.cells = cc in
-    λ i. record { network = network i; bound = bound i; cells = cells i }
+    let long : length b.cells ≡ length a.cells = cc in
+    let rest : b.cells ++ near_source b.near ≡ a.cells ++ near_source a.near = cc in
+    let parts = same_parts b.cells a.cells (near_source b.near) (near_source a.near) long rest in
+    let near = same_near a.near b.near parts.1 in
+    λ i. record { network = network i; bound = bound i; cells = parts.0 i; near = near i }
 
 -- one more draw, and rows that became known for the trace of number k
 pub stays_more : {j : Job} {reader mid after : Reading} {ticket drawn drawn' : Drawn} (k : ℕ) → k < length j.traces → Stays j reader ticket mid drawn → AsksOnly (rows_state mid) (rows_state after) (λ v. asks_at j v k ≡ true)
@@ -153,7 +189,7 @@ stays_more {j} {reader} {mid} {after} k inside stays asked same =
       reader = record {
         stays = record {
           store = same_store mid.store after.store keeps.network keeps.source ∙ before.store;
-          bound = keeps.bound ∙ before.bound;
+          known = λ n k. (knows_node after n).1 (keeps.known n ((knows_node mid n).0 (before.known n k)));
           held = λ n row e. keeps.held n row (before.held n row e);
         };
         only = λ v known. ⊎_elim

@@ -6,7 +6,7 @@ use Rattle.cost_model.specs.declared.params.Params.{Params}
 use Rattle.grid_index.specs.GridOf.{GridOf}
 use Rattle.match_text.specs.declared.matched.MatchedTrace.{MatchedTrace}
 use Rattle.road_network.specs.Net.{Net}
-use Rattle.row_store.specs.Store.{Reading, knows}
+use Rattle.row_store.specs.Store.{Reading, knows, rows_seen}
 use Rattle.tickets.specs.Tickets.{Drawn, Opened, IsOpenTicket}
 use Rattle.trace_match.specs.Ground.{IsGridFor}
 use Rattle.trace_match.specs.Match.{asks, match_of}
@@ -39,13 +39,13 @@ pub record CanDraw (count : ℕ) (claims : Opened) (ticket : Drawn) : Type 0 whe
 -- the reader is of a store for this network, and returns rows within the bound of these options
 pub record IsReaderFor (n : Net) (p : Params) (reader : Reading) : Type 0 where
   pub network : reader.store.network ≡ n
-  pub bound : reader.bound ≡ p.bound
+  pub bound : reader.store.bound ≡ p.bound
 
--- the reader is of the same store and bound, and what it knew it knows
+-- the reader is of the same store, what it knew it knows, and a row that it saw in a slot it sees there
 pub record StaysReader (before after : Reading) : Type 0 where
   pub store : after.store ≡ before.store
-  pub bound : after.bound ≡ before.bound
-  pub held : Extends before.places after.places
+  pub known : (v : ℕ) → knows before v ≡ true → knows after v ≡ true
+  pub held : Extends (rows_seen before) (rows_seen after)
 
 -- whether some trace of the job asks for the row of node v
 abbrev pub asked_by : Job → ℕ → Bool

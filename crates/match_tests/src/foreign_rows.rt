@@ -48,6 +48,18 @@ fn plant(store: &RowStore<'_>, row: Row) -> Result<(), AllocError>
     Ok(())
 }
 
+/// A reader of a store, which has looked at node 1 if this is wanted.
+fn reader_of<'s>(store: &'s RowStore<'s>, look: bool) -> Result<Reader<'s>, AllocError>
+    requires { HasNode store.now.network 1 }
+    ensures { IfOk result (λ reader. reader.store ≡ store.now) }
+{
+    let mut reader = store.reader()?;
+    if look {
+        reader.look(NodeId(1))?;
+    }
+    Ok(reader)
+}
+
 /// Two readers of a store, which have looked at node 1 if this is wanted.
 fn two_readers<'s>(
     alloc: Global,
@@ -58,12 +70,8 @@ fn two_readers<'s>(
     requires bound { store.now.bound ≡ DEFAULTS.bound }
     ensures { IfOk result (AreReadersFor store.now.network DEFAULTS) }
 {
-    let mut a = store.reader()?;
-    let mut b = store.reader()?;
-    if look {
-        a.look(NodeId(1))?;
-        b.look(NodeId(1))?;
-    }
+    let a = reader_of(store, look)?;
+    let b = reader_of(store, look)?;
     let mut readers = List::new(alloc);
     readers.push(a)?;
     readers.push(b)?;

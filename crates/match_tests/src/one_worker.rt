@@ -37,7 +37,7 @@ fn worked(
     reader: &mut Reader<'_>,
     traces: &[Trace],
 ) -> Result<Option<List<Done>>, AllocError>
-    requires { (reader.old.store.network ≡ net.now) × (reader.old.bound ≡ DEFAULTS.bound) }
+    requires { (reader.old.store.network ≡ net.now) × (reader.old.store.bound ≡ DEFAULTS.bound) }
 {
     if traces.len() > 200 || !are_lawful(traces) {
         return Ok(None);

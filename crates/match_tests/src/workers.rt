@@ -14,7 +14,6 @@ use std::alloc::{AllocError, Global};
 use std::thread::Threads;
 use town::{town_network, town_traces};
 use trace_reader::{Fix, Trace, TraceReader};
-use trellis::near_reach;
 
 pub const DEFAULTS: Params = Params::DEFAULT;
 
@@ -37,13 +36,13 @@ fn readers_of<'s>(
     store: &'s RowStore<'s>,
     count: u32,
 ) -> Result<List<Reader<'s>>, AllocError>
-    requires bound { store.now.bound ≤ DEFAULTS.bound }
+    requires bound { store.now.bound ≡ DEFAULTS.bound }
     requires count { (1 ≤ count) × (count ≤ 64) }
     ensures { IfOk result (AreReadersFor store.now.network DEFAULTS) }
 {
     let mut readers = List::new(alloc);
     for _ in 0..count {
-        readers.push(store.reader_within(DEFAULTS.bound)?)?;
+        readers.push(store.reader()?)?;
     }
     Ok(readers)
 }
@@ -77,11 +76,18 @@ pub fn matched_with<'s, R: Threads + Sync>(
     Ok(Some((all, readers)))
 }
 
-/// Whether each row that a reader knows is that of its node.
+fn is_foreign(sight: Sight<'_>) -> bool {
+    matches!(sight, Sight::Foreign(_))
+}
+
+/// Whether each slot of a node that a reader knows has the row, or the near row, of its node.
 pub fn knows_no_foreign_row(reader: &mut Reader<'_>) -> Result<bool, AllocError> {
     for n in 0..reader.store().network().node_count() {
         if reader.known(NodeId(n)) {
-            if let Sight::Foreign(_) = reader.look(NodeId(n))? {
+            if is_foreign(reader.look(NodeId(n))?) {
+                return Ok(false);
+            }
+            if reader.store().has_near_rows() && is_foreign(reader.look_near(NodeId(n))?) {
                 return Ok(false);
             }
         }
@@ -97,7 +103,7 @@ fn are_matched<R: Threads + Sync>(
     store: &RowStore<'_>,
     traces: &[Trace],
 ) -> Result<bool, AllocError>
-    requires { (store.now.network ≡ net.now) × (store.now.bound ≤ DEFAULTS.bound) }
+    requires { (store.now.network ≡ net.now) × (store.now.bound ≡ DEFAULTS.bound) }
 {
     let readers = readers_of(alloc, store, 4)?;
     let Some((all, readers)) = matched_with(rt, alloc, net, traces, readers)? else {
@@ -126,11 +132,11 @@ fn is_town_matched<R: Threads + Sync>(rt: &R, alloc: Global) -> Option<bool> {
     let traces = town_traces_of(alloc)?;
     let traces = traces.as_slice();
     let bound = DEFAULTS.bound;
-    let whole = RowStore::open(alloc, &net, bound).ok()?;
-    let near = RowStore::open(alloc, &net, near_reach(bound)).ok()?;
-    let by_whole = are_matched(rt, alloc, &net, &whole, traces).ok()?;
+    let table = RowStore::open(alloc, &net, bound).ok()?;
+    let near = RowStore::open_near(alloc, &net, bound).ok()?;
+    let by_table = are_matched(rt, alloc, &net, &table, traces).ok()?;
     let by_near = are_matched(rt, alloc, &net, &near, traces).ok()?;
-    Some(by_whole && by_near)
+    Some(by_table && by_near)
 }
 
 // A worker whose reader takes a row from the store unchecked, or that puts a wrong one there, fails here.

@@ -1,5 +1,5 @@
 -- Readers of one store, before and after traces are matched.
-use Rattle.std.proofs.Common.{◌≡◌, ◌↔◌, ℕ, zero, suc, Bool, true, false, ◌||◌, List, [], ◌∷◌, All, Option, None, is_some, IfOk, OnOk, Result, Ok, Err, length, map, replicate, true≢false, refl, sym, ◌∙◌, ap, subst, arith}
+use Rattle.std.proofs.Common.{◌≡◌, ◌↔◌, ℕ, zero, suc, Bool, true, false, ◌||◌, List, [], ◌∷◌, All, Option, None, Some, is_some, IfOk, OnOk, Result, Ok, Err, length, map, replicate, true≢false, refl, sym, ◌∙◌, ap, subst, arith}
 use Rattle.std.specs.List.{AllZip, count_by, range_with_len}
 use Rattle.std.specs.Prelude.{slice_index_or}
 use Rattle.std.specs.declared.alloc.AllocError.{AllocError}
@@ -12,12 +12,12 @@ use Rattle.match_pool.specs.Learning.{LearnAsked}
 use Rattle.match_pool.specs.Working.{IsReaderFor, Job, ReadsWithin, StaysReader}
 use Rattle.match_text.specs.declared.matched.MatchedTrace.{MatchedTrace}
 use Rattle.road_network.specs.Net.{Net}
-use Rattle.row_store.specs.Store.{Reading, Stored, count_known, is_known_to_any}
+use Rattle.row_store.specs.Store.{NearSlots, Reading, Stored, count_known, fresh_near, fresh_reading, is_known_to_any, knows}
 use Rattle.trace_match.specs.Match.{match_of}
 use Rattle.trace_reader.specs.Trace.{IsLawfulTrace}
 use Rattle.trace_reader.specs.declared.trace.Trace.{Trace}
 use Rattle.trace_match.specs.Setting.{Setting}
-use Rattle.match_work.specs.Sharing.{IsStoreFor, MatchesBatch, ShareStore, fresh_reader, fresh_readers}
+use Rattle.match_work.specs.Sharing.{IsStoreFor, MatchesBatch, ShareStore, fresh_readers}
 use Rattle.trace_match.specs.Totals.{is_asked_by, rows_of}
 use Rattle.match_work.specs.MatchesDone.{KnowAsked}
 use Rattle.match_work.proofs.TraceMatches.{matches_found, matches_of}
@@ -31,14 +31,22 @@ no_places zero v = refl
 no_places (suc n) zero = refl
 no_places (suc n) (suc v) = no_places n v
 
-nothing_known : (store : Stored) (bound k v : ℕ) → is_known_to_any (replicate k (fresh_reader store bound)) v ≡ false
-nothing_known store bound zero v = refl
-nothing_known store bound (suc k) v =
-    ap (λ b. b || is_known_to_any (replicate k (fresh_reader store bound)) v) (no_places (length store.network.nodes) v) ∙ nothing_known store bound k v
+no_near : (store : Stored) (near : Option NearSlots) (v : ℕ) → is_some (slice_index_or (fresh_near store near) v no_row) ≡ false
+no_near store None v = refl
+no_near store (Some near) v = no_places (length store.network.nodes) v
+
+fresh_knows : (store : Stored) (v : ℕ) → knows (fresh_reading store) v ≡ false
+fresh_knows store v =
+    ap (λ b. b || is_some (slice_index_or (fresh_near store store.near) v no_row)) (no_places (length store.network.nodes) v) ∙ no_near store store.near v
+
+nothing_known : (store : Stored) (k v : ℕ) → is_known_to_any (replicate k (fresh_reading store)) v ≡ false
+nothing_known store zero v = refl
+nothing_known store (suc k) v =
+    ap (λ b. b || is_known_to_any (replicate k (fresh_reading store)) v) (fresh_knows store v) ∙ nothing_known store k v
 
 pub know_nothing : (on : Setting) (store : Stored) → KnowAsked on [] (fresh_readers on store)
 know_nothing on store v = (
-  λ is. absurd (true≢false (sym is ∙ nothing_known store on.params.bound on.params.workers v)),
+  λ is. absurd (true≢false (sym is ∙ nothing_known store on.params.workers v)),
   λ (is : false ≡ true). cc,
 )
 
@@ -49,15 +57,17 @@ length-replicate (suc k) r = omega (arith, length-replicate k r)
 pub share_fresh : (on : Setting) (store : Stored) → IsAccepted on.params → IsStoreFor on store → ShareStore on (fresh_readers on store)
 share_fresh on store accepted is =
     let workers = accepted.workers in
-    let size = length-replicate on.params.workers (fresh_reader store on.params.bound) in
+    let size = length-replicate on.params.workers (fresh_reading store) in
     record {
       readers_are = record {
         some = omega (arith, size, workers.0);
         few = omega (arith, size, workers.1);
-        each = All-replicate (IsReaderFor on.network on.params) on.params.workers (fresh_reader store on.params.bound) (record { network = is.network; bound = refl });
+        each = All-replicate (IsReaderFor on.network on.params) on.params.workers (fresh_reading store) (record { network = is.network; bound = is.bound });
+        store = store;
+        shared = All-replicate (λ (r : Reading). r.store ≡ store) on.params.workers (fresh_reading store) refl;
       };
       store = store;
-      each = All-replicate (λ (r : Reading). r.store ≡ store) on.params.workers (fresh_reader store on.params.bound) refl;
+      each = All-replicate (λ (r : Reading). r.store ≡ store) on.params.workers (fresh_reading store) refl;
     }
 
 -- readers that stay those of their stores
@@ -76,7 +86,9 @@ share_on on old new share stay =
       readers_are = record {
         some = (let some = readers.some in omega (arith, size, some));
         few = (let few = readers.few in omega (arith, size, few));
-        each = all_stay (IsReaderFor on.network on.params) old new (λ a b stays is. record { network = ap (λ (s : Stored). s.network) stays.store ∙ is.network; bound = stays.bound ∙ is.bound }) stay readers.each;
+        each = all_stay (IsReaderFor on.network on.params) old new (λ a b stays is. record { network = ap (λ (s : Stored). s.network) stays.store ∙ is.network; bound = ap (λ (s : Stored). s.bound) stays.store ∙ is.bound }) stay readers.each;
+        store = readers.store;
+        shared = all_stay (λ (r : Reading). r.store ≡ readers.store) old new (λ a b stays is. stays.store ∙ is) stay readers.shared;
       };
       store = share.store;
       each = all_stay (λ (r : Reading). r.store ≡ share.store) old new (λ a b stays is. stays.store ∙ is) stay share.each;

@@ -1,30 +1,26 @@
 -- Readers of one store, and what matching by them and writing the matches leaves.
-use Rattle.std.specs.Prelude.{◌≡◌, ◌≤◌, ◌^◌, ◌++◌, ℕ, List, All, Result, IfOk, OnOk, None, length, replicate}
+use Rattle.std.specs.Prelude.{◌≡◌, ◌≤◌, ◌^◌, ◌++◌, ℕ, List, All, Result, IfOk, OnOk, replicate}
 use Rattle.std.specs.List.{AllZip}
 use Rattle.std.specs.declared.alloc.AllocError.{AllocError}
 use Rattle.match_pool.specs.Learning.{AreReadersFor, LearnAsked}
 use Rattle.match_pool.specs.Working.{AreJobTraces, StaysReader}
 use Rattle.match_text.specs.MatchText.{IsLawful}
 use Rattle.match_text.specs.declared.matched.MatchedTrace.{MatchedTrace}
-use Rattle.row_store.specs.Store.{Reading, Stored}
+use Rattle.row_store.specs.Store.{Reading, Stored, fresh_reading}
 use Rattle.trace_reader.specs.declared.trace.Trace.{Trace}
 use Rattle.match_work.specs.Matched.{AreMatchesOf, pieces_in, text_of_matches}
 use Rattle.trace_match.specs.Setting.{Setting}
 use denote.Ref.{Bor, MutBor}
 use denote.Param.Members.{Shared}
 
--- the store is for the network of this setting, and its rows reach no further than the bound of the options
+-- the store is for the network of this setting, and for rows within the bound of the options
 pub record IsStoreFor (on : Setting) (store : Stored) : Type 0 where
   pub network : store.network ≡ on.network
-  pub bound : store.bound ≤ on.params.bound
-
--- a reader that knows nothing, and returns rows within this bound
-abbrev pub fresh_reader : Stored → ℕ → Reading
-fresh_reader store bound = record { store = store; bound = bound; places = replicate (length store.network.nodes) None }
+  pub bound : store.bound ≡ on.params.bound
 
 -- as many readers as the setting has workers, which know nothing
 abbrev pub fresh_readers : Setting → Stored → List Reading
-fresh_readers on store = replicate on.params.workers (fresh_reader store on.params.bound)
+fresh_readers on store = replicate on.params.workers (fresh_reading store)
 
 -- readers for this setting, all of one store
 pub record ShareStore (on : Setting) (readers : List Reading) : Type 0 where

@@ -1,8 +1,9 @@
 //! Readers of one store, and batches of traces matched by them. Serves `match` and `town`; decided
 //! by `MatchesBatch`.
-ghost use Rattle.std.specs.Prelude.{◌≡◌, IfOk};
+ghost use Rattle.std.specs.Prelude.{◌≡◌, IfOk, None};
 ghost use Rattle.match_pool.specs.Learning.{AreReadersFor};
 ghost use Rattle.match_pool.specs.Working.{AreJobTraces};
+ghost use Rattle.row_store.specs.Store.{HasNearRows};
 ghost use Rattle.match_work.specs.Sharing.{IsStoreFor, MatchesBatch, ShareStore, fresh_readers};
 
 use match_pool::{Gate, match_all};
@@ -16,19 +17,16 @@ use trace_reader::Trace;
 
 /// A store for the rows of the network within the bound of the options.
 pub fn open_store<'n>(alloc: Global, matcher: &Matcher<'n>) -> Result<RowStore<'n>, AllocError>
-    ensures { IfOk result (λ store. (store.network ≡ matcher.now.network)
-        × (store.bound ≡ matcher.now.params.bound)) }
+    ensures { IfOk result (λ store. IsStoreFor matcher.now store × (store.near ≡ None)) }
 {
     RowStore::open(alloc, matcher.network(), matcher.params().bound)
 }
 
-/// A store for shorter rows of the network, which serve most steps along a trace.
+/// A store as `open_store` makes it, with near rows, which serve most steps along a trace.
 pub fn open_near_store<'n>(alloc: Global, matcher: &Matcher<'n>) -> Result<RowStore<'n>, AllocError>
-    ensures { IfOk result (IsStoreFor matcher.now) }
+    ensures { IfOk result (λ store. IsStoreFor matcher.now store × HasNearRows store) }
 {
-    // The bound of accepted options is small enough for a store.
-    matcher.params();
-    RowStore::open(alloc, matcher.network(), matcher.near_reach())
+    RowStore::open_near(alloc, matcher.network(), matcher.params().bound)
 }
 
 /// As many readers of a store as the options have workers, from 1 to 64. They know nothing.
@@ -44,7 +42,7 @@ pub fn open_readers<'s>(
     let params = matcher.params();
     let mut readers = List::new(alloc);
     for _ in 0..params.workers {
-        readers.push(store.reader_within(params.bound)?)?;
+        readers.push(store.reader()?)?;
     }
     Ok(readers)
 }

@@ -21,7 +21,6 @@ use polyline_geometry::List;
 use program_frame::{Job, NetworkFile, Stop, Tally, load_network, work_traces};
 use row_store::{Reader, RowStore, known_count};
 use std::alloc::{AllocError, Global};
-use std::mem;
 use std::thread::Threads;
 use trace_match::Matcher;
 use trace_reader::Trace;
@@ -88,10 +87,7 @@ where
     }
 
     fn finish(&mut self, alloc: Global, into: &mut List<u8>) -> Result<(), AllocError> {
-        let readers = mem::replace(&mut self.readers, List::new(alloc));
-        let rows = known_count(alloc, readers.as_slice())?;
-        // The process ends soon, and the system then takes the memory of all rows at once.
-        mem::forget(readers);
+        let rows = known_count(alloc, self.readers.as_slice())?;
         self.tally.append_line(u64::from(rows), into)
     }
 }
@@ -152,8 +148,5 @@ pub fn match_traces<R: Threads + Sync, G: Gate, S: Shelf, K: Sink>(
     let roads = load_network(alloc, shelf, network)?;
     let matcher = Matcher::open(alloc, &roads, options)?;
     let store = open_near_store(alloc, &matcher)?;
-    let done = match_file(rt, alloc, &matcher, &store, traces, shelf, out, gate);
-    // As `finish` does with the readers.
-    mem::forget(store);
-    done
+    match_file(rt, alloc, &matcher, &store, traces, shelf, out, gate)
 }

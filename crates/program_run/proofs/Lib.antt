@@ -6,7 +6,7 @@ pub mod LiveProgram
 pub mod ProvedTexts
 pub mod TableFiles
 pub mod Workers
-pub mod ReadIds
 pub mod ReadNetworks
 pub mod ProvedFiles
 pub mod ProvedRuns
+mod Statuses

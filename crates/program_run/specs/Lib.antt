@@ -7,3 +7,4 @@ pub mod LiveProgram
 pub mod TableFiles
 pub mod Workers
 pub mod Words
+pub mod Statuses

@@ -4,6 +4,7 @@ ghost use Rattle.program_run.specs.ProvedRuns.{ProvedRunsAreAccepted};
 ghost use Rattle.program_run.specs.ProvedTexts.{ProvedTextsAreAccepted};
 ghost use Rattle.program_run.specs.LargeProgram.{LargeLimitsChangeNothing};
 ghost use Rattle.program_run.specs.LiveProgram.{LiveProgramPlansAlike};
+ghost use Rattle.program_run.specs.Statuses.{StatusesTellCommands};
 ghost use Rattle.program_run.specs.TableFiles.{TableFilesChangeNothing};
 ghost use Rattle.program_run.specs.Workers.{WorkersChangeNothing};
 
@@ -43,4 +44,10 @@ pub fn live_program_plans_alike()
 /// the outcome within the standard limits.
 pub fn large_limits_change_nothing()
     ensures { LargeLimitsChangeNothing }
+{}
+
+/// Status 7 comes only for `check`, 9 only with a table file, and 3, 5 and 6 never for `town`, whether the
+/// bytes of the files are known to the proof or not.
+pub fn statuses_tell_commands()
+    ensures { StatusesTellCommands }
 {}

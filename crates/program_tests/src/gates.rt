@@ -2,10 +2,11 @@
 //! the rows of one store. Each gate shows it through `run`.
 ghost use Rattle.std.specs.Prelude.{◌≡◌, IfOk, IfSome};
 
-use crate::ended::{run_to_end, shelf};
+use crate::commands::{ONE_TRACE, TABLE};
+use crate::ended::{Ended, run_to_end, shelf};
 use crate::texts::{many_texts, many_traces};
 use bounded_search::Row;
-use match_pool::Gate;
+use match_pool::{Gate, OpenGate};
 use polyline_geometry::List;
 use road_network::NodeId;
 use row_store::{RowStore, Sight};
@@ -145,16 +146,16 @@ fn long_row(alloc: Global) -> Result<Option<Row>, AllocError>
     Ok(Row::of(NodeId(2), entries))
 }
 
-// Whether the store takes a wrong row for node 1.
+// Whether the store takes a wrong near row for node 1.
 fn takes_cut_row(alloc: Global, store: &RowStore<'_>) -> Result<bool, AllocError> {
-    if store.network().node_count() < 3 {
+    if store.network().node_count() < 3 || !store.has_near_rows() {
         return Ok(false);
     }
     let Some(row) = cut_row(alloc)? else {
         return Ok(false);
     };
     let mut reader = store.reader()?;
-    let held = reader.offer(NodeId(1), row)?;
+    let held = reader.offer_near(NodeId(1), row)?;
     Ok(held.entries() == [entry(1, 0, None)].as_slice())
 }
 
@@ -165,20 +166,20 @@ fn is_cut_row(sight: Sight<'_>) -> bool {
     }
 }
 
-// Whether the wrong row is still there for node 1, and the right one for node 2, which a wrong one that
+// Whether the wrong near row is still there for node 1, and the right one for node 2, which a wrong one that
 // is offered does not replace.
 fn has_both_rows(alloc: Global, store: &RowStore<'_>) -> Result<bool, AllocError> {
-    if store.network().node_count() < 3 {
+    if store.network().node_count() < 3 || !store.has_near_rows() {
         return Ok(false);
     }
     let mut reader = store.reader()?;
-    if !is_cut_row(reader.look(NodeId(1))?) {
+    if !is_cut_row(reader.look_near(NodeId(1))?) {
         return Ok(false);
     }
     let Some(row) = long_row(alloc)? else {
         return Ok(false);
     };
-    let held = reader.offer(NodeId(2), row)?;
+    let held = reader.offer_near(NodeId(2), row)?;
     Ok(held.entries() == [entry(2, 0, None)].as_slice())
 }
 
@@ -212,11 +213,64 @@ fn share_the_store<R: Threads + Sync>(rt: &R, alloc: Global) -> bool {
     gives(rt, alloc, ALONG, ALONG_TEXT, &gate) && gate.steps.load(SeqCst) == 2
 }
 
-// Workers with rows of their own past the store fail here: the cell of node 2 is empty afterwards, and
+// Workers with rows of their own past the store fail here: the near slot of node 2 is empty afterwards, and
 // takes the wrong row.
 #[test]
 fn workers_share_the_store(rt: HostRuntime) {
     assert!(rt; share_the_store(&rt, rt.alloc()));
+}
+
+// Whether the store has the right row of node 1. A store without a row takes the wrong one.
+fn has_row_of_table(alloc: Global, store: &RowStore<'_>) -> Result<bool, AllocError> {
+    if store.network().node_count() < 3 {
+        return Ok(false);
+    }
+    let Some(row) = cut_row(alloc)? else {
+        return Ok(false);
+    };
+    let mut reader = store.reader()?;
+    let held = reader.offer(NodeId(1), row)?;
+    Ok(held.entries() == [entry(1, 0, None), entry(2, 10_000, Some(1))].as_slice())
+}
+
+// Counts the traces before which the store has the row of node 1.
+#[derive(Drop)]
+struct Finder {
+    alloc: Global,
+    found: AtomicU64,
+}
+
+impl Gate for Finder {
+    fn begin(&self, _trace: u64, store: &RowStore<'_>) {
+        if let Ok(true) = has_row_of_table(self.alloc, store) {
+            self.found.fetch_add(1, SeqCst);
+        }
+    }
+
+    fn end(&self, _trace: u64, _store: &RowStore<'_>) {}
+}
+
+// Whether the row of the table file is in the store before the only trace is matched.
+fn finds_rows_of_table<R: Threads + Sync>(rt: &R, alloc: Global) -> bool {
+    let gate = Finder {
+        alloc,
+        found: AtomicU64::new(0),
+    };
+    let files = [("net", TWO_EDGES), ("tra", ONE_TRACE), ("tab", TABLE)];
+    let Ok(mut shelf) = shelf(alloc, &files, &[], u32::MAX) else {
+        return false;
+    };
+    let words = ["match", "net", "tra", "--table", "tab"];
+    match run_to_end(rt, alloc, &words, &mut shelf, [&[], &[]], &gate) {
+        Ok(ended) => ended.status == 0 && gate.found.load(SeqCst) == 1,
+        Err(_) => false,
+    }
+}
+
+// A table file whose rows are checked and not offered fails here.
+#[test]
+fn rows_of_a_table_file_are_offered(rt: HostRuntime) {
+    assert!(rt; finds_rows_of_table(&rt, rt.alloc()));
 }
 
 // How many traces begin and end at each place, and last how many at any other place.
@@ -285,4 +339,54 @@ fn are_heard_once<R: Threads + Sync>(rt: &R, alloc: Global) -> bool {
 #[test]
 fn each_place_of_the_file_is_heard_once(rt: HostRuntime) {
     assert!(rt; are_heard_once(&rt, rt.alloc()));
+}
+
+// Ends `town` with four traces by this many workers.
+fn end_town<R: Threads + Sync, G: Gate>(
+    rt: &R,
+    alloc: Global,
+    workers: &str,
+    gate: &G,
+) -> Result<Ended, AllocError> {
+    let mut shelf = shelf(alloc, &[], &[], u32::MAX)?;
+    let words = ["town", "3", "4", "1", "--workers", workers];
+    run_to_end(rt, alloc, &words, &mut shelf, [&[], &[]], gate)
+}
+
+// Whether `town` by two workers writes what it writes by one.
+fn gives_town<R: Threads + Sync, G: Gate>(rt: &R, alloc: Global, gate: &G) -> bool {
+    let alone = end_town(rt, alloc, "1", &OpenGate);
+    match (alone, end_town(rt, alloc, "2", gate)) {
+        (Ok(alone), Ok(ended)) => ended.status == 0 && ended.is_same(&alone),
+        _ => false,
+    }
+}
+
+// Whether the gate hears of each trace of a town once.
+fn is_town_heard<R: Threads + Sync>(rt: &R, alloc: Global) -> bool {
+    let Ok(gate) = make_places(alloc, 5) else {
+        return false;
+    };
+    gives_town(rt, alloc, &gate)
+        && are_once_each(gate.begun.as_slice())
+        && are_once_each(gate.ended.as_slice())
+}
+
+#[test]
+fn each_trace_of_a_town_is_heard_once(rt: HostRuntime) {
+    assert!(rt; is_town_heard(&rt, rt.alloc()));
+}
+
+// Whether the other traces of a town end while this one is held.
+fn does_town_end_beside<R: Threads + Sync>(rt: &R, alloc: Global, held: u64) -> bool {
+    let gate = Holder::new(held, 3);
+    gives_town(rt, alloc, &gate) && gate.late.load(SeqCst) == 0
+}
+
+// A town that one worker matches, or whose workers have fixed parts, fails here.
+#[test]
+fn workers_of_a_town_run_beside_each_other(rt: HostRuntime) {
+    for held in 0..4 {
+        assert!(rt; does_town_end_beside(&rt, rt.alloc(), held));
+    }
 }

@@ -1,13 +1,15 @@
-//! How much each read asks for, and that nothing is read after the first fault.
+//! How much each read of `run` and of `live` asks for, and that nothing is read after the first fault.
 use crate::commands::{CERTIFICATE, FAULTY, ID_TWICE, ONE_TRACE, TABLE};
-use crate::ended::{run_to_end, shelf};
+use crate::ended::{run_to_end, shelf, sink, words};
 use crate::texts::many_traces;
 use decimal_text::write_unsigned;
 use edge_io::{MemoryShelf, Shelf, Taken};
+use live_pipeline::live;
 use match_pool::OpenGate;
 use polyline_geometry::List;
 use row_tests::small::TWO_EDGES;
 use std::alloc::{AllocError, Global};
+use std::sync::Wait;
 use std::thread::Threads;
 
 // A run, and its calls for the shelf: the file, the place, and the most bytes that each asks for.
@@ -20,6 +22,7 @@ struct Case<'a> {
     calls: &'static [u8],
 }
 
+// Runs of `run`.
 static CASES: [Case<'static>; 11] = [
     Case {
         shows: "match",
@@ -100,6 +103,38 @@ static CASES: [Case<'static>; 11] = [
     },
 ];
 
+// Runs of `live`.
+static LIVE_CASES: [Case<'static>; 4] = [
+    Case {
+        shows: "live",
+        words: &["net", "tra"],
+        network: TWO_EDGES,
+        traces: ONE_TRACE,
+        calls: b"net 0 65536\nnet 60 65536\ntra 0 65536\ntra 33 65536\n",
+    },
+    Case {
+        shows: "live traces are read no further than their first fault",
+        words: &["net", "tra"],
+        network: TWO_EDGES,
+        traces: FAULTY,
+        calls: b"net 0 65536\nnet 60 65536\ntra 0 65536\n",
+    },
+    Case {
+        shows: "no live traces after a refused network",
+        words: &["net", "tra"],
+        network: ID_TWICE,
+        traces: ONE_TRACE,
+        calls: b"net 0 65536\nnet 75 65536\n",
+    },
+    Case {
+        shows: "no file after refused words of live",
+        words: &["net", "tra", "--k", "33"],
+        network: TWO_EDGES,
+        traces: ONE_TRACE,
+        calls: b"",
+    },
+];
+
 // Appends the line of a call.
 fn append_call(calls: &mut List<u8>, name: &str, at: u64, most: u32) -> Result<(), AllocError> {
     calls.extend_from_slice(name.as_bytes())?;
@@ -132,21 +167,21 @@ impl Shelf for RecordingShelf {
     }
 }
 
-fn recording_shelf(alloc: Global, files: &[(&str, &[u8])]) -> Result<RecordingShelf, AllocError> {
-    Ok(RecordingShelf {
-        inner: shelf(alloc, files, &[], u32::MAX)?,
-        calls: List::new(alloc),
-    })
-}
-
-fn has_calls<R: Threads + Sync>(rt: &R, alloc: Global, it: &Case<'_>) -> bool {
+fn recording_shelf(alloc: Global, it: &Case<'_>) -> Result<RecordingShelf, AllocError> {
     let files = [
         ("net", it.network),
         ("tra", it.traces),
         ("tab", TABLE),
         ("cert", CERTIFICATE),
     ];
-    let Ok(mut shelf) = recording_shelf(alloc, &files) else {
+    Ok(RecordingShelf {
+        inner: shelf(alloc, &files, &[], u32::MAX)?,
+        calls: List::new(alloc),
+    })
+}
+
+fn has_calls<R: Threads + Sync>(rt: &R, alloc: Global, it: &Case<'_>) -> bool {
+    let Ok(mut shelf) = recording_shelf(alloc, it) else {
         return false;
     };
     run_to_end(rt, alloc, it.words, &mut shelf, [&[], &[]], &OpenGate).is_ok()
@@ -157,6 +192,35 @@ fn has_calls<R: Threads + Sync>(rt: &R, alloc: Global, it: &Case<'_>) -> bool {
 fn nothing_is_read_after_a_fault(rt: HostRuntime) {
     for it in &CASES {
         assert!(rt; has_calls(&rt, rt.alloc(), it), "{}", it.shows);
+    }
+}
+
+// The shelf after a run of `live`.
+fn shelf_after<R: Threads + Wait + Sync>(
+    rt: &R,
+    alloc: Global,
+    it: &Case<'_>,
+) -> Result<RecordingShelf, AllocError> {
+    let shelf = recording_shelf(alloc, it)?;
+    let words = words(alloc, it.words)?;
+    let mut out = sink(alloc, &[])?;
+    let mut err = sink(alloc, &[])?;
+    let (_, shelf) = live(rt, alloc, &words, shelf, &mut out, &mut err);
+    Ok(shelf)
+}
+
+fn has_live_calls<R: Threads + Wait + Sync>(rt: &R, alloc: Global, it: &Case<'_>) -> bool {
+    match shelf_after(rt, alloc, it) {
+        Ok(shelf) => shelf.calls.as_slice() == it.calls,
+        Err(_) => false,
+    }
+}
+
+// A reader that asks for more after the chunk of the fault would wait on an open pipe.
+#[test]
+fn live_reads_nothing_after_a_fault(rt: HostRuntime) {
+    for it in &LIVE_CASES {
+        assert!(rt; has_live_calls(&rt, rt.alloc(), it), "{}", it.shows);
     }
 }
 

@@ -1,3 +1,5 @@
 pub mod Counts
+pub mod Kept
+pub mod Opened
 pub mod Places
-pub mod WholeRows
+pub mod Readings

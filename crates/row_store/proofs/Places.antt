@@ -8,14 +8,13 @@ use Rattle.once_cell.specs.Once.{cell_name, Agrees}
 use Rattle.road_network.specs.Net.{Net}
 use Rattle.bounded_search.specs.Table.{TableRow, IsRow}
 use Rattle.bounded_search.specs.Known.{Extends, Adds, known_nodes}
-use Rattle.bounded_search.specs.Rows.{AsksAll}
 use Rattle.bounded_search.proofs.KnownNodes.{adds, get_set, get_set_else, inside}
 use Rattle.row_store.specs.declared.place.Place.{Place}
 use Rattle.row_store.specs.declared.place.Seen.{Seen}
 use Rattle.row_store.specs.declared.place.Seen.TheVariants.{Nothing, Right, Foreign, Replaced}
 use Rattle.row_store.specs.Places.{Fits, IsCheckedFor, IsReady, KeepsSight, StaysBlind, row_in}
-use Rattle.row_store.specs.ReaderInside.{AllFit, reading}
-use Rattle.row_store.specs.Store.{Stored, Reading, IsKnown, Sees, knows, rows_state}
+use Rattle.row_store.specs.Views.{AllFit, viewing}
+use Rattle.row_store.specs.Store.{SlotSet, Viewing, IsSeen, Sees, is_seen}
 
 pub set_same : {A : Type 0} (l : List A) (i : ℕ) (a : A) → slice_get l i ≡ Some a → set l i a ≡ l
 set_same [] i a e = refl
@@ -53,8 +52,8 @@ all_fit F places n q mine others k p e = dite (ℕ_discrete k n)
     at_set (x ∷ xs) (suc n) q zero p same e = absurd (omega arith)
     at_set (x ∷ xs) (suc n) q (suc k) p same e = at_set xs n q k p (omega arith) e
 
-pub fits_at : (store : Stored) (places : List Place) (n : ℕ) (x : Place) → AllFit store places → n < length places → x ≡ get_or places n x → Fits store.network store.bound n (slice_index store.cells n) x
-fits_at store places n x all h e = all n x (get_at places n x h ∙ ap Some (sym e))
+pub fits_at : (slots : SlotSet) (places : List Place) (n : ℕ) (x : Place) → AllFit slots places → n < length places → x ≡ get_or places n x → Fits slots.network slots.bound n (slice_index slots.cells n) x
+fits_at slots places n x all h e = all n x (get_at places n x h ∙ ap Some (sym e))
 
 pub there : (places : List Place) (n : ℕ) (x : Place) → n < length places → x ≡ get_or places n x → slice_get (map known_of places) n ≡ Some x.note.known
 there places n x h e = get_map known_of places n x (get_at places n x h ∙ ap Some (sym e))
@@ -79,31 +78,30 @@ kept : (before : Option TableRow) (row r : TableRow) → IfSome before (λ y. y 
 kept None row r k e = absurd (cc)
 kept (Some y) row r k e = let p : y ≡ r = cc in sym k ∙ p
 
-pub settled_seen : {bound : ℕ} (r : Reading) (store : Stored) (places : List Place) (n : ℕ) (x q : Place) → reading store bound places ≡ r → n < length places → x ≡ get_or places n x → KeepsSight x.note.known q.note.known
-    → (row : TableRow) × Sees r n row (reading store bound (set places n q))
-settled_seen {bound} r store places n x q is h e k =
-    subst (λ (y : Reading). (row : TableRow) × Sees y n row (reading store bound (set places n q))) is (
+pub settled_seen : (r : Viewing) (slots : SlotSet) (places : List Place) (n : ℕ) (x q : Place) → viewing slots places ≡ r → n < length places → x ≡ get_or places n x → KeepsSight x.note.known q.note.known
+    → (row : TableRow) × Sees r n row (viewing slots (set places n q))
+settled_seen r slots places n x q is h e k =
+    subst (λ (y : Viewing). (row : TableRow) × Sees y n row (viewing slots (set places n q))) is (
       k.0,
       record {
-        store = refl;
-        bound = refl;
+        slots = refl;
         places = map_set known_of places n q ∙ ap (λ (o : Option TableRow). set (map known_of places) n o) k.1;
         stays = λ s f. kept x.note.known k.0 s k.2 (let a = there places n x h e in let b : Some x.note.known ≡ Some (Some s) = sym a ∙ f in cc);
         known = get_map known_of (set places n q) n q (get_set places n q h) ∙ ap Some k.1;
       },
     )
 
-pub settled_err : {bound : ℕ} (r : Reading) (store : Stored) (places : List Place) (n : ℕ) (x q : Place) → reading store bound places ≡ r → n < length places → x ≡ get_or places n x → StaysBlind x.note.known q.note.known
-    → reading store bound (set places n q) ≡ r
-settled_err {bound} r store places n x q is h e none =
+pub settled_err : (r : Viewing) (slots : SlotSet) (places : List Place) (n : ℕ) (x q : Place) → viewing slots places ≡ r → n < length places → x ≡ get_or places n x → StaysBlind x.note.known q.note.known
+    → viewing slots (set places n q) ≡ r
+settled_err r slots places n x q is h e none =
     let same : map known_of (set places n q) ≡ map known_of places = map_set known_of places n q ∙ set_same (map known_of places) n q.note.known (there places n x h e ∙ ap Some (none.0 ∙ sym none.1)) in
-    ap (λ (ps : List (Option TableRow)). record { store = store; bound = bound; places = ps }) same ∙ is
+    ap (λ (ps : List (Option TableRow)). record { slots = slots; places = ps }) same ∙ is
 
-pub known_there : {bound : ℕ} (r : Reading) (store : Stored) (places : List Place) (n : ℕ) (x : Place) → reading store bound places ≡ r → n < length places → x ≡ get_or places n x → slice_get r.places n ≡ Some x.note.known
-known_there {bound} r store places n x is h e = subst (λ (y : Reading). slice_get y.places n ≡ Some x.note.known) is (there places n x h e)
+pub known_there : (r : Viewing) (slots : SlotSet) (places : List Place) (n : ℕ) (x : Place) → viewing slots places ≡ r → n < length places → x ≡ get_or places n x → slice_get r.places n ≡ Some x.note.known
+known_there r slots places n x is h e = subst (λ (y : Viewing). slice_get y.places n ≡ Some x.note.known) is (there places n x h e)
 
 -- a row of the cell is known where the note knows one
-pub shows : (s : Seen) (k : Option TableRow) (r : Reading) (n : ℕ) → k ≡ row_in s → slice_get r.places n ≡ Some k → is_some (row_in s) ≡ knows r n
+pub shows : (s : Seen) (k : Option TableRow) (r : Viewing) (n : ℕ) → k ≡ row_in s → slice_get r.places n ≡ Some k → is_some (row_in s) ≡ is_seen r n
 shows s k r n e f = ap is_some (sym e) ∙ ap is_some (sym (get_default r.places n k f))
   where
     get_default : (l : List (Option TableRow)) (i : ℕ) (o : Option TableRow) → slice_get l i ≡ Some o → slice_index_or l i None ≡ o
@@ -111,39 +109,39 @@ shows s k r n e f = ap is_some (sym e) ∙ ap is_some (sym (get_default r.places
     get_default (x ∷ xs) zero o e = cc
     get_default (x ∷ xs) (suc i) o e = get_default xs i o e
 
-pub within : {bound : ℕ} (r : Reading) (store : Stored) (places : List Place) (n : ℕ) → reading store bound places ≡ r → length places ≡ length store.network.nodes → n < length r.store.network.nodes → n < length places
-within {bound} r store places n is long h = subst (λ (m : ℕ). n < m) (sym long) (subst (λ (y : Reading). n < length y.store.network.nodes) (sym is) h)
+pub within : (r : Viewing) (slots : SlotSet) (places : List Place) (n : ℕ) → viewing slots places ≡ r → length places ≡ length slots.network.nodes → n < length r.slots.network.nodes → n < length places
+within r slots places n is long h = subst (λ (m : ℕ). n < m) (sym long) (subst (λ (y : Viewing). n < length y.slots.network.nodes) (sym is) h)
 
 -- a node that is known is not unknown
 pub known_not : (o : Option TableRow) (ps : List (Option TableRow)) (n : ℕ) → slice_get ps n ≡ Some o → (row : TableRow) × (slice_get ps n ≡ Some (Some row)) → o ≡ None → ⊥
 known_not o ps n e k none = let a : Some o ≡ Some (Some k.0) = sym e ∙ k.1 in cc
 
 -- after a look at an empty cell
-pub unseen : {bound : ℕ} (r : Reading) (store : Stored) (places : List Place) (n : ℕ) (x q : Place) (looked : Bool) → reading store bound places ≡ r → n < length places → x ≡ get_or places n x → looked ≡ false
-    → IsTrue looked ⊎ StaysBlind x.note.known q.note.known → (reading store bound (set places n q) ≡ r) × (IsKnown r n → ⊥)
-unseen {bound} r store places n x q looked is h e unfound either =
+pub unseen : (r : Viewing) (slots : SlotSet) (places : List Place) (n : ℕ) (x q : Place) (looked : Bool) → viewing slots places ≡ r → n < length places → x ≡ get_or places n x → looked ≡ false
+    → IsTrue looked ⊎ StaysBlind x.note.known q.note.known → (viewing slots (set places n q) ≡ r) × (IsSeen r n → ⊥)
+unseen r slots places n x q looked is h e unfound either =
     ⊎_elim
     (λ (found : IsTrue looked). absurd (true≢false (sym found ∙ unfound)))
-    (λ (none : StaysBlind x.note.known q.note.known). (settled_err r store places n x q is h e none, λ known. known_not x.note.known r.places n (known_there r store places n x is h e) known none.0))
+    (λ (none : StaysBlind x.note.known q.note.known). (settled_err r slots places n x q is h e none, λ known. known_not x.note.known r.places n (known_there r slots places n x is h e) known none.0))
     either
 
 pub not_blind : (s : Seen) (k : Option TableRow) (ps : List (Option TableRow)) (n : ℕ) → k ≡ row_in s → slice_get ps n ≡ Some k → (row : TableRow) × (slice_get ps n ≡ Some (Some row)) → s ≡ Nothing → ⊥
 not_blind s k ps n e f t none = known_not k ps n f t (e ∙ ap row_in none)
 
-pub sight_row : {bound : ℕ} (r : Reading) (store : Stored) (places : List Place) (n name : ℕ) (x : Place) (s : Seen) → reading store bound places ≡ r → n < length places → x ≡ get_or places n x → Fits store.network store.bound n name x → x.seen ≡ s
+pub sight_row : (r : Viewing) (slots : SlotSet) (places : List Place) (n name : ℕ) (x : Place) (s : Seen) → viewing slots places ≡ r → n < length places → x ≡ get_or places n x → Fits slots.network slots.bound n name x → x.seen ≡ s
     → slice_get r.places n ≡ Some (row_in s)
-sight_row {bound} r store places n name x s is h e f seen = known_there r store places n x is h e ∙ ap Some (f.known ∙ ap row_in seen)
+sight_row r slots places n name x s is h e f seen = known_there r slots places n x is h e ∙ ap Some (f.known ∙ ap row_in seen)
 
-pub sight_checked : {bound : ℕ} (r : Reading) (store : Stored) (places : List Place) (n name : ℕ) (x : Place) (s : Seen) → reading store bound places ≡ r → Fits store.network store.bound n name x → x.seen ≡ s
-    → IsCheckedFor r.store.network r.store.bound n s
-sight_checked {bound} r store places n name x s is f seen =
-    subst (λ (y : Reading). IsCheckedFor y.store.network y.store.bound n s) is
-    (subst (IsCheckedFor store.network store.bound n) seen f.checked)
+pub sight_checked : (r : Viewing) (slots : SlotSet) (places : List Place) (n name : ℕ) (x : Place) (s : Seen) → viewing slots places ≡ r → Fits slots.network slots.bound n name x → x.seen ≡ s
+    → IsCheckedFor r.slots.network r.slots.bound n s
+sight_checked r slots places n name x s is f seen =
+    subst (λ (y : Viewing). IsCheckedFor y.slots.network y.slots.bound n s) is
+    (subst (IsCheckedFor slots.network slots.bound n) seen f.checked)
 
 -- a new place at the end
-pub fits_more : (store : Stored) (places : List Place) (x : Place) → AllFit store places → Fits store.network store.bound (length places) (slice_index store.cells (length places)) x → AllFit store (places ++ x ∷ [])
-fits_more store places x all mine k p e = dite (ℕ_discrete k (length places))
-    (λ (same : k ≡ length places). subst (λ (y : ℕ). Fits store.network store.bound y (slice_index store.cells y) p) (sym same) (subst (λ (q : Place). Fits store.network store.bound (length places) (slice_index store.cells (length places)) q) (last places x k p same e) mine))
+pub fits_more : (slots : SlotSet) (places : List Place) (x : Place) → AllFit slots places → Fits slots.network slots.bound (length places) (slice_index slots.cells (length places)) x → AllFit slots (places ++ x ∷ [])
+fits_more slots places x all mine k p e = dite (ℕ_discrete k (length places))
+    (λ (same : k ≡ length places). subst (λ (y : ℕ). Fits slots.network slots.bound y (slice_index slots.cells y) p) (sym same) (subst (λ (q : Place). Fits slots.network slots.bound (length places) (slice_index slots.cells (length places)) q) (last places x k p same e) mine))
     (λ ne. all k p (front places x k p ne e))
   where
     last : (l : List Place) (x : Place) (k : ℕ) (p : Place) → k ≡ length l → slice_get (l ++ x ∷ []) k ≡ Some p → x ≡ p
@@ -158,11 +156,11 @@ fits_more store places x all mine k p e = dite (ℕ_discrete k (length places))
     front (y ∷ ys) x zero p ne e = e
     front (y ∷ ys) x (suc k) p ne e = front ys x k p (λ q. ne (ap suc q)) e
 
-pub empty_fits : (store : Stored) (n name : ℕ) (x : Place) → x.note.cell ≡ name → x.note.known ≡ None → x.seen ≡ Nothing → Fits store.network store.bound n name x
-empty_fits store n name x cell known seen = record {
+pub empty_fits : (slots : SlotSet) (n name : ℕ) (x : Place) → x.note.cell ≡ name → x.note.known ≡ None → x.seen ≡ Nothing → Fits slots.network slots.bound n name x
+empty_fits slots n name x cell known seen = record {
   cell = cell;
   known = known ∙ sym (ap row_in seen);
-  checked = subst (IsCheckedFor store.network store.bound n) (sym seen) tt;
+  checked = subst (IsCheckedFor slots.network slots.bound n) (sym seen) tt;
 }
 
 pub none_more : (places : List Place) (x : Place) (n : ℕ) → map known_of places ≡ replicate n None → x.note.known ≡ None → map known_of (places ++ x ∷ []) ≡ replicate (n + 1) None
@@ -192,18 +190,18 @@ right_ready net bound v (Foreign r) row checked e right =
 right_ready net bound v (Replaced b) row checked e right = tt
 
 -- writing a place back changes nothing
-pub same_fit : (store : Stored) (places : List Place) (n : ℕ) (x q : Place) → AllFit store places → n < length places → x ≡ get_or places n x → q ≡ x → AllFit store (set places n q)
-same_fit store places n x q all h e is = subst (AllFit store) (sym (set_same places n q (get_at places n x h ∙ ap Some (sym e ∙ sym is)))) all
+pub same_fit : (slots : SlotSet) (places : List Place) (n : ℕ) (x q : Place) → AllFit slots places → n < length places → x ≡ get_or places n x → q ≡ x → AllFit slots (set places n q)
+same_fit slots places n x q all h e is = subst (AllFit slots) (sym (set_same places n q (get_at places n x h ∙ ap Some (sym e ∙ sym is)))) all
 
-pub same_reading : {bound : ℕ} (r : Reading) (store : Stored) (places : List Place) (n : ℕ) (x q : Place) → reading store bound places ≡ r → n < length places → x ≡ get_or places n x → q.note.known ≡ x.note.known → reading store bound (set places n q) ≡ r
-same_reading {bound} r store places n x q is h e known =
+pub same_reading : (r : Viewing) (slots : SlotSet) (places : List Place) (n : ℕ) (x q : Place) → viewing slots places ≡ r → n < length places → x ≡ get_or places n x → q.note.known ≡ x.note.known → viewing slots (set places n q) ≡ r
+same_reading r slots places n x q is h e known =
     let same : map known_of (set places n q) ≡ map known_of places = map_set known_of places n q ∙ set_same (map known_of places) n q.note.known (there places n x h e ∙ ap Some (sym known)) in
-    ap (λ (ps : List (Option TableRow)). record { store = store; bound = bound; places = ps }) same ∙ is
+    ap (λ (ps : List (Option TableRow)). record { slots = slots; places = ps }) same ∙ is
 
 -- one name for both
-pub one_cell : {bound other_bound : ℕ} (r s : Reading) (store other : Stored) (places theirs : List Place) (n a b : ℕ) → reading store bound places ≡ r → reading other other_bound theirs ≡ s → r.store ≡ s.store → a ≡ slice_index store.cells n → b ≡ slice_index other.cells n → a ≡ b
-one_cell r s store other places theirs n a b is it same e f =
-    e ∙ ap (λ (y : Reading). slice_index y.store.cells n) is ∙ ap (λ (y : Stored). slice_index y.cells n) same ∙ sym (ap (λ (y : Reading). slice_index y.store.cells n) it) ∙ sym f
+pub one_cell : (r s : Viewing) (slots other : SlotSet) (places theirs : List Place) (n a b : ℕ) → viewing slots places ≡ r → viewing other theirs ≡ s → r.slots ≡ s.slots → a ≡ slice_index slots.cells n → b ≡ slice_index other.cells n → a ≡ b
+one_cell r s slots other places theirs n a b is it same e f =
+    e ∙ ap (λ (y : Viewing). slice_index y.slots.cells n) is ∙ ap (λ (y : SlotSet). slice_index y.cells n) same ∙ sym (ap (λ (y : Viewing). slice_index y.slots.cells n) it) ∙ sym f
 
 -- two notes that both know something know the same
 pub one_row : (a b : Option TableRow) → IfSome b (Agrees a) → (r : TableRow) × (a ≡ Some r) → (r : TableRow) × (b ≡ Some r) → a ≡ b
@@ -226,32 +224,23 @@ pub read_back : (places : List Place) (n : ℕ) (q x : Place) → n < length pla
 read_back places n q x h e = e ∙ get_or-set_same places n q x h
 
 -- what one look at node n leaves
-sees_extends : (before : Reading) (n : ℕ) (row : TableRow) (after : Reading) → Sees before n row after → Extends before.places after.places
+pub sees_extends : (before : Viewing) (n : ℕ) (row : TableRow) (after : Viewing) → Sees before n row after → Extends before.places after.places
 sees_extends before n row after s k r e = dite (ℕ_discrete k n)
     (λ (same : k ≡ n).
     let a : slice_get before.places n ≡ Some (Some r) = subst (λ (y : ℕ). slice_get before.places y ≡ Some (Some r)) same e in
     subst (λ (y : ℕ). slice_get after.places y ≡ Some (Some r)) (sym same) (s.known ∙ ap (λ (y : TableRow). Some (Some y)) (s.stays r a)))
     (λ ne. ap (λ (l : List (Option TableRow)). slice_get l k) s.places ∙ get_set_else before.places n k (Some row) ne ∙ e)
 
-sees_adds : (before : Reading) (n : ℕ) (row : TableRow) (after : Reading) → Sees before n row after → Adds (known_nodes before.places) n (known_nodes after.places)
+pub sees_adds : (before : Viewing) (n : ℕ) (row : TableRow) (after : Viewing) → Sees before n row after → Adds (known_nodes before.places) n (known_nodes after.places)
 sees_adds before n row after s =
     let long = inside after.places n (Some row) s.known in
     let a = length-set before.places n (Some row) in
     let b = ap (λ (l : List (Option TableRow)). length l) s.places in
     subst (λ (l : List (Option TableRow)). Adds (known_nodes before.places) n (known_nodes l)) (sym s.places) (adds before.places n row (omega arith))
 
-pub sees_asks : (before : Reading) (n : ℕ) (row : TableRow) (after : Reading) → Sees before n row after → AsksAll (rows_state before) (rows_state after) (λ v. v ≡ n)
-sees_asks before n row after s =
-    let learnt = sees_adds before n row after s in record {
-      only = record {
-        keeps = record {
-          network = ap (λ (y : Stored). y.network) s.store;
-          bound = s.bound;
-          source = ap (λ (y : Stored). y.bound ∷ y.cells) s.store;
-          held = sees_extends before n row after s;
-          known = λ v k. (learnt v).1 (inr k);
-        };
-        nothing_else = λ v k. ⊎_elim (λ same. inr same) (λ old. inl old) ((learnt v).0 k);
-      };
-      all = λ v asked. (learnt v).1 (inl asked);
-    }
+-- the place that is read at n
+pub place_is : (places : List Place) (n : ℕ) (p x : Place) → slice_get places n ≡ Some p → x ≡ get_or places n x → p ≡ x
+place_is places n p x at e =
+    let there = get_at places n x (inside places n p at) ∙ ap Some (sym e) in
+    let same : Some p ≡ Some x = sym at ∙ there in
+    cc

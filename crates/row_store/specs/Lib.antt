@@ -1,6 +1,7 @@
 pub mod Store
 pub mod Places
 pub mod Sights
+pub mod Views
 pub mod ReaderInside
-pub mod WholeRows
+pub mod StoreInside
 pub mod Lenders

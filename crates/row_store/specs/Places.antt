@@ -3,7 +3,7 @@ use Rattle.std.specs.Prelude.{◌≡◌, ℕ, Option, Some, None, length, slice_
 use Rattle.std.specs.Option.{IfSome}
 use Rattle.road_network.specs.Net.{HasNode, Net}
 use Rattle.bounded_search.specs.Table.{BoundedTable, TableRow, IsRow}
-use Rattle.row_store.specs.Store.{Stored}
+use Rattle.row_store.specs.Store.{SlotSet}
 use Rattle.row_store.specs.declared.place.Place.{Place}
 use Rattle.row_store.specs.declared.place.Seen.{Seen}
 use Rattle.row_store.specs.declared.place.Seen.TheVariants.{Nothing, Right, Foreign, Replaced}
@@ -44,13 +44,13 @@ KeepsSight before after = (row : TableRow) × (after ≡ Some row) × IfSome bef
 abbrev pub StaysBlind : Option TableRow → Option TableRow → Type 0
 StaysBlind before after = (before ≡ None) × (after ≡ None)
 
--- searches for rows of this store
-abbrev pub IsSearcherOf : Stored → BoundedTable → Type 0
-IsSearcherOf store t = t ≡ record { network = store.network; bound = store.bound }
+-- searches for rows of these slots
+abbrev pub IsSearcherOf : SlotSet → BoundedTable → Type 0
+IsSearcherOf slots t = t ≡ record { network = slots.network; bound = slots.bound }
 
--- the place of node v of a store, and a searcher for the store's rows
-pub record IsPlaceOf (store : Stored) (v : ℕ) (t : BoundedTable) (p : Place) : Type 0 where
-  pub node : HasNode store.network v
-  pub cells_count : length store.cells ≡ length store.network.nodes
-  pub searcher : IsSearcherOf store t
-  pub fits : Fits store.network store.bound v (slice_index store.cells v) p
+-- the place of node v of some slots, and a searcher for their rows
+pub record IsPlaceOf (slots : SlotSet) (v : ℕ) (t : BoundedTable) (p : Place) : Type 0 where
+  pub node : HasNode slots.network v
+  pub cells_count : length slots.cells ≡ length slots.network.nodes
+  pub searcher : IsSearcherOf slots t
+  pub fits : Fits slots.network slots.bound v (slice_index slots.cells v) p

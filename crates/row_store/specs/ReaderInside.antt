@@ -1,30 +1,34 @@
 -- What a reader is made of.
-use Rattle.std.specs.Prelude.{◌≡◌, ◌≤◌, ℕ, List, Some, map, length, slice_get, slice_index}
-use Rattle.row_store.specs.Places.{Fits, IsSearcherOf}
-use Rattle.row_store.specs.Store.{Stored, Reading}
+use Rattle.std.specs.Prelude.{◌≡◌, List, [], Option, Some, None}
 use Rattle.std.specs.Option.{IfSome}
-use Rattle.row_store.specs.WholeRows.{AreWholeFor}
-use Rattle.row_store.specs.declared.place.Place.{Place}
+use Rattle.bounded_search.specs.Table.{TableRow}
+use Rattle.row_store.specs.Store.{NearSlots, Reading, SlotSet, Stored, near_slots, table_slots}
+use Rattle.row_store.specs.Views.{IsViewOf, seen_of}
+use Rattle.row_store.specs.declared.view.View.{View}
 use Rattle.row_store.specs.declared.reader.Reader.TheInside.{Inside}
 
-abbrev pub reading : Stored → ℕ → List Place → Reading
-reading store bound places = record { store = store; bound = bound; places = map (λ p. p.note.known) places }
-
--- each place is that of its node
-abbrev pub AllFit : Stored → List Place → Type 0
-AllFit store places =
-    (k : ℕ) (p : Place) → slice_get places k ≡ Some p
-    → Fits store.network store.bound k (slice_index store.cells k) p
+-- what was seen in the near slots of a store
+abbrev pub near_seen : Stored → Option NearSlots → Option View → List (Option TableRow)
+near_seen store None view = []
+near_seen store (Some near) view = (seen_of (near_slots store near) view).places
 
 abbrev pub reading_of : Inside → Reading
-reading_of a = reading a.store.now a.bound a.places.items
+reading_of a = record {
+  store = a.store.now;
+  places = (seen_of (table_slots a.store.now) a.table).places;
+  near = near_seen a.store.now a.store.now.near a.near;
+}
 
--- a cell and a place for each node, and own rows within the bound of the reader, which is at least that of the store
+-- the view is one of the near slots
+abbrev pub IsNearView : Stored → Option NearSlots → Option View → Type 0
+IsNearView store None view = view ≡ None
+IsNearView store (Some near) view = IfSome view (IsViewOf (near_slots store near))
+
+-- a view of the table and one of the near rows, each if it was opened
 pub record IsKept (a : Inside) : Type 0 where
-  pub cells_count : length a.store.now.cells ≡ length a.store.now.network.nodes
-  pub places_count : length a.places.items ≡ length a.store.now.network.nodes
-  pub fit : AllFit a.store.now a.places.items
-  pub searcher : IsSearcherOf a.store.now a.searcher
-  pub no_shorter : a.store.now.bound ≤ a.bound
-  pub bounded : a.bound ≤ 10_000_000
-  pub whole : IfSome a.whole (AreWholeFor a.store.now.network a.bound)
+  pub table : IfSome a.table (IsViewOf (table_slots a.store.now))
+  pub near : IsNearView a.store.now a.store.now.near a.near
+
+-- these are the near slots of the store
+abbrev pub IsNearOf : Stored → SlotSet → Type 0
+IsNearOf store slots = (near : NearSlots) × (store.near ≡ Some near) × (slots ≡ near_slots store near)

@@ -1,16 +1,16 @@
-//! The rows that a reader has accepted, for a search to use. Serves `Reader::find`; decided by `IsRow`.
+//! The rows that a view has accepted, for a search to use. Serves `View::find`; decided by `IsRow`.
 ghost use Rattle.std.specs.Prelude.{◌≡◌, length};
-ghost use Rattle.row_store.specs.ReaderInside.{AllFit};
+ghost use Rattle.row_store.specs.Views.{AllFit};
 
 use crate::place::Place;
-use crate::store::RowStore;
+use crate::slots::Slots;
 use bounded_search::{KnownRows, Row};
 use road_network::NodeId;
 use std::marker::Model;
 
-/// The right rows among those that a reader knows or has made itself, with a place for each node.
+/// The right rows among those that a view shows or that were made for it, with a place for each node.
 pub struct Accepted<'a, 's> {
-    store: &'s RowStore<'s>,
+    slots: &'s Slots<'s>,
     places: &'a [Place<'s>],
 }
 
@@ -18,7 +18,7 @@ pub struct Accepted<'a, 's> {
 impl<'a, 's> Drop for Accepted<'a, 's> {
     fn drop(self) {
         let Accepted {
-            store: _,
+            slots: _,
             places: _,
         } = self;
     }
@@ -27,24 +27,24 @@ impl<'a, 's> Drop for Accepted<'a, 's> {
 impl<'a, 's> Model for Accepted<'a, 's> {
     ghost use Rattle.std.specs.Prelude.{◌≡◌, length};
     ghost use Rattle.bounded_search.specs.Table.{BoundedTable};
-    ghost use Rattle.row_store.specs.ReaderInside.{AllFit};
+    ghost use Rattle.row_store.specs.Views.{AllFit};
 
     ghost Value = { BoundedTable };
 
-    ghost view = { λ a. record { network = a.store.now.network; bound = a.store.now.bound } };
+    ghost view = { λ a. record { network = a.slots.now.network; bound = a.slots.now.bound } };
 
-    ghost invariant = { λ a. (length a.places.now ≡ length a.store.now.network.nodes)
-        × AllFit a.store.now a.places.now };
+    ghost invariant = { λ a. (length a.places.now ≡ length a.slots.now.network.nodes)
+        × AllFit a.slots.now a.places.now };
 }
 
 impl<'a, 's> Accepted<'a, 's> {
-    /// The accepted rows of a reader of this store.
-    pub fn of(store: &'s RowStore<'s>, places: &'a [Place<'s>]) -> Accepted<'a, 's>
-        requires count { length places.now ≡ length store.now.network.nodes }
-        requires fit { AllFit store.now places.now }
-        ensures { result ≡ record { network = store.now.network; bound = store.now.bound } }
+    /// The accepted rows among these places.
+    pub fn of(slots: &'s Slots<'s>, places: &'a [Place<'s>]) -> Accepted<'a, 's>
+        requires count { length places.now ≡ length slots.now.network.nodes }
+        requires fit { AllFit slots.now places.now }
+        ensures { result ≡ record { network = slots.now.network; bound = slots.now.bound } }
     {
-        Accepted { store, places }
+        Accepted { slots, places }
     }
 }
 

@@ -6,7 +6,7 @@ ghost use Rattle.bounded_search.specs.Table.{IsRow};
 ghost use Rattle.row_store.specs.Places.{Fits, IsCheckedFor, IsPlaceOf, IsReady, KeepsSight, StaysBlind, row_in};
 ghost use Rattle.row_store.specs.declared.place.Seen.TheVariants.{Nothing};
 
-use crate::store::RowStore;
+use crate::slots::Slots;
 use bounded_search::{Row, Searcher};
 use once_cell::race::{Note, OnceBox};
 use road_network::NodeId;
@@ -73,16 +73,16 @@ impl<'s> Place<'s> {
     }
 
     /// Reads the cell. False if it is empty; then nothing is known.
-    pub fn look(&mut self, store: &'s RowStore<'s>, searcher: &mut Searcher<'s>, n: NodeId) -> bool
-        requires { IsPlaceOf store.now n.0 searcher.old self.old }
-        ensures place { IsPlaceOf store.now n.0 searcher.new self.new }
+    pub fn look(&mut self, slots: &'s Slots<'s>, searcher: &mut Searcher<'s>, n: NodeId) -> bool
+        requires { IsPlaceOf slots.now n.0 searcher.old self.old }
+        ensures place { IsPlaceOf slots.now n.0 searcher.new self.new }
         ensures seen { IsTrue result → KeepsSight self.old.note.known self.new.note.known }
         ensures empty { IsTrue result ⊎ StaysBlind self.old.note.known self.new.note.known }
     {
         if self.is_known() {
             return true;
         }
-        let cell = &store.cells[n.0 as usize];
+        let cell = &slots.cells[n.0 as usize];
         let Some(row) = cell.get_as(&mut self.note) else {
             return false;
         };
@@ -93,21 +93,21 @@ impl<'s> Place<'s> {
     /// Offers a row to the cell, and reads what it then contains.
     pub fn offer(
         &mut self,
-        store: &'s RowStore<'s>,
+        slots: &'s Slots<'s>,
         searcher: &mut Searcher<'s>,
         n: NodeId,
         row: Row,
     ) -> Result<(), AllocError>
-        requires { IsPlaceOf store.now n.0 searcher.old self.old }
-        ensures place { IsPlaceOf store.now n.0 searcher.new self.new }
+        requires { IsPlaceOf slots.now n.0 searcher.old self.old }
+        ensures place { IsPlaceOf slots.now n.0 searcher.new self.new }
         ensures seen { OnOk result (KeepsSight self.old.note.known self.new.note.known) }
         ensures err { OnErr result (StaysBlind self.old.note.known self.new.note.known) }
     {
         if self.is_known() {
             return Ok(());
         }
-        let cell = &store.cells[n.0 as usize];
-        let offered = Box::new(store.alloc, row)?;
+        let cell = &slots.cells[n.0 as usize];
+        let offered = Box::new(slots.alloc, row)?;
         let held = cell.get_or_init_as(move || offered, &mut self.note);
         self.seen = Seen::checked(held, searcher.check(n, held));
         Ok(())
@@ -117,22 +117,22 @@ impl<'s> Place<'s> {
     /// this call put there is right; any other is checked.
     pub fn offer_right(
         &mut self,
-        store: &'s RowStore<'s>,
+        slots: &'s Slots<'s>,
         searcher: &mut Searcher<'s>,
         n: NodeId,
         row: Row,
     ) -> Result<(), AllocError>
-        requires place { IsPlaceOf store.now n.0 searcher.old self.old }
-        requires right { IsRow store.now.network store.now.bound n.0 row }
-        ensures place { IsPlaceOf store.now n.0 searcher.new self.new }
+        requires place { IsPlaceOf slots.now n.0 searcher.old self.old }
+        requires right { IsRow slots.now.network slots.now.bound n.0 row }
+        ensures place { IsPlaceOf slots.now n.0 searcher.new self.new }
         ensures seen { OnOk result (KeepsSight self.old.note.known self.new.note.known) }
         ensures err { OnErr result (StaysBlind self.old.note.known self.new.note.known) }
     {
         if self.is_known() {
             return Ok(());
         }
-        let cell = &store.cells[n.0 as usize];
-        let made = Box::new(store.alloc, row)?;
+        let cell = &slots.cells[n.0 as usize];
+        let made = Box::new(slots.alloc, row)?;
         let first = cell.set_as(made, &mut self.note).is_ok();
         let Some(held) = cell.get_as(&mut self.note) else {
             unreachable!()
@@ -145,19 +145,19 @@ impl<'s> Place<'s> {
     /// and changes nothing.
     pub fn make_own(
         &mut self,
-        store: &'s RowStore<'s>,
+        slots: &'s Slots<'s>,
         searcher: &mut Searcher<'s>,
         n: NodeId,
     ) -> Result<(), AllocError>
-        requires { IsPlaceOf store.now n.0 searcher.old self.old }
-        ensures place { IsPlaceOf store.now n.0 searcher.new self.new }
+        requires { IsPlaceOf slots.now n.0 searcher.old self.old }
+        ensures place { IsPlaceOf slots.now n.0 searcher.new self.new }
         ensures same { self.new.note.known ≡ self.old.note.known }
         ensures ready { OnOk result (IsReady self.new.seen) }
         ensures again { IsReady self.old.seen → IsOk result × (self.new ≡ self.old) }
     {
         if let Seen::Foreign(foreign) = self.seen {
             let own = searcher.row(n)?;
-            self.seen = Seen::Replaced(Box::new(store.alloc, Replacement { foreign, own })?);
+            self.seen = Seen::Replaced(Box::new(slots.alloc, Replacement { foreign, own })?);
         }
         Ok(())
     }
@@ -174,12 +174,12 @@ impl<'s> Place<'s> {
     }
 
     /// The node's row: its own if it has one, and otherwise the known one.
-    pub fn lend(&self, store: &RowStore<'_>, n: NodeId) -> &Row
-        requires fits { Fits store.now.network store.now.bound n.0
-            (slice_index store.now.cells n.0) self.now }
+    pub fn lend(&self, slots: &Slots<'_>, n: NodeId) -> &Row
+        requires fits { Fits slots.now.network slots.now.bound n.0
+            (slice_index slots.now.cells n.0) self.now }
         requires known { IsSome self.now.note.known }
         requires ready { IsReady self.now.seen }
-        ensures { IsRow store.now.network store.now.bound n.0 result.now }
+        ensures { IsRow slots.now.network slots.now.bound n.0 result.now }
     {
         match &self.seen {
             Seen::Right(row) => row,

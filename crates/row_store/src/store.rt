@@ -1,73 +1,106 @@
-//! The cells, one for each node. Serves `RowStore`; decided by `Stored`.
-ghost use Rattle.std.specs.Prelude.{◌≡◌, ◌≤◌, IfOk, length};
+//! The slots of the table, and those of near rows. Serves `RowStore`; decided by `Stored`.
+ghost use Rattle.std.specs.Prelude.{◌≡◌, ◌≤◌, IfOk, None, is_some};
+ghost use Rattle.row_store.specs.Store.{HasNearRows, IsOpened, near_bound};
 
-use bounded_search::Row;
-use once_cell::race::OnceBox;
+use crate::slots::Slots;
+use bounded_search::Fans;
 use road_network::Network;
 use std::alloc::{AllocError, Global};
 use std::marker::Model;
 
-/// A cell for the row of each node of a network within a bound.
+/// A slot for the row of each node of a network within a bound, and perhaps another for its near row, which is
+/// its row within a third of the bound. Each is set once.
 pub struct RowStore<'n> {
-    pub(crate) alloc: Global,
-    pub(crate) network: &'n Network,
-    pub(crate) bound: u32,
-    pub(crate) cells: Vec<OnceBox<Row>>,
+    // The searches of all readers share them.
+    pub(crate) fans: Fans<'n>,
+    pub(crate) table: Slots<'n>,
+    pub(crate) near: Option<Slots<'n>>,
 }
 
 // By hand, so that the functions that drop one call this.
 impl<'n> Drop for RowStore<'n> {
     fn drop(self) {
         let RowStore {
-            alloc: _,
-            network: _,
-            bound: _,
-            cells: _,
+            fans: _,
+            table: _,
+            near: _,
         } = self;
     }
 }
 
 impl<'n> Model for RowStore<'n> {
-    ghost use Rattle.std.specs.Prelude.{◌≡◌, ◌≤◌, map, length};
-    ghost use Rattle.once_cell.specs.Once.{cell_name};
     ghost use Rattle.row_store.specs.Store.{Stored};
+    ghost use Rattle.row_store.specs.StoreInside.{IsStored, stored};
 
     ghost Value = { Stored };
 
-    ghost view = { λ s. record {
-      network = s.network.now;
-      bound = s.bound;
-      cells = map cell_name s.cells.items;
-    } };
+    ghost view = { stored };
 
-    ghost invariant = { λ s. (length s.cells.items ≡ length s.network.now.nodes)
-        × (s.bound ≤ 10_000_000) };
+    ghost invariant = { IsStored };
+}
+
+/// The bound of near rows where rows have this bound, in cm: the next position of a trace is most often much nearer
+/// than the bound.
+pub fn near_bound(bound: u32) -> u32
+    ensures { result ≡ near_bound bound }
+{
+    bound / 3
 }
 
 impl<'n> RowStore<'n> {
-    /// An empty cell for each node of this network, for rows with a bound in cm of at most 10,000,000.
+    /// An empty slot for each node of this network, for rows with a bound in cm of at most 10,000,000.
     pub fn open(alloc: Global, network: &'n Network, bound: u32) -> Result<RowStore<'n>, AllocError>
         requires { bound ≤ 10_000_000 }
-        ensures { IfOk result (λ s. (s.network ≡ network.now) × (s.bound ≡ bound)
-            × (length s.cells ≡ length network.now.nodes)) }
+        ensures { IfOk result (λ s. IsOpened network.now bound s × (s.near ≡ None)) }
     {
-        network.invariants();
-        let mut cells = Vec::with_capacity(alloc, network.node_count() as usize)?;
-        for _ in 0..network.node_count() {
-            cells.push(OnceBox::new(alloc))?;
-        }
+        let fans = Fans::new(alloc, network)?;
+        let table = Slots::open(alloc, network, bound)?;
         Ok(RowStore {
-            alloc,
-            network,
-            bound,
-            cells,
+            fans,
+            table,
+            near: None,
         })
     }
 
-    /// The network of the rows in the cells. Allocates nothing.
+    /// An empty slot for each node as `open` makes it, and another for its near row.
+    ///
+    /// This serves those who match along traces, where most rows need not reach far.
+    pub fn open_near(
+        alloc: Global,
+        network: &'n Network,
+        bound: u32,
+    ) -> Result<RowStore<'n>, AllocError>
+        requires { bound ≤ 10_000_000 }
+        ensures { IfOk result (λ s. IsOpened network.now bound s × HasNearRows s) }
+    {
+        let fans = Fans::new(alloc, network)?;
+        let table = Slots::open(alloc, network, bound)?;
+        let near = Slots::open(alloc, network, near_bound(bound))?;
+        Ok(RowStore {
+            fans,
+            table,
+            near: Some(near),
+        })
+    }
+
+    /// The network of the rows. Allocates nothing.
     pub fn network(&self) -> &'n Network
         ensures { result.now ≡ self.now.network }
     {
-        self.network
+        self.table.network
+    }
+
+    /// The bound of the rows in the table's slots, in cm. Allocates nothing.
+    pub fn bound(&self) -> u32
+        ensures { result ≡ self.now.bound }
+    {
+        self.table.bound
+    }
+
+    /// Whether there are slots for near rows. Allocates nothing.
+    pub fn has_near_rows(&self) -> bool
+        ensures { result ≡ is_some self.now.near }
+    {
+        self.near.is_some()
     }
 }

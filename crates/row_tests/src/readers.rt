@@ -1,12 +1,15 @@
-//! What readers of one store see of a row that was found, and of rows that were offered; shorter rows.
-ghost use Rattle.std.specs.Prelude.{◌≡◌, ◌≤◌};
+//! What readers of one store see of a row that was found, and of rows that were offered, in either slot.
+ghost use Rattle.std.specs.Prelude.{◌≡◌, IfSome, IsSome};
 ghost use Rattle.road_network.specs.Net.{HasNode};
 
 use crate::small::{TWO_EDGES, entry, offered, wrong};
 use bounded_search::{Entry, Row, Rows};
 use road_network::{NodeId, read_network};
-use row_store::{Reader, RowStore, Sight, agree};
+use row_store::{Reader, RowStore, Sight, agree, agree_near};
 use std::alloc::{AllocError, Global};
+
+/// A bound within which the row of node 1 has a second entry, and a third of which it has none.
+const BOUND: u32 = 15_000;
 
 /// The second entry of the row of node 1.
 fn right() -> Option<Entry> {
@@ -88,34 +91,87 @@ fn see_offered(alloc: Global, second: Option<Entry>) -> Option<bool> {
     offer_and_see(&store, row, second).ok()
 }
 
-/// Whether a reader that returns longer rows than those of its store sees and gives the short row of node 1, and another
-/// one gives the whole row.
-fn see_short(store: &RowStore<'_>) -> Result<bool, AllocError>
-    requires node { HasNode store.now.network 1 }
-    requires bound { store.now.bound ≤ 300_000 }
-{
-    let mut reader = store.reader_within(300_000)?;
-    let short = match reader.look(NodeId(1))? {
-        Sight::Table(row) => has_second(row, None),
-        Sight::Foreign(_) => false,
-    };
-    let near = has_second(reader.near_row(NodeId(1), 5_000)?, None);
-    let mut other = store.reader_within(300_000)?;
-    Ok(short && near && give_right(&mut other)?)
+/// Whether a row is seen in the near slot with this second entry, and as foreign unless it is the near row of node 1.
+fn is_seen_near(sight: Sight<'_>, second: Option<Entry>) -> bool {
+    match sight {
+        Sight::Table(row) => second.is_none() && has_second(row, None),
+        Sight::Foreign(row) => second.is_some() && has_second(row, second),
+    }
 }
 
-fn see_shorter(alloc: Global) -> Option<bool> {
+/// Whether two readers see the row with this second entry in the near slot of node 1, agree on it, and give the near row,
+/// and then the row.
+fn see_near<'s>(
+    a: &mut Reader<'s>,
+    b: &mut Reader<'s>,
+    second: Option<Entry>,
+) -> Result<bool, AllocError>
+    requires node { HasNode a.old.store.network 1 × IsSome a.old.store.near }
+    requires bound { a.old.store.bound ≡ BOUND }
+    requires store { a.old.store ≡ b.old.store }
+{
+    let first = is_seen_near(a.look_near(NodeId(1))?, second);
+    let both = is_seen_near(b.look_near(NodeId(1))?, second) && first;
+    let agreed = has_second(agree_near(a, b, NodeId(1)), second);
+    let near = has_second(a.near_row(NodeId(1), 5_000)?, None);
+    let far = has_second(a.near_row(NodeId(1), 5_001)?, right());
+    Ok(both && agreed && near && far && give_right(a)? && give_right(b)?)
+}
+
+/// Whether a near row that was offered, or else found, is seen by two readers, and a third one that finds the row
+/// first needs no near row.
+fn offer_near_and_see(
+    store: &RowStore<'_>,
+    row: Option<Row>,
+    second: Option<Entry>,
+) -> Result<bool, AllocError>
+    requires node { HasNode store.now.network 1 × IsSome store.now.near }
+    requires bound { store.now.bound ≡ BOUND }
+    requires origin { IfSome row (λ row. row.origin ≡ 1) }
+{
+    let mut a = store.reader()?;
+    let mut b = store.reader()?;
+    if let Some(row) = row {
+        a.offer_near(NodeId(1), row)?;
+    }
+    let seen = see_near(&mut a, &mut b, second)?;
+    let mut c = store.reader()?;
+    let whole = has_second(c.row(NodeId(1))?, right());
+    Ok(seen && whole && has_second(c.near_row(NodeId(1), 5_000)?, right()))
+}
+
+/// Whether two readers see the near row of node 1, or the one with this second entry that the first has offered.
+fn see_offered_near(alloc: Global, second: Option<Entry>) -> Option<bool> {
+    let row = match second {
+        Some(_) => Some(offered(alloc, second).ok()??),
+        None => None,
+    };
     let net = read_network(alloc, TWO_EDGES).ok()?;
     if net.node_count() < 2 {
         return None;
     }
-    let store = RowStore::open(alloc, &net, 5_000).ok()?;
-    see_short(&store).ok()
+    let store = RowStore::open_near(alloc, &net, BOUND).ok()?;
+    offer_near_and_see(&store, row, second).ok()
 }
 
 #[test]
-fn a_reader_of_shorter_rows_gives_whole_ones(rt: HostRuntime) {
-    assert!(rt; see_shorter(rt.alloc()) == Some(true));
+fn a_near_row_and_a_row_are_shared_side_by_side(rt: HostRuntime) {
+    assert!(rt;
+        see_offered_near(rt.alloc(), None) == Some(true),
+        "the near row is found"
+    );
+    assert!(rt;
+        see_offered_near(rt.alloc(), right()) == Some(true),
+        "a row within the whole bound is offered"
+    );
+    for second in wrong() {
+        if second.is_some() {
+            assert!(rt;
+                see_offered_near(rt.alloc(), second) == Some(true),
+                "a wrong row is offered"
+            );
+        }
+    }
 }
 
 #[test]

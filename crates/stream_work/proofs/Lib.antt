@@ -1,3 +1,5 @@
+pub mod ReadIds
+pub mod FollowedIds
 pub mod StreamJobs
 pub mod StreamTakes
 pub mod StreamTotals

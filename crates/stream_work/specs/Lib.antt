@@ -1,3 +1,4 @@
 pub mod StreamTexts
 pub mod Streams
 pub mod StreamsDone
+pub mod FollowedIds

@@ -5,6 +5,8 @@
 //! `streams_plan` there defines the output for the files.
 #![tactic(auto)]
 
+mod laws;
 mod streams;
 
+pub use laws::streams_follow_each_id;
 pub use streams::stream_traces;

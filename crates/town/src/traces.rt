@@ -35,8 +35,8 @@ fn near(coordinate: u32, drawn: u32) -> i32
 fn append_fix(id: u32, spot: Spot, draw: &mut Draw, into: &mut List<u8>) -> Result<(), AllocError>
     requires { (spot.x ≤ 1_000_000) × (spot.y ≤ 1_000_000) }
     ensures line { OnOk result
-        (into.new ≡ into.old ++ fix_line id (fix_near spot draw.old.state)) }
-    ensures draws { draw.new.state ≡ state_after 2 draw.old.state }
+        (into.new ≡ into.old ++ fix_line id (fix_near spot draw.old)) }
+    ensures draws { draw.new ≡ state_after 2 draw.old }
 {
     let x = near(spot.x, draw.below(2 * SPREAD + 1));
     let y = near(spot.y, draw.below(2 * SPREAD + 1));
@@ -60,8 +60,8 @@ fn append_street(
 ) -> Result<(), AllocError>
     requires { (n ≤ 100) × IsInTown n corner × (is_border n corner way ≡ false) }
     ensures lines { OnOk result (into.new
-        ≡ into.old ++ flat_map (fix_line id) (street_fixes corner way draw.old.state)) }
-    ensures draws { OnOk result (draw.new.state ≡ state_after 4 draw.old.state) }
+        ≡ into.old ++ flat_map (fix_line id) (street_fixes corner way draw.old)) }
+    ensures draws { OnOk result (draw.new ≡ state_after 4 draw.old) }
 {
     append_fix(id, corner.along(n, way, FIRST), draw, into)?;
     append_fix(id, corner.along(n, way, SECOND), draw, into)
@@ -70,9 +70,9 @@ fn append_street(
 // Draws the next direction at a corner.
 fn draw_way(n: u32, corner: Corner, draw: &mut Draw) -> Heading
     requires { (2 ≤ n) × IsInTown n corner }
-    ensures way { result ≡ way_from n corner draw.old.state }
+    ensures way { result ≡ way_from n corner draw.old }
     ensures open { is_border n corner result ≡ false }
-    ensures draws { draw.new.state ≡ state_after 1 draw.old.state }
+    ensures draws { draw.new ≡ state_after 1 draw.old }
 {
     corner.turned(n, Heading::from_number(draw.below(4)))
 }
@@ -81,9 +81,9 @@ fn draw_way(n: u32, corner: Corner, draw: &mut Draw) -> Heading
 #[tactic(auto, unfolding(crate::specs::Draws::state_after))]
 fn draw_start(n: u32, draw: &mut Draw) -> Corner
     requires { 1 ≤ n }
-    ensures corner { result ≡ start_corner n draw.old.state }
+    ensures corner { result ≡ start_corner n draw.old }
     ensures inside { IsInTown n result }
-    ensures draws { draw.new.state ≡ state_after 2 draw.old.state }
+    ensures draws { draw.new ≡ state_after 2 draw.old }
 {
     let row = draw.below(n);
     let column = draw.below(n);
@@ -94,8 +94,8 @@ fn draw_start(n: u32, draw: &mut Draw) -> Corner
 fn append_trace(n: u32, id: u32, draw: &mut Draw, into: &mut List<u8>) -> Result<(), AllocError>
     requires { (2 ≤ n) × (n ≤ 100) }
     ensures lines { OnOk result
-        (into.new ≡ into.old ++ trace_lines (town_trace n id draw.old.state)) }
-    ensures draws { OnOk result (draw.new.state ≡ state_after 52 draw.old.state) }
+        (into.new ≡ into.old ++ trace_lines (town_trace n id draw.old)) }
+    ensures draws { OnOk result (draw.new ≡ state_after 52 draw.old) }
 {
     let mut corner = draw_start(n, draw);
     for _ in 0..STREETS {

@@ -1,10 +1,11 @@
 -- The lines of a stream in its bytes: each has one LF, at its end.
-use Rattle.std.proofs.Common.{◌≡◌, ℕ, zero, suc, ◌+◌, ◌/◌, ◌%◌, ◌<◌, ◌&&◌, ◌==◌, not, Bool, true, false, cond, List, [], ◌∷◌, ◌++◌, Some, None, refl, sym, ap, ◌∙◌, arith, codes, length, map, drop, nat_eq, nat_lt}
+use Rattle.std.proofs.Common.{◌≡◌, ℕ, zero, suc, ◌+◌, ◌/◌, ◌%◌, ◌^◌, ◌<◌, ◌&&◌, ◌==◌, not, Bool, true, false, cond, List, [], ◌∷◌, ◌++◌, Some, None, refl, sym, ap, ◌∙◌, arith, codes, length, map, drop, nat_eq, nat_lt}
 use Rattle.std.specs.Fmt.{decimal, digit_glyph, digits, digits_onto}
 use Rattle.std.specs.List.{All, concat, filter, list_all, slice_split, starts_with}
 use Rattle.std.proofs.lemmas.Bool.Decides.{Decides-eqb, nat_tests}
-use Rattle.std.proofs.lemmas.List.{append_assoc, drop-append-le, length-append}
+use Rattle.std.proofs.lemmas.List.{append_assoc, append-nil, drop-append-le, length-append}
 use Rattle.std.proofs.lemmas.List.Elements.{All-append, All-cons, All-head, All-nil, All-tail}
+use Rattle.std.proofs.lemmas.List.Folds.{concat-append}
 use Rattle.std.proofs.lemmas.List.Splits.{slice_split_at}
 use Rattle.std.proofs.lemmas.Slice.Eq.{starts_is}
 use Rattle.cost_model.specs.declared.params.Params.{Params}
@@ -13,24 +14,26 @@ use Rattle.match_text.specs.declared.matched.Label.{Label}
 use Rattle.match_text.specs.declared.matched.Label.TheVariants.{Missing as MissingLabel, On}
 use Rattle.match_text.specs.declared.matched.Routed.{Routed}
 use Rattle.match_text.specs.MatchText.{end_line, label_line, line, piece_line, trace_line, words_after}
+use Rattle.match_text.specs.Reading.{number_at}
+use Rattle.match_text.proofs.Fields.{number_again}
 use Rattle.trace_match.specs.Match.{label_on, layer_of, routed_over}
 use Rattle.trace_reader.specs.declared.trace.Fix.{Fix}
 use Rattle.matching.specs.declared.parts.Layer.{Layer}
 use Rattle.online_commit.specs.declared.items.Item.{Item}
 use Rattle.online_commit.specs.declared.items.Item.TheVariants.{At, Missing, Closed}
 use Rattle.route_rebuild.specs.Numbers.{numbers}
-use Rattle.trace_sessions.specs.FollowText.{finish_line, fix_line, handed_at, last_lines, left_of, point_lines}
+use Rattle.trace_sessions.specs.FollowText.{finish_line, fix_line, follow_text, handed_at, last_lines, left_of, point_lines}
 use Rattle.trace_sessions.specs.ItemText.{item_line, item_lines, lead_of}
 use Rattle.trace_sessions.specs.Sessions.{Pair, fixes_of, with_fix}
-use Rattle.trace_sessions.specs.StreamText.{IdsHaveFollowTexts, Point, all_lines, closing_lines, first_line, has_room, led_by, lines_at_end, lines_of_fix, stream_lines, with_points}
-use Rattle.trace_sessions.proofs.StreamAlone.{ids_are_followed_alone}
+use Rattle.trace_sessions.specs.StreamText.{IdsHaveFollowTexts, Point, all_lines, closing_lines, first_line, fixes_among, full_id, has_room, led_by, lines_at_end, lines_led_by, lines_of_fix, stream_lines, text_led_by, with_points}
+use Rattle.trace_sessions.proofs.StreamAlone.{ids_are_followed_alone, led-append}
 
 -- ---- texts without LF
 
-abbrev IsPlain : ℕ → Type 0
+abbrev pub IsPlain : ℕ → Type 0
 IsPlain b = nat_eq b 10 ≡ false
 
-plain-word : (word : List ℕ) → list_all (λ b. not (nat_eq b 10)) word ≡ true → All IsPlain word
+pub plain-word : (word : List ℕ) → list_all (λ b. not (nat_eq b 10)) word ≡ true → All IsPlain word
 plain-word [] h = All-nil IsPlain
 plain-word (b ∷ word) h = step (nat_eq b 10) refl h (plain-word word)
   where
@@ -57,13 +60,13 @@ onto-plain (suc k) n acc are =
     step true here more = here
     step false here more = more
 
-decimal-plain : (n : ℕ) → All IsPlain (decimal n)
+pub decimal-plain : (n : ℕ) → All IsPlain (decimal n)
 unfolding digits
 decimal-plain n = onto-plain 64 n [] (All-nil IsPlain)
 
 -- ---- lines
 
-record IsOneLine (text : List ℕ) : Type 0 where
+pub record IsOneLine (text : List ℕ) : Type 0 where
   pub body : List ℕ
   pub plain : All IsPlain body
   pub is : text ≡ body ++ 10 ∷ []
@@ -189,7 +192,7 @@ all-one n p points =
 
 -- ---- the lines of a text
 
-abbrev begins : List ℕ → List ℕ → Bool
+abbrev pub begins : List ℕ → List ℕ → Bool
 begins lead text = starts_with nat_eq text lead
 
 -- a line begins with a lead exactly where it does without its LF
@@ -251,3 +254,37 @@ ids_have_follow_texts n p points id small own room some =
     let plain = All-append IsPlain (decimal id) (32 ∷ []) (decimal-plain id) (All-cons IsPlain 32 [] refl (All-nil IsPlain)) in
     let count = length-append (decimal id) (32 ∷ []) in
     parts-are-lines lead (all_lines n p points) (omega (arith, count)) plain (all-one n p points) ∙ ap concat (ids_are_followed_alone n p points id small own room some)
+
+-- ---- with a last line that is no id's
+
+-- a text that begins with no number begins with no id
+pub none-leads : (id : ℕ) (text : List ℕ) → id < 2 ^ 32 → number_at (2 ^ 32) text ≡ None → begins (lead_of (Some id)) text ≡ false
+none-leads id text small none = step (begins (lead_of (Some id)) text) refl
+  where
+    rest : List ℕ
+    rest = drop (length (lead_of (Some id))) text
+
+    step : (b : Bool) → begins (lead_of (Some id)) text ≡ b → b ≡ false
+    step false is = refl
+    step true is =
+        let front : text ≡ lead_of (Some id) ++ rest = (starts_is Decides-eqb text (lead_of (Some id)) true (sym is)).0 refl in
+        let found : number_at (2 ^ 32) text ≡ Some (id, 32 ∷ rest) =
+        ap (number_at (2 ^ 32)) (front ∙ append_assoc (decimal id) (32 ∷ []) rest) ∙ number_again (2 ^ 32) id (32 ∷ rest) (omega (arith, small)) (omega arith) refl in
+        absurd (cc (none, found))
+
+pub ids_have_follow_texts_before : (n : Net) (p : Params) (points : List Point) (id : ℕ) (last : List ℕ) → All (λ x. x.0 < 2 ^ 32) points → id < 2 ^ 32 → full_id [] points ≡ None → 0 < length (fixes_among id points)
+    → IsOneLine last → begins (lead_of (Some id)) last ≡ false
+    → text_led_by id (concat (all_lines n p points) ++ last) ≡ follow_text n p (record { id = id; fixes = fixes_among id points })
+ids_have_follow_texts_before n p points id last small own room some one other =
+    let lead = lead_of (Some id) in
+    let lines = all_lines n p points in
+    let plain = All-append IsPlain (decimal id) (32 ∷ []) (decimal-plain id) (All-cons IsPlain 32 [] refl (All-nil IsPlain)) in
+    let count = length-append (decimal id) (32 ∷ []) in
+    let are = All-append IsOneLine lines (last ∷ []) (all-one n p points) (All-cons IsOneLine last [] one (All-nil IsOneLine)) in
+    let whole : concat (lines ++ last ∷ []) ≡ concat lines ++ last = concat-append lines (last ∷ []) ∙ ap (λ t. concat lines ++ t) (append-nil last) in
+    let none : lines_led_by id (last ∷ []) ≡ [] = ap (λ b. map (drop (length lead)) (cond b (last ∷ []) [])) other in
+    let led : lines_led_by id (lines ++ last ∷ []) ≡ lines_led_by id lines =
+    led-append id lines (last ∷ []) ∙ ap (λ ls. lines_led_by id lines ++ ls) none ∙ append-nil (lines_led_by id lines) in
+    ap (text_led_by id) (sym whole)
+    ∙ parts-are-lines lead (lines ++ last ∷ []) (omega (arith, count)) plain are
+    ∙ ap concat (led ∙ ids_are_followed_alone n p points id small own room some)

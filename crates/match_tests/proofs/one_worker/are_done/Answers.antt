@@ -1,6 +1,6 @@
 use Rattle.std.proofs.Common.{◌≡◌, ◌∙◌, Some, Result, Ok, Err, IfOk, ap, subst}
 use Rattle.std.specs.Result.{result_ok}
-use Rattle.row_store.specs.Store.{Stored}
+use Rattle.row_store.specs.Store.{Reading, Stored}
 use Rattle.match_tests.proofs.one_worker.are_done.Goals as goal
 
 -- what holds of a value if there is one, where there is one
@@ -11,6 +11,5 @@ of_some P x (Err e) is holds = absurd (cc)
 pub worked-requires : goal.worked-requires
 worked-requires c =
     let opened = of_some _ c.in_ok-store.store c.open.result c.in_ok-store.ensures.value c.open.ensures in
-    let fresh = of_some _ c.in_ok-reader.reader c.reader.result c.in_ok-reader.ensures.value c.reader.ensures.fresh in
-    let bound = of_some _ c.in_ok-reader.reader c.reader.result c.in_ok-reader.ensures.value c.reader.ensures.bound in
-    (ap (λ (s : Stored). s.network) fresh.0 ∙ opened.0, bound ∙ opened.1)
+    let fresh = ap (λ (r : Reading). r.store) (of_some _ c.in_ok-reader.reader c.reader.result c.in_ok-reader.ensures.value c.reader.ensures) in
+    (ap (λ (s : Stored). s.network) fresh ∙ opened.0.network_is, ap (λ (s : Stored). s.bound) fresh ∙ opened.0.bound_is)

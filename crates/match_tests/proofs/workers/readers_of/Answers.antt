@@ -1,12 +1,9 @@
-use Rattle.std.proofs.Common.{◌≡◌, ℕ, zero, suc, None, length, replicate, refl, sym, ap, ◌∙◌, subst, arith}
+use Rattle.std.proofs.Common.{◌≡◌, ℕ, zero, suc, length, replicate, refl, sym, ap, ◌∙◌, subst, arith}
 use Rattle.std.proofs.lemmas.List.Elements.{All-replicate}
 use Rattle.match_pool.specs.Learning.{AreReadersFor}
 use Rattle.match_pool.specs.Working.{IsReaderFor}
-use Rattle.row_store.specs.Store.{Reading, Stored}
+use Rattle.row_store.specs.Store.{Reading, fresh_reading}
 use Rattle.match_tests.proofs.workers.readers_of.Goals as goal
-
-abbrev fresh : Stored → Reading
-fresh store = record { store = store; bound = 300_000; places = replicate (length store.network.nodes) None }
 
 length-replicate : (k : ℕ) (r : Reading) → length (replicate k r) ≡ k
 length-replicate zero r = refl
@@ -18,10 +15,12 @@ returns c =
     let high = c.loop.auto.counter-end in
     let all : c.loop.counter ≡ c.args.count = omega (arith, low, high) in
     let store = c.args.store.now in
-    let size = length-replicate c.args.count (fresh store) in
+    let size = length-replicate c.args.count (fresh_reading store) in
     let count = c.requires.count in
-    subst (AreReadersFor store.network _) (sym (c.loop.invariant ∙ ap (λ n. replicate n (fresh store)) all)) (record {
+    subst (AreReadersFor store.network _) (sym (c.loop.invariant ∙ ap (λ n. replicate n (fresh_reading store)) all)) (record {
       some = omega (arith, size, count.0);
       few = omega (arith, size, count.1);
-      each = All-replicate (IsReaderFor store.network _) c.args.count (fresh store) (record { network = refl; bound = refl });
+      each = All-replicate (IsReaderFor store.network _) c.args.count (fresh_reading store) (record { network = refl; bound = c.requires.bound });
+      store = store;
+      shared = All-replicate (λ (r : Reading). r.store ≡ store) c.args.count (fresh_reading store) refl;
     })

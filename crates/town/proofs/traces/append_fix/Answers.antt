@@ -8,7 +8,7 @@ use Rattle.town.proofs.traces.append_fix.Goals as goal
 
 pub returns-clause-line : goal.returns-clause-line
 returns-clause-line c =
-    let x = c.args.draw.now.state in
+    let x = c.args.draw.now in
     subst (λ t. OnOk c.extend_from_slice-3.result (c.extend_from_slice-3.new.self ≡ t))
     (fix_joined c.args.into.now (decimal c.args.id) (signed_decimal (pos (c.args.spot.x + draw 1 x 2_001) -ℤ pos 1_000)) (signed_decimal (pos (c.args.spot.y + draw 2 x 2_001) -ℤ pos 1_000)) (codes ",") (codes "\n") _ _ _ _ _
     (c.in_ok-write_unsigned.ensures.ok ∙ ap (λ d. c.args.into.now ++ decimal d) c.from.ensures) c.in_ok-extend_from_slice.ensures.ok

@@ -6,4 +6,4 @@ use Rattle.town.proofs.traces.append_trace.Given as goal
 
 abbrev pub invariant-loop : goal.invariant-loop
 invariant-loop l =
-    IsWalked l.n l.id (l.fn.into ++ trace_lines (town_trace l.n l.id l.fn.draw.state)) (state_after 52 l.fn.draw.state) l.counter l.corner l.draw.state l.into
+    IsWalked l.n l.id (l.fn.into ++ trace_lines (town_trace l.n l.id l.fn.draw)) (state_after 52 l.fn.draw) l.counter l.corner l.draw l.into

@@ -6,4 +6,4 @@ use Rattle.town.proofs.traces.town_traces.Given as goal
 
 abbrev pub invariant-loop-id : goal.invariant-loop-id
 invariant-loop-id l =
-    AreTracesWritten l.n l.t (codes "trace,x,y\n" ++ flat_map trace_lines (town_trace_list l.n l.t l.seed)) l.id l.draw.state l.text
+    AreTracesWritten l.n l.t (codes "trace,x,y\n" ++ flat_map trace_lines (town_trace_list l.n l.t l.seed)) l.id l.draw l.text

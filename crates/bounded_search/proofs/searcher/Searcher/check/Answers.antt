@@ -29,6 +29,7 @@ invariant_of-self c =
         none_waiting = inv.none_waiting;
       };
       fans = c.self.invariant.fans;
+      shared = c.self.invariant.shared;
     }
 
 pub returns-clause-same : goal.returns-clause-same

@@ -10,7 +10,7 @@ pub returns : goal.returns
 returns c =
     let i = c.self.invariant in
     let n : ℕ = c.args.n.0 in
-    let has : n < length c.self.inside.store.now.network.nodes = subst (λ (t : BoundedTable). n < length t.network.nodes) (sym c.self.view_is) c.requires in
-    let store = c.self.inside.store.now in
-    let fit : Fits store.network store.bound n (slice_index store.cells n) c.index-self-n.result = fits_at store c.self.inside.places.now n c.index-self-n.result i.1 (omega (arith, has, i.0)) c.index-self-n.is in
-    subst (λ (t : BoundedTable). IfSome c.right_row.result (λ row. IsRow t.network t.bound n row.now)) c.self.view_is (c.right_row.ensures store.network store.bound n (slice_index store.cells n) (subst (λ (p : Place). Fits store.network store.bound n (slice_index store.cells n) p) c.index-self-n.is fit))
+    let has : n < length c.self.inside.slots.now.network.nodes = subst (λ (t : BoundedTable). n < length t.network.nodes) (sym c.self.view_is) c.requires in
+    let slots = c.self.inside.slots.now in
+    let fit : Fits slots.network slots.bound n (slice_index slots.cells n) c.index-self-n.result = fits_at slots c.self.inside.places.now n c.index-self-n.result i.1 (omega (arith, has, i.0)) c.index-self-n.is in
+    subst (λ (t : BoundedTable). IfSome c.right_row.result (λ row. IsRow t.network t.bound n row.now)) c.self.view_is (c.right_row.ensures slots.network slots.bound n (slice_index slots.cells n) (subst (λ (p : Place). Fits slots.network slots.bound n (slice_index slots.cells n) p) c.index-self-n.is fit))

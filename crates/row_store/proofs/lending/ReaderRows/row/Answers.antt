@@ -1,23 +1,32 @@
-use Rattle.std.proofs.Common.{◌≡◌, ◌∙◌, refl, sym, ap, subst, arith}
+use Rattle.std.proofs.Common.{◌≡◌, ◌∙◌, ap, refl, sym, subst, true≢false}
 use Rattle.std.proofs.lemmas.Result.{IfOk-from_err}
-use Rattle.bounded_search.specs.Rows.{AsksAll}
+use Rattle.bounded_search.specs.Rows.{AsksAll, AsksFor}
 use Rattle.bounded_search.specs.Table.{IsRow}
-use Rattle.bounded_search.proofs.Asking.{asks_done, asks_err}
-use Rattle.row_store.specs.Store.{Stored, Reading, rows_state}
-use Rattle.row_store.proofs.Places.{sees_asks}
-use Rattle.row_store.proofs.WholeRows.{whole_row_is}
+use Rattle.bounded_search.proofs.Asking.{asks_done, asks_err, asks_ok}
+use Rattle.row_store.specs.ReaderInside.{reading_of}
+use Rattle.row_store.specs.Store.{Reading, SeesRow, SlotSet, Viewing, rows_state, table_of, table_slots}
+use Rattle.row_store.specs.Views.{Fills, seen_of}
+use Rattle.row_store.proofs.Kept.{seen_is, table_is}
+use Rattle.row_store.proofs.Readings.{table_fills, with_table}
 use Rattle.row_store.proofs.lending.ReaderRows.row.Goals as goal
 
-pub returns-in_err-fill_whole : goal.returns-in_err-fill_whole
-returns-in_err-fill_whole c =
+pub returns-in_err-fill_in : goal.returns-in_err-fill_in
+returns-in_err-fill_in c =
     let n = c.args.n.0 in
-    let s = c.in_ok-settle.ensures.seen in
-    let asks = subst (λ (y : Reading). AsksAll (rows_state c.args.self.now) (rows_state y) (λ v. v ≡ n)) (sym c.self-2.view_is) (sees_asks c.args.self.now n s.0 c.settle.new.self s.1) in
-    let store = c.store.view_is ∙ ap (λ (y : Reading). y.store) c.self.view_is in (
-      (refl, λ _. tt, asks_err asks.only c.from_residual-in_err-fill_whole.ensures.0),
+    let store = c.self.inside.store.now in
+    let slots = table_is c.store.inside store c.store.view_is in
+    let seen = seen_is (table_slots store) c.self.inside.table c.self.invariant.table in
+    let after = seen_of (table_slots store) c.fill_in.new.view in
+    let fills = subst (λ (x : SlotSet). Fills (seen_of x c.self.inside.table) n c.fill_in.result (seen_of x c.fill_in.new.view)) slots c.fill_in.ensures.fills in
+    let asks = table_fills (reading_of c.self.inside) n c.fill_in.result after (subst (λ (v : Viewing). Fills v n c.fill_in.result after) seen fills) in
+    let only = asks_err asks.only c.from_residual.ensures.0 in (
+      (refl, λ _. tt, subst (λ (y : Reading). AsksFor (rows_state y) (λ v. v ≡ n) c.from_residual.result (rows_state (with_table (reading_of c.self.inside) after))) c.self.view_is only),
       record {
-        value = IfOk-from_err _ _ c.from_residual-in_err-fill_whole.ensures.0;
-        again = λ same known. absurd (omega (arith, c.if-bound-store.false, ap (λ (y : Stored). y.bound) store, ap (λ (y : Reading). y.bound) c.self.view_is, same));
+        value = IfOk-from_err _ _ c.from_residual.ensures.0;
+        again = λ known.
+            let here = subst (λ (y : Reading). SeesRow (table_of y) n) (sym c.self.view_is) known in
+            let there = subst (λ (v : Viewing). SeesRow v n) (sym seen) here in
+            absurd (true≢false (sym (c.in_err-fill_in.ensures.again (subst (λ (x : SlotSet). SeesRow (seen_of x c.self.inside.table) n) (sym slots) there))));
         after = tt;
       },
     )
@@ -25,9 +34,17 @@ returns-in_err-fill_whole c =
 pub returns : goal.returns
 returns c =
     let n = c.args.n.0 in
-    let s = c.in_ok-settle.ensures.seen in
-    let asks = subst (λ (y : Reading). AsksAll (rows_state c.args.self.now) (rows_state y) (λ v. v ≡ n)) (sym c.self-2.view_is) (sees_asks c.args.self.now n s.0 c.settle.new.self s.1) in
-    let store = ap (λ (y : Reading). y.store) c.self.view_is in (
-      (refl, λ _. tt, asks_done asks),
-      record { value = subst (λ (y : Reading). IsRow y.store.network y.bound n c.whole_row.result.now) c.self.view_is (whole_row_is _ _ n _ _ c.in_ok-fill_whole.ensures.whole c.in_ok-fill_whole.ensures.filled c.whole_row.ensures); again = λ same known. refl; after = tt },
+    let store = c.self.inside.store.now in
+    let slots = table_is c.store.inside store c.store.view_is in
+    let seen = seen_is (table_slots store) c.self.inside.table c.self.invariant.table in
+    let after = seen_of (table_slots store) c.fill_in.new.view in
+    let fills = subst (λ (x : SlotSet). Fills (seen_of x c.self.inside.table) n c.fill_in.result (seen_of x c.fill_in.new.view)) slots c.fill_in.ensures.fills in
+    let asks = table_fills (reading_of c.self.inside) n c.fill_in.result after (subst (λ (v : Viewing). Fills v n c.fill_in.result after) seen fills) in
+    let all = asks_ok asks c.in_ok-fill_in.was in (
+      (refl, λ _. tt, asks_done (subst (λ (y : Reading). AsksAll (rows_state y) (rows_state (with_table (reading_of c.self.inside) after)) (λ v. v ≡ n)) c.self.view_is all)),
+      record {
+        value = subst (λ (x : SlotSet). IsRow x.network x.bound n c.lend_from.result.now) (slots ∙ ap (λ (y : Reading). table_slots y.store) c.self.view_is) c.lend_from.ensures;
+        again = λ known. refl;
+        after = tt;
+      },
     )

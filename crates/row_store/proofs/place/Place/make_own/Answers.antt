@@ -8,7 +8,7 @@ pub row-requires : goal.row-requires
 row-requires c = subst (λ (t : BoundedTable). HasNode t.network c.args.n.0) (sym c.requires.searcher) c.requires.node
 
 pub returns-in_err-own-clause-place : goal.returns-in_err-own-clause-place
-returns-in_err-own-clause-place c = subst (λ t. IsPlaceOf c.args.store.now c.args.n.0 t c.args.self.now) (sym c.row.ensures.same) c.requires
+returns-in_err-own-clause-place c = subst (λ t. IsPlaceOf c.args.slots.now c.args.n.0 t c.args.self.now) (sym c.row.ensures.same) c.requires
 
 pub returns-in_err-new-clause-place : goal.returns-in_err-new-clause-place
-returns-in_err-new-clause-place c = subst (λ t. IsPlaceOf c.args.store.now c.args.n.0 t c.args.self.now) (sym c.row.ensures.same) c.requires
+returns-in_err-new-clause-place c = subst (λ t. IsPlaceOf c.args.slots.now c.args.n.0 t c.args.self.now) (sym c.row.ensures.same) c.requires

@@ -1,0 +1,3 @@
+pub mod LeastMatch
+pub mod Matches
+pub mod MatchIsLeast

@@ -1,0 +1,121 @@
+"""Many shapely geometries at once, from arrays of coordinates.
+
+Shapely 2 has functions for this. Shapely 1.8 makes a million points in ten seconds and lines in twenty. So there the geometries
+are made by two calls of GEOS each, as shapely's own constructors make them, but without the copies: that takes two seconds.
+"""
+from __future__ import annotations
+
+import contextlib
+import ctypes
+import gc
+from typing import Any, Callable, Iterator, Optional, Tuple
+
+import numpy as np
+import shapely
+import shapely.geometry
+import shapely.wkt
+from geopandas.array import GeometryArray
+
+from ._ragged import offsets_of
+
+NOTHING = np.zeros((0, 2))
+SHAPELY_2 = int(shapely.__version__.split(".")[0]) >= 2
+
+
+def points(xy: np.ndarray, crs: object) -> GeometryArray:
+    """A Point for each row of x and y; None where one of them is NaN."""
+    good = np.isfinite(xy).all(axis=1)
+    out = np.full(len(xy), None, object)
+    if SHAPELY_2:
+        out[good] = shapely.points(np.ascontiguousarray(xy[good]))
+    else:
+        rows = np.flatnonzero(good)
+        _fill(out, rows, shapely.geometry.Point, xy, rows, np.ones(len(rows), np.int64))
+    return GeometryArray(out, crs=crs)
+
+
+def lines(offsets: np.ndarray, xy: np.ndarray, crs: object) -> GeometryArray:
+    """A LineString for each row of places offsets[i] to offsets[i + 1]; an empty one for rows of less than two places."""
+    counts = np.diff(offsets)
+    out = np.full(len(counts), None, object)
+    rows = np.flatnonzero(counts > 1)
+    for row in np.flatnonzero(counts <= 1).tolist():
+        out[row] = shapely.wkt.loads("LINESTRING EMPTY")
+    if SHAPELY_2:
+        kept = np.repeat(counts > 1, counts)
+        out[rows] = shapely.linestrings(xy[kept], indices=np.repeat(np.arange(len(rows)), counts[rows]))
+    else:
+        _fill(out, rows, shapely.geometry.LineString, xy, offsets[rows], counts[rows])
+    return GeometryArray(out, crs=crs)
+
+
+@contextlib.contextmanager
+def _no_collection() -> Iterator[None]:
+    """The collector would look at each new object many times."""
+    enabled = gc.isenabled()
+    gc.disable()
+    try:
+        yield
+    finally:
+        if enabled:
+            gc.enable()
+
+
+def _fill(out: np.ndarray, rows: np.ndarray, kind: type, xy: np.ndarray, first: np.ndarray, counts: np.ndarray) -> None:
+    """Puts geometries of `counts` places from `first` on into the rows of `out`."""
+    xy = np.ascontiguousarray(xy, np.float64)
+    make = _maker(kind)
+    with _no_collection():
+        if make is not None:
+            for row, begin, count in zip(rows.tolist(), (xy.ctypes.data + 16 * first).tolist(), counts.tolist()):
+                out[row] = make(begin, count)
+            return
+        places = xy.tolist()
+        for row, begin, count in zip(rows.tolist(), first.tolist(), counts.tolist()):
+            out[row] = kind(places[begin] if kind is shapely.geometry.Point else places[begin:begin + count])
+
+
+def _maker(kind: type) -> Optional[Callable[[int, int], Any]]:
+    """A function that makes a geometry of so many places at an address; None where GEOS is older than 3.10."""
+    from shapely import geos
+    library = geos._lgeos  # the functions of GEOS that shapely 1.8 has opened
+    try:
+        copy = library.GEOSCoordSeq_copyFromBuffer_r
+        build = library.GEOSGeom_createPoint_r if kind is shapely.geometry.Point else library.GEOSGeom_createLineString_r
+    except AttributeError:
+        return None
+    pointer, whole = ctypes.c_void_p, ctypes.c_int
+    copy = ctypes.CFUNCTYPE(pointer, pointer, pointer, ctypes.c_uint, whole, whole)((copy.__name__, library))
+    build = ctypes.CFUNCTYPE(pointer, pointer, pointer)((build.__name__, library))
+    handle, put = geos.lgeos.geos_handle, object.__setattr__
+
+    def make(begin: int, count: int) -> Any:
+        geometry: Any = object.__new__(kind)
+        put(geometry, "__geom__", build(handle, copy(handle, begin, count, 0, 0)))
+        put(geometry, "_ndim", 2)
+        put(geometry, "_is_empty", False)
+        return geometry
+
+    return make
+
+
+def coordinates(values: GeometryArray) -> Tuple[np.ndarray, np.ndarray]:
+    """Where the places of each geometry begin, and all places; none for missing and empty ones."""
+    if SHAPELY_2:
+        data = np.asarray(values, object)
+        return offsets_of(shapely.get_num_coordinates(data)), shapely.get_coordinates(data)
+    places = [np.asarray(value.coords) if value is not None and not value.is_empty else NOTHING for value in values]
+    return offsets_of(np.array([len(place) for place in places], np.int64)), np.concatenate([NOTHING, *places])
+
+
+def texts(values: GeometryArray, decimals: int) -> np.ndarray:
+    """The WKT of points and lines with so many decimals, None for missing ones."""
+    offsets, xy = coordinates(values)
+    form = f"%.{decimals}f %.{decimals}f"
+    places, first = [form % (x, y) for x, y in xy.tolist()], offsets.tolist()
+    out = np.full(len(values), None, object)
+    for row, kind in enumerate(values.geom_type):
+        if kind is not None:
+            inner = ", ".join(places[first[row]:first[row + 1]])
+            out[row] = f"{kind.upper()} ({inner})" if inner else f"{kind.upper()} EMPTY"
+    return out

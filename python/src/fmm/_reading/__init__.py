@@ -1,0 +1,1 @@
+"""Readers of positions: one module for each kind of source."""

@@ -1,0 +1,119 @@
+"""Times as seconds since 1970, in whole columns."""
+from __future__ import annotations
+
+import datetime
+import re
+from typing import Any, List, Tuple
+
+import numpy as np
+import pandas as pd
+
+from ..errors import shown
+from .numbers import as_bytes, digits_at, plain_numbers, texts_of
+
+LAST = 4_294_967_295
+TIME = re.compile(rb"(\d{4})-(\d\d)-(\d\d)[Tt ](\d\d):(\d\d)(?::(\d\d)(?:[.,](\d+))?)? ?(?:([Zz])|([+-]\d\d)(?::?(\d\d))?)?")
+SECONDS = re.compile(r"\d{1,20}(\.\d*)?", re.ASCII)
+DIGIT = np.zeros(256, dtype=bool)
+DIGIT[ord("0"):ord("9") + 1] = True
+
+
+def seconds(column: Any) -> Tuple[np.ndarray, np.ndarray]:
+    """The seconds since 1970 of a column (float64, NaN if there is none), and for each row its fault ("" if there is none).
+
+    Text is an ISO time, in UTC if it names no zone, or a number of seconds. Numbers are seconds. Columns of times with a zone
+    keep their instant; without one they are in UTC. An empty field is no time and no fault.
+    """
+    if isinstance(column, pd.Series) and pd.api.types.is_datetime64_any_dtype(column.dtype):
+        return _of_datetimes(column)
+    values = np.asarray(column)
+    if values.dtype.kind in "iuf":
+        numbers = values.astype(np.float64)
+        return _in_range(numbers, ~np.isnan(numbers), values)
+    if values.dtype.kind == "M":
+        return _of_datetimes(pd.Series(values))
+    texts = _texts(values)
+    faults = np.full(len(texts), "", dtype=object)
+    found, known = _of_texts(texts)
+    rest = np.flatnonzero(~known)
+    numbers, good = plain_numbers([texts[place] for place in rest])
+    good &= np.array([SECONDS.fullmatch(texts[place]) is not None for place in rest], dtype=bool)
+    found[rest[good]], known[rest[good]] = numbers[good], True
+    for place in np.flatnonzero(~known):
+        if texts[place]:
+            faults[place] = f"time {shown(texts[place], 40)} is neither an ISO time nor seconds since 1970"
+    ranged, outside = _in_range(found, known, texts)
+    return ranged, np.where(faults == "", outside, faults)
+
+
+def _texts(values: np.ndarray) -> List[str]:
+    """Each value as text without blanks around it; "" for a missing one."""
+    if values.dtype == object and pd.api.types.infer_dtype(values, skipna=False) != "string":
+        values = np.array([value.isoformat() if isinstance(value, datetime.datetime) and value is not pd.NaT else value
+                           for value in values.tolist()], dtype=object)
+    return texts_of(values)
+
+
+def _of_datetimes(column: pd.Series) -> Tuple[np.ndarray, np.ndarray]:
+    zoned = column.dt.tz_convert("UTC").dt.tz_localize(None) if getattr(column.dtype, "tz", None) is not None else column
+    stamps = zoned.to_numpy().astype("datetime64[us]")
+    missing = np.isnat(stamps)
+    return _in_range(np.where(missing, np.nan, stamps.astype(np.int64) / 1e6), ~missing, column.astype(str).to_numpy())
+
+
+def _in_range(found: np.ndarray, known: np.ndarray, texts: Any) -> Tuple[np.ndarray, np.ndarray]:
+    """Takes the times before 1970 and after 2106 away."""
+    faults = np.full(len(found), "", dtype=object)
+    with np.errstate(invalid="ignore"):
+        outside = known & ~((found >= 0) & (found <= LAST))
+    for place in np.flatnonzero(outside):
+        hint = ": milliseconds in place of seconds?" if 1e11 < found[place] < 1e14 else ""
+        faults[place] = f"time {shown(texts[place], 40)} is not between the years 1970 and 2106{hint}"
+    return np.where(outside, np.nan, found), faults
+
+
+def _of_texts(texts: List[str]) -> Tuple[np.ndarray, np.ndarray]:
+    """The seconds of ISO times, and which texts are some.
+
+    Texts of one shape, where a shape is the text with 0 for each digit, have their fields at the same places and are read
+    together. There are few shapes in a file.
+    """
+    found, good = np.full(len(texts), np.nan), np.zeros(len(texts), dtype=bool)
+    matrix, rest = as_bytes(texts, 40)
+    digit = DIGIT[matrix]
+    shapes = np.where(digit, np.uint8(ord("0")), matrix)
+    while rest.any():
+        first = int(np.argmax(rest))
+        same = rest & (shapes == shapes[first]).all(axis=1)
+        rest &= ~same
+        match = TIME.fullmatch(bytes(shapes[first]).rstrip(b"\0"))
+        if match:
+            rows = np.flatnonzero(same)
+            found[rows], good[rows] = _of_shape(matrix[rows], match)
+    return found, good
+
+
+def _of_shape(matrix: np.ndarray, match: "re.Match[bytes]") -> Tuple[np.ndarray, np.ndarray]:
+    """The seconds of texts whose fields lie where those of the match lie, and which of them exist."""
+    def field(number: int) -> np.ndarray:
+        begin, end = match.span(number)
+        return digits_at(matrix, begin, end) if begin >= 0 else np.zeros(len(matrix), dtype=np.int64)
+
+    year, month, day, hour, minute, second = (field(number) for number in range(1, 7))
+    # A leap second is the first second of the next minute; hour 24 is midnight.
+    good = (month >= 1) & (month <= 12) & (day >= 1) & (minute < 60) & (second <= 60) & (year >= 1)
+    good &= (hour < 24) | (hour == 24) & (minute == 0) & (second == 0)
+    months = (year - 1970) * 12 + np.clip(month, 1, 12) - 1
+    begin = months.astype("datetime64[M]").astype("datetime64[D]").astype(np.int64)
+    after = (months + 1).astype("datetime64[M]").astype("datetime64[D]").astype(np.int64)
+    good &= day <= after - begin
+    whole = 86400 * (begin + day - 1) + 3600 * hour + 60 * minute + second
+    if match[9] is not None:
+        away_hours, away_minutes = digits_at(matrix, match.start(9) + 1, match.end(9)), field(10)
+        good &= (away_hours <= 18) & (away_minutes < 60)
+        shift = 3600 * away_hours + 60 * away_minutes
+        whole = whole - np.where(matrix[:, match.start(9)] == ord("-"), -shift, shift)
+    begin_of, end_of = match.span(7)
+    end_of = min(end_of, begin_of + 9)  # nanoseconds
+    part = digits_at(matrix, begin_of, end_of) / 10.0 ** (end_of - begin_of) if begin_of >= 0 else 0.0
+    return np.where(good, whole + part, np.nan), good

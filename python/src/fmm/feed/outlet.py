@@ -1,0 +1,114 @@
+"""Where the rows of a feed go: a file that is only appended to, or standard output."""
+from __future__ import annotations
+
+import os
+from pathlib import Path
+from typing import Optional, Union
+
+from .._output import write_all
+from ..errors import FmmError, OutputError
+from .state import State
+
+HEADER = b"trace,x,y,time\n"
+
+
+class RowFile:
+    """A file of rows. A feed that is killed and started again writes each row exactly once.
+
+    The state names the rows that are about to be written and the size of the file before them. At the next start the size
+    of the file shows how many of them were written.
+    """
+
+    def __init__(self, path: Path, state: State) -> None:
+        self.path, self.state = path, state
+        self.size = 0
+        is_same = state.get("rows file") == str(path.resolve())
+        try:
+            if path.is_symlink() or (path.exists() and not path.is_file()):
+                raise OutputError(f"{path} is no plain file")
+            exists = path.exists() and path.stat().st_size > 0
+            if exists and not is_same:
+                raise FmmError(f"{path} has rows that the state {state.path} does not know: name another file, or the state of "
+                               "these rows")
+            if not exists and is_same and state.get("outgoing"):
+                raise FmmError(f"{path} is gone, and the last rows may not have been matched: put it back, or begin a new state")
+            self.descriptor = os.open(path, os.O_WRONLY | os.O_APPEND | os.O_CREAT, 0o666)
+        except OSError as fault:
+            raise OutputError(f"{path}: {fault.strerror}") from None
+        if exists:
+            self._complete()
+        else:
+            self._begin()
+
+    def _begin(self) -> None:
+        self.state.set("rows file", self.path.resolve())
+        self._note(HEADER)
+        self._append(HEADER)
+        self.written()
+
+    def _complete(self) -> None:
+        """Writes what a feed that was killed left unwritten."""
+        self.size = self.state.count("rows size")
+        outgoing = (self.state.get("outgoing") or "").encode()
+        found = os.fstat(self.descriptor).st_size
+        if not self.size <= found <= self.size + len(outgoing):
+            raise FmmError(f"{self.path} has {found} bytes, and its state knows {self.size + len(outgoing)}: it was cut or "
+                           "changed")
+        self._append(outgoing[found - self.size:])
+        self.written()
+
+    def _note(self, rows: bytes) -> None:
+        self.state.set("rows size", self.size)
+        self.state.set("outgoing", rows.decode())
+        self.state.commit()
+
+    def _append(self, rows: bytes) -> None:
+        try:
+            write_all(self.descriptor, rows)
+            self.size = os.fstat(self.descriptor).st_size
+        except OSError as fault:
+            raise OutputError(f"{self.path}: {fault.strerror}") from None
+
+    def write(self, rows: bytes) -> None:
+        """Commits the state with these rows as outgoing, and then writes them."""
+        self._note(rows)
+        self._append(rows)
+
+    def written(self) -> None:
+        """Notes that nothing is outgoing. The next commit of the state keeps this."""
+        self.state.set("rows size", self.size)
+        self.state.set("outgoing", "")
+
+    def close(self) -> None:
+        """Closes the file."""
+        os.close(self.descriptor)
+
+
+class RowStream:
+    """Standard output. If a feed is killed in the middle of a write, the last rows may come twice after the next start."""
+
+    def __init__(self, state: State, descriptor: int = 1) -> None:
+        self.state, self.descriptor = state, descriptor
+        write_all(descriptor, HEADER)
+        self.again = (state.get("outgoing") or "").encode()
+        if self.again:
+            write_all(descriptor, self.again)
+        self.written()
+
+    def write(self, rows: bytes) -> None:
+        """Commits the state with these rows as outgoing, and then writes them."""
+        self.state.set("outgoing", rows.decode())
+        self.state.commit()
+        write_all(self.descriptor, rows)
+
+    def written(self) -> None:
+        """Notes that nothing is outgoing. The next commit of the state keeps this."""
+        self.state.set("outgoing", "")
+
+    def close(self) -> None:
+        """Leaves standard output open."""
+
+
+def outlet_of(into: Optional[Path], state: State) -> Union[RowFile, RowStream]:
+    """The outlet that an option names: a file, or standard output for None."""
+    return RowStream(state) if into is None else RowFile(into, state)

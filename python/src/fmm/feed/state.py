@@ -1,0 +1,173 @@
+"""The durable state of a feed: one SQLite file that one feed uses at a time."""
+from __future__ import annotations
+
+import os
+import sqlite3
+from collections import OrderedDict
+from collections.abc import Iterable, Iterator
+from dataclasses import dataclass
+from pathlib import Path
+from typing import Any, Optional
+
+from ..errors import FmmError, OutputError
+from .ordering import Position
+
+FORM = "1"
+REMEMBERED = 100_000  # vehicles in memory; the file has all of them
+TABLES = """
+CREATE TABLE setting (name TEXT PRIMARY KEY, value TEXT NOT NULL) WITHOUT ROWID;
+CREATE TABLE vehicle (id TEXT PRIMARY KEY, number INTEGER NOT NULL, time REAL NOT NULL, positions INTEGER NOT NULL) WITHOUT ROWID;
+CREATE TABLE drive (number INTEGER PRIMARY KEY, id TEXT NOT NULL, begin REAL NOT NULL);
+CREATE TABLE waiting (vehicle TEXT, time REAL, x INTEGER NOT NULL, y INTEGER NOT NULL, arrived REAL NOT NULL,
+                      PRIMARY KEY (vehicle, time)) WITHOUT ROWID;
+"""
+
+
+@dataclass
+class Vehicle:
+    """A vehicle: the number of its drive, the time of its last position, and how many positions its drive has."""
+
+    number: int
+    time: float
+    positions: int
+
+
+class State:
+    """The state in a file. All changes since the last `commit` are lost together if the feed is killed."""
+
+    def __init__(self, path: Path) -> None:
+        self.path = path
+        self.vehicles: OrderedDict[str, Vehicle] = OrderedDict()
+        self.changed: set[str] = set()
+        is_new = not path.exists()
+        try:
+            self.connection = sqlite3.connect(str(path), isolation_level=None, timeout=0)
+            self._begin(is_new)
+        except sqlite3.OperationalError as fault:
+            if "locked" in str(fault):
+                raise FmmError(f"{path}: another feed uses this state") from None
+            raise OutputError(f"{path}: {fault}") from None
+        except sqlite3.DatabaseError as fault:
+            raise FmmError(f"{path} is not the state of a feed: {fault}") from None
+        self.file = os.stat(path)
+
+    def _begin(self, is_new: bool) -> None:
+        execute = self.connection.execute
+        execute("PRAGMA locking_mode = EXCLUSIVE")
+        execute("PRAGMA journal_mode = WAL")
+        execute("PRAGMA synchronous = FULL")
+        execute("BEGIN EXCLUSIVE")
+        if execute("PRAGMA quick_check(1)").fetchone()[0] != "ok":
+            raise self.damaged()
+        found = {name for name, in execute("SELECT name FROM sqlite_master WHERE type = 'table'")}
+        if not found and is_new:
+            for statement in TABLES.strip().split(";\n"):
+                execute(statement.rstrip(";"))
+            self.set("form", FORM)
+        elif "setting" not in found or self.get("form") != FORM:
+            raise FmmError(f"{self.path} is not the state of a feed of this version")
+        execute("COMMIT")
+        self.is_new = is_new
+        execute("BEGIN")
+
+    def get(self, name: str) -> Optional[str]:
+        """A setting, or None."""
+        row = self.connection.execute("SELECT value FROM setting WHERE name = ?", (name,)).fetchone()
+        return self._checked(row, str)[0] if row else None
+
+    def count(self, name: str) -> int:
+        """A setting that is a whole number; 0 if there is none."""
+        text = self.get(name) or "0"
+        if not (text.isascii() and text.isdigit()):
+            raise self.damaged()
+        return int(text)
+
+    def damaged(self) -> FmmError:
+        return FmmError(f"{self.path} is damaged: put a copy in its place, or begin a new state")
+
+    def _checked(self, row: tuple[Any, ...], *kinds: Any) -> tuple[Any, ...]:
+        """A row of the file, whose values have to be of some types."""
+        if len(row) != len(kinds) or not all(map(isinstance, row, kinds)):
+            raise self.damaged()
+        return row
+
+    def set(self, name: str, value: object) -> None:
+        """Changes a setting."""
+        self.connection.execute("INSERT OR REPLACE INTO setting VALUES (?, ?)", (name, str(value)))
+
+    def vehicle(self, name: str) -> Optional[Vehicle]:
+        """What is known of a vehicle, or None."""
+        found = self.vehicles.get(name)
+        if found is None:
+            row = self.connection.execute("SELECT number, time, positions FROM vehicle WHERE id = ?", (name,)).fetchone()
+            if row is None:
+                return None
+            found = self.vehicles[name] = Vehicle(*self._checked(row, int, (int, float), int))
+        self.vehicles.move_to_end(name)
+        return found
+
+    def keep(self, name: str, vehicle: Vehicle) -> None:
+        """Changes what is known of a vehicle."""
+        self.vehicles[name] = vehicle
+        self.changed.add(name)
+
+    def begin_drive(self, number: int, name: str, time: float) -> None:
+        """Notes a new drive."""
+        self.connection.execute("INSERT INTO drive VALUES (?, ?, ?)", (number, name, time))
+
+    def last_number(self) -> int:
+        """The greatest number of a drive; 0 if there is none."""
+        return int(self.connection.execute("SELECT coalesce(max(number), 0) FROM drive").fetchone()[0])
+
+    def drives(self) -> Iterator[tuple[int, str]]:
+        """The number and the vehicle of each drive, by rising number."""
+        yield from self.connection.execute("SELECT number, id FROM drive ORDER BY number")
+
+    def add_waiting(self, positions: Iterable[Position]) -> None:
+        """Notes positions that wait."""
+        self.connection.executemany("INSERT INTO waiting VALUES (?, ?, ?, ?, ?)",
+                                    ((p.vehicle, p.time, p.x, p.y, p.arrived) for p in positions))
+
+    def drop_waiting(self, positions: Iterable[Position]) -> None:
+        """Removes positions that wait no more."""
+        self.connection.executemany("DELETE FROM waiting WHERE vehicle = ? AND time = ?",
+                                    ((p.vehicle, p.time) for p in positions))
+
+    def waiting(self) -> Iterator[Position]:
+        """The positions that wait."""
+        for row in self.connection.execute("SELECT * FROM waiting ORDER BY arrived, vehicle, time"):
+            vehicle, time, x, y, arrived = self._checked(row, str, (int, float), int, int, (int, float))
+            yield Position(time, vehicle, x, y, arrived)
+
+    def commit(self) -> None:
+        """Writes all changes to the disk. A state file that was removed or replaced is an error."""
+        self.check_file()
+        try:
+            self.connection.executemany(
+                "INSERT OR REPLACE INTO vehicle VALUES (?, ?, ?, ?)",
+                [(name, v.number, v.time, v.positions) for name, v in self.vehicles.items() if name in self.changed])
+            self.connection.execute("COMMIT")
+            self.connection.execute("BEGIN")
+        except sqlite3.Error as fault:
+            raise OutputError(f"{self.path}: {fault}") from None
+        self.changed.clear()
+        while len(self.vehicles) > REMEMBERED:
+            self.vehicles.popitem(last=False)
+
+    def check_file(self) -> None:
+        """Refuses a state whose file is gone."""
+        try:
+            now = os.stat(self.path)
+        except OSError:
+            now = None
+        if now is None or (now.st_dev, now.st_ino) != (self.file.st_dev, self.file.st_ino):
+            raise OutputError(f"{self.path}: the state was removed or replaced while the feed ran")
+
+    def close(self) -> None:
+        """Closes the file. Changes since the last `commit` are dropped."""
+        try:
+            if self.connection.in_transaction:
+                self.connection.execute("ROLLBACK")
+            self.connection.close()
+        except sqlite3.Error:
+            pass

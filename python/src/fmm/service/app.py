@@ -1,0 +1,173 @@
+"""The endpoints."""
+from __future__ import annotations
+
+import asyncio
+import json
+import time
+from contextlib import asynccontextmanager
+from typing import Any, AsyncIterator, Awaitable, Callable, Dict
+
+from starlette.applications import Starlette
+from starlette.requests import ClientDisconnect, Request
+from starlette.responses import JSONResponse, Response
+from starlette.routing import Route
+
+from . import page
+from .metrics import Metrics
+from .openapi import description, documents
+from .pool import Pool
+from .refusals import Refused
+from .settings import MEGABYTE, Settings
+
+HEADERS = {
+    "x-content-type-options": "nosniff",
+    "x-frame-options": "DENY",
+    "referrer-policy": "no-referrer",
+    "cross-origin-resource-policy": "same-origin",
+    "content-security-policy": "default-src 'none'; frame-ancestors 'none'; base-uri 'none'; form-action 'none'",
+}
+PAGE_POLICY = ("default-src 'none'; script-src 'self'; style-src 'self'; img-src 'self' data:; connect-src 'self'; "
+               "frame-ancestors 'none'; base-uri 'none'; form-action 'none'")
+Endpoint = Callable[[Request], Awaitable[Response]]
+
+
+class Service:
+    """The application of one service; `app` is what a server runs."""
+
+    def __init__(self, pool: Pool, settings: Settings, metrics: Metrics, about: Dict[str, Any],
+                 begin: Callable[[], None]) -> None:
+        """`about` is what the page says of the network. `begin` is called when the server has its handlers of signals."""
+        self.begin = begin
+        self.pool, self.settings, self.metrics, self.about = pool, settings, metrics, about
+        self.began = time.monotonic()
+        routes = [
+            Route("/match/v1/{profile}/{coordinates:path}", self._counted("match", self._ask("match"))),
+            Route("/nearest/v1/{profile}/{coordinates:path}", self._counted("nearest", self._ask("nearest"))),
+            Route("/match", self._counted("post", self._post("posted")), methods=["POST"]),
+            Route("/map", self._counted("map", self._post("map")), methods=["POST"]),
+            Route("/health", self._counted("health", self._health)),
+            Route("/metrics", self._counted("metrics", self._metrics)),
+            Route("/openapi.json", self._counted("openapi", self._openapi)),
+            Route("/docs", self._counted("page", self._docs)),
+            Route("/network.json", self._counted("network", self._network)),
+            *(Route(path, self._counted("page", self._file(name))) for path, name in page.FILES.items()),
+        ]
+        self.app = Starlette(routes=routes, lifespan=self._lifespan, exception_handlers={404: unknown, 405: wrong_method})
+
+    @asynccontextmanager
+    async def _lifespan(self, app: Starlette) -> AsyncIterator[None]:
+        self.begin()
+        try:
+            yield
+        finally:
+            await self.pool.close()
+
+    def _counted(self, name: str, endpoint: Endpoint) -> Endpoint:
+        """An endpoint with its faults as answers, with headers, and counted."""
+        async def answer(request: Request) -> Response:
+            began = time.monotonic()
+            try:
+                response = await endpoint(request)
+            except Refused as fault:
+                response = JSONResponse({"code": fault.code, "message": str(fault)}, fault.status)
+                if fault.status == 503:
+                    response.headers["retry-after"] = "1"
+            except ClientDisconnect:
+                response = Response(status_code=400)
+            for key, value in HEADERS.items():
+                response.headers.setdefault(key, value)
+            if self.settings.origin and name in ("match", "nearest"):
+                response.headers["access-control-allow-origin"] = self.settings.origin
+            self.metrics.request(name, response.status_code, time.monotonic() - began)
+            return response
+        return answer
+
+    def _ask(self, what: str) -> Endpoint:
+        async def endpoint(request: Request) -> Response:
+            words = request.path_params
+            return await self._worker({"do": what, "profile": words["profile"], "coordinates": words["coordinates"],
+                                       "query": request.url.query})
+        return endpoint
+
+    async def _worker(self, head: Dict[str, Any], body: bytes = b"") -> Response:
+        about, content = await self.pool.ask(head, body)
+        return Response(content, about["status"], media_type=about["kind"])
+
+    def _post(self, what: str) -> Endpoint:
+        async def endpoint(request: Request) -> Response:
+            check_origin(request)
+            body = await self._body(request)
+            response = await self._worker({"do": what, "type": request.headers.get("content-type", ""),
+                                           "query": request.url.query}, body)
+            if response.media_type == "text/html":  # a file to keep: it is no page of this origin
+                response.headers["content-disposition"] = 'attachment; filename="map.html"'
+            return response
+        return endpoint
+
+    async def _body(self, request: Request) -> bytes:
+        limits, got = self.settings.limits, bytearray()
+
+        async def read() -> None:
+            async for block in request.stream():
+                got.extend(block)
+                if len(got) > limits.size:
+                    raise Refused("TooBig", f"the request has more than {limits.size / MEGABYTE:g} MB", 413)
+
+        try:
+            await asyncio.wait_for(read(), limits.seconds)
+        except asyncio.TimeoutError:
+            raise Refused("Timeout", f"the request takes more than {limits.seconds:g} s to arrive", 408) from None
+        return bytes(got)
+
+    async def _health(self, request: Request) -> Response:
+        ready = self.pool.ready
+        return JSONResponse({"status": "ok" if ready else "unavailable", "workers": ready, "of": self.pool.count},
+                            200 if ready else 503)
+
+    async def _metrics(self, request: Request) -> Response:
+        pool = self.pool
+        return Response(self.metrics.text([
+            ("fmm_workers", "gauge", "Workers that can take requests.", pool.ready),
+            ("fmm_waiting_requests", "gauge", "Requests that wait for a worker.", pool.waiting),
+            ("fmm_memory_bytes", "gauge", "Memory of all workers and their programs; what workers share counts for each.",
+             pool.memory),
+            ("fmm_replaced_programs_total", "counter", "Programs that were replaced.", pool.replaced_programs),
+            ("fmm_up_seconds", "gauge", "Seconds since the start.", time.monotonic() - self.began),
+        ]), media_type="text/plain; version=0.0.4")
+
+    async def _openapi(self, request: Request) -> Response:
+        return JSONResponse(description(self.settings))
+
+    async def _network(self, request: Request) -> Response:
+        return JSONResponse(self.about)
+
+    async def _docs(self, request: Request) -> Response:
+        return Response(documents(self.settings), media_type="text/html", headers={"content-security-policy": PAGE_POLICY})
+
+    def _file(self, name: str) -> Endpoint:
+        content, kind = page.content(name)
+
+        async def endpoint(request: Request) -> Response:
+            headers = {"content-security-policy": PAGE_POLICY, "cache-control": "no-cache"}
+            return Response(content, media_type=kind, headers=headers)
+        return endpoint
+
+
+def check_origin(request: Request) -> None:
+    """Refuses what a page of another origin sends."""
+    origin = request.headers.get("origin")
+    if origin is not None and origin.partition("://")[2] != request.headers.get("host", ""):
+        raise Refused("InvalidOptions", "pages of another origin may not use this service", 403)
+
+
+async def unknown(request: Request, fault: Exception) -> Response:
+    """The answer for a path that is none."""
+    services = "/match/v1/{profile}/{coordinates}, /nearest/v1/{profile}/{coordinates}, /match, /map; /docs describes them"
+    return Response(json.dumps({"code": "InvalidUrl", "message": f"there is no such path; there are {services}"}), 404, HEADERS,
+                    "application/json")
+
+
+async def wrong_method(request: Request, fault: Exception) -> Response:
+    """The answer for a method that a path does not have."""
+    return Response(json.dumps({"code": "InvalidUrl", "message": "this path takes another method"}), 405, HEADERS,
+                    "application/json")

@@ -1,0 +1,134 @@
+"""Matches drives by the programs of one worker."""
+from __future__ import annotations
+
+import time
+from pathlib import Path
+from typing import List, Optional
+
+import numpy as np
+
+from .. import _programs
+from .._match_text import MatchText, read_match
+from ..network import Network
+from ..options import Options, centimetres
+from .program import DRIVES, Late, Lost, Program, far_place, rows_of
+from .refusals import Refused, late
+from .settings import MEGABYTE, Limits
+
+START = 600.0  # seconds in which a program has to load its network
+
+
+class Matcher:
+    """Has a program with the options of the service, and one for the last request with another sigma.
+
+    A program that ends, or does not answer in time, is replaced. One that became too large, or has matched enough drives, is
+    replaced by a next one as soon as that has loaded the network.
+    """
+
+    def __init__(self, network: Network, options: Options, limits: Limits) -> None:
+        self.options, self.limits = options, limits
+        self.program_path: Path = _programs.program(network.needs_large)
+        self.network_path = network.path
+        self.far = far_place(network.lines.xy, centimetres(options.radius))
+        self.program = self._started(options)
+        self.next: Optional[Program] = None
+        self.other: Optional[Program] = None
+        self.other_sigma = 0.0
+        self.replaced = 0
+        _first_answer(self.program, time.monotonic() + START)
+
+    def match(self, x: np.ndarray, y: np.ndarray, times: np.ndarray, sigma: Optional[float], until: float) -> MatchText:
+        """The match of a drive in whole centimetres and seconds."""
+        return read(self.lines(rows_of(x, y, times), 1, sigma, until), 1, len(x))
+
+    def lines(self, rows: List[str], name: int, sigma: Optional[float], until: float) -> bytes:
+        """The follow text of a drive as trace `name`. Refused: it takes too long; a program fails twice."""
+        for last_try in (False, True):
+            program = self._program_for(sigma)
+            try:
+                program.ask(rows)
+                text = program.answer(until, name)
+                self._look_after(program)
+                return text
+            except Late:
+                self._drop(program)
+                raise late(self.limits.seconds) from None
+            except Lost as lost:
+                self._drop(program)
+                self.replaced += 1
+                if last_try:
+                    raise Refused("InternalError", f"the program failed twice: {lost}", 500) from None
+        raise AssertionError
+
+    @property
+    def memory(self) -> int:
+        """Bytes of memory of all programs."""
+        return sum(program.memory for program in self._programs())
+
+    def close(self) -> None:
+        for program in self._programs():
+            program.close()
+
+    def _programs(self) -> List[Program]:
+        return [program for program in (self.program, self.next, self.other) if program]
+
+    def _started(self, options: Options) -> Program:
+        words = [*options.but(gap=None).arguments(), "--gap", str(2 ** 32 - 1 if options.gap is None else int(options.gap))]
+        return Program(self.program_path, self.network_path, words, self.far)
+
+    def _program_for(self, sigma: Optional[float]) -> Program:
+        if sigma is None or sigma == self.options.sigma:
+            self._exchange()
+            return self.program
+        if self.other is None or self.other_sigma != sigma:
+            if self.other:
+                self.other.close()
+            self.other, self.other_sigma = self._started(self.options.but(sigma=sigma)), sigma
+        return self.other
+
+    def _exchange(self) -> None:
+        """Takes the next program if it is ready."""
+        if self.next and self.next.is_answered():
+            following, self.next = self.next, None
+            try:
+                following.answer(time.monotonic() + START)
+            except (Late, Lost):
+                following.close()
+                return
+            self.program.close()
+            self.program = following
+            self.replaced += 1
+
+    def _look_after(self, program: Program) -> None:
+        """Prepares the replacement of a program that is too large."""
+        if program.drives < DRIVES and program.memory < self.limits.memory * MEGABYTE:
+            return
+        if program is self.other:
+            program.close()
+            self.other = None
+        elif self.next is None:
+            self.next = self._started(self.options)
+            self.next.ask([])
+
+    def _drop(self, program: Program) -> None:
+        program.close()
+        if program is self.other:
+            self.other = None
+        else:
+            self.program = self._started(self.options)
+
+
+def read(lines: bytes, traces: int, positions: int) -> MatchText:
+    """The match in the follow texts of some traces."""
+    pieces = lines.count(b"\npiece ")
+    return read_match(lines + f"total traces {traces} points {positions} pieces {pieces}\n".encode(), "the match")
+
+
+def _first_answer(program: Program, until: float) -> None:
+    """Waits until a program has loaded its network. Refused: it does not take the network."""
+    program.ask([])
+    try:
+        program.answer(until)
+    except (Late, Lost) as fault:
+        program.close()
+        raise Refused("InternalError", f"the program does not start: {fault}", 500) from None

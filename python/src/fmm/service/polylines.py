@@ -1,0 +1,33 @@
+"""Lines as text in Google's polyline format, latitude first. `digits` is 5 for polyline, 6 for polyline6."""
+from __future__ import annotations
+
+import numpy as np
+
+
+def encode(places: np.ndarray, digits: int = 5) -> str:
+    """The text of places float64[n, 2], longitude first."""
+    whole = np.rint(places[:, ::-1] * 10.0 ** digits).astype(np.int64)
+    steps = np.diff(whole, axis=0, prepend=np.zeros((1, 2), np.int64)).ravel()
+    text = bytearray()
+    for value in np.where(steps < 0, ~(steps << 1), steps << 1).tolist():
+        while value >= 32:
+            text.append((value & 31 | 32) + 63)
+            value >>= 5
+        text.append(value + 63)
+    return text.decode("ascii")
+
+
+def decode(text: str, digits: int = 5) -> np.ndarray:
+    """The places of a text, longitude first. ValueError: it is no such text."""
+    values, value, shift = [], 0, 0
+    for byte in text.encode("ascii"):
+        if not 63 <= byte <= 126 or shift > 35:
+            raise ValueError("no polyline")
+        value |= (byte - 63 & 31) << shift
+        shift += 5
+        if byte < 95:
+            values.append(~(value >> 1) if value & 1 else value >> 1)
+            value, shift = 0, 0
+    if shift or len(values) % 2:
+        raise ValueError("no polyline")
+    return np.cumsum(np.array(values, np.int64).reshape(-1, 2), axis=0)[:, ::-1] / 10.0 ** digits

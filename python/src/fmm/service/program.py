@@ -1,0 +1,167 @@
+"""A proved program that keeps a network loaded and matches one drive after another.
+
+The program is `fmm streams` (`fmm_large streams` for large networks) with pipes as its input and output. `streams` writes the
+lines of a position when a position of another vehicle follows, and ends no vehicle before its input ends. So each drive has an
+id of its own and is followed by two rows far from all roads: one of the same id, which closes its last piece, and one of another
+id, which closes the fragment. Without the marks of the far row, the lines of the drive are the follow text of its trace, which
+has the labels, pieces and routes of `match`.
+"""
+from __future__ import annotations
+
+import os
+import select
+import signal
+import subprocess
+import time
+from pathlib import Path
+from typing import Sequence
+
+import numpy as np
+
+from ..errors import ProgramError
+
+HEADER = b"trace,x,y,time\n"
+CORNER = 1_000_000_000  # centimetres: the range of the proved programs
+DRIVES = 50_000  # of one process: less than the positions of an id, since the closing vehicle has one for each drive
+BLOCK = 1 << 16
+
+
+class Lost(Exception):
+    """The program ended, or its output is not that of a drive."""
+
+
+class Late(Exception):
+    """The program took too long."""
+
+
+def far_place(xy: np.ndarray, radius: int) -> tuple[int, int]:
+    """A place that is farther than `radius` from all points' extent, in centimetres. ProgramError: there is none."""
+    low, high = xy.min(axis=0), xy.max(axis=0)
+    if high[0] < CORNER - radius:
+        return CORNER, 0
+    if low[0] > radius - CORNER:
+        return -CORNER, 0
+    if high[1] < CORNER - radius:
+        return 0, CORNER
+    if low[1] > radius - CORNER:
+        return 0, -CORNER
+    raise ProgramError(1, "the network fills the whole range of coordinates, so no place is far from all roads")
+
+
+def rows_of(x: np.ndarray, y: np.ndarray, times: np.ndarray) -> list[str]:
+    """The fields of positions after the id."""
+    return [f"{a},{b},{t}\n" for a, b, t in zip(x.tolist(), y.tolist(), times.tolist())]
+
+
+class Program:
+    """One process. It is not shared between threads."""
+
+    def __init__(self, path: Path, network: Path, words: Sequence[str], far: tuple[int, int]) -> None:
+        self.far = far
+        self.drives = 0
+        self.child = subprocess.Popen([str(path), "streams", *words, "--", os.fspath(network), "/dev/stdin"], bufsize=0,
+                                      stdin=subprocess.PIPE, stdout=subprocess.PIPE, stderr=subprocess.PIPE)
+        assert self.child.stdin and self.child.stdout
+        self.input, self.output = self.child.stdin.fileno(), self.child.stdout.fileno()
+        os.set_blocking(self.input, False)
+        os.set_blocking(self.output, False)
+        self._asked = HEADER
+
+    def ask(self, rows: list[str]) -> int:
+        """Hands over a drive; returns its id. `answer` has to be called before the next drive."""
+        self.drives += 1
+        name, far = self.drives, f"{self.far[0]},{self.far[1]},0\n"
+        text = "".join([f"{name},{row}" for row in rows])
+        self._asked += f"{text}{name},{far}0,{far}".encode()
+        self._rows = len(rows)
+        return name
+
+    def answer(self, until: float, name: int = 1) -> bytes:
+        """The follow text of the drive as trace `name`. `until` is a time of time.monotonic.
+
+        Late: the time has passed; the program is then of no use. Lost: the program has ended.
+        """
+        ending = f"\n{self.drives} none {self._rows}\n".encode()
+        got = bytearray()
+        asked, self._asked = memoryview(self._asked), b""
+        poll = select.poll()
+        poll.register(self.output, select.POLLIN)
+        if asked:
+            poll.register(self.input, select.POLLOUT)
+        while not got.endswith(ending):
+            left = until - time.monotonic()
+            if left <= 0:
+                raise Late
+            for file, _ in poll.poll(1000 * left):
+                if file == self.input:
+                    asked = self._write(asked)
+                    if not asked:
+                        poll.unregister(self.input)
+                else:
+                    got += self._read()
+        return follow_text(bytes(got), self.drives, self._rows, name)
+
+    def is_answered(self) -> bool:
+        """Whether there is something to read, without waiting."""
+        self._asked = bytes(self._write(memoryview(self._asked))) if self._asked else b""
+        return bool(select.select([self.output], [], [], 0)[0])
+
+    def _write(self, data: memoryview) -> memoryview:
+        try:
+            return data[os.write(self.input, data):]
+        except BlockingIOError:
+            return data
+        except OSError:
+            raise Lost(self.message()) from None
+
+    def _read(self) -> bytes:
+        try:
+            block = os.read(self.output, BLOCK)
+        except BlockingIOError:
+            return b""
+        if not block:
+            raise Lost(self.message())
+        return block
+
+    def message(self) -> str:
+        """What the program that has ended said."""
+        try:
+            _, said = self.child.communicate(timeout=1)
+        except (subprocess.TimeoutExpired, ValueError, OSError):
+            said = b""
+        return said.decode(errors="replace").strip() or f"the program ended with status {self.child.poll()}"
+
+    @property
+    def memory(self) -> int:
+        """Bytes of memory that the program has now, 0 if it has ended."""
+        try:
+            return int(Path(f"/proc/{self.child.pid}/statm").read_text().split()[1]) * os.sysconf("SC_PAGE_SIZE")
+        except (OSError, IndexError, ValueError):
+            return 0
+
+    def close(self) -> None:
+        """Ends the program. What it was asked is lost."""
+        for file in (self.child.stdin, self.child.stdout, self.child.stderr):
+            if file:
+                file.close()
+        if self.child.poll() is None:
+            self.child.send_signal(signal.SIGKILL)
+        self.child.wait()
+
+
+def follow_text(got: bytes, drive: int, count: int, name: int) -> bytes:
+    """The follow text of trace `name` from the lines that streams wrote for a drive of `count` positions and its closing row.
+
+    Lost: they are not such lines.
+    """
+    begin = got.find(f"{drive} trace {drive}\n".encode())
+    body = b"\n" + got[begin:]
+    text = body.replace(f"\n{drive} ".encode(), b"\n")
+    head, tail = f"\ntrace {drive}\n".encode(), f"none {count}\n".encode()
+    closing = text.rfind(f"\nfix {count}\n".encode())
+    lines = body.count(b"\n") - 1
+    whole = text.startswith(head) and text.endswith(tail) and len(body) - len(text) == lines * (len(str(drive)) + 1)
+    if begin < 0 or closing < 0 or not whole:
+        raise Lost("the program wrote something else than the lines of a drive")
+    last = text[closing + 1:-len(tail)].partition(b"\n")[2]
+    return b"".join([f"trace {name}\n".encode(), text[len(head):closing + 1], b"finish\n", last, f"end {name}\n".encode()])

@@ -1,0 +1,80 @@
+"""Starts the service: the network, the process that forks workers, and the server."""
+from __future__ import annotations
+
+import asyncio
+import socket
+from dataclasses import asdict
+from typing import Any, Dict
+
+import numpy as np
+import uvicorn
+
+from ..commands import say
+from ..errors import FmmError, MismatchError
+from ..network import Network
+from .app import Service
+from .forks import Forks
+from .metrics import Metrics
+from .pool import Pool
+from .settings import Settings
+from .worker import Worker
+
+BACKLOG = 256
+
+
+def listen(host: str, port: int) -> socket.socket:
+    """A socket that listens. FmmError: the address cannot be used."""
+    try:
+        family, kind, _, _, address = socket.getaddrinfo(host, port, type=socket.SOCK_STREAM, flags=socket.AI_PASSIVE)[0]
+        made = socket.socket(family, kind)
+        made.setsockopt(socket.SOL_SOCKET, socket.SO_REUSEADDR, 1)
+        made.bind(address)
+        made.listen(BACKLOG)
+    except (OSError, OverflowError) as fault:
+        raise FmmError(f"cannot listen on {host}:{port}: {getattr(fault, 'strerror', None) or fault}") from None
+    return made
+
+
+def serve(network: Network, settings: Settings, host: str, port: int) -> None:
+    """Serves until a signal ends the process."""
+    if network.projection.crs is None:
+        raise MismatchError("its projection is not known, so degrees cannot be placed on it: give --crs", network.path)
+    listening = listen(host, port)
+    worker = Worker(network, settings)
+
+    def work(connection: socket.socket) -> None:
+        listening.close()  # only the main process accepts
+        worker.serve(connection)
+
+    forks = Forks(work)
+    try:
+        asyncio.run(run(forks, listening, settings, about(network, settings)))
+    finally:
+        listening.close()
+        forks.close()
+
+
+async def run(forks: Forks, listening: socket.socket, settings: Settings, facts: Dict[str, Any]) -> None:
+    """Starts the workers, then the server."""
+    metrics = Metrics()
+    pool = Pool(forks, settings.processes, settings.limits, metrics)
+    try:
+        await pool.start()
+        host, port = listening.getsockname()[:2]
+        address = f"http://{f'[{host}]' if ':' in host else host}:{port}/"
+        service = Service(pool, settings, metrics, facts, lambda: say(f"fmm serve: {address} ({settings.processes} workers)"))
+        config = uvicorn.Config(service.app, log_level="warning", access_log=False, lifespan="on", timeout_keep_alive=30,
+                                limit_concurrency=settings.limits.waiting + settings.processes + 256, server_header=False)
+        await uvicorn.Server(config).serve(sockets=[listening])
+    finally:
+        await pool.close()
+
+
+def about(network: Network, settings: Settings) -> Dict[str, Any]:
+    """What the page says of the network. `bounds` is west, south, east, north in degrees."""
+    low, high = network.lines.xy.min(axis=0), network.lines.xy.max(axis=0)
+    corners = np.array([[low[0], low[1]], [low[0], high[1]], [high[0], low[1]], [high[0], high[1]]], np.float64)
+    x, y = network.projection.to_crs(corners[:, 0], corners[:, 1], 4326)
+    return {"edges": network.edge_count, "nodes": network.node_count, "projection": network.projection.name,
+            "sha256": network.checksum, "bounds": [float(x.min()), float(y.min()), float(x.max()), float(y.max())],
+            "options": {name: value for name, value in asdict(settings.options).items() if name != "workers"}}

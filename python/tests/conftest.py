@@ -1,0 +1,28 @@
+"""What the tests of the package share."""
+from __future__ import annotations
+
+import sys
+from pathlib import Path
+
+import pytest
+
+TOP = Path(__file__).resolve().parents[2]
+sys.dont_write_bytecode = True
+
+
+@pytest.fixture
+def top() -> Path:
+    """The root of the repository."""
+    return TOP
+
+
+@pytest.fixture
+def small() -> Path:
+    """The small map and tracks that the pages use."""
+    return TOP / "recipes" / "small"
+
+
+@pytest.fixture(autouse=True)
+def no_bytecode(monkeypatch: pytest.MonkeyPatch) -> None:
+    """Programs that a test starts leave no __pycache__ in the sources."""
+    monkeypatch.setenv("PYTHONDONTWRITEBYTECODE", "1")

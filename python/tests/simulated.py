@@ -1,0 +1,197 @@
+"""A small fleet in a small town, and the truth about its drives: the same at each call with the same seed.
+
+A vehicle drives over the streets at 5 to 14 m/s, waits before some crossings for 4 to 30 s, parks at the roadside a few times for
+3 to 40 minutes, and sends a position each `interval` seconds. The error of a position wanders: 2 m, of which half a metre is new
+in each position.
+"""
+from __future__ import annotations
+
+import calendar
+import collections
+import math
+import random
+from dataclasses import dataclass, field
+from typing import Any, Dict, Iterator, List, NamedTuple, Tuple
+
+import numpy as np
+import pandas as pd
+
+SIDE, EAST, NORTH = 6, 528_000.0, 6_018_000.0
+DAYS = (calendar.timegm((2024, 5, 6, 6, 48, 0)), calendar.timegm((2024, 5, 7, 6, 48, 0)))
+VEHICLES = ("HH-AB 12", "van, blue", "tram 4", "bike 7", "HH-XY 9", "42", "007", "7")
+STEP = 0.1  # seconds
+PARKED = (180, 420, 900, 2400, 2400)  # seconds
+
+Place = Tuple[float, float]
+
+
+class Edge(NamedTuple):
+    begin: Tuple[int, int]
+    end: Tuple[int, int]
+    line: List[Place]
+    length: float
+    street: str
+
+
+class Town:
+    """Streets in rows and columns, in metres."""
+
+    def __init__(self, rng: random.Random) -> None:
+        self.edges: List[Edge] = []
+        self.leaving: Dict[Tuple[int, int], List[int]] = collections.defaultdict(list)
+        at = {(r, c): (EAST + 190 * c + rng.uniform(-20, 20), NORTH + 170 * r + rng.uniform(-20, 20))
+              for r in range(SIDE) for c in range(SIDE)}
+        for (r, c), (x, y) in at.items():
+            for other, street in (((r, c + 1), f"Row {r} Street"), ((r + 1, c), f"Column {c}, upper")):
+                if other not in at:
+                    continue
+                bend = rng.uniform(-8, 8)
+                middle = (x + at[other][0]) / 2 + bend, (y + at[other][1]) / 2 - bend
+                line = [(round(a, 2), round(b, 2)) for a, b in ((x, y), middle, at[other])]
+                self.add((r, c), other, line, street)
+                self.add(other, (r, c), line[::-1], street)
+
+    def add(self, begin: Tuple[int, int], end: Tuple[int, int], line: List[Place], street: str) -> None:
+        length = sum(math.dist(p, q) for p, q in zip(line, line[1:]))
+        self.leaving[begin].append(len(self.edges))
+        self.edges.append(Edge(begin, end, line, length, street))
+
+    def place(self, edge: int, along: float) -> Place:
+        line = self.edges[edge].line
+        for (ax, ay), (bx, by) in zip(line, line[1:]):
+            length = math.dist((ax, ay), (bx, by))
+            if along <= length:
+                return ax + along / length * (bx - ax), ay + along / length * (by - ay)
+            along -= length
+        return line[-1]
+
+    def network_text(self) -> str:
+        """The network file; edges have ids from 1."""
+        rows = ["edge,from,to,line"]
+        for number, ((r, c), (r2, c2), line, _, _) in enumerate(self.edges, 1):
+            points = ";".join(f"{round(100 * x)} {round(100 * y)}" for x, y in line)
+            rows.append(f"{number},{100 * r + c},{100 * r2 + c2},{points}")
+        return "\n".join(rows) + "\n"
+
+    def table(self) -> pd.DataFrame:
+        """What is known of each edge, as `Network.table` has it."""
+        count = len(self.edges)
+        return pd.DataFrame({
+            "direction": ["forward" if number % 2 == 0 else "backward" for number in range(count)],
+            "way": [str(500 + number // 2) for number in range(count)], "class": ["residential"] * count,
+            "name": [edge.street for edge in self.edges], "ref": [""] * count, "maxspeed": [50.0] * count,
+            "oneway": [False] * count})
+
+
+@dataclass
+class Moment:
+    time: float
+    edge: int
+    along: float
+    stands: bool
+
+
+@dataclass
+class Truth:
+    """Whole edges (vehicle, edge, entry, seconds, stood), metres (vehicle, day, metres), stops (vehicle, begin, end, street)."""
+
+    edges: List[Dict[str, Any]] = field(default_factory=list)
+    metres: List[Dict[str, Any]] = field(default_factory=list)
+    stops: List[Dict[str, Any]] = field(default_factory=list)
+
+
+def drive(rng: random.Random, town: Town, slow: float, lasts: float) -> Iterator[Moment]:
+    """Where a vehicle is, each STEP seconds."""
+    edge, along, speed, wait, halt = rng.randrange(len(town.edges)), 30.0, 0.0, 0.0, 0.0
+    parkings = iter(rng.sample(PARKED, 2))
+    parks_at, parks_for = rng.uniform(0.2, 0.35) * lasts, next(parkings)
+    stops, parks = rng.random() < 0.3, False
+    time = 0.0
+    while time < lasts:
+        yield Moment(time, edge, along, speed == 0.0 and (wait > 0 or halt > 0))
+        time += STEP
+        length = town.edges[edge].length
+        if not parks and parks_at < time and 25 < along < length - 60:
+            parks, goal = True, along + 35 + rng.uniform(0, 20)
+        left = (goal if parks else length - 4) - along
+        if (stops or parks) and left < 0.5:
+            if parks:
+                halt = halt or parks_for
+                halt -= STEP
+            else:
+                wait = wait or rng.uniform(4, 30)
+                wait -= STEP
+            if halt > 0 or wait > 0:
+                speed = 0.0
+                continue
+            if parks:
+                parks, halt, parks_at, parks_for = False, 0.0, time + 0.2 * lasts, next(parkings, 300)
+            else:
+                stops, wait = False, 0.0
+        target = (7 + 7 * (edge * 37 % 11) / 11) / slow
+        if stops or parks:
+            target = min(target, math.sqrt(2 * 1.5 * max(left, 0.1)))
+        speed = min(max(speed - 3 * STEP, target), speed + 1.5 * STEP)
+        along += speed * STEP
+        if along >= length:
+            along -= length
+            end, begin = town.edges[edge].end, town.edges[edge].begin
+            edge = rng.choice([e for e in town.leaving[end] if town.edges[e].end != begin])
+            stops = rng.random() < 0.3
+
+
+def fleet(seed: int = 7, interval: int = 2, silent: bool = False) -> Tuple[Town, pd.DataFrame, Truth]:
+    """The town, the positions (vehicle, x, y in metres, time; all vehicles mixed) and the truth. With `silent` a parked vehicle
+    sends nothing."""
+    rng = random.Random(seed)
+    town, truth = Town(rng), Truth()
+    rows: List[Tuple[float, str, float, float]] = []
+    for day, begin in enumerate(DAYS):
+        for number, vehicle in enumerate(VEHICLES):
+            start = begin + 97 * number
+            follow(rng, town, vehicle, start, 1 + 0.2 * (number % 3), interval, silent, rows, truth)
+    rows.sort(key=lambda row: row[0])
+    return town, pd.DataFrame(rows, columns=["time", "vehicle", "x", "y"])[["vehicle", "x", "y", "time"]], truth
+
+
+def follow(rng: random.Random, town: Town, vehicle: str, start: float, slow: float, interval: int, silent: bool,
+           rows: List[Tuple[float, str, float, float]], truth: Truth) -> None:
+    """The positions and the truth of one drive."""
+    x_error = y_error = gone = 0.0
+    moments = list(drive(rng, town, slow, 5400))
+    entries = [0] + [at for at in range(1, len(moments)) if moments[at].edge != moments[at - 1].edge]
+    share = 0.975 ** interval
+    step = 2 * math.sqrt(1 - share * share)
+    last = 0.0
+    stood_since = 0
+    for at, moment in enumerate(moments):
+        if at and moment.edge == moments[at - 1].edge:
+            gone += moment.along - moments[at - 1].along
+        elif at:
+            gone += town.edges[moments[at - 1].edge].length - moments[at - 1].along + moment.along
+        second = round(moment.time)
+        if abs(moment.time - second) > STEP / 2 or second % interval:
+            continue
+        x_error = share * x_error + rng.gauss(0, step)
+        y_error = share * y_error + rng.gauss(0, step)
+        stood_since = at if not moment.stands else stood_since
+        if silent and moment.stands and 0.1 * (at - stood_since) > 20:
+            continue
+        x, y = town.place(moment.edge, moment.along)
+        rows.append((start + second, vehicle, x + x_error + rng.gauss(0, 0.5), y + y_error + rng.gauss(0, 0.5)))
+        last = moment.time
+    stands = np.array([moment.stands for moment in moments])
+    changes = np.flatnonzero(np.diff(np.concatenate(([0], stands.astype(int), [0]))))
+    for first, after in zip(changes[::2].tolist(), changes[1::2].tolist()):
+        if moments[first].time < last:
+            end = start + min(moments[after - 1].time, last)
+            edge = moments[first].edge
+            truth.stops.append({"vehicle": vehicle, "begin": start + moments[first].time, "end": end,
+                                "street": town.edges[edge].street, "edge": edge + 1})
+    for first, after in zip(entries[1:], entries[2:]):
+        if moments[after].time <= last:
+            stood = STEP * int(stands[first:after].sum())
+            truth.edges.append({"vehicle": vehicle, "edge": moments[first].edge + 1, "entry": start + moments[first].time,
+                                "seconds": moments[after].time - moments[first].time, "stood": stood})
+    day = "2024-05-06" if start < DAYS[1] else "2024-05-07"
+    truth.metres.append({"vehicle": vehicle, "day": day, "metres": gone})

@@ -1,0 +1,156 @@
+"""`fmm feed` and a real broker."""
+import json
+import os
+import random
+import shutil
+import socket
+import subprocess
+import time
+
+import pytest
+from feeds import FEED, environment, rows
+
+mqtt = pytest.importorskip("paho.mqtt.client")
+MOSQUITTO = shutil.which("mosquitto") or shutil.which("mosquitto", path="/usr/sbin")
+pytestmark = pytest.mark.skipif(MOSQUITTO is None, reason="mosquitto is not installed")
+VEHICLES = 20
+KILLS = int(os.environ.get("FMM_KILLS", "5"))  # each start of a feed takes a second
+
+
+class Broker:
+    def __init__(self, folder):
+        with socket.socket() as free:
+            free.bind(("127.0.0.1", 0))
+            self.port = free.getsockname()[1]
+        self.settings = folder / "mosquitto.conf"
+        self.settings.write_text(f"listener {self.port} 127.0.0.1\nallow_anonymous true\npersistence true\n"
+                                 f"persistence_location {folder}/\nautosave_interval 1\nmax_queued_messages 0\nuser root\n")
+        self.start()
+
+    def start(self):
+        self.process = subprocess.Popen([MOSQUITTO, "-c", str(self.settings)], stderr=subprocess.DEVNULL)
+        for _ in range(200):
+            try:
+                socket.create_connection(("127.0.0.1", self.port), 1).close()
+                return
+            except OSError:
+                time.sleep(0.05)
+        raise AssertionError("the broker did not start")
+
+    def stop(self):
+        self.process.terminate()
+        self.process.wait(30)
+
+    def publish(self, messages):
+        """Publishes (vehicle, payload) and waits until the broker has all of them."""
+        publisher = mqtt.Client()
+        publisher.max_inflight_messages_set(100)
+        publisher.connect("127.0.0.1", self.port)
+        publisher.loop_start()
+        for done in [publisher.publish(f"fleet/{vehicle}/position", payload, qos=1) for vehicle, payload in messages]:
+            done.wait_for_publish(60)
+        publisher.disconnect()
+        publisher.loop_stop()
+
+
+@pytest.fixture
+def broker(tmp_path):
+    running = Broker(tmp_path)
+    yield running
+    running.stop()
+
+
+def start(broker, folder, *words):
+    more = ["--columns", "vehicle,x,y,time", "--mqtt", f"127.0.0.1:{broker.port}", "--topic", "fleet/+/position"]
+    run = subprocess.Popen([*FEED, "--state", "state.db", "--into", "rows.csv", *more, *words], cwd=folder, env=environment(),
+                           stderr=open(folder / "said.txt", "a"))
+    return run
+
+
+def positions(count, first=0):
+    return [(f"van {i % VEHICLES}", json.dumps({"x": i, "y": i % VEHICLES, "time": 1000 + i // VEHICLES}))
+            for i in range(first, first + count)]
+
+
+def written(folder):
+    """The whole rows that a feed has written, without those of the vehicle `probe`."""
+    path = folder / "rows.csv"
+    text = path.read_text() if path.exists() else ""
+    found = rows(text[:text.rfind("\n") + 1]) if "\n" in text else []
+    return [row for row in found if row[1] >= 0]
+
+
+def wait_for(folder, count, seconds=90):
+    end = time.monotonic() + seconds
+    while time.monotonic() < end and len(written(folder)) < count:
+        time.sleep(0.2)
+
+
+def start_listening(broker, folder, *words):
+    """Starts a feed and waits until it has subscribed: until a position of the vehicle `probe` has come through."""
+    run = start(broker, folder, *words)
+    path = folder / "rows.csv"
+    before = path.read_text().count(",-100,0,") if path.exists() else 0
+    for _ in range(120):
+        broker.publish([("probe", json.dumps({"x": -1, "y": 0, "time": time.time()}))])
+        time.sleep(0.5)
+        if path.exists() and path.read_text().count(",-100,0,") > before:
+            return run
+    raise AssertionError("the feed did not subscribe")
+
+
+def stop(run):
+    run.terminate()
+    assert run.wait(30) == 0
+
+
+def test_each_position_is_written_once_over_kills(broker, tmp_path):
+    stop(start_listening(broker, tmp_path, "--wait", "0"))
+    broker.publish(positions(5000))
+    chance = random.Random(7)
+    for _ in range(KILLS):
+        run = start(broker, tmp_path, "--wait", "0.5")
+        before = len(written(tmp_path))
+        wait_for(tmp_path, before + 1, 20)
+        time.sleep(chance.uniform(0, 0.05))
+        run.kill()
+        run.wait(30)
+    last = start_listening(broker, tmp_path, "--wait", "0.5")
+    wait_for(tmp_path, 5000)
+    stop(last)
+    found = written(tmp_path)
+    assert len(found) == len(set(found)) == 5000
+    assert {row[1] // 100 for row in found} == set(range(5000))
+    assert len({row[0] for row in found}) == VEHICLES
+
+
+def test_a_broker_that_stops_is_awaited(broker, tmp_path):
+    run = start_listening(broker, tmp_path, "--wait", "0.2")
+    broker.publish(positions(100))
+    wait_for(tmp_path, 100)
+    broker.stop()
+    time.sleep(1)
+    broker.start()
+    broker.publish(positions(100, 100))
+    wait_for(tmp_path, 200)
+    stop(run)
+    assert {row[1] // 100 for row in written(tmp_path)} == set(range(200))
+    assert (tmp_path / "said.txt").read_text().count("the broker is gone") == 1
+
+
+def test_the_topic_names_the_vehicle_and_bad_payloads_are_named(broker, tmp_path):
+    run = start_listening(broker, tmp_path, "--wait", "0.2", "--ids", "ids.csv")
+    wrong = [("van 1", b"\xff"), ("van 1", b'{"x": 1e308, "y": 0, "time": 1}'), ("van 1", b"")]
+    named = ("van 2", b'{"vehicle": "tram 3", "x": 1, "y": 0, "time": 1}')
+    broker.publish([*wrong, ("van 1", b'{"x": 1, "y": 0, "time": 1}'), named])
+    wait_for(tmp_path, 2)
+    stop(run)
+    assert {line.split(",")[1] for line in (tmp_path / "ids.csv").read_text().splitlines()} == {"id", "probe", "van 1", "tram 3"}
+    said = (tmp_path / "said.txt").read_text()
+    assert "message of fleet/van 1/position is left out: invalid UTF-8" in said and "farther away than fmm takes" in said
+
+
+def test_a_broker_that_is_not_there_is_an_error(tmp_path):
+    words = ["--state", "state.db", "--mqtt", "127.0.0.1:1", "--topic", "a/+"]
+    done = subprocess.run([*FEED, *words], cwd=tmp_path, env=environment(), capture_output=True, text=True, timeout=60)
+    assert done.returncode == 1 and "the broker 127.0.0.1:1 cannot be reached" in done.stderr and "Traceback" not in done.stderr

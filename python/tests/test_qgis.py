@@ -1,0 +1,122 @@
+"""The plugin of QGIS, as `qgis_process` runs it. Left out where QGIS is missing."""
+from __future__ import annotations
+
+import configparser
+import json
+import os
+import shutil
+import subprocess
+import xml.etree.ElementTree as xml
+from pathlib import Path
+from typing import Any
+
+import geopandas
+import pytest
+from services import TOP, alive
+
+import fmm
+
+SMALL = TOP / "recipes" / "small"
+PLUGIN = TOP / "python" / "qgis" / "fmm_qgis"
+
+
+# Debian's wrapper qgis_process hands over an option of qgis that qgis_process does not have.
+PROGRAM = shutil.which("qgis_process.bin") or shutil.which("qgis_process")
+
+
+def process(folder: Path, *words: str) -> subprocess.CompletedProcess[str]:
+    """`qgis_process` with a profile of its own."""
+    if PROGRAM is None:
+        pytest.skip("the plugin of QGIS, since there is no qgis_process")
+    environment = {**os.environ, "QT_QPA_PLATFORM": "offscreen", "QGIS_PLUGINPATH": str(PLUGIN.parent), "HOME": str(folder),
+                   "QGIS_CUSTOM_CONFIG_PATH": str(folder / "profile"), "XDG_RUNTIME_DIR": str(folder)}
+    environment.pop("PYTHONPATH", None)
+    if not (folder / "profile").exists():
+        (folder / "profile").mkdir()
+        subprocess.run([PROGRAM, "plugins", "enable", "fmm_qgis"], env=environment, capture_output=True, check=True)
+    return subprocess.run([PROGRAM, *words], env=environment, capture_output=True, text=True)
+
+
+def results(done: subprocess.CompletedProcess[str]) -> dict[str, Any]:
+    assert done.returncode == 0, done.stdout + done.stderr
+    return json.loads(done.stdout[done.stdout.index("{"):])["results"]
+
+
+def test_a_network_and_a_match(tmp_path: Path) -> None:
+    network = tmp_path / "network.csv"
+    made = process(tmp_path, "run", "fmm:network", "--json", f"--EXTRACT={SMALL / 'village.osm'}", f"--NETWORK={network}")
+    assert results(made)["NETWORK"] == str(network) and fmm.Network.open(network).edge_count == 26
+    positions = fmm.read_positions(SMALL / "fleet.csv").frame
+    points = geopandas.points_from_xy(positions["x"], positions["y"])
+    table = geopandas.GeoDataFrame({"id": positions["id"], "time": positions["time"]}, geometry=points, crs=4326)
+    table.to_file(tmp_path / "fleet.gpkg", driver="GPKG")
+    done = process(tmp_path, "run", "fmm:match", "--json", f"--NETWORK={network}", f"--POSITIONS={tmp_path / 'fleet.gpkg'}",
+                   "--ID=id", "--TIME=time", "--SIGMA=12", "--GAP=300", f"--FOLDER={tmp_path / 'out'}")
+    found = results(done)
+    path, _, layer = found["ROUTES"].partition("|layername=")
+    routes = geopandas.read_file(path, layer=layer)
+    matches = fmm.match(network, fmm.read_positions(tmp_path / "fleet.gpkg", id="id", time="time"), sigma=12, gap=300)
+    assert routes["cost"].tolist() == matches.routes["cost"].tolist()
+    assert routes["edges"].tolist() == matches.routes["edges"].tolist()
+
+
+def test_faults_are_in_the_log(tmp_path: Path) -> None:
+    wrong = tmp_path / "wrong.osm"
+    wrong.write_text("<osm></osm>\n")
+    done = process(tmp_path, "run", "fmm:network", f"--EXTRACT={wrong}", f"--NETWORK={tmp_path / 'n.csv'}")
+    assert done.returncode != 0 and "wrong.osm" in done.stdout + done.stderr
+    assert not (tmp_path / "n.csv").exists()
+    done = process(tmp_path, "run", "fmm:network", f"--NETWORK={tmp_path / 'n.csv'}")
+    assert "an extract or a layer" in done.stdout + done.stderr
+
+
+def test_the_plugin_says_its_version() -> None:
+    facts = configparser.ConfigParser()
+    facts.read(PLUGIN / "metadata.txt")
+    assert facts["general"]["version"] == fmm.__version__
+
+
+def test_the_style_has_a_symbol_for_each_rule() -> None:
+    style = xml.parse(PLUGIN / "points.qml").getroot()
+    symbols = {symbol.get("name") for symbol in style.iter("symbol")}
+    assert {rule.get("symbol") for rule in style.iter("rule")} == symbols
+
+
+def test_a_network_from_a_layer(tmp_path: Path) -> None:
+    network = fmm.Network.from_osm(SMALL / "village.osm")
+    streets = network.edges[network.edges["direction"] == "forward"].drop(columns=["from_node", "to_node"])
+    streets.assign(way="").to_file(tmp_path / "roads.gpkg", driver="GPKG")
+    done = process(tmp_path, "run", "fmm:network", "--json", f"--LAYER={tmp_path / 'roads.gpkg'}", "--ONEWAY=oneway",
+                   "--FORWARD=1,True", f"--NETWORK={tmp_path / 'n.csv'}")
+    results(done)
+    made = fmm.Network.open(tmp_path / "n.csv")
+    assert made.edge_count >= len(streets) and made.projection.matches(network.projection)
+
+
+class Cancelled:
+    """The feedback of an algorithm that the user cancels after its first message."""
+
+    def __init__(self) -> None:
+        self.said: list[str] = []
+
+    def isCanceled(self) -> bool:
+        return len(self.said) > 1
+
+    def pushCommandInfo(self, text: str) -> None:
+        self.said.append(text)
+
+    pushInfo = pushWarning = reportError = pushCommandInfo
+
+
+def test_a_cancelled_algorithm_ends_its_command(monkeypatch: pytest.MonkeyPatch, tmp_path: Path) -> None:
+    core = pytest.importorskip("qgis.core")
+    monkeypatch.syspath_prepend(str(PLUGIN.parent))
+    from fmm_qgis import commands  # type: ignore[import]
+    slow = tmp_path / "fmm"
+    slow.write_text(f"#!/bin/sh\necho $$ > {tmp_path}/pid\necho begun\nexec sleep 60\n")
+    slow.chmod(0o755)
+    monkeypatch.setattr(commands, "command", lambda: str(slow))
+    feedback = Cancelled()
+    with pytest.raises(core.QgsProcessingException):
+        commands.run(["run"], feedback)
+    assert feedback.said == ["fmm run", "begun"] and not alive(int((tmp_path / "pid").read_text()))

@@ -1,0 +1,149 @@
+"""What the service reads and writes, without a network connection."""
+from __future__ import annotations
+
+import time
+from typing import Any
+
+import numpy as np
+import pytest
+from hypothesis import given, settings
+from hypothesis import strategies as st
+from services import grid
+
+from fmm._match_text import read_match
+from fmm._places import Places
+from fmm.errors import ProgramError
+from fmm.service import polylines
+from fmm.service.metrics import Metrics
+from fmm.service.nearest import Nearest
+from fmm.service.program import Lost, far_place, follow_text
+from fmm.service.refusals import Refused
+from fmm.service.requests import match_request, nearest_request, places_of
+
+PLACES = st.lists(st.tuples(st.integers(-18_000_000, 18_000_000), st.integers(-9_000_000, 9_000_000)), min_size=1, max_size=30)
+
+
+@given(PLACES, st.sampled_from([5, 6]))
+def test_polylines_lead_back(whole: list[tuple[int, int]], digits: int) -> None:
+    places = np.array(whole) / 10.0 ** digits
+    assert np.array_equal(np.rint(polylines.decode(polylines.encode(places, digits), digits) * 10 ** digits), whole)
+
+
+def test_the_example_of_the_polyline_format() -> None:
+    places = np.array([[-120.2, 38.5], [-120.95, 40.7], [-126.453, 43.252]])
+    assert polylines.encode(places) == "_p~iF~ps|U_ulLnnqC_mqNvxq`@"
+
+
+@given(st.text(max_size=20))
+def test_other_polylines_are_refused_or_read(text: str) -> None:
+    try:
+        assert polylines.decode(text).ndim == 2
+    except ValueError:
+        pass
+
+
+@given(st.text(alphabet="0123456789.,;-+eE polyine()6%", max_size=60))
+@settings(max_examples=300)
+def test_coordinates_are_places_or_refused(text: str) -> None:
+    try:
+        places = places_of(text, 5)
+    except Refused as fault:
+        assert fault.code in ("InvalidQuery", "InvalidValue", "TooBig")
+    else:
+        assert 0 <= len(places) <= 5 and np.isfinite(places).all() and (np.abs(places) <= [180, 90]).all()
+
+
+NAMES = ["timestamps", "radiuses", "geometries", "overview", "annotations", "gaps", "tidy", "steps", "skip_waypoints", "x"]
+
+
+@given(st.dictionaries(st.sampled_from(NAMES), st.text(alphabet="0123456789.;,truefalsignoc", max_size=12), max_size=4))
+def test_options_are_read_or_refused(options: dict[str, str]) -> None:
+    query = "&".join(f"{name}={value}" for name, value in options.items())
+    try:
+        request = match_request("9,54;9.1,54", query, 10)
+    except Refused as fault:
+        assert fault.code in ("InvalidQuery", "InvalidValue", "InvalidOptions") and str(fault)
+    else:
+        assert request.timestamps is None or len(request.timestamps) == 2
+
+
+def test_a_long_number_is_read_in_linear_time() -> None:
+    began = time.monotonic()
+    with pytest.raises(Refused):
+        places_of("1" * 60_000 + "x", 10_000)
+    with pytest.raises(Refused):
+        places_of("9,54;" * 9_000 + "x", 10_000)
+    assert time.monotonic() - began < 5
+
+
+@pytest.mark.parametrize("query, code", [
+    ("number=101", "InvalidValue"), ("number=-1", "InvalidValue"), ("radiuses=x", "InvalidValue"),
+    ("bearings=0,10", "InvalidOptions"), ("k=3", "InvalidOptions")])
+def test_requests_for_edges(query: str, code: str) -> None:
+    with pytest.raises(Refused) as fault:
+        nearest_request("9,54", query)
+    assert fault.value.code == code
+
+
+def test_the_nearest_edges_are_those_of_all() -> None:
+    places = Places(grid(4).lines)
+    index = Nearest(places)
+    draw = np.random.default_rng(3)
+    for _ in range(20):
+        place = (draw.integers(-60_000, 90_000, 2) + [50_000_000, 600_000_000]).astype(np.int64)
+        every = sorted((*places.nearest(edge, int(place[0]), int(place[1])), edge) for edge in range(len(places.lines)))
+        found = index.edges(place, 5)
+        assert [round((100 * metres) ** 2) for _, _, metres in found] == [d2 for d2, _, _ in every[:5]]
+        assert [edge for edge, _, _ in found] == [edge for _, _, edge in sorted(every, key=lambda e: (e[0], e[2]))[:5]]
+        near = [edge for edge, _, metres in index.edges(place, 100, 150.0)]
+        assert near == [edge for d2, _, edge in sorted(every, key=lambda e: (e[0], e[2])) if d2 <= 15_000 ** 2]
+
+
+def test_a_far_place_is_far_from_all_roads() -> None:
+    for corner in ((0, 0), (999_999_999, 0), (-999_999_999, 5), (10 ** 9, 10 ** 9)):
+        xy = np.array([[0, 0], corner])
+        far = far_place(xy, 100_000)
+        assert (np.abs(np.array(far)) <= 10 ** 9).all()
+        low, high = xy.min(axis=0), xy.max(axis=0)
+        assert (np.maximum(low - far, 0) + np.maximum(np.array(far) - high, 0)).max() > 100_000
+    with pytest.raises(ProgramError):
+        far_place(np.array([[-10 ** 9, -10 ** 9], [10 ** 9, 10 ** 9]]), 100)
+
+
+STREAMS = b"""1 fix 4
+1 none 4
+7 trace 7
+7 fix 0
+7 at 0 edge 5 offset 1 d2 2
+7 fix 1
+7 piece 0 0 cost 3 route 5
+7 none 1
+"""
+
+
+def test_lines_of_streams_become_a_follow_text() -> None:
+    text = follow_text(STREAMS, 7, 1, 3)
+    assert text == b"trace 3\nfix 0\nat 0 edge 5 offset 1 d2 2\nfinish\npiece 0 0 cost 3 route 5\nend 3\n"
+    assert read_match(text + b"total traces 1 points 1 pieces 1\n").edge.tolist() == [5]
+
+
+@pytest.mark.parametrize("wrong", [
+    STREAMS.replace(b"7 trace 7\n", b""), STREAMS.replace(b"7 fix 1\n", b""), STREAMS.replace(b"7 none 1\n", b""),
+    STREAMS.replace(b"7 piece", b"8 piece"), STREAMS[:-1], b""])
+def test_other_lines_are_no_answer(wrong: bytes) -> None:
+    with pytest.raises(Lost):
+        follow_text(wrong, 7, 1, 3)
+
+
+def test_metrics_have_the_format_of_prometheus() -> None:
+    metrics = Metrics()
+    metrics.request("match", 200, 0.02)
+    metrics.request("match", 503, 0.0)
+    lines = metrics.text([("fmm_workers", "gauge", "Workers.", 2)]).splitlines()
+    assert 'fmm_requests_total{endpoint="match",status="503"} 1' in lines and 'fmm_request_seconds_bucket{le="0.01"} 1' in lines
+    samples: dict[str, Any] = {}
+    for line in lines:
+        if not line.startswith("#"):
+            name, _, value = line.rpartition(" ")
+            samples[name] = float(value)
+    assert samples["fmm_request_seconds_count"] == samples['fmm_request_seconds_bucket{le="+Inf"}'] == 2

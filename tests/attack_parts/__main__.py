@@ -1,0 +1,104 @@
+"""Runs the cases. See tests/attack."""
+from __future__ import annotations
+
+import argparse
+import random
+import signal
+import sys
+import tempfile
+import traceback
+import warnings
+from collections import Counter
+from pathlib import Path
+
+from hypothesis import HealthCheck, Phase, given, seed, settings, strategies
+
+from . import KINDS, SELDOM
+from .common import Broken, Draw, Kind
+
+BLOCK = 500  # cases of one run of hypothesis, which keeps all of them in memory
+SHOWN = 20  # failures that are shown
+
+
+class Attack:
+    """Runs cases of some kinds, and counts how they end. Hypothesis draws the kind and the number of each case."""
+
+    def __init__(self, kinds: dict[str, Kind]) -> None:
+        self.kinds = kinds
+        self.ends: Counter[tuple[str, str]] = Counter()
+        self.failed = 0
+        self.cases = 0
+
+    def run(self, number: int, count: int) -> None:
+        """Runs so many cases at a seed."""
+        done = 0
+        while done < count:
+            before = self.cases
+            self.block(random.Random(f"{number} {done}").getrandbits(64), min(BLOCK, count - done))
+            done += self.cases - before
+
+    def block(self, number: int, count: int) -> None:
+        often = [kind for kind in self.kinds for _ in range(1 if kind in SELDOM else 10)]
+
+        @seed(number)
+        @settings(max_examples=count, database=None, deadline=None, phases=[Phase.generate],
+                  suppress_health_check=list(HealthCheck))
+        @given(strategies.sampled_from(often), strategies.integers(0, 2 ** 64 - 1))
+        def attack(kind: str, case: int) -> None:
+            self.case(kind, case)
+
+        attack()
+
+    def case(self, kind: str, number: int) -> None:
+        """Runs a case. Anything but a refusal or a result that keeps the law is a failure."""
+        draw = Draw(number)
+        self.cases += 1
+        try:
+            self.ends[kind, self.kinds[kind].case(draw)] += 1
+        except Broken as fault:
+            self.fail(kind, number, draw, str(fault))
+        except Exception as fault:
+            lines = traceback.format_exception(type(fault), fault, fault.__traceback__)
+            self.fail(kind, number, draw, "".join(lines[-4:]).strip())
+
+    def fail(self, kind: str, number: int, draw: Draw, why: str) -> None:
+        self.failed += 1
+        if self.failed <= SHOWN:
+            print(f"failed: --kind {kind} --case {number}: {'; '.join(draw.said)}: {why}", flush=True)
+
+
+def main() -> int:
+    """Runs the attack that the words describe."""
+    parser = argparse.ArgumentParser(prog="tests/attack", description="Attacks the readers of the package with wrong inputs.")
+    parser.add_argument("--seed", type=int, help="the seed; a drawn one by default")
+    parser.add_argument("--count", type=int, default=300, help="how many cases (%(default)s)")
+    parser.add_argument("--kind", action="append", choices=sorted(KINDS), help="only cases of this kind; may be given again")
+    parser.add_argument("--case", type=int, metavar="N", help="only this case of the kind, as the line of a failure names it")
+    words = parser.parse_args()
+    if words.case is not None and len(words.kind or []) != 1:
+        parser.error("--case needs one --kind")
+    number = random.SystemRandom().getrandbits(32) if words.seed is None else words.seed
+    warnings.simplefilter("ignore")
+    signal.signal(signal.SIGTERM, signal.default_int_handler)
+    with tempfile.TemporaryDirectory(prefix="fmm-attack-", dir="/dev/shm" if Path("/dev/shm").is_dir() else None) as folder:
+        kinds = {}
+        for name in words.kind or KINDS:
+            room = Path(folder, name.replace(" ", "_"))
+            room.mkdir()
+            kinds[name] = KINDS[name](room)
+        attack = Attack(kinds)
+        try:
+            if words.case is None:
+                attack.run(number, words.count)
+            else:
+                attack.case(words.kind[0], words.case)
+        except KeyboardInterrupt:
+            print("interrupted")
+    for (kind, end), count in sorted(attack.ends.items()):
+        print(f"{kind}: {count} {end}")
+    print(f"tests/attack: {attack.cases} cases, {attack.failed} failed, seed {number}")
+    return 1 if attack.failed else 0
+
+
+if __name__ == "__main__":
+    sys.exit(main())
