@@ -40,10 +40,10 @@ class Service:
 
     def children(self) -> tuple[list[int], list[int]]:
         """The process ids of the workers and of their programs."""
-        everyone = processes()
-        forks = [pid for pid, (parent, _) in everyone.items() if parent == self.process.pid]
-        workers = [pid for pid, (parent, _) in everyone.items() if parent in forks]
-        programs = [pid for pid, (parent, name) in everyone.items() if parent in workers and name.startswith("fmm")]
+        parents = processes()
+        forks = [pid for pid, parent in parents.items() if parent == self.process.pid]
+        workers = [pid for pid, parent in parents.items() if parent in forks]
+        programs = [pid for pid, parent in parents.items() if parent in workers and not is_python(pid)]
         return workers, programs
 
     def metric(self, name: str) -> float:
@@ -53,17 +53,24 @@ class Service:
         return float(found[1])
 
 
-def processes() -> dict[int, tuple[int, str]]:
-    """Of each process its parent and its name."""
+def processes() -> dict[int, int]:
+    """The parent of each process."""
     found = {}
     for path in Path("/proc").glob("[0-9]*/stat"):
         try:
             text = path.read_text()
         except OSError:
             continue
-        name, rest = text.partition("(")[2].rpartition(")")[::2]
-        found[int(path.parent.name)] = int(rest.split()[1]), name
+        found[int(path.parent.name)] = int(text.rpartition(")")[2].split()[1])
     return found
+
+
+def is_python(pid: int) -> bool:
+    """Whether a process runs Python. The programs have other names where they were just built."""
+    try:
+        return os.readlink(f"/proc/{pid}/exe").rpartition("/")[2].startswith("python")
+    except OSError:
+        return True
 
 
 @contextmanager
