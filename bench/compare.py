@@ -3,8 +3,8 @@
 line on the inputs that make_inputs.py wrote to FOLDER.
 
 The jobs are those of measure.py, except those of the large map, and `town`. YARDSTICK does each job with one worker, and PROGRAM
-with 1, 2, 7 and 64. Each line is a job: `same` if output, error output and exit status are those of the yardstick for each number of
-workers, or `differs` with the numbers for which they are not. The exit status is 1 if a job differs.
+with 1, 2, 7 and 64. Each line is a job: `same` if output, error output and exit status are those of the yardstick for each number
+of workers, or `differs` with the numbers for which they are not. The exit status is 1 if a job differs.
 """
 import argparse
 import os
