@@ -27,9 +27,9 @@ def failing(tmp_path: Path, script: str) -> ProgramError:
     ("echo 'traces line 3 field 2: out of range' >&2; exit 6", 6, "the positions: line 3 field 2: out of range"),
     ("echo 'fmm: cannot read network' >&2; exit 3", 3, "my map.csv: cannot be read"),
     ("echo 'fmm: bad value back' >&2; exit 2", 2, "bad value back"),
-    ("exit 1", 1, "out of memory: match fewer vehicles at once, lower bound, or match in groups by fmm fleet"),
+    ("exit 1", 1, "out of memory: match fewer vehicles at once, lower bound, or match in groups: --engine local"),
     ("kill -9 $$", -9, "the program was ended by signal 9; probably out of memory: match fewer vehicles at once, lower bound, or "
-     "match in groups by fmm fleet"),
+     "match in groups: --engine local"),
     ("exit 77", 77, "the program ended with status 77"),
 ])
 def test_errors_name_the_files_of_the_user(tmp_path: Path, script: str, status: int, text: str) -> None:

@@ -15,18 +15,18 @@ from .errors import InputError, ProgramError, one_line
 
 CRATES = {"fmm": "match_program", "fmm_large": "large_program"}
 TOP = Path(__file__).resolve().parents[3]  # of a checkout: python/src/fmm/_programs.py
-MEMORY = "out of memory: match fewer vehicles at once, lower bound, or match in groups by fmm fleet"
+MEMORY = "out of memory: match fewer vehicles at once, lower bound, or match in groups: --engine local"
 SYSTEM = {1: MEMORY, 4: "the match could not be written", 127: "there is no program, and none could be built"}
 TICK = 0.1  # seconds
 
 
-def program(large: bool) -> Path:
-    """The program: $FMM_PROGRAM, or that of this checkout, or the installed one. Builds nothing."""
-    chosen = os.environ.get("FMM_PROGRAM")
+def program(large: bool, named: Optional[str] = None) -> Path:
+    """The program: the named one, $FMM_PROGRAM, that of this checkout, or the installed one. Builds nothing."""
+    chosen = named or os.environ.get("FMM_PROGRAM")
     if chosen:
         found = shutil.which(chosen)
         if not found:
-            raise ProgramError(127, f"FMM_PROGRAM={chosen}: there is no such program")
+            raise ProgramError(127, f"{chosen if named else f'FMM_PROGRAM={chosen}'}: there is no such program")
         return Path(found)
     name = "fmm_large" if large else "fmm"
     if (TOP / "tools" / "build").is_file() and (TOP / "crates").is_dir():

@@ -30,6 +30,7 @@ class Traces:
     between   the rows that are not in the file and yet belong to a drive ("thinned", "repeated"): columns row, trace, point; they
               were measured after the position with this index in the trace and not after the next one
     notes     lines for a report
+    x, y      centimetres, of each position of the file (int64); empty if the file was made elsewhere
     """
 
     path: Path
@@ -39,6 +40,8 @@ class Traces:
     reasons: pd.Series
     between: pd.DataFrame
     notes: List[str] = field(default_factory=list)
+    x: np.ndarray = field(default_factory=lambda: np.zeros(0, np.int64))
+    y: np.ndarray = field(default_factory=lambda: np.zeros(0, np.int64))
 
 
 def write_traces(positions: Positions, network: Any, options: Options, folder: Path) -> Traces:
@@ -235,7 +238,7 @@ class Plan:
         between = self.between(trace, kept)
         out = np.flatnonzero(self.reasons != "")
         reasons = pd.Series(self.reasons[out], index=pd.Index(out, name="row"), dtype=object, name="reason")
-        return Traces(path, numbers, rows, drives, reasons, between, self.notes)
+        return Traces(path, numbers, rows, drives, reasons, between, self.notes, table["x"], table["y"])
 
     def between(self, trace: np.ndarray, kept: np.ndarray) -> pd.DataFrame:
         """Where the thinned and the repeated rows belong."""

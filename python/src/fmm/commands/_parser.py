@@ -23,3 +23,10 @@ class Parser(argparse.ArgumentParser):
         if unknown:
             raise OptionError.unknown(unknown[1], [option for option in self._option_string_actions if option.startswith("--")])
         raise OptionError(f"{message} (--help shows the options)")
+
+
+def above_zero(word: str) -> int:
+    """The value of an option that counts something."""
+    if not (word.isascii() and word.isdecimal() and 0 < int(word) < 10 ** 9):
+        raise argparse.ArgumentTypeError(f"{word} is no number above 0")
+    return int(word)

@@ -11,21 +11,14 @@ Options after -- are those of fmm match: fmm fleet network.csv traces.csv --into
 """
 from __future__ import annotations
 
-import argparse
-import os
-import shutil
 import signal
-import subprocess
 from pathlib import Path
-from typing import Optional
 
-from ..errors import FmmError
-from ._parser import Parser
-
-TOP = Path(__file__).resolve().parents[4]
+from ._parser import Parser, above_zero
 
 
 def main(words: list[str]) -> int:
+    from .._programs import program
     from ..fleet.call import Call, match_fleet
     from ..fleet.common import print_note
     from ..fleet.tasks import run_task
@@ -35,8 +28,8 @@ def main(words: list[str]) -> int:
     if "--" in words:
         own, options = words[:words.index("--")], words[words.index("--") + 1:]
     values = parser().parse_args(own)
-    call = Call(Path(values.network), Path(values.traces), Path(values.into), find_program(values.program), values.engine,
-                values.jobs, values.memory, values.points, values.wait, options)
+    call = Call(Path(values.network), Path(values.traces), Path(values.into), program(True, values.program).absolute(),
+                values.engine, values.jobs, values.memory, values.points, values.wait, options)
     signal.signal(signal.SIGTERM, signal.default_int_handler)
     try:
         text, total = match_fleet(call)
@@ -64,29 +57,5 @@ def parser() -> Parser:
                       help="most positions of a group (what gives each job two groups, but at least 20000)")
     made.add_argument("--wait", metavar="SECONDS", type=above_zero, default=600,
                       help="how long to wait for a worker of Dask, or for Slurm to answer (%(default)s)")
-    made.add_argument("--program", metavar="FMM", help="the program (fmm_large of this checkout, or else on the path)")
+    made.add_argument("--program", metavar="FMM", help="the program (fmm_large, or that of FMM_PROGRAM)")
     return made
-
-
-def above_zero(word: str) -> int:
-    if not (word.isascii() and word.isdecimal() and 0 < int(word) < 10 ** 9):
-        raise argparse.ArgumentTypeError(f"{word} is no number above 0")
-    return int(word)
-
-
-def find_program(name: Optional[str]) -> Path:
-    """The path of the program."""
-    if name:
-        found = shutil.which(name)
-        if not found:
-            raise FmmError(f"there is no program {name}")
-        return Path(found).absolute()
-    build = TOP / "tools" / "build"
-    if os.access(build, os.X_OK) and (TOP / "fmm_large").exists():
-        done = subprocess.run([build, "--path", "large_program"], stdin=subprocess.DEVNULL, stdout=subprocess.PIPE, text=True)
-        if done.returncode == 0:
-            return Path(done.stdout.strip())
-    found = shutil.which("fmm_large")
-    if not found:
-        raise FmmError("there is no program fmm_large: name one by --program")
-    return Path(found).absolute()

@@ -30,7 +30,7 @@ from pathlib import Path
 from typing import TYPE_CHECKING, Any, Optional
 
 from ..errors import MissingLibraryError, OptionError, OutputError, one_line
-from ._parser import Parser
+from ._parser import Parser, above_zero
 
 if TYPE_CHECKING:
     from ..matches import Matches
@@ -56,7 +56,8 @@ def main(words: list[str]) -> int:
     positions = read_positions(values.positions, id=values.id, x=values.x, y=values.y, time=values.time,
                                crs=values.positions_crs, layer=values.layer)
     network, notes = read_map(values, positions)
-    matches = match(network, positions, crs=values.result_crs, **options)
+    means = {name: getattr(values, name) for name in ("engine", "jobs", "memory", "folder")}
+    matches = match(network, positions, crs=values.result_crs, **means, **options)
     with Results(Path(values.into), [values.map, *(source.path for source in positions.sources)]) as results:
         write_all(matches, results.folder, values, notes)
     print((results.target / "report.txt").read_text(encoding="utf-8"), end="")
@@ -65,6 +66,7 @@ def main(words: list[str]) -> int:
 
 def parser() -> Parser:
     from .._osm.profiles import PROFILES
+    from .._runs import ENGINES
     from ..options import Options
     from .network import listed
     made = Parser("run", __doc__ or "")
@@ -89,6 +91,12 @@ def parser() -> Parser:
     matching = made.add_argument_group("matching")
     for field in dataclasses.fields(Options):
         matching.add_argument(f"--{field.name}", metavar=UNITS.get(field.name, "METRES"), help=TEXTS.get(field.name))
+    means = made.add_argument_group("large matches")
+    means.add_argument("--engine", choices=ENGINES, help="match in groups on this machine or on a cluster (one run if it fits)")
+    means.add_argument("--jobs", metavar="N", type=above_zero, help="how many groups are matched at a time")
+    means.add_argument("--memory", metavar="MB", type=above_zero,
+                       help="memory of a run or of a job (what is free; 2000 on a cluster)")
+    means.add_argument("--folder", help="for the groups; all machines need it under one path (the current folder for a cluster)")
     result = made.add_argument_group("result")
     result.add_argument("--result-crs", metavar="CRS", help="of the geometries (that of the positions)")
     result.add_argument("--no-margins", dest="margins", action="store_false", default=None,

@@ -19,12 +19,11 @@ from ..errors import FmmError, InputError, OptionError, OutputError, shown
 from . import engines, groups
 from .common import VERSION, Progress, checksum, is_foreign, load_manifest, print_note, state, store_manifest, write_whole
 from .join import join
-from .memory import Grid
+from .memory import SLACK, Grid, free_memory
 from .parts import Run
 from .tasks import die_with_parent
 from .trace_file import TraceFile
 
-SLACK = 32 << 20  # bytes of a job for a batch of traces and the task itself
 FOLDER_NAMES = {"lock", "groups", "parts", "logs", "slurm", "sort", "index", "call.json", "manifest.json", "match.txt"}
 OPTION_NAMES = ("k", "radius", "sigma", "beta", "bound", "back", "gap", "workers")
 WORDS = {"network": "network file", "traces": "trace file", "options": "set of options", "memory": "--memory", "most": "--points"}
@@ -91,22 +90,29 @@ def probe(program: Path, network: Path, words: list[str]) -> tuple[Path, int]:
 
 def feed_no_traces(process: subprocess.Popen, pipe: str, running: Path) -> tuple[Path, int, int]:
     """Gives a process a trace file without traces. Returns what ran, its status and its memory in bytes."""
+    memory = 0
     while True:
         try:
             end = os.open(pipe, os.O_WRONLY | os.O_NONBLOCK)  # fails until the program has read the network
         except OSError:
             time.sleep(0.01)
-            pid, status, usage = os.wait4(process.pid, os.WNOHANG)
+            pid, status = os.waitpid(process.pid, os.WNOHANG)
             if pid:
                 break
             continue
-        running = Path(os.readlink(f"/proc/{process.pid}/exe"))
+        running, memory = Path(os.readlink(f"/proc/{process.pid}/exe")), most_memory(process.pid)
         os.write(end, b"trace,x,y\n")
         os.close(end)
-        _, status, usage = os.wait4(process.pid, 0)
+        _, status = os.waitpid(process.pid, 0)
         break
     process.returncode = os.waitstatus_to_exitcode(status)
-    return running, process.returncode, usage.ru_maxrss * 1024
+    return running, process.returncode, memory
+
+
+def most_memory(process: int) -> int:
+    """The most bytes that a process had since it began its program; what the system says at its end counts its parent's too."""
+    lines = Path(f"/proc/{process}/status").read_text().splitlines()
+    return next((int(line.split()[1]) << 10 for line in lines if line.startswith("VmHWM:")), 0)
 
 
 @contextmanager
@@ -161,7 +167,7 @@ def prepare_groups(call: Call, folder: Path, programs: list[str], options: dict[
     print_note(f"a job has {call.memory} MB: {base + SLACK >> 20} MB for the network, and the rest for rows of the table")
     reading = Progress("grouping", os.path.getsize(call.network) + 2 * os.path.getsize(call.traces))
     used: dict[str, Any] = {"bound": 300_000, "radius": 10_000, "k": 8, **options}
-    grid = Grid(call.network, used["bound"], used["radius"], used["k"], reading)
+    grid = Grid.of_file(call.network, used["bound"], used["radius"], used["k"], reading)
     made, large = groups.make_groups(folder, call.traces, grid, room, call.points, jobs, reading)
     reading.close()
     for number in large:
@@ -244,8 +250,4 @@ def match_missing(run: Run, call: Call, jobs: int, workers: int) -> None:
 def local_jobs(call: Call) -> int:
     """As many tasks at a time as this machine has processors, and memory if they run here."""
     jobs = len(os.sched_getaffinity(0))
-    if call.engine == "local":
-        with open("/proc/meminfo") as file:
-            free = next((int(line.split()[1]) for line in file if line.startswith("MemAvailable:")), 0)
-        jobs = max(1, min(jobs, free // 1024 // call.memory))
-    return jobs
+    return max(1, min(jobs, (free_memory() >> 20) // call.memory)) if call.engine == "local" else jobs

@@ -5,8 +5,11 @@ becomes longer where that is not enough: if positions are more than a sixth of t
 """
 from __future__ import annotations
 
-from collections import Counter
 from pathlib import Path
+from typing import Any
+
+import numpy as np
+import pandas as pd
 
 from .common import Progress
 
@@ -17,47 +20,85 @@ SHIFTED = 1_000_000_000  # makes all coordinates 0 or more
 # the estimates are 0.95 to 1.35 times the memory that was used.
 NEAR_ENTRY, WHOLE_ENTRY = 20, 14
 HEAD = 64  # bytes of a row itself
+SLACK = 32 << 20  # bytes of a run for a batch of traces and what else it holds
+LOADED = 3  # bytes of a loaded network for each byte of its file; 2.2 to 2.5 were measured
 
 
 class Grid:
-    """Cells are squares of 2^shift cm; a cell is the number (column << 32) + row."""
+    """Cells are squares of 2^shift cm; a cell is the number (column << 32) + row. `places` are those of the nodes in centimetres,
+    int64[n, 2], of which each stands for `scale` nodes."""
 
-    def __init__(self, network: Path, bound: int, radius: int, k: int, progress: Progress) -> None:
-        self.bound, self.k = bound, k
+    def __init__(self, places: np.ndarray, scale: int, bound: int, radius: int, k: int) -> None:
+        self.bound, self.scale, self.k = bound, scale, k
         self.shift = max(12, max(bound // 12, radius).bit_length() - 1)
-        places, self.scale = sampled_nodes(network, progress)
-        self.nodes = Counter(((place >> 32 + self.shift) << 32) + ((place & 0xFFFFFFFF) >> self.shift)
-                             for place in places.values())
-        self.near, self.whole = self.cells_within(bound // 3), self.cells_within(bound)
-        self.entries: dict[int, tuple[int, int]] = {}
+        self.nodes = np.sort(self.cells(places[:, 0], places[:, 1]))
+        self.near, self.whole = self.columns_within(bound // 3), self.columns_within(bound)
+        self.entries: dict[int, tuple[int, int, int]] = {}
 
-    def cells_within(self, reach: int) -> list[int]:
-        """What to add to a cell for each cell within reach."""
+    @classmethod
+    def of_file(cls, network: Path, bound: int, radius: int, k: int, progress: Progress) -> Grid:
+        """The grid of a network file."""
+        places, scale = sampled_nodes(network, progress)
+        packed = np.fromiter(places.values(), np.int64, len(places))
+        xy = np.stack([packed >> 32, packed & 0xFFFFFFFF], axis=1) - SHIFTED
+        return cls(xy, scale, bound, radius, k)
+
+    @classmethod
+    def of_network(cls, network: Any, bound: int, radius: int, k: int) -> Grid:
+        """The grid of a `Network`."""
+        lines = network.lines
+        _, first = np.unique(lines.to_node, return_index=True)
+        return cls(lines.xy[lines.first[1:] - 1][first], 1, bound, radius, k)
+
+    def columns_within(self, reach: int) -> list[tuple[int, int]]:
+        """The columns of cells within reach: how far to the right each is, and how many cells it has upwards and downwards."""
         side = 1 << self.shift
-        far = reach // side + 1
-        return [(right << 32) + up for right in range(-far, far + 1) for up in range(-far, far + 1)
-                if (right * right + up * up) * side * side <= reach * reach]
+        far = reach // side
+        return [(right, int((reach * reach - right * right * side * side) ** 0.5) // side) for right in range(-far, far + 1)]
 
     def cell(self, x: int, y: int) -> int:
         return ((x + SHIFTED >> self.shift) << 32) + (y + SHIFTED >> self.shift)
 
-    def bytes(self, cell: int, positions: int, distant: int) -> int:
-        """The memory for the rows of a cell that has so many positions, of which so many have a distant next one."""
-        nodes = self.nodes.get(cell, 0) * self.scale
-        if not nodes or not positions:
-            return 0
-        if cell not in self.entries:
-            counts = (sum(self.nodes.get(cell + step, 0) for step in steps) for steps in (self.near, self.whole))
-            near, whole = (self.scale * count for count in counts)
-            self.entries[cell] = near, whole
-        near, whole = self.entries[cell]
-        rows = min(nodes, self.k * positions)
-        longer = min(rows, self.k * distant)
+    def cells(self, x: np.ndarray, y: np.ndarray) -> np.ndarray:
+        """The cell of each place."""
+        return ((x + SHIFTED >> self.shift) << 32) + (y + SHIFTED >> self.shift)
+
+    def counts(self, cells: np.ndarray, columns: list[tuple[int, int]]) -> np.ndarray:
+        """How many nodes each cell and the cells around it have."""
+        total = np.zeros(len(cells), np.int64)
+        for right, high in columns:
+            middle = cells + (right << 32)
+            total += np.searchsorted(self.nodes, middle + high, "right") - np.searchsorted(self.nodes, middle - high)
+        return total * self.scale
+
+    def bytes_of(self, cells: np.ndarray, positions: np.ndarray, distant: np.ndarray) -> np.ndarray:
+        """The memory for the rows of each cell that has so many positions, of which so many have a distant next one."""
+        nodes, near, whole = (self.counts(cells, columns) for columns in ([(0, 0)], self.near, self.whole))
+        rows, longer = np.minimum(nodes, self.k * positions), np.minimum(nodes, self.k * distant)
         return rows * (NEAR_ENTRY * near + HEAD) + longer * (WHOLE_ENTRY * whole + HEAD)
+
+    def bytes(self, cell: int, positions: int, distant: int) -> int:
+        """The memory for the rows of a cell, as bytes_of has it."""
+        if cell not in self.entries:
+            here = np.array([cell])
+            self.entries[cell] = (int(self.counts(here, [(0, 0)])[0]), int(self.counts(here, self.near)[0]),
+                                  int(self.counts(here, self.whole)[0]))
+        nodes, near, whole = self.entries[cell]
+        rows, longer = min(nodes, self.k * positions), min(nodes, self.k * distant)
+        return rows * (NEAR_ENTRY * near + HEAD) + longer * (WHOLE_ENTRY * whole + HEAD)
+
+    def bytes_of_run(self, x: np.ndarray, y: np.ndarray, trace: np.ndarray) -> int:
+        """The memory for all rows of one run over positions in centimetres, in the order of their traces."""
+        apart = np.hypot(np.diff(x).astype(np.float64), np.diff(y).astype(np.float64)) * 6 > self.bound
+        distant = np.concatenate([[False], apart & (np.diff(trace) == 0)])[:len(x)]
+        number, cells = pd.factorize(self.cells(x, y))
+        positions = np.bincount(number, minlength=len(cells))
+        return int(self.bytes_of(cells, positions, np.bincount(number, distant, len(cells)).astype(np.int64)).sum())
 
 
 def sampled_nodes(network: Path, progress: Progress) -> tuple[dict[int, int], int]:
-    """The places of nodes at which edges end, and how many nodes stand for each. Records that FMM would refuse are left out."""
+    """The places of nodes at which edges begin or end, and how many nodes stand for each. Records that FMM would refuse are left
+    out. The first edge of a node gives its place: the links of turn restrictions are far away from their nodes, and come last."""
     places: dict[int, int] = {}
     bits = 0
     with open(network, "rb") as file:
@@ -65,14 +106,15 @@ def sampled_nodes(network: Path, progress: Progress) -> tuple[dict[int, int], in
             progress.add(len(line))
             fields = line.split(b",", 3)
             try:
-                node = int(fields[2].strip(b' \t"'))
-                x, y = fields[3].rsplit(b";", 1)[-1].strip(b' \t\r\n"').split()
-                place = (int(x) + SHIFTED << 32) + int(y) + SHIFTED
+                points = fields[3].split(b";")
+                ends = [(int(field.strip(b' \t"')), points[at].strip(b' \t\r\n"').split())
+                        for field, at in ((fields[1], 0), (fields[2], -1))]
+                found = [(node, (int(x) + SHIFTED << 32) + int(y) + SHIFTED) for node, (x, y) in ends]
             except (IndexError, ValueError):
                 continue
-            if bits and spread(node) & (1 << bits) - 1:
-                continue
-            places[node] = place
+            for node, place in found:
+                if not (bits and spread(node) & (1 << bits) - 1):
+                    places.setdefault(node, place)
             if len(places) > MOST_NODES:
                 bits += 1
                 places = {node: place for node, place in places.items() if not spread(node) & (1 << bits) - 1}
@@ -97,3 +139,21 @@ def place_on_curve(cell: int, shift: int) -> int:
                 x, y = last - x, last - y
             x, y = y, x
     return along
+
+
+def free_memory() -> int:
+    """The bytes of memory that this machine has free, or this process's group if that has fewer."""
+    with open("/proc/meminfo") as file:
+        free = next((int(line.split()[1]) << 10 for line in file if line.startswith("MemAvailable:")), 0)
+    try:
+        limit, used = (Path("/sys/fs/cgroup", name).read_text().strip() for name in ("memory.max", "memory.current"))
+        return free if limit == "max" else min(free, max(0, int(limit) - int(used)))
+    except (OSError, ValueError):
+        return free
+
+
+def memory_of_run(network: Any, x: np.ndarray, y: np.ndarray, trace: np.ndarray, bound: int, radius: int, k: int) -> int:
+    """The bytes that one run over these positions may need: the network, its rows and a batch of traces. Lengths are whole
+    centimetres."""
+    rows = Grid.of_network(network, bound, radius, k).bytes_of_run(x, y, trace)
+    return SLACK + LOADED * network.path.stat().st_size + rows
