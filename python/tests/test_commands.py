@@ -107,6 +107,37 @@ def test_errors_are_one_line(fault: BaseException, status: int, line: str, capfd
     assert capfd.readouterr().err == line
 
 
+SLOW = """
+import atexit, os, signal, sys, types
+from fmm import commands
+signal.signal(signal.SIGINT, signal.default_int_handler)
+def main(words):
+    try:
+        os.kill(os.getpid(), signal.SIGINT)
+    finally:
+        for number in commands.SIGNALS:
+            os.kill(os.getpid(), number)
+        print("in order", flush=True)
+sys.modules["fmm.commands.slow"] = types.SimpleNamespace(main=main)
+atexit.register(lambda: os.kill(os.getpid(), signal.SIGINT))
+sys.exit(commands.perform("slow", []))
+"""
+
+
+def test_further_interruptions_change_nothing(top: Path) -> None:
+    """The second and third Ctrl-C come while the command ends in order, and a fourth one after it."""
+    done = subprocess.run([sys.executable, "-c", SLOW], cwd=top / "python" / "src", capture_output=True, text=True)
+    assert (done.returncode, done.stdout, done.stderr) == (130, "in order\n", "fmm slow: interrupted\n")
+
+
+def test_an_ignored_signal_stays_ignored(top: Path) -> None:
+    """A command under nohup goes on when the terminal is closed."""
+    code = ("import os, signal, sys, types; from fmm import commands; "
+            "sys.modules['fmm.commands.slow'] = types.SimpleNamespace(main=lambda words: os.kill(os.getpid(), signal.SIGHUP)); "
+            "sys.exit(commands.perform('slow', []))")
+    assert subprocess.run(["nohup", sys.executable, "-c", code], cwd=top / "python" / "src").returncode == 0
+
+
 def test_standard_error_that_is_full(top: Path) -> None:
     """A full or closed standard error changes no status."""
     for shell in ("2>/dev/full", "2>&-"):

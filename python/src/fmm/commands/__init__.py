@@ -21,6 +21,7 @@ from typing import Optional
 from ..errors import FmmError, OptionError, one_line
 
 INTERRUPTED = 130
+SIGNALS = (signal.SIGINT, signal.SIGTERM, signal.SIGHUP)
 
 
 class Stopped(BaseException):
@@ -72,7 +73,10 @@ def usage() -> str:
 def perform(name: str, words: Sequence[str]) -> int:
     """Runs a command. Every error that a user can cause becomes one line on standard error."""
     from .._libraries import explained
-    handlers = {number: signal.signal(number, _stop) for number in (signal.SIGTERM, signal.SIGHUP)}
+    handlers = {number: signal.getsignal(number) for number in SIGNALS}
+    for number, handler in handlers.items():
+        if handler != signal.SIG_IGN:
+            signal.signal(number, interrupt if number == signal.SIGINT else _stop)
     try:
         with explained():
             command: Callable[[list[str]], Optional[int]] = importlib.import_module(f"fmm.commands.{name}").main
@@ -97,7 +101,8 @@ def perform(name: str, words: Sequence[str]) -> int:
         return stop.status
     finally:
         for number, handler in handlers.items():
-            signal.signal(number, handler)
+            if signal.getsignal(number) != signal.SIG_IGN:
+                signal.signal(number, handler)
 
 
 def say(text: str) -> None:
@@ -113,8 +118,20 @@ def _failed(name: str, text: str, status: int) -> int:
     return status
 
 
+def interrupt(number: int, frame: Optional[FrameType]) -> None:
+    """Handles a signal by ending the command in order. Further signals are ignored, since they would break that off."""
+    _ignore_signals()
+    raise KeyboardInterrupt
+
+
 def _stop(number: int, frame: Optional[FrameType]) -> None:
+    _ignore_signals()
     raise Stopped(number)
+
+
+def _ignore_signals() -> None:
+    for number in SIGNALS:
+        signal.signal(number, signal.SIG_IGN)
 
 
 def _drop_output() -> None:

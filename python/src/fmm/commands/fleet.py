@@ -14,6 +14,7 @@ from __future__ import annotations
 import signal
 from pathlib import Path
 
+from . import interrupt
 from ._parser import Parser, above_zero
 
 
@@ -30,12 +31,10 @@ def main(words: list[str]) -> int:
     values = parser().parse_args(own)
     call = Call(Path(values.network), Path(values.traces), Path(values.into), program(True, values.program).absolute(),
                 values.engine, values.jobs, values.memory, values.points, values.wait, options)
-    signal.signal(signal.SIGTERM, signal.default_int_handler)
+    signal.signal(signal.SIGTERM, interrupt)
     try:
         text, total = match_fleet(call)
     except KeyboardInterrupt:
-        for number in (signal.SIGINT, signal.SIGTERM):
-            signal.signal(number, signal.SIG_IGN)
         print_note("interrupted; the same command does what is missing")
         return 130
     print_note(f"all traces are matched in {text}")
