@@ -3,6 +3,7 @@ from __future__ import annotations
 
 import os
 import sqlite3
+import zlib
 from collections import OrderedDict
 from collections.abc import Iterable, Iterator
 from dataclasses import dataclass
@@ -12,14 +13,16 @@ from typing import Any, Optional
 from ..errors import FmmError, OutputError
 from .ordering import Position
 
-FORM = "1"
+FORM = "2"
 REMEMBERED = 100_000  # vehicles in memory; the file has all of them
+# `mark` is the checksum of the other columns of a row: a value that something else changed is noticed when the row is read.
 TABLES = """
-CREATE TABLE setting (name TEXT PRIMARY KEY, value TEXT NOT NULL) WITHOUT ROWID;
-CREATE TABLE vehicle (id TEXT PRIMARY KEY, number INTEGER NOT NULL, time REAL NOT NULL, positions INTEGER NOT NULL) WITHOUT ROWID;
-CREATE TABLE drive (number INTEGER PRIMARY KEY, id TEXT NOT NULL, begin REAL NOT NULL);
+CREATE TABLE setting (name TEXT PRIMARY KEY, value TEXT NOT NULL, mark INTEGER NOT NULL) WITHOUT ROWID;
+CREATE TABLE vehicle (id TEXT PRIMARY KEY, number INTEGER NOT NULL, time REAL NOT NULL, positions INTEGER NOT NULL,
+                      mark INTEGER NOT NULL) WITHOUT ROWID;
+CREATE TABLE drive (number INTEGER PRIMARY KEY, id TEXT NOT NULL, begin REAL NOT NULL, mark INTEGER NOT NULL);
 CREATE TABLE waiting (vehicle TEXT, time REAL, x INTEGER NOT NULL, y INTEGER NOT NULL, arrived REAL NOT NULL,
-                      PRIMARY KEY (vehicle, time)) WITHOUT ROWID;
+                      mark INTEGER NOT NULL, PRIMARY KEY (vehicle, time)) WITHOUT ROWID;
 """
 
 
@@ -30,6 +33,16 @@ class Vehicle:
     number: int
     time: float
     positions: int
+
+
+def mark_of(table: str, *values: Any) -> int:
+    """The checksum of a row."""
+    return zlib.crc32(repr((table, values)).encode())
+
+
+def marked(table: str, *values: Any) -> tuple[Any, ...]:
+    """A row with its checksum. Times have to be floats, since SQLite gives them back as floats."""
+    return (*values, mark_of(table, *values))
 
 
 class State:
@@ -72,8 +85,8 @@ class State:
 
     def get(self, name: str) -> Optional[str]:
         """A setting, or None."""
-        row = self.connection.execute("SELECT value FROM setting WHERE name = ?", (name,)).fetchone()
-        return self._checked(row, str)[0] if row else None
+        row = self.connection.execute("SELECT * FROM setting WHERE name = ?", (name,)).fetchone()
+        return self._checked("setting", row, str, str)[1] if row else None
 
     def count(self, name: str) -> int:
         """A setting that is a whole number; 0 if there is none."""
@@ -85,24 +98,25 @@ class State:
     def damaged(self) -> FmmError:
         return FmmError(f"{self.path} is damaged: put a copy in its place, or begin a new state")
 
-    def _checked(self, row: tuple[Any, ...], *kinds: Any) -> tuple[Any, ...]:
-        """A row of the file, whose values have to be of some types."""
-        if len(row) != len(kinds) or not all(map(isinstance, row, kinds)):
+    def _checked(self, table: str, row: tuple[Any, ...], *kinds: type) -> tuple[Any, ...]:
+        """The values of a row of the file. They have to be of some types, and those that were written."""
+        *values, mark = row
+        if len(values) != len(kinds) or not all(map(isinstance, values, kinds)) or mark != mark_of(table, *values):
             raise self.damaged()
-        return row
+        return tuple(values)
 
     def set(self, name: str, value: object) -> None:
         """Changes a setting."""
-        self.connection.execute("INSERT OR REPLACE INTO setting VALUES (?, ?)", (name, str(value)))
+        self.connection.execute("INSERT OR REPLACE INTO setting VALUES (?, ?, ?)", marked("setting", name, str(value)))
 
     def vehicle(self, name: str) -> Optional[Vehicle]:
         """What is known of a vehicle, or None."""
         found = self.vehicles.get(name)
         if found is None:
-            row = self.connection.execute("SELECT number, time, positions FROM vehicle WHERE id = ?", (name,)).fetchone()
+            row = self.connection.execute("SELECT * FROM vehicle WHERE id = ?", (name,)).fetchone()
             if row is None:
                 return None
-            found = self.vehicles[name] = Vehicle(*self._checked(row, int, (int, float), int))
+            found = self.vehicles[name] = Vehicle(*self._checked("vehicle", row, str, int, float, int)[1:])
         self.vehicles.move_to_end(name)
         return found
 
@@ -113,20 +127,22 @@ class State:
 
     def begin_drive(self, number: int, name: str, time: float) -> None:
         """Notes a new drive."""
-        self.connection.execute("INSERT INTO drive VALUES (?, ?, ?)", (number, name, time))
+        self.connection.execute("INSERT INTO drive VALUES (?, ?, ?, ?)", marked("drive", number, name, float(time)))
 
     def last_number(self) -> int:
         """The greatest number of a drive; 0 if there is none."""
-        return int(self.connection.execute("SELECT coalesce(max(number), 0) FROM drive").fetchone()[0])
+        row = self.connection.execute("SELECT * FROM drive ORDER BY number DESC LIMIT 1").fetchone()
+        return self._checked("drive", row, int, str, float)[0] if row else 0
 
     def drives(self) -> Iterator[tuple[int, str]]:
         """The number and the vehicle of each drive, by rising number."""
-        yield from self.connection.execute("SELECT number, id FROM drive ORDER BY number")
+        for row in self.connection.execute("SELECT * FROM drive ORDER BY number"):
+            yield self._checked("drive", row, int, str, float)[:2]
 
     def add_waiting(self, positions: Iterable[Position]) -> None:
         """Notes positions that wait."""
-        self.connection.executemany("INSERT INTO waiting VALUES (?, ?, ?, ?, ?)",
-                                    ((p.vehicle, p.time, p.x, p.y, p.arrived) for p in positions))
+        self.connection.executemany("INSERT INTO waiting VALUES (?, ?, ?, ?, ?, ?)", (
+            marked("waiting", p.vehicle, float(p.time), p.x, p.y, float(p.arrived)) for p in positions))
 
     def drop_waiting(self, positions: Iterable[Position]) -> None:
         """Removes positions that wait no more."""
@@ -136,7 +152,7 @@ class State:
     def waiting(self) -> Iterator[Position]:
         """The positions that wait."""
         for row in self.connection.execute("SELECT * FROM waiting ORDER BY arrived, vehicle, time"):
-            vehicle, time, x, y, arrived = self._checked(row, str, (int, float), int, int, (int, float))
+            vehicle, time, x, y, arrived = self._checked("waiting", row, str, float, int, int, float)
             yield Position(time, vehicle, x, y, arrived)
 
     def commit(self) -> None:
@@ -144,8 +160,9 @@ class State:
         self.check_file()
         try:
             self.connection.executemany(
-                "INSERT OR REPLACE INTO vehicle VALUES (?, ?, ?, ?)",
-                [(name, v.number, v.time, v.positions) for name, v in self.vehicles.items() if name in self.changed])
+                "INSERT OR REPLACE INTO vehicle VALUES (?, ?, ?, ?, ?)",
+                [marked("vehicle", name, v.number, float(v.time), v.positions)
+                 for name, v in self.vehicles.items() if name in self.changed])
             self.connection.execute("COMMIT")
             self.connection.execute("BEGIN")
         except sqlite3.Error as fault:
