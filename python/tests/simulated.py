@@ -8,10 +8,11 @@ from __future__ import annotations
 
 import calendar
 import collections
+import functools
 import math
 import random
 from dataclasses import dataclass, field
-from typing import Any, Dict, Iterator, List, NamedTuple, Tuple
+from typing import Any, Dict, List, NamedTuple, Tuple
 
 import numpy as np
 import pandas as pd
@@ -21,6 +22,7 @@ DAYS = (calendar.timegm((2024, 5, 6, 6, 48, 0)), calendar.timegm((2024, 5, 7, 6,
 VEHICLES = ("HH-AB 12", "van, blue", "tram 4", "bike 7", "HH-XY 9", "42", "007", "7")
 STEP = 0.1  # seconds
 PARKED = (180, 420, 900, 2400, 2400)  # seconds
+LASTS = 5400  # seconds
 
 Place = Tuple[float, float]
 
@@ -84,14 +86,6 @@ class Town:
 
 
 @dataclass
-class Moment:
-    time: float
-    edge: int
-    along: float
-    stands: bool
-
-
-@dataclass
 class Truth:
     """Whole edges (vehicle, edge, entry, seconds, stood), metres (vehicle, day, metres), stops (vehicle, begin, end, street)."""
 
@@ -100,98 +94,119 @@ class Truth:
     stops: List[Dict[str, Any]] = field(default_factory=list)
 
 
-def drive(rng: random.Random, town: Town, slow: float, lasts: float) -> Iterator[Moment]:
-    """Where a vehicle is, each STEP seconds."""
+@dataclass
+class Drive:
+    """Where a vehicle is at some times: its edge, the metres along it, and whether it stands."""
+
+    time: np.ndarray
+    edge: np.ndarray
+    along: np.ndarray
+    stands: np.ndarray
+
+
+def drive(rng: random.Random, town: Town, slow: float) -> Drive:
+    """A drive, each STEP seconds."""
+    times, edges, places, stood = [], [], [], []
     edge, along, speed, wait, halt = rng.randrange(len(town.edges)), 30.0, 0.0, 0.0, 0.0
     parkings = iter(rng.sample(PARKED, 2))
-    parks_at, parks_for = rng.uniform(0.2, 0.35) * lasts, next(parkings)
+    parks_at, parks_for = rng.uniform(0.2, 0.35) * LASTS, next(parkings)
     stops, parks = rng.random() < 0.3, False
+    length, usual = town.edges[edge].length, (7 + 7 * (edge * 37 % 11) / 11) / slow
     time = 0.0
-    while time < lasts:
-        yield Moment(time, edge, along, speed == 0.0 and (wait > 0 or halt > 0))
+    while time < LASTS:
+        times.append(time)
+        edges.append(edge)
+        places.append(along)
+        stood.append(speed == 0.0 and (wait > 0 or halt > 0))
         time += STEP
-        length = town.edges[edge].length
         if not parks and parks_at < time and 25 < along < length - 60:
             parks, goal = True, along + 35 + rng.uniform(0, 20)
-        left = (goal if parks else length - 4) - along
-        if (stops or parks) and left < 0.5:
-            if parks:
-                halt = halt or parks_for
-                halt -= STEP
-            else:
-                wait = wait or rng.uniform(4, 30)
-                wait -= STEP
-            if halt > 0 or wait > 0:
-                speed = 0.0
-                continue
-            if parks:
-                parks, halt, parks_at, parks_for = False, 0.0, time + 0.2 * lasts, next(parkings, 300)
-            else:
-                stops, wait = False, 0.0
-        target = (7 + 7 * (edge * 37 % 11) / 11) / slow
+        target = usual
         if stops or parks:
-            target = min(target, math.sqrt(2 * 1.5 * max(left, 0.1)))
+            left = (goal if parks else length - 4) - along
+            if left < 0.5:
+                if parks:
+                    halt = (halt or parks_for) - STEP
+                else:
+                    wait = (wait or rng.uniform(4, 30)) - STEP
+                if halt > 0 or wait > 0:
+                    speed = 0.0
+                    continue
+                if parks:
+                    parks, halt, parks_at, parks_for = False, 0.0, time + 0.2 * LASTS, next(parkings, 300)
+                else:
+                    stops, wait = False, 0.0
+            if stops or parks:
+                target = min(target, math.sqrt(2 * 1.5 * max(left, 0.1)))
         speed = min(max(speed - 3 * STEP, target), speed + 1.5 * STEP)
         along += speed * STEP
         if along >= length:
             along -= length
             end, begin = town.edges[edge].end, town.edges[edge].begin
             edge = rng.choice([e for e in town.leaving[end] if town.edges[e].end != begin])
+            length, usual = town.edges[edge].length, (7 + 7 * (edge * 37 % 11) / 11) / slow
             stops = rng.random() < 0.3
+    return Drive(np.array(times), np.array(edges), np.array(places), np.array(stood))
+
+
+@functools.lru_cache(maxsize=1)
+def made(seed: int, interval: int, silent: bool) -> Tuple[Town, pd.DataFrame, Truth]:
+    rng = random.Random(seed)
+    town, truth = Town(rng), Truth()
+    rows: List[Tuple[float, str, float, float]] = []
+    for begin in DAYS:
+        for number, vehicle in enumerate(VEHICLES):
+            start, one = begin + 97 * number, drive(rng, town, 1 + 0.2 * (number % 3))
+            found = follow(rng, town, one, interval, silent)
+            rows += [(start + second, vehicle, x, y) for second, x, y in found]
+            add_truth(truth, town, one, vehicle, start, found[-1][0])
+    rows.sort(key=lambda row: row[0])
+    return town, pd.DataFrame(rows, columns=["time", "vehicle", "x", "y"])[["vehicle", "x", "y", "time"]], truth
 
 
 def fleet(seed: int = 7, interval: int = 2, silent: bool = False) -> Tuple[Town, pd.DataFrame, Truth]:
     """The town, the positions (vehicle, x, y in metres, time; all vehicles mixed) and the truth. With `silent` a parked vehicle
     sends nothing."""
-    rng = random.Random(seed)
-    town, truth = Town(rng), Truth()
-    rows: List[Tuple[float, str, float, float]] = []
-    for day, begin in enumerate(DAYS):
-        for number, vehicle in enumerate(VEHICLES):
-            start = begin + 97 * number
-            follow(rng, town, vehicle, start, 1 + 0.2 * (number % 3), interval, silent, rows, truth)
-    rows.sort(key=lambda row: row[0])
-    return town, pd.DataFrame(rows, columns=["time", "vehicle", "x", "y"])[["vehicle", "x", "y", "time"]], truth
+    town, positions, truth = made(seed, interval, silent)
+    return town, positions.copy(), truth
 
 
-def follow(rng: random.Random, town: Town, vehicle: str, start: float, slow: float, interval: int, silent: bool,
-           rows: List[Tuple[float, str, float, float]], truth: Truth) -> None:
-    """The positions and the truth of one drive."""
-    x_error = y_error = gone = 0.0
-    moments = list(drive(rng, town, slow, 5400))
-    entries = [0] + [at for at in range(1, len(moments)) if moments[at].edge != moments[at - 1].edge]
+def follow(rng: random.Random, town: Town, one: Drive, interval: int, silent: bool) -> List[Tuple[int, float, float]]:
+    """The positions of a drive: seconds, x and y."""
+    rows = []
     share = 0.975 ** interval
     step = 2 * math.sqrt(1 - share * share)
-    last = 0.0
+    x_error = y_error = 0.0
     stood_since = 0
-    for at, moment in enumerate(moments):
-        if at and moment.edge == moments[at - 1].edge:
-            gone += moment.along - moments[at - 1].along
-        elif at:
-            gone += town.edges[moments[at - 1].edge].length - moments[at - 1].along + moment.along
-        second = round(moment.time)
-        if abs(moment.time - second) > STEP / 2 or second % interval:
-            continue
+    seconds = np.round(one.time).astype(int)
+    at = np.flatnonzero((abs(one.time - seconds) <= STEP / 2) & (seconds % interval == 0))
+    for place, second, edge, along, stands in zip(*(array.tolist() for array in (
+            at, seconds[at], one.edge[at], one.along[at], one.stands[at]))):
         x_error = share * x_error + rng.gauss(0, step)
         y_error = share * y_error + rng.gauss(0, step)
-        stood_since = at if not moment.stands else stood_since
-        if silent and moment.stands and 0.1 * (at - stood_since) > 20:
+        stood_since = stood_since if stands else place
+        if silent and stands and STEP * (place - stood_since) > 20:
             continue
-        x, y = town.place(moment.edge, moment.along)
-        rows.append((start + second, vehicle, x + x_error + rng.gauss(0, 0.5), y + y_error + rng.gauss(0, 0.5)))
-        last = moment.time
-    stands = np.array([moment.stands for moment in moments])
-    changes = np.flatnonzero(np.diff(np.concatenate(([0], stands.astype(int), [0]))))
+        x, y = town.place(edge, along)
+        rows.append((second, x + x_error + rng.gauss(0, 0.5), y + y_error + rng.gauss(0, 0.5)))
+    return rows
+
+
+def add_truth(truth: Truth, town: Town, one: Drive, vehicle: str, start: float, last: float) -> None:
+    """What is true of a drive until its last position."""
+    time = one.time.tolist()
+    changes = np.flatnonzero(np.diff(np.concatenate(([0], one.stands.astype(int), [0]))))
     for first, after in zip(changes[::2].tolist(), changes[1::2].tolist()):
-        if moments[first].time < last:
-            end = start + min(moments[after - 1].time, last)
-            edge = moments[first].edge
-            truth.stops.append({"vehicle": vehicle, "begin": start + moments[first].time, "end": end,
+        if time[first] < last:
+            edge = int(one.edge[first])
+            truth.stops.append({"vehicle": vehicle, "begin": start + time[first], "end": start + min(time[after - 1], last),
                                 "street": town.edges[edge].street, "edge": edge + 1})
+    entries = [0, *(np.flatnonzero(np.diff(one.edge)) + 1).tolist()]
     for first, after in zip(entries[1:], entries[2:]):
-        if moments[after].time <= last:
-            stood = STEP * int(stands[first:after].sum())
-            truth.edges.append({"vehicle": vehicle, "edge": moments[first].edge + 1, "entry": start + moments[first].time,
-                                "seconds": moments[after].time - moments[first].time, "stood": stood})
+        if time[after] <= last:
+            truth.edges.append({"vehicle": vehicle, "edge": int(one.edge[first]) + 1, "entry": start + time[first],
+                                "seconds": time[after] - time[first], "stood": STEP * int(one.stands[first:after].sum())})
+    lengths = np.array([edge.length for edge in town.edges])
+    gone = float(lengths[one.edge[entries[:-1]]].sum()) + float(one.along[-1] - one.along[0])
     day = "2024-05-06" if start < DAYS[1] else "2024-05-07"
     truth.metres.append({"vehicle": vehicle, "day": day, "metres": gone})

@@ -2,13 +2,16 @@
 from __future__ import annotations
 
 import ast
+import contextlib
 import json
 import os
 import random
 import resource
 import signal
+import sqlite3
 import subprocess
 import sys
+from collections.abc import Iterator
 from pathlib import Path
 from typing import Callable
 
@@ -23,6 +26,8 @@ from fmm._programs import program, run, words_of
 from fmm._tables import read_table
 from fmm.commands import tables
 from fmm.errors import FmmError, InputError, MismatchError
+from fmm.feed.ordering import Position
+from fmm.feed.state import State
 from fmm.fleet.trace_file import TraceFile
 from fmm.options import Options
 from fmm.projection import Projection
@@ -222,7 +227,20 @@ def test_a_feed_on_a_full_disk_names_the_file_and_goes_on_later(tmp_path: Path) 
     assert [int(line.split(",")[3]) for line in written] == [1000 + at for at in range(9000)]
 
 
-@pytest.mark.parametrize("number", [signal.SIGTERM, signal.SIGHUP])
+@pytest.fixture
+def signals() -> Iterator[None]:
+    """Signals end a process, as they do in a terminal. After the test they do what they did before it."""
+    before = {number: signal.getsignal(number) for number in commands.SIGNALS}
+    signal.signal(signal.SIGINT, signal.default_int_handler)
+    for number in commands.SIGNALS[1:]:
+        signal.signal(number, signal.SIG_DFL)
+    yield
+    for number, handler in before.items():
+        signal.signal(number, handler)
+
+
+@pytest.mark.parametrize("number", commands.SIGNALS)
+@pytest.mark.usefixtures("signals")
 def test_a_signal_leaves_nothing_behind(tmp_path: Path, monkeypatch: pytest.MonkeyPatch, number: int) -> None:
     def main(words: list[str]) -> int:
         with Outputs() as outputs:
@@ -316,3 +334,26 @@ def test_file_names_that_are_not_utf8(small: Path, tmp_path: Path, capfd: pytest
     capfd.readouterr()
     assert commands.main(["run", f"{odd}.csv", f"{odd}.gpx", "--into", str(tmp_path / "more")]) == 1
     assert "the programs take no names that are invalid UTF-8" in capfd.readouterr().err
+
+
+@pytest.mark.parametrize("change", [
+    "vehicle SET number = number + 1 WHERE id = 'b'", "vehicle SET time = time - 300", "vehicle SET positions = 7",
+    "drive SET id = 'a'", "drive SET begin = begin + 1", "waiting SET x = x + 100", "waiting SET time = time + 1",
+    "setting SET value = '1' || value WHERE name <> 'form'",
+])
+def test_a_changed_value_in_a_state_of_a_feed_is_noticed(tmp_path: Path, monkeypatch: pytest.MonkeyPatch, change: str) -> None:
+    """Each change leaves a state of the right form."""
+    monkeypatch.chdir(tmp_path)
+    words = ["--format", "rows", "--into", "out.csv", "--wait", "60"]
+    rows = "".join(f"{name},{at},0,{1_714_982_400 + 50 * at}\n" for at in range(4) for name in ("a", "b"))
+    assert feed(rows, *words).returncode == 0
+    state = State(Path("state.db"))
+    state.add_waiting([Position(1_714_982_700.0, "b", 5, 5, 1_714_982_700.0)])
+    state.commit()
+    state.close()
+    with contextlib.closing(sqlite3.connect("state.db")) as database, database:
+        assert database.execute(f"UPDATE {change}").rowcount > 0
+    before = Path("out.csv").read_bytes()
+    done = feed("b,9,0,1714982900\n", *words, "--ids", "ids.csv")
+    assert (done.returncode, done.stdout) == (1, "") and "state.db is damaged: " in done.stderr
+    assert Path("out.csv").read_bytes() == before

@@ -150,11 +150,10 @@ def test_a_permutation_of_the_rows_changes_nothing(tmp_path: Path) -> None:
         assert first[name].iloc[order].array.equals(second[name].array), name
 
 
-def test_thinned_rows_have_their_place_on_the_route(tmp_path: Path) -> None:
-    town, positions, _ = simulated.fleet(7)
-    network = network_of(town, tmp_path)
-    all_rows = match(network, positions, options=Options.of(back=20, gap=300)).points
-    thinned = match(network, positions, options=Options.of(back=20, gap=300, thin=20)).points
+def test_thinned_rows_have_their_place_on_the_route(fleet: Tuple[Matches, simulated.Truth, pd.DataFrame]) -> None:
+    matches, _, positions = fleet
+    all_rows = matches.points
+    thinned = match(matches.network, positions, options=Options.of(back=20, gap=300, thin=20)).points
     assert thinned["point"].isna().sum() > 0.3 * len(thinned)
     assert (thinned["reason"] == "").all() and thinned["edge"].notna().all()
     assert (thinned["edge"] == all_rows["edge"]).mean() > 0.95

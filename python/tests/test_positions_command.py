@@ -8,6 +8,7 @@ import sys
 from pathlib import Path
 from typing import Any, Tuple
 
+import forks
 import numpy as np
 import pandas as pd
 import pytest
@@ -34,17 +35,16 @@ def network(tmp_path: Path) -> Network:
 TO = ("--network", "network.csv", "--into", "t.csv")
 
 
-def fmm(top: Path, folder: Path, *words: object) -> Tuple[int, str, str]:
+def fmm(folder: Path, *words: object) -> Tuple[int, str, str]:
     """Status, standard output and standard error."""
-    done = subprocess.run([sys.executable, "-m", "fmm", *map(str, words)], cwd=folder, capture_output=True, text=True,
-                          env={**os.environ, "PYTHONPATH": str(top / "python" / "src")})
+    done = forks.run(*map(str, words), folder=folder)
     return done.returncode, done.stdout, done.stderr
 
 
-def test_a_trace_file_and_the_way_back(top: Path, small: Path, tmp_path: Path, network: Network) -> None:
+def test_a_trace_file_and_the_way_back(small: Path, tmp_path: Path, network: Network) -> None:
     table = tmp_path / "fleet.csv"
     table.write_text((small / "fleet.csv").read_text() + "van 3,,9.4,2024-05-06T09:00:02+02:00,5\n")
-    status, nothing, out = fmm(top, tmp_path, "positions", "fleet.csv", small / "walk.gpx", *TO)
+    status, nothing, out = fmm(tmp_path, "positions", "fleet.csv", small / "walk.gpx", *TO)
     assert (status, nothing) == (0, "")
     assert "rows: 38, sources: 2, positions in the trace file: 37" in out and "not in the trace file: 1 (no lat)" in out
     assert "fleet.csv: id from plate, x from lon, y from lat, time from when\n" in out and "100 % of the positions" in out
@@ -63,8 +63,8 @@ def test_a_trace_file_and_the_way_back(top: Path, small: Path, tmp_path: Path, n
     assert [source["sha256"] for source in side["sources"]] == [checksum_of(table), checksum_of(small / "walk.gpx")]
 
 
-def test_suggested_options(top: Path, small: Path, tmp_path: Path, network: Network) -> None:
-    status, _, out = fmm(top, tmp_path, "positions", small / "fleet.csv", *TO, "--suggest", "--gap", 60)
+def test_suggested_options(small: Path, tmp_path: Path, network: Network) -> None:
+    status, _, out = fmm(tmp_path, "positions", small / "fleet.csv", *TO, "--suggest", "--gap", 60)
     assert status == 0 and "options for fmm match: --k " in out and "gap 300:" in out
     assert json.loads((tmp_path / "t.json").read_text())["options"]["gap"] == 60
 
@@ -80,10 +80,10 @@ def test_suggested_options(top: Path, small: Path, tmp_path: Path, network: Netw
     (["positions", "fleet.csv", *TO, "--gap", "x"], 2, "gap is a number from 0 to 4.29497e+09, not 'x'\n"),
     (["positions", "fleet.csv", "--netwrk", "network.csv", "--into", "t.csv"], 2, "--network"),
 ])
-def test_what_is_wrong(top: Path, small: Path, tmp_path: Path, network: Network, words: Any, status: int, message: str) -> None:
+def test_what_is_wrong(small: Path, tmp_path: Path, network: Network, words: Any, status: int, message: str) -> None:
     (tmp_path / "fleet.csv").write_bytes((small / "fleet.csv").read_bytes())
     before = sorted(os.listdir(tmp_path))
-    found, out, err = fmm(top, tmp_path, *words)
+    found, out, err = fmm(tmp_path, *words)
     assert (found, out, err.count("\n")) == (status, "", 1) and message in err
     assert sorted(os.listdir(tmp_path)) == before
 
@@ -120,18 +120,18 @@ def test_centimetres_are_named() -> None:
     assert verdict(Plane, frame) == "the positions are in centimetres: give metres"  # type: ignore[arg-type]
 
 
-def test_the_command_says_it_first(top: Path, small: Path, tmp_path: Path, network: Network) -> None:
+def test_the_command_says_it_first(small: Path, tmp_path: Path, network: Network) -> None:
     text = (small / "fleet.csv").read_text().replace("plate,lat,lon", "plate,lon,lat")
     (tmp_path / "exchanged.csv").write_text(text)
-    status, _, out = fmm(top, tmp_path, "positions", "exchanged.csv", *TO)
+    status, _, out = fmm(tmp_path, "positions", "exchanged.csv", *TO)
     assert status == 1 and out.startswith("warning: longitude and latitude of the positions are exchanged\n")
 
 
-def test_hostile_names_and_ids(top: Path, small: Path, tmp_path: Path, network: Network) -> None:
+def test_hostile_names_and_ids(small: Path, tmp_path: Path, network: Network) -> None:
     name = os.fsencode(tmp_path) + b"/\xff\x1b[31m.csv"
     with open(name, "w") as file:
         file.write('id,lon,lat,time\n"a\x1b[31m,""=1",9.44,54.31,5\n7,9.44,54.31,\x1b]0;x\n007,9.44,54.31,6\n')
-    status, nothing, out = fmm(top, tmp_path, "positions", os.fsdecode(name), *TO)
+    status, nothing, out = fmm(tmp_path, "positions", os.fsdecode(name), *TO)
     assert (status, nothing) == (0, "") and "\x1b" not in out and "\\xff" in out
     rows = read_table(tmp_path / "t.rows.csv")
     assert rows["id"].tolist() == ['a\\x1b[31m,"=1', "7", "007"]

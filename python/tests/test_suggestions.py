@@ -1,6 +1,7 @@
 """Options from the data. The drives of these tests are on a grid of streets, with errors of known size."""
 from __future__ import annotations
 
+import functools
 import subprocess
 from pathlib import Path
 from typing import List, Tuple
@@ -40,18 +41,26 @@ def drive(rng: np.random.Generator, seconds: int) -> np.ndarray:
 
 
 def error(rng: np.random.Generator, count: int, wanders: float, jumps: float) -> np.ndarray:
-    found = np.zeros((count, 2))
-    found[0] = rng.normal(0, wanders, 2)
-    for place in range(1, count):
-        found[place] = 0.95 * found[place - 1] + rng.normal(0, 0.312 * wanders, 2)
-    return found + rng.normal(0, 1, (count, 2)) * jumps
+    found = [rng.normal(0, wanders, 2).tolist()]
+    for x, y in rng.normal(0, 0.312 * wanders, (count - 1, 2)).tolist():
+        found.append([0.95 * found[-1][0] + x, 0.95 * found[-1][1] + y])
+    return np.array(found) + rng.normal(0, 1, (count, 2)) * jumps
 
 
-def fleet(seed: int, wanders: float, jumps: float, step: int = 1, drives: int = 12) -> pd.DataFrame:
-    rng, rows = np.random.default_rng(seed), []
-    for name in range(drives):
+@functools.lru_cache(maxsize=None)
+def driven_places(seed: int, wanders: float, jumps: float) -> List[Tuple[np.ndarray, np.ndarray]]:
+    """The true and the measured places of 12 vehicles, one a second."""
+    rng, found = np.random.default_rng(seed), []
+    for _ in range(12):
         places = drive(rng, 900)
-        x, y = (places + error(rng, 900, wanders, jumps))[::step].T
+        found.append((places, places + error(rng, 900, wanders, jumps)))
+    return found
+
+
+def fleet(seed: int, wanders: float, jumps: float, step: int = 1) -> pd.DataFrame:
+    rows = []
+    for name, (_, measured) in enumerate(driven_places(seed, wanders, jumps)):
+        x, y = measured[::step].T
         rows.append(pd.DataFrame({"id": f"v{name}", "x": x, "y": y, "time": np.arange(0, 900, step)}))
     return pd.concat(rows, ignore_index=True)
 
@@ -161,12 +170,7 @@ def driven(network: Network, frame: pd.DataFrame, folder: Path) -> Tuple[float, 
 @pytest.mark.parametrize("wanders, jumps", ERRORS)
 def test_no_road_that_nobody_drove(network: Network, tmp_path: Path, wanders: float, jumps: float, step: int) -> None:
     frame = fleet(3, wanders, jumps, step)
-    rng = np.random.default_rng(3)
-    true = 0.0
-    for _ in range(12):
-        places = drive(rng, 900)
-        error(rng, 900, wanders, jumps)
-        true += float(np.hypot(*np.diff(places, axis=0).T).sum())
+    true = sum(float(np.hypot(*np.diff(places, axis=0).T).sum()) for places, _ in driven_places(3, wanders, jumps))
     length, pieces = driven(network, frame, tmp_path)
     assert pieces <= 14 and length == pytest.approx(true, rel=0.06)  # whole edges count at both ends of a drive
 

@@ -103,7 +103,7 @@ def test_slurm(place):
 
 
 def slurm_cases(place, env):
-    more = ("--engine", "slurm", "--points", "300", "--memory", "300", "--jobs", "4")
+    more = ("--engine", "slurm", "--points", "600", "--memory", "300", "--jobs", "4")
 
     def killed():
         program = place.stub("slurm_killing", 'if mkdir "$mark" 2>/dev/null; then kill -9 $PPID; sleep 5; fi')
@@ -141,7 +141,7 @@ def slurm_cases(place, env):
         """The job of somebody else, whose number is in the folder, goes on."""
         words = ["sbatch", "--parsable", "--hold", "--wrap", "true", f"--output={place.path('foreign.log')}"]
         job = subprocess.run(words, capture_output=True, text=True, env={**os.environ, **env}).stdout.strip()
-        place.fleet("slurm_foreign", "--points", "300", "--engine", "none")
+        place.fleet("slurm_foreign", "--points", "600", "--engine", "none")
         os.makedirs(place.path("slurm_foreign/slurm"))
         with open(place.path("slurm_foreign/slurm/job"), "w") as file:
             file.write(job)
@@ -171,19 +171,19 @@ def test_dask(place):
             address = json.load(file)["address"]
         program = place.stub("dask_killing",
                              'if mkdir "$mark" 2>/dev/null; then kill -9 $(cut -d " " -f 4 /proc/$PPID/stat); sleep 5; fi')
-        done = place.fleet("dask_killed", "--engine", "dask", "--points", "300", program=program,
+        done = place.fleet("dask_killed", "--engine", "dask", "--points", "600", program=program,
                            env={"DASK_SCHEDULER_ADDRESS": address})
         check("Dask: one of two workers was killed", sorted(worker.poll() is None for worker in workers) == [False, True])
         place.good("Dask: a worker killed", "dask_killed", done)
         address = {"DASK_SCHEDULER_ADDRESS": address}
         for worker in workers:
             worker.kill()
-        done = place.fleet("dask_alone", "--engine", "dask", "--points", "300", "--wait", "3", env=address)
+        done = place.fleet("dask_alone", "--engine", "dask", "--points", "600", "--wait", "3", env=address)
         place.refused("Dask: no worker", done, "no worker of Dask within 3 seconds")
         check("Dask: it says what it waits for", "waiting for worker of Dask; --wait" in done.stderr, done.stderr)
         scheduler.kill()
         scheduler.wait()
-        done = place.fleet("dask_alone", "--engine", "dask", "--points", "300", "--wait", "3", env=address)
+        done = place.fleet("dask_alone", "--engine", "dask", "--points", "600", "--wait", "3", env=address)
         place.refused("Dask: no scheduler", done, "no Dask scheduler at tcp")
     except RuntimeError as fault:
         check("dask", False, str(fault))
@@ -199,8 +199,8 @@ def engines():
     missing = [name for name in programs if not shutil.which(name)]
     reasons = {"slurm": "it is not root" if os.getuid() else f"there is no {missing[0]}" if missing else "",
                "dask": "there is no dask-scheduler" if not shutil.which("dask-scheduler") else
-               f"{PYTHON} has no distributed" if subprocess.run([PYTHON, "-c", "import distributed"],
-                                                                      capture_output=True).returncode else ""}
+               f"{PYTHON} has no distributed" if subprocess.run(
+                   [PYTHON, "-c", "import importlib.util as u, sys; sys.exit(not u.find_spec('distributed'))"]).returncode else ""}
     for name, test in (("slurm", test_slurm), ("dask", test_dask)):
         why = reasons[name] or ("FLEET_ENGINES=0" if wanted == "0" else "")
         if not why:

@@ -7,6 +7,8 @@ import subprocess
 import threading
 import time
 
+from .forker import Forker
+
 TOP = os.path.dirname(os.path.dirname(os.path.dirname(os.path.realpath(__file__))))
 FOUND = subprocess.run([os.path.join(TOP, "tests", "find_python")], capture_output=True, text=True)
 PYTHON = FOUND.stdout.strip()
@@ -86,6 +88,7 @@ class Place:
 
     def __init__(self, folder, program):
         self.folder, self.program = folder, program
+        self.forker = Forker(PYTHON, os.environ["PYTHONPATH"])
         self.network, self.traces = self.path("network.csv"), self.path("traces.csv")
         below = random.Random(43).randrange
         make_network(self.network, below)
@@ -114,8 +117,14 @@ class Place:
                 *(self.options if options is None else options)]
 
     def fleet(self, into, *more, env=None, **named):
-        return subprocess.run(self.words(into, *more, **named), capture_output=True, text=True, stdin=subprocess.DEVNULL,
-                              env={**os.environ, **(env or {})}, timeout=300)
+        return self.call(self.words(into, *more, **named), env)
+
+    def call(self, words, env=None):
+        """Runs `fmm`: with other modules in a new Python, else in a fork."""
+        env = {**os.environ, **(env or {})}
+        if env["PYTHONPATH"] == os.environ["PYTHONPATH"]:
+            return self.forker.call(words[3:], env)
+        return subprocess.run(words, capture_output=True, text=True, stdin=subprocess.DEVNULL, env=env)
 
     def good(self, name, into, done, wanted=None):
         """The call ended well, with the text of one run."""

@@ -1,0 +1,135 @@
+"""Runs files of python/tests, each in a process of its own. See tests/python.
+
+Importing the libraries takes longer than most of the files. So this process imports them once, and forks a child for each file.
+"""
+from __future__ import annotations
+
+import argparse
+import importlib
+import os
+import re
+import signal
+import sys
+import tempfile
+import time
+from dataclasses import dataclass
+from pathlib import Path
+
+PYTHON = Path(__file__).resolve().parents[2] / "python"
+LIBRARIES = ("fmm.commands", "fmm.matches", "fmm.network", "fmm.positions", "fmm.report", "fmm.suggestions", "geopandas",
+             "hypothesis.strategies", "matplotlib.figure", "numpy.random", "pyproj", "pytest", "shapely", "sqlite3", "tqdm")
+# These take longest, so they are started first.
+FIRST = ("test_style.py", "test_service.py", "test_map_browser.py", "test_qgis.py", "test_service_files.py", "test_attacks.py")
+
+
+@dataclass
+class Child:
+    """A file that is being tested."""
+
+    name: str
+    output: Path
+    begin: float
+
+
+class Children:
+    """Tests files in children of this process, so many at once."""
+
+    def __init__(self, folder: Path, words: list[str]) -> None:
+        self.folder, self.words = folder, words
+        self.running: dict[int, Child] = {}
+        self.failed = False
+        self.counts: dict[str, int] = {}
+        self.left_out: set[str] = set()
+        self.times: list[tuple[float, float, str]] = []
+
+    def start(self, name: str) -> None:
+        """Forks a child that tests a file."""
+        child = Child(name, self.folder / f"{name}.txt", time.monotonic())
+        sys.stdout.flush()
+        pid = os.fork()
+        if pid:
+            self.running[pid] = child
+            return
+        status = 3
+        try:
+            status = run_file(name, child.output, self.folder / name, self.words)
+        finally:
+            sys.stdout.flush()
+            sys.stderr.flush()
+            os._exit(status)
+
+    def wait(self) -> None:
+        """Waits for a child, and counts its tests. What it says is shown if a test failed."""
+        pid, status, usage = os.wait4(-1, 0)
+        child = self.running.pop(pid)
+        text = child.output.read_text(errors="replace") if child.output.exists() else ""
+        for count, what in re.findall(r"([0-9]+) (passed|failed|errors?|skipped)", text.rstrip().rpartition("\n")[2]):
+            self.counts[what] = self.counts.get(what, 0) + int(count)
+        self.left_out |= set(re.findall(r"^SKIPPED \[[0-9]+\] [^ ]*: (.*)$", text, re.MULTILINE))
+        self.times.append((usage.ru_utime + usage.ru_stime, time.monotonic() - child.begin, child.name))
+        if status != 0:
+            self.failed = True
+            print(f"{child.name}: status {os.waitstatus_to_exitcode(status)}\n{text}", flush=True)
+
+    def end(self) -> None:
+        """Ends the children that still run."""
+        for pid in self.running:
+            os.killpg(pid, signal.SIGTERM)
+
+
+def run_file(name: str, output: Path, room: Path, words: list[str]) -> int:
+    """Runs a file in this process, and returns the status of pytest."""
+    import pytest
+    os.setpgid(0, 0)
+    signal.signal(signal.SIGTERM, signal.default_int_handler)
+    with output.open("wb") as file:
+        os.dup2(file.fileno(), 1)
+        os.dup2(file.fileno(), 2)
+    return int(pytest.main(["-q", "-rs", f"--basetemp={room}", *words, f"tests/{name}"]))
+
+
+def preload() -> None:
+    """Imports what most files import."""
+    sys.path[:0] = [str(PYTHON / "src")]
+    for name in LIBRARIES:
+        try:
+            importlib.import_module(name)
+        except ImportError:
+            pass  # the tests that need it say so
+
+
+def main() -> int:
+    """Runs the files that the words name."""
+    parser = argparse.ArgumentParser(prog="tests/python", description="Runs tests of the Python package.")
+    parser.add_argument("--jobs", type=int, default=int(os.environ.get("JOBS", 0)) or os.cpu_count(),
+                        help="how many files at once (%(default)s)")
+    parser.add_argument("--times", action="store_true", help="say the seconds of each file: of processors, and from begin to end")
+    parser.add_argument("files", nargs="*", metavar="FILE", help="a file of python/tests; all by default")
+    words, more = parser.parse_known_args()
+    os.chdir(PYTHON)
+    names = words.files or [path.name for path in sorted(Path("tests").glob("test_*.py"))]
+    waiting = sorted(names, key=lambda name: name not in FIRST)
+    preload()
+    with tempfile.TemporaryDirectory(prefix="fmm-tests-") as folder:
+        children = Children(Path(folder), more)
+        try:
+            while waiting or children.running:
+                while waiting and len(children.running) < words.jobs:
+                    children.start(waiting.pop(0))
+                children.wait()
+        finally:
+            children.end()
+    for processor, whole, name in sorted(children.times, reverse=True) if words.times else []:
+        print(f"{processor:8.2f} {whole:8.2f} {name}")
+    for reason in sorted(children.left_out):
+        print(f"tests/python: left out: {reason}")
+    print("tests/python: " + (", ".join(f"{count} {what}" for what, count in sorted(children.counts.items())) or "no tests"))
+    return 1 if children.failed or not children.counts else 0
+
+
+if __name__ == "__main__":
+    signal.signal(signal.SIGTERM, signal.default_int_handler)
+    try:
+        sys.exit(main())
+    except KeyboardInterrupt:
+        sys.exit(130)
