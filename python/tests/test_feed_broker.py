@@ -2,55 +2,16 @@
 import json
 import os
 import random
-import shutil
-import socket
 import subprocess
 import time
 
 import pytest
+from brokers import Broker, needs_mosquitto
 from feeds import FEED, environment, rows
 
-mqtt = pytest.importorskip("paho.mqtt.client")
-MOSQUITTO = shutil.which("mosquitto") or shutil.which("mosquitto", path="/usr/sbin")
-pytestmark = pytest.mark.skipif(MOSQUITTO is None, reason="mosquitto is not installed")
+pytestmark = needs_mosquitto
 VEHICLES = 20
 KILLS = int(os.environ.get("FMM_KILLS", "5"))  # each start of a feed takes a second
-
-
-class Broker:
-    def __init__(self, folder):
-        with socket.socket() as free:
-            free.bind(("127.0.0.1", 0))
-            self.port = free.getsockname()[1]
-        self.settings = folder / "mosquitto.conf"
-        self.settings.write_text(f"listener {self.port} 127.0.0.1\nallow_anonymous true\npersistence true\n"
-                                 f"persistence_location {folder}/\nautosave_interval 1\nmax_queued_messages 0\nuser root\n")
-        self.start()
-
-    def start(self):
-        self.process = subprocess.Popen([MOSQUITTO, "-c", str(self.settings)], stderr=subprocess.DEVNULL)
-        for _ in range(200):
-            try:
-                socket.create_connection(("127.0.0.1", self.port), 1).close()
-                return
-            except OSError:
-                time.sleep(0.05)
-        raise AssertionError("the broker did not start")
-
-    def stop(self):
-        self.process.terminate()
-        self.process.wait(30)
-
-    def publish(self, messages):
-        """Publishes (vehicle, payload) and waits until the broker has all of them."""
-        publisher = mqtt.Client()
-        publisher.max_inflight_messages_set(100)
-        publisher.connect("127.0.0.1", self.port)
-        publisher.loop_start()
-        for done in [publisher.publish(f"fleet/{vehicle}/position", payload, qos=1) for vehicle, payload in messages]:
-            done.wait_for_publish(60)
-        publisher.disconnect()
-        publisher.loop_stop()
 
 
 @pytest.fixture

@@ -90,6 +90,7 @@ class Broker:
         if int(granted[0]) == 128:
             self.refusal = f"the broker refuses the topic {self.address.topic}"
         else:
+            self.notices.say(f"takes messages of {self.address.topic} from {self.address.host}:{self.address.port}")
             self.is_up, self.pause = True, FIRST_PAUSE
 
     def _take(self, _: Any, __: Any, message: Any) -> None:

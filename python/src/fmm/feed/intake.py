@@ -126,20 +126,30 @@ class Intake:
         self.waiting.add(position)
         return position
 
+    def numbered(self, positions: Sequence[Position]) -> list[tuple[int, Position]]:
+        """Positions that are due with the numbers of their drives, each vehicle's by rising time. The state notes them."""
+        self.state.drop_waiting(positions)
+        self.positions += len(positions)
+        return [(self._number(position), position) for position in positions]
+
     def rows(self, positions: Sequence[Position]) -> bytes:
         """The rows of positions that are due, each vehicle's by rising time. The state notes them."""
-        self.state.drop_waiting(positions)
         rows = []
-        for position in positions:
+        for number, position in self.numbered(positions):
             second = int(position.time)
-            rows.append(f"{self._number(position)},{position.x},{position.y},{second}\n")
+            rows.append(f"{number},{position.x},{position.y},{second}\n")
             if self.rules.close:
                 rows.append(f"{CLOSING + self.closed // MOST_POSITIONS},{-FARTHEST},{-FARTHEST},{second}\n")
                 self.closed += 1
         if self.rules.close:
             self.state.set("closing rows", self.closed)
-        self.positions += len(positions)
         return "".join(rows).encode()
+
+    def end(self, vehicle: str, number: int) -> None:
+        """Lets the next position of a vehicle begin a new drive, if its drive is still the one of this number."""
+        known = self.state.vehicle(vehicle)
+        if known is not None and known.number == number:
+            self.state.keep(vehicle, Vehicle(number, known.time, MOST_POSITIONS))
 
     def _number(self, position: Position) -> int:
         """The number of the drive that a position belongs to."""

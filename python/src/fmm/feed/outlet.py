@@ -19,14 +19,14 @@ class RowFile:
     of the file shows how many of them were written.
     """
 
-    def __init__(self, path: Path, state: State) -> None:
-        self.path, self.state = path, state
+    def __init__(self, path: Path, state: State, header: bytes = HEADER) -> None:
+        self.path, self.state, self.header = path, state, header
         self.size = 0
         is_same = state.get("rows file") == str(path.resolve())
         try:
             if path.is_symlink() or (path.exists() and not path.is_file()):
                 raise OutputError(f"{path} is no plain file")
-            exists = path.exists() and path.stat().st_size > 0
+            exists = path.exists() and (path.stat().st_size > 0 or is_same and not header)
             if exists and not is_same:
                 raise FmmError(f"{path} has rows that the state {state.path} does not know: name another file, or the state of "
                                "these rows")
@@ -42,8 +42,12 @@ class RowFile:
 
     def _begin(self) -> None:
         self.state.set("rows file", self.path.resolve())
-        self._note(HEADER)
-        self._append(HEADER)
+        if not self.header:  # what is outgoing was meant for others
+            self.state.set("rows size", 0)
+            self.state.commit()
+            return
+        self._note(self.header)
+        self.append(self.header)
         self.written()
 
     def _complete(self) -> None:
@@ -54,7 +58,7 @@ class RowFile:
         if not self.size <= found <= self.size + len(outgoing):
             raise FmmError(f"{self.path} has {found} bytes, and its state knows {self.size + len(outgoing)}: it was cut or "
                            "changed")
-        self._append(outgoing[found - self.size:])
+        self.append(outgoing[found - self.size:])
         self.written()
 
     def _note(self, rows: bytes) -> None:
@@ -62,7 +66,8 @@ class RowFile:
         self.state.set("outgoing", rows.decode())
         self.state.commit()
 
-    def _append(self, rows: bytes) -> None:
+    def append(self, rows: bytes) -> None:
+        """Writes rows that the state has as outgoing."""
         try:
             write_all(self.descriptor, rows)
             self.size = os.fstat(self.descriptor).st_size
@@ -72,7 +77,7 @@ class RowFile:
     def write(self, rows: bytes) -> None:
         """Commits the state with these rows as outgoing, and then writes them."""
         self._note(rows)
-        self._append(rows)
+        self.append(rows)
 
     def written(self) -> None:
         """Notes that nothing is outgoing. The next commit of the state keeps this."""

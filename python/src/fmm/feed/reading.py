@@ -24,6 +24,11 @@ def placing_of(network: Optional[Path], crs: Optional[str]) -> Placing:
         projection = Network.open(network).projection
     if projection.crs is None and crs != "metres":
         raise FmmError(f"{network} has no side file with its projection; give --crs metres if the positions are in its metres")
+    return placing_on(projection, crs)
+
+
+def placing_on(projection: Projection, crs: Optional[str]) -> Placing:
+    """Projects places to whole centimetres of a projection that is known, or of metres."""
     known = None if crs == "metres" else crs or "EPSG:4326"
 
     def places(x: Sequence[float], y: Sequence[float]) -> list[Optional[tuple[int, int]]]:

@@ -95,6 +95,13 @@ class State:
             raise self.damaged()
         return int(text)
 
+    def claim(self, command: str) -> None:
+        """Refuses the state of another command."""
+        owner = self.get("command") or command
+        if owner != command:
+            raise FmmError(f"{self.path} is the state of fmm {owner}: name another file")
+        self.set("command", command)
+
     def damaged(self) -> FmmError:
         return FmmError(f"{self.path} is damaged: put a copy in its place, or begin a new state")
 
@@ -133,6 +140,13 @@ class State:
         """The greatest number of a drive; 0 if there is none."""
         row = self.connection.execute("SELECT * FROM drive ORDER BY number DESC LIMIT 1").fetchone()
         return self._checked("drive", row, int, str, float)[0] if row else 0
+
+    def vehicle_of(self, number: int) -> str:
+        """The vehicle of a drive."""
+        row = self.connection.execute("SELECT id FROM drive WHERE number = ?", (number,)).fetchone()
+        if row is None:
+            raise self.damaged()
+        return str(row[0])
 
     def drives(self) -> Iterator[tuple[int, str]]:
         """The number and the vehicle of each drive, by rising number."""

@@ -1,0 +1,51 @@
+"""Puts a tracker together."""
+from __future__ import annotations
+
+from dataclasses import dataclass
+from pathlib import Path
+from typing import Optional
+
+from ..feed.intake import Intake, Reading, Rules
+from ..feed.notices import Notices
+from ..feed.sources import Source
+from ..feed.state import State
+from ..network import Network
+from ..options import Options, centimetres
+from ..service.program import Program, far_place
+from .fleet import Ends, Fleet
+from .journal import Journal
+from .provisional import Provisional
+from .roads import Streets
+from .sinks import Sinks, Stop
+from .streams import Streams
+from .tracker import Tracker
+
+
+@dataclass(frozen=True)
+class Parts:
+    """The network, the program and the rules of a run, which have been read and checked."""
+
+    network: Network
+    program: Path
+    options: Options
+    lookup: Optional[Path]
+    reading: Reading
+    rules: Rules
+    ends: Ends
+    has_provisional: bool
+    notices: Notices
+
+    def tracker(self, state: State, source: Source, sinks: Sinks, stop: Stop) -> Tracker:
+        """A tracker over a source. It starts the programs."""
+        options, path = self.options, self.network.path
+        far = far_place(self.network.lines.xy, centimetres(options.radius))
+        words = options.but(gap=None).arguments()
+        idle = [] if self.ends.idle is None else ["--idle", str(self.ends.idle)]
+        intake = Intake(self.reading, state, self.rules, self.notices)
+        streets = Streets(self.network, centimetres(options.back), self.lookup)
+        fleet = Fleet(lambda: Streams(self.program, path, [*words, *idle], far), streets, Journal(state), intake, self.ends,
+                      self.notices)
+        provisional = None
+        if self.has_provisional:
+            provisional = Provisional(lambda: Program(self.program, path, words, far), fleet, intake.waiting, self.notices)
+        return Tracker(source, intake, fleet, sinks, provisional, stop)
