@@ -143,15 +143,16 @@ class State:
 
     def vehicle_of(self, number: int) -> str:
         """The vehicle of a drive."""
-        row = self.connection.execute("SELECT id FROM drive WHERE number = ?", (number,)).fetchone()
+        row = self.connection.execute("SELECT * FROM drive WHERE number = ?", (number,)).fetchone()
         if row is None:
             raise self.damaged()
-        return str(row[0])
+        return str(self._checked("drive", row, int, str, float)[1])
 
     def drives(self) -> Iterator[tuple[int, str]]:
         """The number and the vehicle of each drive, by rising number."""
         for row in self.connection.execute("SELECT * FROM drive ORDER BY number"):
-            yield self._checked("drive", row, int, str, float)[:2]
+            number, name, _ = self._checked("drive", row, int, str, float)
+            yield number, name
 
     def add_waiting(self, positions: Iterable[Position]) -> None:
         """Notes positions that wait."""
