@@ -155,7 +155,7 @@ def test_wrong_maps_are_refused(tmp_path: Path, old: str, new: str, message: str
 
 @pytest.mark.parametrize("data, message", [
     (b"", "is empty"), (b"a,b\n1,2\n", "is no OpenStreetMap data: neither PBF nor XML"), (b"\x1f\x8b\x08\0", "is cut or damaged"),
-    (b"BZh91AY&SY\1\2\3", "cut or damaged"),
+    (b"BZh91AY&SY\1\2\3", "cut or damaged"), (b"\x1f\x8b\x08\0\0\0\0\0\0\3" + b"\xff" * 20, "is cut or damaged"),
     (b"\0\0\0\x0d\x0a\x09OSMHeader\x18\x81\1\x10", "cannot be read as OpenStreetMap data"),
     (b"<gpx/>", "its root is <gpx>, not <osm>"), (b"PK\3\4", "is no OpenStreetMap data"),
 ])

@@ -57,9 +57,9 @@ class Attack:
         @seed(number)
         @settings(max_examples=count, database=None, deadline=None, phases=[Phase.generate],
                   suppress_health_check=list(HealthCheck))
-        @given(strategies.sampled_from(often), strategies.integers(0, 2 ** 64 - 1))
-        def attack(kind: str, case: int) -> None:
-            self.case(kind, case)
+        @given(strategies.sampled_from(often), strategies.binary(min_size=8, max_size=8))  # small integers would come often
+        def attack(kind: str, case: bytes) -> None:
+            self.case(kind, int.from_bytes(case, "big"))
 
         attack()
 

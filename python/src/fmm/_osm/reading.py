@@ -8,6 +8,7 @@ import re
 import shutil
 import tempfile
 import xml.parsers.expat
+import zlib
 from array import array
 from contextlib import contextmanager
 from dataclasses import dataclass, field
@@ -106,7 +107,7 @@ class Source:
                     return found
             with self._open() as file:
                 self._parse(file, found)
-        except (OSError, EOFError) as fault:
+        except (OSError, EOFError, zlib.error) as fault:
             raise InputError(f"is cut or damaged: {fault}", self.path) from None
         except (xml.parsers.expat.ExpatError, ValueError, LookupError) as fault:
             raise InputError(self._explained(f"illegal id: {fault}" if isinstance(fault, ValueError) else str(fault)),
