@@ -2,6 +2,7 @@
 from __future__ import annotations
 
 import warnings
+from collections.abc import Callable
 from pathlib import Path
 
 import geopandas
@@ -105,3 +106,17 @@ def test_wrong_layers_are_refused(lines: list, crs: object, words: dict, fault: 
     with warnings.catch_warnings(), pytest.raises(fault, match=message):
         warnings.simplefilter("ignore")
         Network.from_geodataframe(layer(lines, crs), **words)
+
+
+@pytest.mark.parametrize("edit, message", [
+    (lambda text: text.replace(",both\n", ',"both\n', 1), "line 2: .*quote"),
+    (lambda text: text.replace(",both\n", ",both,more\n", 1), "line 2: .*fields"),
+    (lambda text: text[:-3], "line 7: .*line feed"),
+])
+def test_a_damaged_table_of_lines_is_refused(small: Path, tmp_path: Path, edit: Callable[[str], str], message: str) -> None:
+    """GDAL loses records of each of them without a word."""
+    path = tmp_path / "roads.csv"
+    path.write_text(edit((small / "roads.csv").read_text()))
+    for source in (path, tmp_path):
+        with pytest.raises(InputError, match=f"^{path} {message}"):
+            Network.from_file(source, crs="32N")

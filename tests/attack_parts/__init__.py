@@ -2,6 +2,7 @@
 from __future__ import annotations
 
 from .feeds import Feeds
+from .layers import Layers
 from .maps import Maps
 from .matches import Matches
 from .networks import Networks
@@ -11,6 +12,6 @@ from .tables import Tables
 from .texts import Texts
 from .tracks import Tracks
 
-KINDS = {"table": Tables, "track": Tracks, "map": Maps, "network": Networks, "text": Texts, "part": Parts,
+KINDS = {"table": Tables, "track": Tracks, "map": Maps, "layer": Layers, "network": Networks, "text": Texts, "part": Parts,
          "feed": Feeds, "match": Matches, "result": Results}
 SELDOM = ("match",)  # cases of these run a program: one for ten of each other kind

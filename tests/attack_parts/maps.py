@@ -79,10 +79,10 @@ def add_fault(draw: Draw, things: list[Thing]) -> None:
             values = list(thing.place)
             values[draw.below(2)] = draw.one(BAD_DEGREES)
             thing.place = values[0], values[1]
-        else:
+        elif thing.refs:
             thing.refs[draw.below(len(thing.refs))] = draw.one([*BAD_IDS, "99"])
     elif what == 6 and thing.kind == "way":
-        thing.refs = draw.one([thing.refs[:1], [], [thing.refs[0], *thing.refs], thing.refs[::-1], thing.refs + thing.refs[:1]])
+        thing.refs = draw.one([thing.refs[:1], [], [*thing.refs[:1], *thing.refs], thing.refs[::-1], thing.refs + thing.refs[:1]])
     else:
         things.insert(draw.below(len(things)), things.pop(at))
     draw.say(f"fault {what}: {thing.text.strip()}")

@@ -3,12 +3,14 @@ from __future__ import annotations
 
 import os
 import re
+from pathlib import Path
 from typing import Any, Optional
 
 import geopandas
 from shapely import wkt
 
 from ._evidence import checksum_of
+from ._tables import read_table
 from .errors import FmmError, InputError, MissingLibraryError, OptionError, PathText, shown
 
 ROOT = re.compile(rb"<([A-Za-z][\w:.-]*)")
@@ -38,9 +40,11 @@ def kind_of(path: PathText) -> str:
 def read_layer(path: PathText, layer: Optional[str] = None) -> geopandas.GeoDataFrame:
     """A layer of any file that GDAL reads: GeoPackage, Shapefile (zipped too), GeoJSON, FlatGeobuf, CSV with a column WKT ..
 
-    Without `layer` the file may have only one. Refused with InputError: a file that GDAL does not read, an unknown layer.
+    Without `layer` the file may have only one. Refused with InputError: a file that GDAL does not read, an unknown layer, and
+    CSV that `read_table` refuses.
     """
     name = os.fspath(path)
+    records = {str(file): len(read_table(file)) for file in tables_of(path)}
     source = f"zip://{name}" if name.lower().endswith(".zip") else name
     try:
         names = layers_of(source)
@@ -55,8 +59,16 @@ def read_layer(path: PathText, layer: Optional[str] = None) -> geopandas.GeoData
         raise InputError(f"cannot be read as a layer: {shown(fault, 200)}", name) from None
     if not isinstance(roads, geopandas.GeoDataFrame):
         raise InputError("is a table without geometry", name)
+    if len(records) == 1 and len(roads) != records.get(name, len(roads)):
+        raise InputError(f"has {records[name]} records, of which GDAL reads {len(roads)}", name)
     roads.attrs.update(path=name, sha256=checksum_of(path) if os.path.isfile(path) else None)
     return roads
+
+
+def tables_of(path: PathText) -> list[Path]:
+    """The files of a layer that GDAL reads as CSV. It takes the records after a stray quote for one field, without a word."""
+    here = Path(path)
+    return [file for file in (sorted(here.iterdir()) if here.is_dir() else [here]) if file.suffix.lower() == ".csv"]
 
 
 def layers_of(source: str) -> list[str]:
