@@ -4,7 +4,8 @@
   <rules key="{root}">
    <rule key="{none}" symbol="0" label="without a road" filter="&quot;edge&quot; IS NULL"/>
    <rule key="{far}" symbol="1" label="more than 30 m from its road" filter="&quot;distance&quot; > 30"/>
-   <rule key="{on}" symbol="2" label="with its road" filter="&quot;edge&quot; IS NOT NULL AND &quot;distance&quot; &lt;= 30"/>
+   <rule key="{doubt}" symbol="2" label="in doubt: another road is nearly as likely" filter="&quot;edge&quot; IS NOT NULL AND &quot;distance&quot; &lt;= 30 AND coalesce(attribute('margin'), 3000) &lt; 3000"/>
+   <rule key="{on}" symbol="3" label="with its road" filter="&quot;edge&quot; IS NOT NULL AND &quot;distance&quot; &lt;= 30 AND coalesce(attribute('margin'), 3000) >= 3000"/>
   </rules>
   <symbols>
    <symbol name="0" type="marker" alpha="1" clip_to_extent="1" force_rhr="0">
@@ -44,6 +45,24 @@
     </layer>
    </symbol>
    <symbol name="2" type="marker" alpha="1" clip_to_extent="1" force_rhr="0">
+    <layer class="SimpleMarker" enabled="1" locked="0" pass="0">
+     <Option type="Map">
+      <Option name="color" type="QString" value="255,212,59,255"/>
+      <Option name="name" type="QString" value="diamond"/>
+      <Option name="outline_color" type="QString" value="27,31,36,255"/>
+      <Option name="outline_style" type="QString" value="solid"/>
+      <Option name="outline_width" type="QString" value="0.2"/>
+      <Option name="size" type="QString" value="2.8"/>
+     </Option>
+     <prop k="color" v="255,212,59,255"/>
+     <prop k="name" v="diamond"/>
+     <prop k="outline_color" v="27,31,36,255"/>
+     <prop k="outline_style" v="solid"/>
+     <prop k="outline_width" v="0.2"/>
+     <prop k="size" v="2.8"/>
+    </layer>
+   </symbol>
+   <symbol name="3" type="marker" alpha="1" clip_to_extent="1" force_rhr="0">
     <layer class="SimpleMarker" enabled="1" locked="0" pass="0">
      <Option type="Map">
       <Option name="color" type="QString" value="0,114,178,255"/>
