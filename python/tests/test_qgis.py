@@ -107,6 +107,11 @@ class Cancelled:
 
     pushInfo = pushWarning = reportError = pushCommandInfo
 
+    def setProgress(self, share: float) -> None:
+        self.said.append(f"{share:g} %")
+
+    setProgressText = pushCommandInfo
+
 
 def test_a_cancelled_algorithm_ends_its_command(monkeypatch: pytest.MonkeyPatch, tmp_path: Path) -> None:
     core = pytest.importorskip("qgis.core")
@@ -120,3 +125,20 @@ def test_a_cancelled_algorithm_ends_its_command(monkeypatch: pytest.MonkeyPatch,
     with pytest.raises(core.QgsProcessingException):
         commands.run(["run"], feedback)
     assert feedback.said == ["fmm run", "begun"] and not alive(int((tmp_path / "pid").read_text()))
+
+
+def test_progress_moves(monkeypatch: pytest.MonkeyPatch, tmp_path: Path) -> None:
+    pytest.importorskip("qgis.core")
+    monkeypatch.syspath_prepend(str(PLUGIN.parent))
+    from fmm_qgis import commands  # type: ignore[import]
+    feedback = Cancelled()
+    for line in (b"progress: match 0", b"progress: match 50", b"progress: a b.osm: ways", b"progress: margins 100", b"a line"):
+        commands.show(line, feedback)
+    assert feedback.said == ["match", "10 %", "match", "35 %", "a b.osm: ways", "margins", "95 %", "a line"]
+
+
+def test_commands_say_their_progress_in_lines(tmp_path: Path) -> None:
+    words = [str(TOP / "fmm"), "run", str(SMALL / "village.osm"), str(SMALL / "monday.gpx"), "--into", str(tmp_path / "out")]
+    done = subprocess.run(words, env={**os.environ, "FMM_PROGRESS": "lines"}, capture_output=True, text=True)
+    lines = [line for line in done.stderr.splitlines() if line.startswith("progress: ")]
+    assert done.returncode == 0 and {"progress: match 0", "progress: margins 100"} <= set(lines), done.stderr

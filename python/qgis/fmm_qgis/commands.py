@@ -11,6 +11,8 @@ from typing import Any
 from qgis.core import QgsProcessingException
 
 TICK = 0.2  # seconds between two looks at whether the algorithm is cancelled
+PROGRESS = "progress: "
+PHASES = {"match": (10, 60), "margins": (60, 95)}  # of a match, with what the bar shows at their begin and end
 
 
 def command() -> str:
@@ -26,6 +28,7 @@ def run(words: list[str], feedback: Any) -> None:
     """Runs `fmm WORDS`. QgsProcessingException: it failed, with its message, or it was cancelled."""
     feedback.pushCommandInfo(" ".join(["fmm", *words]))
     environment = {name: value for name, value in os.environ.items() if name not in ("PYTHONHOME", "PYTHONPATH")}
+    environment["FMM_PROGRESS"] = "lines"
     child = subprocess.Popen([command(), *words], stdin=subprocess.DEVNULL, stdout=subprocess.PIPE, stderr=subprocess.STDOUT,
                              env=environment)
     assert child.stdout
@@ -53,9 +56,15 @@ def run(words: list[str], feedback: Any) -> None:
 
 
 def show(line: bytes, feedback: Any) -> None:
-    """A line in the log. Faults and warnings stand out."""
+    """A line in the log, or a step of the progress. Faults and warnings stand out."""
     text = line.decode(errors="replace").rstrip()
-    if text.startswith("fmm "):
+    if text.startswith(PROGRESS):
+        what, _, share = text[len(PROGRESS):].rpartition(" ")
+        feedback.setProgressText(what if share.isdigit() else text[len(PROGRESS):])
+        if what in PHASES and share.isdigit():
+            begin, end = PHASES[what]
+            feedback.setProgress(begin + (end - begin) * int(share) / 100)
+    elif text.startswith("fmm "):
         feedback.reportError(text)
     elif text.startswith("warning:"):
         feedback.pushWarning(text)

@@ -9,8 +9,8 @@ import subprocess
 from pathlib import Path
 from typing import Any, List, Optional, Sequence
 
-from tqdm import tqdm
 
+from ._progress import bar
 from .errors import InputError, ProgramError, one_line
 
 CRATES = {"fmm": "match_program", "fmm_large": "large_program"}
@@ -81,15 +81,15 @@ def run(path: Path, words: Sequence[str], out: Path, total: int = 0, names: Opti
 
 def watch(child: subprocess.Popen[bytes], out: Path, total: int) -> str:
     """Waits for the program, shows its progress, and returns its message."""
-    bar = tqdm(total=total, desc="match", unit=" positions", unit_scale=True, delay=1, disable=None)
-    with open(out, "rb") as file, bar:
+    shown = bar(total=total, desc="match", unit=" positions", unit_scale=True)
+    with open(out, "rb") as file, shown:
         while True:
             try:
-                _, message = child.communicate(timeout=None if bar.disable else TICK)
+                _, message = child.communicate(timeout=None if shown.disable else TICK)
                 return message.decode(errors="replace")
             except subprocess.TimeoutExpired:
                 text = file.read()
-                bar.update(text.count(b"\nat ") + text.count(b"\nnone "))
+                shown.update(text.count(b"\nat ") + text.count(b"\nnone "))
 
 
 def explained(status: int, message: str, names: dict[str, str]) -> str:

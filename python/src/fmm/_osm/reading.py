@@ -18,8 +18,8 @@ from typing import IO, Any, Iterator, Union
 import numpy as np
 import osmium
 from osmium.osm import osm_entity_bits
-from tqdm import tqdm
 
+from .._progress import bar
 from ..errors import InputError, OutputError, PathText
 from .profiles import Profile, Rules
 
@@ -204,7 +204,7 @@ class WayHandler(osmium.SimpleHandler):
 
 def read_ways(source: Source, rules: Union[Profile, Rules]) -> Ways:
     """The ways of a profile. Refused with InputError: a way that comes twice, ids below 1."""
-    with tqdm(desc=f"{source.path}: ways", unit="", unit_scale=True, disable=None, leave=False, delay=1) as progress:
+    with bar(desc=f"{source.path}: ways", unit="", unit_scale=True, leave=False) as progress:
         handler = WayHandler(rules, source.deleted.way, progress)
         source.apply(osm_entity_bits.WAY, handler)
     ids, refs = np.array(handler.ids, np.int64), np.array(handler.refs, np.int64)

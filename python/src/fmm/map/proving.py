@@ -8,10 +8,10 @@ from typing import List, Optional, Sequence, Tuple
 
 import numpy as np
 import pandas as pd
-from tqdm import tqdm
 
 from .. import _programs
 from .._places import Places
+from .._progress import bar
 from .._ragged import offsets_of
 from .._tables import write_file
 from ..errors import MismatchError, ProgramError
@@ -59,10 +59,10 @@ class Prover:
     def sequences(self, traces: TraceFile) -> Sequences:
         """The sequences of all positions. ProgramError: `prove` failed, for one trace alone if its certificate is too long."""
         found: List[Sequences] = []
-        with tqdm(total=len(traces.x), desc="margins", unit=" positions", unit_scale=True, delay=1, disable=None) as bar:
+        with bar(total=len(traces.x), desc="margins", unit=" positions", unit_scale=True) as shown:
             for begin, end in batches(traces.trace):
                 found += self._proved(traces.part(begin, end))
-                bar.update(end - begin)
+                shown.update(end - begin)
         return joined(found)
 
     def _proved(self, traces: TraceFile) -> List[Sequences]:
