@@ -282,11 +282,12 @@ def test_large_programs_are_replaced(network: Network, drive: np.ndarray, tmp_pa
     matcher = Matcher(network, Options(), Limits(memory=0))
     try:
         x, y = network.projection.to_centimetres(drive[:, 0], drive[:, 1], 4326)
-        for _ in range(30):
+        until = time.monotonic() + 120
+        while matcher.replaced < 3:
+            assert time.monotonic() < until, "no program was replaced"
             text = matcher.match(x, y, np.zeros(len(x), np.int64), None, time.monotonic() + 60)
             assert pieces_of(text, 0) == wanted
             time.sleep(0.05)
-        assert matcher.replaced >= 3
     finally:
         matcher.close()
 

@@ -14,6 +14,7 @@ from fmm._match_text import read_match
 from fmm._places import Places
 from fmm.errors import ProgramError
 from fmm.service import polylines
+from fmm.service.lines import drive_text
 from fmm.service.metrics import Metrics
 from fmm.service.nearest import Nearest
 from fmm.service.program import Lost, far_place, follow_text
@@ -127,12 +128,42 @@ def test_lines_of_streams_become_a_follow_text() -> None:
     assert read_match(text + b"total traces 1 points 1 pieces 1\n").edge.tolist() == [5]
 
 
+@given(st.lists(st.tuples(st.booleans(), st.integers(0, 3)), min_size=1, max_size=12), st.integers(1, 30), st.data())
+@settings(deadline=None, max_examples=50)
+def test_both_readers_of_a_drive_agree(positions: list[tuple[bool, int]], drive: int, data: st.DataObject) -> None:
+    lines, run = [f"trace {drive}", "fix 0"], -1
+    for number, (found, edge) in enumerate(positions):
+        if found:
+            run = number if run < 0 else run
+            lines += [f"at {number} edge {edge} offset {7 * number} d2 {number ** 2}"]
+        else:
+            lines += [f"none {number}"]
+        lines += [f"fix {number + 1}"]
+        if found and (number + 1 == len(positions) or not positions[number + 1][0]):
+            route = [positions[run][1], 9, edge]
+            lines += [f"piece {run} {number} cost {11 * number} route {' '.join(map(str, route))}"]
+            run = -1
+    got = "".join(f"{drive} {line}\n" for line in [*lines, f"none {len(positions)}"]).encode()
+    text = drive_text(b"0 none 3\n" + got, drive, len(positions))
+    assert text.edge.tolist() == [edge if found else -1 for found, edge in positions]
+    whole = read_match(follow_text(got, drive, len(positions), 1) + b"total traces 1 points %d pieces %d\n" %
+                       (len(positions), len(text.cost)))
+    for name in ("edge", "offset", "d2", "first", "last", "cost", "route_first", "route", "trace_of", "piece_trace"):
+        assert np.array_equal(getattr(text, name), getattr(whole, name)), name
+    line = data.draw(st.sampled_from(got.split(b"\n")[:-1]))
+    for wrong in (got.replace(line + b"\n", b"", 1), got.replace(line, b"x" + line, 1), got.replace(line, line + b" x", 1)):
+        with pytest.raises(Lost):
+            drive_text(wrong, drive, len(positions))
+
+
 @pytest.mark.parametrize("wrong", [
     STREAMS.replace(b"7 trace 7\n", b""), STREAMS.replace(b"7 fix 1\n", b""), STREAMS.replace(b"7 none 1\n", b""),
     STREAMS.replace(b"7 piece", b"8 piece"), STREAMS[:-1], b""])
 def test_other_lines_are_no_answer(wrong: bytes) -> None:
     with pytest.raises(Lost):
         follow_text(wrong, 7, 1, 3)
+    with pytest.raises(Lost):
+        drive_text(wrong, 7, 1)
 
 
 def test_metrics_have_the_format_of_prometheus() -> None:

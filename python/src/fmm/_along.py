@@ -11,6 +11,8 @@ from ._places import Places, rising
 from ._ragged import offsets_of, rows_of, runs
 from .errors import MismatchError
 
+SMALL = 1_000  # positions up to which they are followed one by one, since that is faster than arrays
+
 
 @dataclass
 class Routes:
@@ -73,9 +75,11 @@ def _places_in_routes(text: MatchText, position: np.ndarray, piece: np.ndarray, 
     """The edge of each position as a place in `text.route`.
 
     Neighbours on one edge form a run. Where the runs of an edge are as many as its places in the route, each run has the place
-    of its rank. In the few other pieces the positions are followed along the route one by one.
+    of its rank. In the few other pieces the positions are followed along the route one by one, and in a small text in all.
     """
     edge = text.edge[position]
+    if len(edge) <= SMALL:
+        return _followed(text, position, np.arange(len(text.cost)), np.empty(len(edge), np.int64), back)
     route_piece = rows_of(np.diff(text.route_first))
     numbers = np.unique(text.route)
     most = np.int64(len(numbers) + 1)
@@ -86,11 +90,16 @@ def _places_in_routes(text: MatchText, position: np.ndarray, piece: np.ndarray, 
     steps = np.diff(place)
     wrong = place < 0
     wrong[1:] |= (steps < 0) & (piece[1:] == piece[:-1])
-    begins = offsets_of(text.last - text.first + 1)
-    for number in np.unique(piece[wrong]).tolist():
+    return _followed(text, position, np.unique(piece[wrong]), place, back)
+
+
+def _followed(text: MatchText, position: np.ndarray, pieces: np.ndarray, place: np.ndarray, back: Optional[int]) -> np.ndarray:
+    """`place`, with the places of the positions of some pieces."""
+    begins, edge, offset = offsets_of(text.last - text.first + 1), text.edge[position], text.offset[position]
+    for number in pieces.tolist():
         some = slice(begins[number], begins[number + 1])
         route = text.route[text.route_first[number]:text.route_first[number + 1]].tolist()
-        found = _follow(edge[some].tolist(), text.offset[position[some]].tolist(), route, back)
+        found = _follow(edge[some].tolist(), offset[some].tolist(), route, back)
         if found is None:
             trace = text.traces[text.piece_trace[number]]
             where = f"the route of positions {text.first[number]} to {text.last[number]} of trace {trace}"

@@ -42,7 +42,7 @@ class EdgeLines:
             return np.full(ids.shape, -1)
         if self._order is None:
             self._order = np.argsort(self.ids, kind="stable")
-        at = self._order[np.minimum(np.searchsorted(self.ids, ids, sorter=self._order), len(self.ids) - 1)]
+        at = self._order[np.minimum(self.ids.searchsorted(ids, sorter=self._order), len(self.ids) - 1)]
         return np.where(self.ids[at] == ids, at, -1)
 
     def take(self, index: np.ndarray) -> EdgeLines:

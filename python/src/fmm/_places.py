@@ -26,15 +26,16 @@ class Places:
 
     def part_at(self, edge: np.ndarray, offset: np.ndarray) -> np.ndarray:
         """The point of the network with which the segment at each offset begins; the last segment for an offset at the end."""
-        at = np.searchsorted(self._along, self._base[edge] + offset, side="right") - 1
-        return np.clip(at, self.lines.first[edge], self.lines.first[edge + 1] - 2)
+        at = self._along.searchsorted(self._base[edge] + offset, side="right") - 1
+        return np.minimum(np.maximum(at, self.lines.first[edge]), self.lines.first[edge + 1] - 2)
 
     def at(self, edge: np.ndarray, offset: np.ndarray) -> np.ndarray:
         """The places float64[n, 2] at offsets, which are cut to the edge."""
         part = self.part_at(edge, np.minimum(offset, self.length[edge]))
-        begin, end = self.lines.so_far[part], self.lines.so_far[part + 1]
-        share = np.clip((offset - begin) / (end - begin), 0, 1)[:, None]
-        return self.lines.xy[part] + share * (self.lines.xy[part + 1] - self.lines.xy[part])
+        begin, after = self.lines.so_far[part], part + 1
+        share = np.minimum(np.maximum((offset - begin) / (self.lines.so_far[after] - begin), 0), 1)[:, None]
+        place = self.lines.xy[part]
+        return place + share * (self.lines.xy[after] - place)
 
     def snaps(self, edge: np.ndarray, offset: np.ndarray, d2: np.ndarray, x: np.ndarray, y: np.ndarray) -> np.ndarray:
         """Whether each position (x, y) is at this squared distance from the place at this offset, both as FMM computes them."""
@@ -79,15 +80,26 @@ class Places:
     def driven(self, edge: np.ndarray, begin: np.ndarray, end: np.ndarray) -> Tuple[np.ndarray, np.ndarray]:
         """The lines of parts of edges from offset `begin` to `end`, not before it: where each begins, and their places."""
         end = np.maximum(begin, end)
-        after = np.searchsorted(self._along, self._base[edge] + begin, side="right")
-        until = np.searchsorted(self._along, self._base[edge] + end, side="left")
+        base = self._base[edge]
+        after = self._along.searchsorted(base + begin, side="right")
+        until = self._along.searchsorted(base + end, side="left")
         inner = np.maximum(until - after, 0)
         offsets = offsets_of(inner + 2)
         places = np.empty((offsets[-1], 2))
-        places[offsets[:-1]] = self.at(edge, begin)
+        twice = np.concatenate([edge, edge])
+        places[np.concatenate([offsets[:-1], offsets[1:] - 1])] = self.at(twice, np.concatenate([begin, end]))
         places[spread(offsets[:-1] + 1, inner)] = self.lines.xy[spread(after, inner)]
-        places[offsets[1:] - 1] = self.at(edge, end)
         return without_doubles(offsets, places)
+
+    def driven_points(self, route: np.ndarray, begin: int, end: int) -> np.ndarray:
+        """The points of the network on a route from offset `begin` of its first edge to offset `end` of its last one, without
+        the places at these offsets, and each point once where edges meet."""
+        first, until = self.lines.first[route], self.lines.first[route + 1]
+        first[0] = self._along.searchsorted(self._base[route[0]] + begin, side="right")
+        until[-1] = self._along.searchsorted(self._base[route[-1]] + end, side="left")
+        points = spread(first, np.maximum(until - first, 0))
+        x, y = self.lines.xy[points].T
+        return points[np.append(True, (x[1:] != x[:-1]) | (y[1:] != y[:-1]))[:len(points)]]
 
 
 def without_doubles(offsets: np.ndarray, places: np.ndarray) -> Tuple[np.ndarray, np.ndarray]:

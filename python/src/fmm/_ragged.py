@@ -9,19 +9,19 @@ import numpy as np
 def offsets_of(counts: np.ndarray) -> np.ndarray:
     """Where each row begins, and after them the number of all values."""
     offsets = np.zeros(len(counts) + 1, np.int64)
-    np.cumsum(counts, out=offsets[1:])
+    counts.cumsum(out=offsets[1:])
     return offsets
 
 
 def spread(first: np.ndarray, counts: np.ndarray) -> np.ndarray:
     """The numbers first[i], first[i] + 1, .. of each row i, `counts[i]` of them, one row after the other."""
     offsets = offsets_of(counts)
-    return np.repeat(first - offsets[:-1], counts) + np.arange(offsets[-1])
+    return (first - offsets[:-1]).repeat(counts) + np.arange(offsets[-1])
 
 
 def rows_of(counts: np.ndarray) -> np.ndarray:
     """The row of each value."""
-    return np.repeat(np.arange(len(counts)), counts)
+    return np.arange(len(counts)).repeat(counts)
 
 
 def runs(values: np.ndarray) -> Tuple[np.ndarray, np.ndarray]:

@@ -5,12 +5,13 @@ import asyncio
 import json
 import time
 from contextlib import asynccontextmanager
-from typing import Any, AsyncIterator, Awaitable, Callable, Dict
+from typing import Any, AsyncIterator, Awaitable, Callable, Dict, List, Tuple
 
 from starlette.applications import Starlette
 from starlette.requests import ClientDisconnect, Request
 from starlette.responses import JSONResponse, Response
 from starlette.routing import Route
+from starlette.types import Receive, Scope, Send
 
 from . import page
 from .metrics import Metrics
@@ -41,8 +42,8 @@ class Service:
         self.pool, self.settings, self.metrics, self.about = pool, settings, metrics, about
         self.began = time.monotonic()
         routes = [
-            Route("/match/v1/{profile}/{coordinates:path}", self._counted("match", self._ask("match"))),
-            Route("/nearest/v1/{profile}/{coordinates:path}", self._counted("nearest", self._ask("nearest"))),
+            *(Route(f"/{name}/v1/{{profile}}/{{coordinates:path}}", Asked(self, name), methods=["GET"])
+              for name in ("match", "nearest")),
             Route("/match", self._counted("post", self._post("posted")), methods=["POST"]),
             Route("/map", self._counted("map", self._post("map")), methods=["POST"]),
             Route("/health", self._counted("health", self._health)),
@@ -69,27 +70,16 @@ class Service:
             try:
                 response = await endpoint(request)
             except Refused as fault:
-                response = JSONResponse({"code": fault.code, "message": str(fault)}, fault.status)
-                if fault.status == 503:
-                    response.headers["retry-after"] = "1"
+                response = refusal(fault)
             except ClientDisconnect:
                 response = Response(status_code=400)
             for key, value in HEADERS.items():
                 response.headers.setdefault(key, value)
-            if self.settings.origin and name in ("match", "nearest"):
-                response.headers["access-control-allow-origin"] = self.settings.origin
             self.metrics.request(name, response.status_code, time.monotonic() - began)
             return response
         return answer
 
-    def _ask(self, what: str) -> Endpoint:
-        async def endpoint(request: Request) -> Response:
-            words = request.path_params
-            return await self._worker({"do": what, "profile": words["profile"], "coordinates": words["coordinates"],
-                                       "query": request.url.query})
-        return endpoint
-
-    async def _worker(self, head: Dict[str, Any], body: bytes = b"") -> Response:
+    async def _worker(self, head: Dict[str, Any], body: bytes) -> Response:
         about, content = await self.pool.ask(head, body)
         return Response(content, about["status"], media_type=about["kind"])
 
@@ -151,6 +141,37 @@ class Service:
             headers = {"content-security-policy": PAGE_POLICY, "cache-control": "no-cache"}
             return Response(content, media_type=kind, headers=headers)
         return endpoint
+
+
+class Asked:
+    """The endpoint of /match/v1 or /nearest/v1. It makes no objects of Starlette, which would take as long as the rest."""
+
+    def __init__(self, service: Service, what: str) -> None:
+        self.service, self.what = service, what
+        headers = {**HEADERS, "access-control-allow-origin": service.settings.origin} if service.settings.origin else HEADERS
+        self.headers = [(name.encode(), value.encode()) for name, value in headers.items()]
+
+    async def __call__(self, scope: Scope, receive: Receive, send: Send) -> None:
+        began, words = time.monotonic(), scope["path_params"]
+        head = {"do": self.what, "profile": words["profile"], "coordinates": words["coordinates"],
+                "query": scope["query_string"].decode("latin-1")}
+        more: List[Tuple[bytes, bytes]] = []
+        try:
+            about, content = await self.service.pool.ask(head)
+            status, kind = about["status"], about["kind"]
+        except Refused as fault:
+            response = refusal(fault)
+            status, kind, content, more = fault.status, "application/json", response.body, response.raw_headers[2:]
+        headers = [(b"content-type", kind.encode()), (b"content-length", b"%d" % len(content)), *self.headers, *more]
+        await send({"type": "http.response.start", "status": status, "headers": headers})
+        await send({"type": "http.response.body", "body": b"" if scope["method"] == "HEAD" else content})
+        self.service.metrics.request(self.what, status, time.monotonic() - began)
+
+
+def refusal(fault: Refused) -> Response:
+    """The answer to a request that is refused."""
+    return JSONResponse({"code": fault.code, "message": str(fault)}, fault.status,
+                        {"retry-after": "1"} if fault.status == 503 else None)
 
 
 def check_origin(request: Request) -> None:

@@ -3,7 +3,7 @@ from __future__ import annotations
 
 import time
 from pathlib import Path
-from typing import List, Optional
+from typing import Callable, List, Optional, TypeVar
 
 import numpy as np
 
@@ -11,11 +11,14 @@ from .. import _programs
 from .._match_text import MatchText, read_match
 from ..network import Network
 from ..options import Options, centimetres
-from .program import DRIVES, Late, Lost, Program, far_place, rows_of
+from .lines import drive_text
+from .program import DRIVES, Late, Lost, Program, far_place, follow_text
 from .refusals import Refused, late
 from .settings import MEGABYTE, Limits
 
 START = 600.0  # seconds in which a program has to load its network
+NO_ROWS = np.zeros((0, 3), np.int64)
+Read = TypeVar("Read")
 
 
 class Matcher:
@@ -38,18 +41,22 @@ class Matcher:
         _first_answer(self.program, time.monotonic() + START)
 
     def match(self, x: np.ndarray, y: np.ndarray, times: np.ndarray, sigma: Optional[float], until: float) -> MatchText:
-        """The match of a drive in whole centimetres and seconds."""
-        return read(self.lines(rows_of(x, y, times), 1, sigma, until), 1, len(x))
+        """The match of a drive in whole centimetres and seconds. Refused: it takes too long; a program fails twice."""
+        return self._read(np.stack([x, y, times], axis=1), sigma, until, lambda got, drive: drive_text(got, drive, len(x)))
 
-    def lines(self, rows: List[str], name: int, sigma: Optional[float], until: float) -> bytes:
-        """The follow text of a drive as trace `name`. Refused: it takes too long; a program fails twice."""
+    def follow(self, rows: np.ndarray, name: int, sigma: Optional[float], until: float) -> bytes:
+        """The follow text of a drive, int64[n, 3] of x, y and time, as trace `name`. Refused: as `match`."""
+        return self._read(rows, sigma, until, lambda got, drive: follow_text(got, drive, len(rows), name))
+
+    def _read(self, rows: np.ndarray, sigma: Optional[float], until: float, read: Callable[[bytes, int], Read]) -> Read:
+        """What `read` makes of the lines of a drive and its number."""
         for last_try in (False, True):
             program = self._program_for(sigma)
             try:
-                program.ask(rows)
-                text = program.answer(until, name)
+                drive = program.ask(rows)
+                found = read(program.answer(until), drive)
                 self._look_after(program)
-                return text
+                return found
             except Late:
                 self._drop(program)
                 raise late(self.limits.seconds) from None
@@ -63,7 +70,7 @@ class Matcher:
     @property
     def memory(self) -> int:
         """Bytes of memory of all programs."""
-        return sum(program.memory for program in self._programs())
+        return sum(program.memory.all for program in self._programs())
 
     def close(self) -> None:
         for program in self._programs():
@@ -101,14 +108,14 @@ class Matcher:
 
     def _look_after(self, program: Program) -> None:
         """Prepares the replacement of a program that is too large."""
-        if program.drives < DRIVES and program.memory < self.limits.memory * MEGABYTE:
+        if program.drives < DRIVES and program.memory.all < self.limits.memory * MEGABYTE:
             return
         if program is self.other:
             program.close()
             self.other = None
         elif self.next is None:
             self.next = self._started(self.options)
-            self.next.ask([])
+            self.next.ask(NO_ROWS)
 
     def _drop(self, program: Program) -> None:
         program.close()
@@ -126,7 +133,7 @@ def read(lines: bytes, traces: int, positions: int) -> MatchText:
 
 def _first_answer(program: Program, until: float) -> None:
     """Waits until a program has loaded its network. Refused: it does not take the network."""
-    program.ask([])
+    program.ask(NO_ROWS)
     try:
         program.answer(until)
     except (Late, Lost) as fault:

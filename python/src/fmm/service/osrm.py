@@ -1,6 +1,12 @@
-"""Answers of /match/v1 and /nearest/v1 as OSRM gives them, with the edges and costs of FMM besides."""
+"""Answers of /match/v1 and /nearest/v1 as OSRM gives them, with the edges and costs of FMM besides.
+
+The JSON of a match is made by one format for all legs and one for all tracepoints: objects for each of them take longer than the
+match itself.
+"""
 from __future__ import annotations
 
+import json
+from itertools import chain
 from typing import Any, Dict, List, Optional
 
 import numpy as np
@@ -8,7 +14,7 @@ from shapely.geometry import LineString
 
 from .._thinning import thinned
 from ..options import Options, centimetres
-from .drives import Drive, Roads, confidence, drive_of, leg_metres, leg_seconds
+from .drives import Drive, Line, Roads, confidence, drive_of, leg_metres, leg_seconds, lines_of
 from .matcher import Matcher
 from .nearest import Nearest
 from .polylines import encode
@@ -17,12 +23,12 @@ from .requests import MatchRequest, NearestRequest
 
 TIDY = 1000  # centimetres: with tidy=true a position is matched only if it moved so far
 PIXELS = 1000  # of the map for which a line is simplified
+PLACE = "[%.7f,%.7f]"
+POINT = ('{"location":' + PLACE + ',"name":%s,"distance":%.2f,"matchings_index":%d,"waypoint_index":%d,"edge":%d}')
 
-Answer = Dict[str, Any]
 
-
-def match(matcher: Matcher, roads: Roads, request: MatchRequest, until: float) -> Answer:
-    """The answer to a request for a match. Refused with NoMatch: no position has a road."""
+def match(matcher: Matcher, roads: Roads, request: MatchRequest, until: float) -> str:
+    """The answer to a request for a match, as JSON. Refused with NoMatch: no position has a road."""
     plane = roads.plane(request.places)
     kept = ~np.isnan(plane[:, 0])
     if request.tidy and kept.any():
@@ -38,73 +44,86 @@ def match(matcher: Matcher, roads: Roads, request: MatchRequest, until: float) -
     if not len(text.cost):
         raise no_match(matcher.options)
     drive = drive_of(roads, text, centimetres(matcher.options.back))
-    answer: Answer = {"code": "Ok", "matchings": matchings(roads, request, drive, times)}
+    lines = [] if request.overview == "false" else [shown(line, roads, request) for line in lines_of(roads.places, drive.along)]
+    degrees = roads.degrees(np.concatenate([drive.snapped, *(line.ends for line in lines)]))
+    snapped, ends = degrees[:len(drive.snapped)], degrees[len(drive.snapped):].reshape(-1, 2, 2)
+    shapes = [np.concatenate([end[:1], roads.points[line.points], end[1:]]) for line, end in zip(lines, ends)]
+    answer = '{"code":"Ok","matchings":[' + ",".join(matchings(request, drive, times, shapes)) + "]"
     if request.has_tracepoints:
-        answer["tracepoints"] = tracepoints(roads, drive, kept, len(request.places))
-    return answer
+        answer += ',"tracepoints":[' + tracepoints(roads, drive, snapped, kept, len(request.places)) + "]"
+    return answer + "}"
 
 
 def no_match(options: Options) -> Refused:
     return Refused("NoMatch", f"no position is within {options.radius:g} m of a road")
 
 
-def matchings(roads: Roads, request: MatchRequest, drive: Drive, times: Optional[np.ndarray]) -> List[Answer]:
-    """One matching for each piece."""
+def matchings(request: MatchRequest, drive: Drive, times: Optional[np.ndarray], lines: List[np.ndarray]) -> List[str]:
+    """One matching for each piece. `lines` has the line of each in degrees, and is empty if none was asked for."""
     found = []
-    metres, seconds = leg_metres(drive.along), leg_seconds(drive.along, times)
     text = drive.text
-    for piece, cost in enumerate(text.cost.tolist()):
-        legs = [leg(float(metre), None if spent is None else float(spent), request.annotations) for metre, spent in
-                zip(metres[piece], [None] * len(metres[piece]) if seconds[piece] is None else seconds[piece])]  # type: ignore
-        matching: Answer = {
-            "confidence": round(confidence(cost, len(legs) + 1), 6),
-            "distance": round(float(metres[piece].sum()), 2),
-            "duration": None if seconds[piece] is None else float(np.sum(seconds[piece])),  # type: ignore[arg-type]
-            "weight_name": "cost", "weight": cost, "legs": legs,
-            "edges": text.route[text.route_first[piece]:text.route_first[piece + 1]].tolist(),
-        }
-        if request.overview != "false":
-            matching["geometry"] = geometry(roads, drive.line[drive.first[piece]:drive.first[piece + 1]], request)
-        found.append(matching)
+    for piece, (cost, metres, seconds) in enumerate(
+            zip(text.cost.tolist(), leg_metres(drive.along), leg_seconds(drive.along, times))):
+        about = {"confidence": round(confidence(cost, len(metres) + 1), 6), "distance": round(float(metres.sum()), 2),
+                 "duration": None if seconds is None else float(seconds.sum()), "weight_name": "cost", "weight": cost}
+        edges = text.route[text.route_first[piece]:text.route_first[piece + 1]].tolist()
+        parts = [json.dumps(about, separators=(",", ":"))[:-1], f'"legs":[{legs(metres, seconds, request.annotations)}]',
+                 f'"edges":{json.dumps(edges, separators=(",", ":"))}']
+        if lines:
+            parts.append(f'"geometry":{geometry(lines[piece], request.geometries)}')
+        found.append(",".join(parts) + "}")
     return found
 
 
-def leg(metres: float, seconds: Optional[float], annotations: tuple[str, ...]) -> Answer:
-    """The way from one matched position to the next."""
-    found: Answer = {"distance": round(metres, 2), "duration": seconds, "summary": "", "steps": []}
+def legs(metres: np.ndarray, seconds: Optional[np.ndarray], annotations: tuple[str, ...]) -> str:
+    """The ways from each matched position to the next."""
+    duration = "null" if seconds is None else "%d.0"
+    columns, leg = [metres.tolist()], '{"distance":%.2f,"duration":' + duration + ',"summary":"","steps":[]'
+    if seconds is not None:
+        columns.append(seconds.tolist())
     if annotations:
-        speed = round(metres / seconds, 2) if seconds else None
-        values = {"distance": round(metres, 2), "duration": seconds, "speed": speed}
-        found["annotation"] = {name: [values[name]] for name in annotations}
-    return found
+        speeds: List[Any] = ["null"] * len(metres)
+        if seconds is not None:
+            speeds = [round(m / s, 2) if s else "null" for m, s in zip(columns[0], columns[1])]
+        values = {"distance": ("%.2f", columns[0]), "duration": (duration, columns[1:] and columns[1]), "speed": ("%s", speeds)}
+        some = {name: values[name] for name in annotations}
+        leg += ',"annotation":{' + ",".join(f'"{name}":[{form}]' for name, (form, _) in some.items()) + "}"
+        columns += [column for form, column in some.values() if form != "null"]
+    return ",".join([leg + "}"] * len(metres)) % tuple(chain.from_iterable(zip(*columns)))
 
 
-def geometry(roads: Roads, line: np.ndarray, request: MatchRequest) -> Any:
-    """A line in the form that was asked for. The line of a piece at a single place has that place twice."""
-    if len(line) == 1:
-        line = np.repeat(line, 2, axis=0)
-    if request.overview == "simplified" and len(line) > 2:
-        extent = float(np.max(line.max(axis=0) - line.min(axis=0)))
-        line = np.asarray(LineString(line).simplify(extent / PIXELS, preserve_topology=False).coords)
-    places = roads.degrees(line)
-    if request.geometries == "geojson":
-        return {"type": "LineString", "coordinates": places.tolist()}
-    return encode(places, 6 if request.geometries == "polyline6" else 5)
+def shown(line: Line, roads: Roads, request: MatchRequest) -> Line:
+    """A line with the places that were asked for. The third coordinate says which points are left."""
+    if request.overview == "full" or not len(line.points):
+        return line
+    places = line.places(roads.places)
+    extent = float((places.max(axis=0) - places.min(axis=0)).max())
+    numbered = np.column_stack([places, np.arange(len(places))])
+    left = np.asarray(LineString(numbered).simplify(extent / PIXELS, preserve_topology=False).coords)[1:-1, 2]
+    return Line(line.ends, line.points[left.astype(np.int64) - 1])
 
 
-def tracepoints(roads: Roads, drive: Drive, kept: np.ndarray, count: int) -> List[Optional[Answer]]:
-    """What became of each coordinate; None for one without a road."""
-    found: List[Optional[Answer]] = [None] * count
+def geometry(places: np.ndarray, form: str) -> str:
+    """A line in degrees in the form that was asked for."""
+    if form == "geojson":
+        coordinates = ",".join([PLACE] * len(places)) % tuple(places.ravel().tolist())
+        return f'{{"type":"LineString","coordinates":[{coordinates}]}}'
+    return json.dumps(encode(places, 6 if form == "polyline6" else 5))
+
+
+def tracepoints(roads: Roads, drive: Drive, snapped: np.ndarray, kept: np.ndarray, count: int) -> str:
+    """What became of each coordinate; null for one without a road. `snapped` is the places in degrees."""
     along = drive.along
-    names, snapped, away = roads.names[drive.edge].tolist(), drive.snapped.tolist(), np.round(drive.away, 2).tolist()
-    first = along.first[along.piece]
-    for i, (row, piece, begin) in enumerate(zip(kept[along.position].tolist(), along.piece.tolist(), first.tolist())):
-        found[row] = {"location": snapped[i], "name": names[i], "distance": away[i], "matchings_index": piece,
-                      "waypoint_index": i - begin, "edge": int(drive.text.edge[along.position[i]])}
-    return found
+    found = np.zeros(count, bool)
+    found[kept[along.position]] = True
+    waypoint = np.arange(len(along.piece)) - along.first[along.piece]
+    columns = [*snapped.T, roads.json_names[drive.edge], np.round(drive.away, 2), along.piece, waypoint,
+               drive.text.edge[along.position]]
+    values = chain.from_iterable(zip(*(column.tolist() for column in columns)))
+    return ",".join([POINT if there else "null" for there in found.tolist()]) % tuple(values)
 
 
-def nearest(index: Nearest, roads: Roads, request: NearestRequest) -> Answer:
+def nearest(index: Nearest, roads: Roads, request: NearestRequest) -> Dict[str, Any]:
     """The answer to a request for the nearest edges. Refused with NoSegment: there is none within the radius."""
     plane = roads.plane(request.place[None])
     found = [] if np.isnan(plane).any() else index.edges(plane[0].astype(np.int64), request.number, request.radius)

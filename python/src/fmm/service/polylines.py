@@ -3,18 +3,18 @@ from __future__ import annotations
 
 import numpy as np
 
+FIVES = np.arange(0, 30, 5, np.uint32)  # where the groups of five bits of a number begin
+
 
 def encode(places: np.ndarray, digits: int = 5) -> str:
     """The text of places float64[n, 2], longitude first."""
     whole = np.rint(places[:, ::-1] * 10.0 ** digits).astype(np.int64)
     steps = np.diff(whole, axis=0, prepend=np.zeros((1, 2), np.int64)).ravel()
-    text = bytearray()
-    for value in np.where(steps < 0, ~(steps << 1), steps << 1).tolist():
-        while value >= 32:
-            text.append((value & 31 | 32) + 63)
-            value >>= 5
-        text.append(value + 63)
-    return text.decode("ascii")
+    left = ((steps << 1) ^ (steps >> 63)).astype(np.uint32)[:, None] >> FIVES  # what a group and those after it have to say
+    groups = (left & 31).astype(np.uint8) + np.where(left >= 32, np.uint8(95), np.uint8(63))
+    written = left > 0
+    written[:, 0] = True
+    return groups[written].tobytes().decode("ascii")
 
 
 def decode(text: str, digits: int = 5) -> np.ndarray:

@@ -5,7 +5,9 @@ import asyncio
 import json
 import os
 import signal
-from typing import Any, Dict, List, Set
+import time
+from collections import deque
+from typing import Any, Deque, Dict, List, Optional, Set, TypeVar, cast
 
 from ..commands import say
 from ..errors import ProgramError, one_line
@@ -18,40 +20,76 @@ from .settings import Limits
 START = 660.0  # seconds for a worker to be ready
 SPARE = 2.0  # seconds that a worker gets to say itself that the time has passed
 TRIES = 2  # workers that a request may lose
+Result = TypeVar("Result")
 
 
-class Connection:
-    """A worker that is ready."""
+class Connection(asyncio.Protocol):
+    """A worker. It has one request at a time."""
 
-    def __init__(self, reader: asyncio.StreamReader, writer: asyncio.StreamWriter) -> None:
-        self.reader, self.writer = reader, writer
+    def __init__(self) -> None:
         self.about: Dict[str, Any] = {}
         self.counted = 0
+        self.is_lost = False
+        self._got = bytearray()
+        self._answer: asyncio.Future[Frame] = asyncio.get_running_loop().create_future()
 
-    @property
-    def pid(self) -> int:
-        return int(self.about["pid"])
+    async def exchange(self, frame: bytes, seconds: float) -> Frame:
+        """Sends a request and waits for the answer. ConnectionError: the worker has ended. TimeoutError: it takes too long."""
+        self._answer = asyncio.get_running_loop().create_future()
+        if self.is_lost:
+            raise ConnectionResetError
+        self._transport.write(frame)
+        return await self.receive(seconds)
 
-    async def exchange(self, frame: bytes) -> Frame:
-        """Sends a request and waits for the answer."""
-        self.writer.write(frame)
-        await self.writer.drain()
-        return await self.receive()
-
-    async def receive(self) -> Frame:
-        head_size, body_size = SIZES.unpack(await self.reader.readexactly(SIZES.size))
-        head = json.loads(await self.reader.readexactly(head_size))
+    async def receive(self, seconds: float) -> Frame:
+        """Waits for a message, as `exchange`."""
+        head, body = await in_time(self._answer, seconds)
         self.about.update(head)
-        return head, await self.reader.readexactly(body_size)
+        return head, body
+
+    def connection_made(self, transport: asyncio.BaseTransport) -> None:
+        self._transport = cast(asyncio.Transport, transport)  # uvloop's has another class
+
+    def data_received(self, data: bytes) -> None:
+        self._got += data
+        if len(self._got) < SIZES.size:
+            return
+        head_size, body_size = SIZES.unpack_from(self._got)
+        begin = SIZES.size + head_size
+        if len(self._got) >= begin + body_size:
+            frame = json.loads(self._got[SIZES.size:begin]), bytes(self._got[begin:begin + body_size])
+            del self._got[:begin + body_size]
+            if not self._answer.done():
+                self._answer.set_result(frame)
+
+    def connection_lost(self, fault: Optional[Exception]) -> None:
+        self.is_lost = True
+        if not self._answer.done():
+            self._answer.set_exception(ConnectionResetError())
+            self._answer.exception()  # nobody may wait for it
 
     def end(self) -> None:
         """Ends the worker and its program."""
-        self.writer.close()
-        if "pid" in self.about and not self.reader.at_eof():
+        was_lost, self.is_lost = self.is_lost, True
+        self._transport.close()
+        if "pid" in self.about and not was_lost:
             try:
-                os.killpg(self.pid, signal.SIGKILL)
+                os.killpg(int(self.about["pid"]), signal.SIGKILL)
             except (ProcessLookupError, PermissionError):
                 pass
+
+
+async def in_time(future: asyncio.Future[Result], seconds: float) -> Result:
+    """The result of a future. TimeoutError: it takes longer. Unlike asyncio.wait_for it makes no task."""
+    def give_up() -> None:
+        if not future.done():
+            future.set_exception(asyncio.TimeoutError())
+
+    timer = asyncio.get_running_loop().call_later(seconds, give_up)
+    try:
+        return await future
+    finally:
+        timer.cancel()
 
 
 class Pool:
@@ -59,9 +97,9 @@ class Pool:
 
     def __init__(self, forks: Forks, count: int, limits: Limits, metrics: Metrics) -> None:
         self.forks, self.count, self.limits, self.metrics = forks, count, limits, metrics
-        self.idle: asyncio.Queue[Connection] = asyncio.Queue()
         self.workers: List[Connection] = []
-        self.waiting = 0
+        self._idle: Deque[Connection] = deque()
+        self._waiters: Deque[asyncio.Future[Connection]] = deque()  # empty while there are idle workers
         self.replaced_programs = 0
         self._starts: Set[asyncio.Task[None]] = set()
         self._closing = False
@@ -76,8 +114,8 @@ class Pool:
         for _ in range(TRIES):
             worker = await self._worker()
             try:
-                answer = await asyncio.wait_for(worker.exchange(frame), self.limits.seconds + SPARE)
-            except (asyncio.IncompleteReadError, ConnectionError):
+                answer = await worker.exchange(frame, self.limits.seconds + SPARE)
+            except ConnectionError:
                 self._replace(worker)
                 continue
             except asyncio.TimeoutError:
@@ -90,14 +128,19 @@ class Pool:
             if answer[0]["last"]:
                 self._replace(worker, lost=False)
             else:
-                self.idle.put_nowait(worker)
+                self._free(worker)
             return answer
         raise Refused("InternalError", "the request ended two workers", 500)
 
     @property
     def ready(self) -> int:
         """How many workers can take requests."""
-        return sum(not worker.reader.at_eof() for worker in self.workers)
+        return sum(not worker.is_lost for worker in self.workers)
+
+    @property
+    def waiting(self) -> int:
+        """How many requests wait for a worker."""
+        return len(self._waiters)
 
     @property
     def memory(self) -> int:
@@ -114,21 +157,40 @@ class Pool:
 
     async def _worker(self) -> Connection:
         """An idle worker."""
-        if self.idle.empty() and self.waiting >= self.limits.waiting:
+        until = time.monotonic() + self.limits.seconds
+        while True:
+            worker = self._idle.popleft() if self._idle else await self._awaited(until - time.monotonic())
+            if not worker.is_lost:
+                return worker
+            self._replace(worker)
+
+    async def _awaited(self, seconds: float) -> Connection:
+        """The next worker that becomes idle. Refused: too many wait, or none becomes idle in time."""
+        if len(self._waiters) >= self.limits.waiting:
             self.metrics.refused_waiting += 1
             raise busy()
-        self.waiting += 1
+        waiter: asyncio.Future[Connection] = asyncio.get_running_loop().create_future()
+        self._waiters.append(waiter)
         try:
-            while True:
-                worker = await asyncio.wait_for(self.idle.get(), self.limits.seconds)
-                if not worker.reader.at_eof():
-                    return worker
-                self._replace(worker)
-        except asyncio.TimeoutError:
+            return await in_time(waiter, seconds)
+        except BaseException as fault:
+            if waiter in self._waiters:
+                self._waiters.remove(waiter)
+            if waiter.done() and not waiter.cancelled() and not waiter.exception():
+                self._free(waiter.result())  # the request was given up in the moment in which it got a worker
+            if not isinstance(fault, asyncio.TimeoutError):
+                raise
             self.metrics.refused_waiting += 1
             raise busy() from None
-        finally:
-            self.waiting -= 1
+
+    def _free(self, worker: Connection) -> None:
+        """Hands a worker to the request that has waited longest."""
+        while self._waiters:
+            waiter = self._waiters.popleft()
+            if not waiter.done():
+                waiter.set_result(worker)
+                return
+        self._idle.append(worker)
 
     def _count(self, worker: Connection, about: Dict[str, Any]) -> None:
         self.replaced_programs += about["replaced"] - worker.counted
@@ -157,11 +219,10 @@ class Pool:
                 pause = min(2 * pause, 30)
 
     async def _add(self) -> None:
-        reader, writer = await asyncio.open_connection(sock=self.forks.worker())
-        worker = Connection(reader, writer)
+        _, worker = await asyncio.get_running_loop().create_connection(Connection, sock=self.forks.worker())
         try:
-            head, _ = await asyncio.wait_for(worker.receive(), START)
-        except (asyncio.IncompleteReadError, ConnectionError, asyncio.TimeoutError):
+            head, _ = await worker.receive(START)
+        except (ConnectionError, asyncio.TimeoutError):
             worker.end()
             raise ProgramError(1, "a worker ended while it started") from None
         except BaseException:
@@ -171,7 +232,7 @@ class Pool:
             worker.end()
             raise ProgramError(1, head["failed"])
         self.workers.append(worker)
-        self.idle.put_nowait(worker)
+        self._free(worker)
 
 
 def busy() -> Refused:

@@ -73,8 +73,8 @@ def match(matcher: Matcher, network: Network, settings: Settings, posted: Posted
         table = pd.read_csv(traces.path)
     drives: List[bytes] = []
     for number, drive in table.groupby("trace"):
-        rows = [f"{x},{y},0\n" for x, y in zip(drive["x"].tolist(), drive["y"].tolist())]
-        drives.append(matcher.lines(rows, int(number), options.sigma, until))
+        rows = np.stack([drive["x"].to_numpy(), drive["y"].to_numpy(), np.zeros(len(drive), np.int64)], axis=1)
+        drives.append(matcher.follow(rows, int(number), options.sigma, until))
     text = read(b"".join(drives), len(drives), len(table)) if drives else None
     if text is None:
         raise Refused("NoMatch", "no position can be used: " + "; ".join(sorted(set(positions.left_out["reason"])))[:200])

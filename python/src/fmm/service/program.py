@@ -19,6 +19,7 @@ from typing import Sequence
 import numpy as np
 
 from ..errors import ProgramError
+from .memory import Memory
 
 HEADER = b"trace,x,y,time\n"
 CORNER = 1_000_000_000  # centimetres: the range of the proved programs
@@ -48,11 +49,6 @@ def far_place(xy: np.ndarray, radius: int) -> tuple[int, int]:
     raise ProgramError(1, "the network fills the whole range of coordinates, so no place is far from all roads")
 
 
-def rows_of(x: np.ndarray, y: np.ndarray, times: np.ndarray) -> list[str]:
-    """The fields of positions after the id."""
-    return [f"{a},{b},{t}\n" for a, b, t in zip(x.tolist(), y.tolist(), times.tolist())]
-
-
 class Program:
     """One process. It is not shared between threads."""
 
@@ -66,18 +62,19 @@ class Program:
         os.set_blocking(self.input, False)
         os.set_blocking(self.output, False)
         self._asked = HEADER
+        self.memory = Memory(self.child.pid)
 
-    def ask(self, rows: list[str]) -> int:
-        """Hands over a drive; returns its id. `answer` has to be called before the next drive."""
+    def ask(self, rows: np.ndarray) -> int:
+        """Hands over a drive, int64[n, 3] of x, y and time; returns its id. `answer` has to be called before the next drive."""
         self.drives += 1
         name, far = self.drives, f"{self.far[0]},{self.far[1]},0\n"
-        text = "".join([f"{name},{row}" for row in rows])
+        text = f"{name},%d,%d,%d\n" * len(rows) % tuple(rows.ravel().tolist())
         self._asked += f"{text}{name},{far}0,{far}".encode()
         self._rows = len(rows)
         return name
 
-    def answer(self, until: float, name: int = 1) -> bytes:
-        """The follow text of the drive as trace `name`. `until` is a time of time.monotonic.
+    def answer(self, until: float) -> bytes:
+        """The lines of the drive, after those that are left of closing the one before. `until` is a time of time.monotonic.
 
         Late: the time has passed; the program is then of no use. Lost: the program has ended.
         """
@@ -99,7 +96,7 @@ class Program:
                         poll.unregister(self.input)
                 else:
                     got += self._read()
-        return follow_text(bytes(got), self.drives, self._rows, name)
+        return bytes(got)
 
     def is_answered(self) -> bool:
         """Whether there is something to read, without waiting."""
@@ -130,14 +127,6 @@ class Program:
         except (subprocess.TimeoutExpired, ValueError, OSError):
             said = b""
         return said.decode(errors="replace").strip() or f"the program ended with status {self.child.poll()}"
-
-    @property
-    def memory(self) -> int:
-        """Bytes of memory that the program has now, 0 if it has ended."""
-        try:
-            return int(Path(f"/proc/{self.child.pid}/statm").read_text().split()[1]) * os.sysconf("SC_PAGE_SIZE")
-        except (OSError, IndexError, ValueError):
-            return 0
 
     def close(self) -> None:
         """Ends the program. What it was asked is lost."""

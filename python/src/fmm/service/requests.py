@@ -15,6 +15,7 @@ from .refusals import Refused, foreign, wrong
 NUMBER = re.compile(r"[+-]?(?:\d+(?:\.\d*)?|\.\d+)(?:[eE][+-]?\d{1,3})?", re.ASCII)
 PAIR = rf"{NUMBER.pattern},{NUMBER.pattern}"
 PAIRS = re.compile(rf"{PAIR}(?:;{PAIR})*", re.ASCII)
+PLAIN = b"0123456789.+-"  # what numbers without exponents have
 WHOLE = re.compile(r"\d{1,12}", re.ASCII)
 POLYLINE = re.compile(r"polyline(6?)\((.*)\)", re.DOTALL)
 # Names of a network's profile in OSRM's world.
@@ -71,7 +72,7 @@ def options_of(query: str) -> Dict[str, str]:
 
 def places_of(text: str, most: int) -> np.ndarray:
     """The coordinates of a path."""
-    text = re.sub(r"\.json$", "", text)
+    text = text[:-5] if text.endswith(".json") else text
     encoded = POLYLINE.fullmatch(text)
     if encoded:
         try:
@@ -81,10 +82,21 @@ def places_of(text: str, most: int) -> np.ndarray:
     else:
         if text.count(";") >= most:
             raise too_many(most)
-        if not PAIRS.fullmatch(text):
-            raise wrong_pair(text.split(";"))
-        places = np.array(text.replace(";", ",").split(","), np.float64).reshape(-1, 2)
+        places = np.array(numbers_of(text), np.float64).reshape(-1, 2)
     return checked(places, most)
+
+
+def numbers_of(text: str) -> List[float]:
+    """The numbers of pairs. A text without exponents is read by `float`, which is faster than the pattern."""
+    count = text.count(";")
+    if text.encode("ascii", "replace").translate(None, PLAIN) == b",;" * count + b",":
+        try:
+            return list(map(float, text.replace(";", ",").split(",")))
+        except ValueError:
+            pass
+    if not PAIRS.fullmatch(text):
+        raise wrong_pair(text.split(";"))
+    return list(map(float, text.replace(";", ",").split(",")))
 
 
 def wrong_pair(pairs: List[str]) -> Refused:

@@ -47,11 +47,21 @@ def serve(network: Network, settings: Settings, host: str, port: int) -> None:
         worker.serve(connection)
 
     forks = Forks(work)
+    faster_loop()
     try:
         asyncio.run(run(forks, listening, settings, about(network, settings)))
     finally:
         listening.close()
         forks.close()
+
+
+def faster_loop() -> None:
+    """Takes the event loop of python3-uvloop if it is installed. The server itself takes the parser of python3-httptools."""
+    try:
+        import uvloop
+    except ImportError:
+        return
+    uvloop.install()
 
 
 async def run(forks: Forks, listening: socket.socket, settings: Settings, facts: Dict[str, Any]) -> None:

@@ -6,7 +6,6 @@ import os
 import socket
 import time
 from dataclasses import dataclass
-from pathlib import Path
 from typing import Any, Callable, Dict
 
 from ..commands import say
@@ -16,6 +15,7 @@ from . import osrm, posted, requests
 from .drives import Roads
 from .frames import packed, receive
 from .matcher import Matcher
+from .memory import Memory
 from .nearest import Nearest
 from .refusals import Refused
 from .settings import MEGABYTE, Settings
@@ -60,7 +60,8 @@ class Worker:
         except (Refused, FmmError) as fault:
             connection.sendall(packed({"pid": os.getpid(), "failed": str(fault)}))
             return
-        least = own_memory()
+        memory = Memory("self")
+        least = memory.own
         try:
             connection.sendall(packed({"pid": os.getpid(), "program": self.matcher.program.child.pid}))
             while True:
@@ -69,8 +70,8 @@ class Worker:
                     return
                 reply = self.reply(*frame)
                 about = {"status": reply.status, "kind": reply.kind, "positions": reply.positions,
-                         "memory": self.matcher.memory, "own_memory": own_memory(), "replaced": self.matcher.replaced,
-                         "program": self.matcher.program.child.pid, "last": own_memory() > least + GROWTH}
+                         "memory": self.matcher.memory, "own_memory": memory.own, "replaced": self.matcher.replaced,
+                         "program": self.matcher.program.child.pid, "last": memory.own > least + GROWTH}
                 connection.sendall(packed(about, reply.body))
         except (BrokenPipeError, ConnectionResetError):
             return  # the main process has ended
@@ -93,7 +94,8 @@ class Worker:
     def _match(self, head: Dict[str, Any], body: bytes) -> Reply:
         requests.check_profile(head["profile"], self.roads.profile)
         request = requests.match_request(head["coordinates"], head["query"], self.settings.limits.positions)
-        return json_reply(osrm.match(self.matcher, self.roads, request, self.until), positions=len(request.places))
+        text = osrm.match(self.matcher, self.roads, request, self.until)
+        return Reply(200, text.encode("utf-8", "replace"), positions=len(request.places))
 
     def _nearest(self, head: Dict[str, Any], body: bytes) -> Reply:
         requests.check_profile(head["profile"], self.roads.profile)
@@ -109,9 +111,3 @@ class Worker:
         request = posted.Posted(head["type"], head["query"], body)
         text, count = posted.page(self.matcher, self.network, self.settings, request, self.until)
         return Reply(200, text.encode("utf-8", "replace"), "text/html", count)
-
-
-def own_memory() -> int:
-    """Bytes of memory that only this process has."""
-    size, shared = Path("/proc/self/statm").read_text().split()[1:3]
-    return (int(size) - int(shared)) * os.sysconf("SC_PAGE_SIZE")
