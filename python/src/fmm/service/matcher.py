@@ -12,12 +12,11 @@ from .._match_text import MatchText, read_match
 from ..network import Network
 from ..options import Options, centimetres
 from .lines import drive_text
-from .program import DRIVES, Late, Lost, Program, far_place, follow_text
+from .program import DRIVES, NO_ROWS, Late, Lost, Program, far_place, follow_text
 from .refusals import Refused, late
 from .settings import MEGABYTE, Limits
 
 START = 600.0  # seconds in which a program has to load its network
-NO_ROWS = np.zeros((0, 3), np.int64)
 Read = TypeVar("Read")
 
 

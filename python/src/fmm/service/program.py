@@ -25,6 +25,7 @@ HEADER = b"trace,x,y,time\n"
 CORNER = 1_000_000_000  # centimetres: the range of the proved programs
 DRIVES = 50_000  # of one process: less than the positions of an id, since the closing vehicle has one for each drive
 BLOCK = 1 << 16
+NO_ROWS = np.zeros((0, 3), np.int64)
 
 
 class Lost(Exception):

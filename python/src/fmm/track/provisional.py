@@ -6,9 +6,11 @@ from collections.abc import Callable, Iterable
 from dataclasses import dataclass
 from typing import Optional
 
+import numpy as np
+
 from ..feed.notices import Notices
 from ..feed.ordering import Waiting
-from ..service.program import DRIVES, Late, Lost, Program
+from ..service.program import DRIVES, NO_ROWS, Late, Lost, Program, follow_text
 from .drives import Object, Settled
 from .fleet import MEGABYTE, Fleet
 from .journal import Row
@@ -82,14 +84,15 @@ class Provisional:
         program = self.program
         assert program is not None
         try:
-            program.ask([f"{row.x},{row.y},{int(row.time)}\n" for row in tail.rows])
-            before, label = last_labels(program.answer(time.monotonic() + PATIENCE))
+            drive = program.ask(np.array([(row.x, row.y, int(row.time)) for row in tail.rows], np.int64))
+            got = program.answer(time.monotonic() + PATIENCE)
+            before, label = last_labels(follow_text(got, drive, len(tail.rows), 1))
         except (Late, Lost) as fault:
             self.notices.say(f"the program for provisional positions is replaced: {fault or 'it took too long'}")
             program.close()
             self.program = None
             return None
-        if program.drives >= DRIVES or program.memory >= MEMORY:
+        if program.drives >= DRIVES or program.memory.all >= MEMORY:
             self._begin()
         newest, speed = tail.rows[-1], None
         if before is not None and label is not None:
@@ -104,7 +107,7 @@ class Provisional:
         if self.next is None and now >= self.start_at:
             self.start_at = now + PAUSE
             self.next = self.start()
-            self.next.ask([])
+            self.next.ask(NO_ROWS)
 
     def _exchange(self) -> None:
         """Takes the next program when it has loaded the network."""

@@ -98,9 +98,8 @@ class Streets(Roads):
                          np.array([edge for edge, _ in labels], np.int64), np.array([offset for _, offset in labels], np.int64),
                          np.zeros(count, np.int64), zero, zero, np.array([count - 1]), zero, one * len(edges), edges, None)
         along = along_routes(text, np.arange(count), self.places, self.back)
-        _, line = lines_of(self.places, along)
-        places = self.degrees(line).tolist()
-        return float(sum(part.sum() for part in leg_metres(along))), places * 2 if len(places) == 1 else places
+        line = lines_of(self.places, along)[0].places(self.places)
+        return float(sum(part.sum() for part in leg_metres(along))), self.degrees(line).tolist()
 
 
 __all__ = ["Label", "Places", "Streets"]
