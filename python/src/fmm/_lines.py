@@ -7,6 +7,8 @@ from typing import Optional
 import numpy as np
 import pandas as pd
 
+DENSE = 8  # a table by id is faster than a search, and small if ids are at most so many times the number of edges
+
 
 @dataclass
 class EdgeLines:
@@ -23,6 +25,7 @@ class EdgeLines:
     to_node: np.ndarray
     so_far: np.ndarray = field(init=False)
     _order: Optional[np.ndarray] = field(init=False, default=None, repr=False)
+    _by_id: Optional[np.ndarray] = field(init=False, default=None, repr=False)
 
     def __post_init__(self) -> None:
         self.so_far = lengths_so_far(self.xy, self.first)
@@ -40,6 +43,12 @@ class EdgeLines:
         ids = np.asarray(ids, np.int64)
         if not len(self.ids):
             return np.full(ids.shape, -1)
+        most = int(self.ids.max())
+        if most < DENSE * len(self.ids) and self.ids.min() >= 0:
+            if self._by_id is None:
+                self._by_id = np.full(most + 2, -1)
+                self._by_id[self.ids] = np.arange(len(self.ids))
+            return self._by_id[np.where((ids >= 0) & (ids <= most), ids, most + 1)]
         if self._order is None:
             self._order = np.argsort(self.ids, kind="stable")
         at = self._order[np.minimum(self.ids.searchsorted(ids, sorter=self._order), len(self.ids) - 1)]

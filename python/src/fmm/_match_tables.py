@@ -100,7 +100,7 @@ def summed(values: np.ndarray, first: np.ndarray) -> np.ndarray:
 
 def route_texts(solution: Solution) -> np.ndarray:
     """The ids of the streets of each route, separated by blanks."""
-    ids = solution.network.streets.ids[solution.routes.edge].astype(str).tolist()
+    ids = list(map(str, solution.network.streets.ids[solution.routes.edge].tolist()))
     first = solution.routes.first.tolist()
     out = np.empty(len(first) - 1, object)
     out[:] = [" ".join(ids[begin:end]) for begin, end in zip(first, first[1:])]

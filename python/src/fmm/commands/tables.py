@@ -141,7 +141,8 @@ def first_ranks(values: np.ndarray) -> np.ndarray:
 def ids_of(traces: np.ndarray, path: Any) -> np.ndarray:
     """The id of the vehicle of each position."""
     if path is None:
-        return traces.astype(str).astype(object)
+        numbers, names = pd.factorize(traces)
+        return np.array(list(map(str, names.tolist())), object)[numbers]
     table = read_table(path, required=["trace", "id"], unique=["trace"])
     known = pd.Series(table["id"].to_numpy(object), index=whole_numbers(table, "trace", 0, LAST))
     missing = np.setdiff1d(traces, known.index.to_numpy())
