@@ -86,13 +86,35 @@ def test_csv_is_text_that_people_read(matches: Matches, tmp_path: Path) -> None:
     assert points["edge"].tolist()[5:7] == ["", ""] and points["WKT"][5] == ""
 
 
-def test_geojson_is_in_degrees(matches: Matches, tmp_path: Path) -> None:
-    matches.to_file(tmp_path / "edges.geojson")
-    features = json.loads((tmp_path / "edges.geojson").read_text())["features"]
-    assert len(features) == len(matches.edges)
-    assert 9 < features[0]["geometry"]["coordinates"][0][0] < 10
+def test_geojson_has_a_file_for_each_layer_in_degrees(matches: Matches, tmp_path: Path) -> None:
+    matches.to_file(tmp_path / "a.b.geojson")
+    assert sorted(path.name for path in tmp_path.iterdir()) == [
+        "a.b.edges.geojson", "a.b.geojson.json", "a.b.network.geojson", "a.b.points.geojson", "a.b.routes.geojson"]
+    assert set(json.loads((tmp_path / "a.b.geojson.json").read_text())["files"]) == {
+        f"a.b.{layer}.geojson" for layer in ("points", "routes", "edges", "network")}
+    for layer, count in (("points", 1200), ("routes", len(matches.routes)), ("edges", len(matches.edges)), ("network", 120)):
+        shown = ogrinfo("-so", "-al", tmp_path / f"a.b.{layer}.geojson")
+        assert f"Feature Count: {count}\n" in shown and 'ID["EPSG",4326]' in shown
+    edges = json.loads((tmp_path / "a.b.edges.geojson").read_text())["features"]
+    assert 9 < edges[0]["geometry"]["coordinates"][0][0] < 10
+
+
+def test_geojson_of_one_layer(matches: Matches, tmp_path: Path) -> None:
+    matches.to_file(tmp_path / "driven.geojson", layer="edges")
+    assert sorted(path.name for path in tmp_path.iterdir()) == ["driven.geojson", "driven.geojson.json"]
+    assert len(json.loads((tmp_path / "driven.geojson").read_text())["features"]) == len(matches.edges)
     with pytest.raises(OptionError, match="did you mean points"):
         matches.to_file(tmp_path / "a.geojson", layer="point")
+
+
+def test_the_folder_has_the_network_too(matches: Matches, tmp_path: Path) -> None:
+    matches.to_file(tmp_path / "out")
+    assert sorted(path.name for path in (tmp_path / "out").iterdir()) == [
+        "edges.csv", "matches.json", "network_edges.csv", "points.csv", "routes.csv"]
+    table = pd.read_csv(tmp_path / "out" / "network_edges.csv")
+    network = matches.network.edges  # type: ignore[union-attr]
+    assert table["edge"].tolist() == network.index.tolist() and table["name"].tolist() == network["name"].tolist()
+    assert np.allclose(table["length"], network["length"]) and table["WKT"][0].startswith("LINESTRING (9.4")
 
 
 def test_files_that_were_exchanged_are_noticed(matches: Matches, tmp_path: Path) -> None:

@@ -16,8 +16,8 @@ import pytest
 import fmm
 from fmm import _picture, commands
 
-FILES = ["distances.csv", "edges.csv", "map.html", "matches.json", "picture.png", "points.csv", "report.txt", "result.gpkg",
-         "result.json", "routes.csv", "stops.csv", "travel_times.csv"]
+FILES = ["distances.csv", "edges.csv", "map.html", "matches.json", "network_edges.csv", "picture.png", "points.csv", "report.txt",
+         "result.gpkg", "result.json", "routes.csv", "stops.csv", "travel_times.csv"]
 
 
 @pytest.fixture

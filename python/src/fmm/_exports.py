@@ -1,7 +1,6 @@
 """Writes the tables of a match to files and databases, and reads them back."""
 from __future__ import annotations
 
-import logging
 import os
 from pathlib import Path
 from typing import TYPE_CHECKING, Any, Dict, Optional
@@ -9,12 +8,12 @@ from typing import TYPE_CHECKING, Any, Dict, Optional
 import geopandas
 import numpy as np
 import pandas as pd
-from geopandas.io.file import infer_schema
 
 from . import _geometry
 from ._evidence import checksum_of, compare, part, read_side_file, write_side_file
+from ._layer_files import read_layer, write_layer
 from ._libraries import explained
-from ._output import Outputs, reason
+from ._output import Outputs
 from ._tables import escaped, read_table, write_rows
 from .errors import InputError, OptionError, OutputError, PathText
 from .options import Options
@@ -23,8 +22,8 @@ from .projection import DEGREES
 if TYPE_CHECKING:
     from .matches import Matches
 
-SHAPES = {"points": "Point", "routes": "LineString", "edges": "LineString", "network": "LineString"}
 TABLES = ("points", "routes", "edges")
+FILES = {"network": "network_edges"}  # network.csv is a network file of the proved programs
 WHOLE = ("trace", "point", "piece", "edge", "number", "first_row", "last_row", "cost", "positions")
 OPEN = ("trace", "point", "piece", "edge")  # whole numbers of points, which may be missing
 TIMES = ("time", "begin", "end", "entry", "exit")
@@ -33,8 +32,8 @@ DECIMALS = {"offset": 2, "distance": 8, "margin": 0, "seconds": 3, "metres": 2, 
 TAKEN = ("fid", "geom", "geometry", "ogc_fid", "wkt")
 
 
-def to_file(matches: Matches, path: PathText, layer: str = "edges") -> None:
-    """Writes a GeoPackage, one layer as GeoJSON, or a folder of .csv files."""
+def to_file(matches: Matches, path: PathText, layer: Optional[str] = None) -> None:
+    """Writes a GeoPackage, files of GeoJSON, or a folder of .csv files."""
     name = os.fspath(path)
     inputs = [source["path"] for source in matches.evidence.get("sources", []) if source.get("sha256")]
     inputs += [] if matches.network is None else [os.fspath(matches.network.path)]
@@ -93,46 +92,38 @@ def layers_of(matches: Matches) -> Dict[str, geopandas.GeoDataFrame]:
 def to_geopackage(matches: Matches, outputs: Outputs, path: str) -> Dict[str, str]:
     unfinished = outputs.path(path)
     for name, frame in layers_of(matches).items():
-        write_layer(frame, unfinished, "GPKG", name, path)
+        write_layer(safe(frame), unfinished, "GPKG", name, path)
     return {Path(path).name: checksum_of(unfinished)}
 
 
-def to_geojson(matches: Matches, outputs: Outputs, path: str, layer: str) -> Dict[str, str]:
-    if layer not in TABLES:
-        raise OptionError.unknown(layer, TABLES, "layer")
-    frame = getattr(matches, layer)
-    unfinished = outputs.path(path)
-    write_layer(frame if frame.crs is None else frame.to_crs(DEGREES), unfinished, "GeoJSON", None, path)
-    return {Path(path).name: checksum_of(unfinished)}
+def to_geojson(matches: Matches, outputs: Outputs, path: str, layer: Optional[str]) -> Dict[str, str]:
+    """Writes a file for each layer, or one for the chosen one, in degrees."""
+    layers = layers_of(matches)
+    if layer is not None and layer not in layers:
+        raise OptionError.unknown(layer, list(layers), "layer")
+    written = {}
+    for name, frame in layers.items():
+        if layer in (None, name):
+            file = path if layer else geojson_path(path, name)
+            unfinished = outputs.path(file)
+            write_layer(safe(frame if frame.crs is None else frame.to_crs(DEGREES)), unfinished, "GeoJSON", name, file)
+            written[Path(file).name] = checksum_of(unfinished)
+    return written
 
 
-def write_layer(frame: geopandas.GeoDataFrame, path: Path, driver: str, layer: Optional[str], name: str) -> None:
-    """Writes a table with the types of its columns."""
-    import fiona
-    shape = SHAPES[layer] if layer else frame.geom_type.dropna().iloc[0] if len(frame) else "LineString"
-    ready = safe(frame)
-    schema = infer_schema(ready)
-    schema["geometry"] = shape
-    words = {"layer": layer} if layer else {}
-    log = logging.getLogger("fiona._env")  # tells of each row without a place
-    level = log.level
-    log.setLevel(logging.CRITICAL)
-    try:
-        ready.to_file(path, driver=driver, schema=schema, index=False, **words)
-    except OSError as fault:
-        raise OutputError(f"{name}: {reason(fault)}") from None
-    except (fiona.errors.FionaError, RuntimeError) as fault:
-        raise OutputError(f"{name}: {fault}") from None
-    finally:
-        log.setLevel(level)
+def geojson_path(path: str, layer: str) -> str:
+    """The file of a layer: result.edges.geojson for result.geojson."""
+    given = Path(path)
+    return os.fspath(given.with_name(f"{given.stem}.{layer}{given.suffix}"))
 
 
 def to_folder(matches: Matches, outputs: Outputs, path: str) -> Dict[str, str]:
     folder = outputs.folder(path)
     written = {}
-    for name in TABLES:
+    for name, frame in layers_of(matches).items():
+        name = FILES.get(name, name)
         file = outputs.open(folder / f"{name}.csv")
-        write_rows(file, readable(safe(getattr(matches, name)), matches.crs), os.fspath(folder / f"{name}.csv"))
+        write_rows(file, readable(safe(frame), frame.crs), os.fspath(folder / f"{name}.csv"))
         file.flush()
         written[f"{name}.csv"] = checksum_of(outputs.outputs[-1].unfinished)
     return written
@@ -200,19 +191,11 @@ def open_matches(path: PathText) -> Matches:
     known = content.get("options", {}).get("values")
     matches = Matches(None, None if known is None else Options.of(**known), content, crs)
     for name in TABLES:
-        table = read_csv(folder / f"{name}.csv", crs) if Path(path).is_dir() else read_layer(path, name)
+        table = read_csv(folder / f"{name}.csv", crs) if Path(path).is_dir() else read_layer(Path(path), name)
         matches.set_table(name, typed(table, name))
     fields = {key: value for key, value in part(content, side, "report", kind=dict).items() if key in Report.__dataclass_fields__}
     matches.set_report(Report(**fields))
     return matches
-
-
-def read_layer(path: PathText, name: str) -> geopandas.GeoDataFrame:
-    import fiona
-    try:
-        return geopandas.read_file(path, layer=name)
-    except (fiona.errors.FionaError, ValueError, OSError) as fault:
-        raise InputError(f"its layer {name} cannot be read: {fault}", path) from None
 
 
 def read_csv(path: Path, crs: Any) -> geopandas.GeoDataFrame:
@@ -225,7 +208,7 @@ def typed(frame: geopandas.GeoDataFrame, table: str) -> geopandas.GeoDataFrame:
     """The columns with the types of `Matches`; the input's own columns stay as they were read."""
     for name in frame.columns:
         if name in TIMES:
-            frame[name] = pd.to_datetime(frame[name], utc=True)
+            frame[name] = pd.to_datetime(frame[name], utc=True).astype("datetime64[ns, UTC]")  # pyogrio has milliseconds
         elif name in WHOLE:
             numbers = pd.to_numeric(frame[name])
             frame[name] = numbers.astype("Int64" if table == "points" and name in OPEN else "int64")

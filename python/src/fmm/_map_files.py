@@ -10,6 +10,7 @@ import geopandas
 from shapely import wkt
 
 from ._evidence import checksum_of
+from ._layer_files import layer_names
 from ._tables import read_table
 from .errors import FmmError, InputError, MissingLibraryError, OptionError, PathText, shown
 
@@ -47,7 +48,7 @@ def read_layer(path: PathText, layer: Optional[str] = None) -> geopandas.GeoData
     records = {str(file): len(read_table(file)) for file in tables_of(path)}
     source = f"zip://{name}" if name.lower().endswith(".zip") else name
     try:
-        names = layers_of(source)
+        names = layer_names(source)
         if layer is None and len(names) > 1:
             raise InputError(f"has the layers {shown(', '.join(names), 100)}: name one", name)
         if layer is not None and layer not in names:
@@ -69,16 +70,6 @@ def tables_of(path: PathText) -> list[Path]:
     """The files of a layer that GDAL reads as CSV. It takes the records after a stray quote for one field, without a word."""
     here = Path(path)
     return [file for file in (sorted(here.iterdir()) if here.is_dir() else [here]) if file.suffix.lower() == ".csv"]
-
-
-def layers_of(source: str) -> list[str]:
-    """The names of the layers of a file."""
-    try:
-        import fiona
-        return list(fiona.listlayers(source))
-    except ModuleNotFoundError:  # geopandas from 1.0 on reads by pyogrio
-        import pyogrio
-        return [str(row[0]) for row in pyogrio.list_layers(source)]
 
 
 def read_graph(path: PathText) -> Any:

@@ -82,6 +82,7 @@ class Outputs:
         self.outputs: list[Output] = []
         self.files: list[tuple[IO, str]] = []
         self.folders: list[Path] = []
+        self.private: list[tuple[Path, Path]] = []
         self.names: list[str] = []
 
     def __enter__(self) -> Outputs:
@@ -121,6 +122,17 @@ class Outputs:
         if not folder.is_dir():
             raise OutputError(f"{folder}: not a folder")
         return folder
+
+    def files_of(self, path: PathText) -> Path:
+        """A private folder, for functions that write files by themselves. In the end its files get their names in `path`."""
+        target = self.folder(path)
+        private = target / f".fmm-{secrets.token_hex(8)}"
+        self.private.append((target, private))
+        try:
+            private.mkdir(mode=0o700)
+        except OSError as fault:
+            raise OutputError(f"{path}: {reason(fault)}") from None
+        return private
 
     def _descriptor(self, name: str) -> tuple[int, bool]:
         """An open descriptor to write to, and whether it stays open in the end."""
@@ -169,6 +181,9 @@ class Outputs:
         try:
             self._close_all(kind is None)
             if kind is None:
+                for target, private in self.private:
+                    self.outputs += [Output(self._target(os.fspath(target / name)), private / name, None)
+                                     for name in sorted(os.listdir(private))]
                 self._rename_all()
         finally:
             self._remove_rest(kind is None)
@@ -211,6 +226,8 @@ class Outputs:
                 shutil.rmtree(output.folder, ignore_errors=True)
             elif output.unfinished.exists():
                 os.remove(output.unfinished)
+        for _, private in self.private:
+            shutil.rmtree(private, ignore_errors=True)
         for folder in reversed(self.folders if not complete else []):
             try:
                 folder.rmdir()

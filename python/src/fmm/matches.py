@@ -169,9 +169,10 @@ class Matches:
             raise OptionError(f"seconds is a number above 0, not {seconds}")
         return _summaries.stops(self.points, self._stretches_of(float(seconds)), self._from_metres, self.points.crs)
 
-    def to_file(self, path: PathText, layer: str = "edges") -> None:
-        """Writes the tables: `result.gpkg` with the layers points, routes, edges and network; a folder of .csv files; or one
-        `layer` as GeoJSON, if the name ends in .geojson. A side file (JSON) says what made them, and open_matches reads both."""
+    def to_file(self, path: PathText, layer: Optional[str] = None) -> None:
+        """Writes the tables points, routes, edges and network: as layers of `result.gpkg`; as a folder of .csv files, where the
+        network is network_edges.csv; or, for `result.geojson`, as result.points.geojson, .. With `layer` that file has this
+        layer alone. A side file (JSON) says what made them. open_matches reads the first two."""
         from ._exports import to_file
         to_file(self, path, layer)
 

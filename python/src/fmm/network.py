@@ -9,9 +9,8 @@ from typing import Any, Optional, Union
 import geopandas
 import numpy as np
 import pandas as pd
-from shapely.geometry import LineString
 
-from . import _network_file
+from . import _geometry, _network_file
 from ._evidence import checksum_of, compare, part, read_side_file, write_side_file
 from ._lines import EdgeLines, Parts
 from ._network_report import NetworkReport
@@ -213,12 +212,10 @@ class Network:
         Where turn restrictions are kept, the first centimetres of some streets are edges of their own, which occur several times.
         No position is matched to them, but routes go over them. All parts of a street have the same `street`: the id of the part
         that leads to its end. Everywhere else `street` is the id of the edge. Further columns are those of the source. The frame
-        is made at the first call: some 20 s for a million edges.
+        is made at the first call: some 3 s for a million edges.
         """
         if self._edges is None:
-            metres = self.lines.xy / 100
-            first = self.lines.first.tolist()
-            geometry = [LineString(metres[a:b]) for a, b in zip(first, first[1:])]
+            geometry = _geometry.lines(self.lines.first, self.lines.xy / 100, self.projection.crs)
             known = pd.DataFrame({"from_node": self.lines.from_node, "to_node": self.lines.to_node})
             lengths = pd.DataFrame({"length": self.lines.lengths / 100, "street": self.parts.street,
                                     "part_from": self.parts.begin / 100, "part_to": self.parts.end / 100})

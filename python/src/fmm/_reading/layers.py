@@ -7,6 +7,7 @@ from typing import Any
 import geopandas
 import pandas as pd
 
+from .._layer_files import layer_names
 from ..errors import InputError, MissingLibraryError, PathText, shown
 from .frames import rows_of_frame
 from .rows import Rows, Wanted
@@ -34,9 +35,8 @@ def read_layer(path: PathText, wanted: Wanted, name: str) -> Rows:
 def check_single(path: PathText, name: str) -> None:
     """Refuses a file of several layers, since one of them would be taken in silence."""
     try:
-        import fiona
-        layers = fiona.listlayers(path)
-    except Exception:  # not fiona's format, or another engine: reading the file will tell
+        layers = layer_names(path)
+    except Exception:  # not a format of the library: reading the file will tell
         return
     if len(layers) > 1:
         raise InputError(f"has several layers; name one by layer: {shown(', '.join(layers), 100)}", name)

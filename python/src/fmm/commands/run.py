@@ -7,6 +7,7 @@ with rows in any order.
 FOLDER gets
   result.gpkg                        the layers points, routes, edges and network
   points.csv, routes.csv, edges.csv  a row for each position, each piece of road, and each driven edge
+  network_edges.csv                  a row for each edge of the network
   travel_times.csv                   how long each street took, by hour
   distances.csv                      how far each vehicle drove, by day
   stops.csv                          where and how long vehicles stood
@@ -25,11 +26,10 @@ import dataclasses
 import math
 import os
 import shutil
-import tempfile
 from pathlib import Path
 from typing import TYPE_CHECKING, Any, Optional
 
-from ..errors import MissingLibraryError, OptionError, OutputError, one_line
+from ..errors import MissingLibraryError, OptionError, one_line
 from ._parser import Parser, above_zero
 
 if TYPE_CHECKING:
@@ -52,15 +52,16 @@ TEXTS = {
 def main(words: list[str]) -> int:
     values = parser().parse_args(words)
     from .. import match, read_positions
+    from .._output import Outputs
     options = option_words(values)
     positions = read_positions(values.positions, id=values.id, x=values.x, y=values.y, time=values.time,
                                crs=values.positions_crs, layer=values.layer)
     network, notes = read_map(values, positions)
     means = {name: getattr(values, name) for name in ("engine", "jobs", "memory", "folder")}
     matches = match(network, positions, crs=values.result_crs, **means, **options)
-    with Results(Path(values.into), [values.map, *(source.path for source in positions.sources)]) as results:
-        write_all(matches, results.folder, values, notes)
-    print((results.target / "report.txt").read_text(encoding="utf-8"), end="")
+    with Outputs([values.map, *(source.path for source in positions.sources)]) as outputs:
+        write_all(matches, outputs.files_of(values.into), values, notes)
+    print(Path(values.into, "report.txt").read_text(encoding="utf-8"), end="")
     return 0
 
 
@@ -167,44 +168,6 @@ def around(positions: Positions) -> Optional[tuple[float, float, float, float]]:
 
 # ---- the results
 
-class Results:
-    """A private folder for the results, whose files get their names in the end, all of them or none."""
-
-    def __init__(self, target: Path, inputs: list[str]) -> None:
-        self.target, self.inputs = target, [Path(path) for path in inputs]
-        self.is_new = not os.path.lexists(target)
-
-    def __enter__(self) -> Results:
-        try:
-            self.target.mkdir(exist_ok=True)
-            self.folder = Path(tempfile.mkdtemp(prefix=".fmm-", dir=self.target))
-        except OSError as fault:
-            raise OutputError(f"{self.target}: {fault.strerror}") from None
-        return self
-
-    def __exit__(self, kind: Any, fault: Any, trace: Any) -> None:
-        try:
-            if kind is None:
-                self.publish()
-        finally:
-            shutil.rmtree(self.folder, ignore_errors=True)
-            if self.is_new and not os.listdir(self.target):
-                self.target.rmdir()
-
-    def publish(self) -> None:
-        """Gives the files their names."""
-        names = sorted(os.listdir(self.folder))
-        for name in names:
-            path = self.target / name
-            if path.is_symlink() or path.is_dir():
-                raise OutputError(f"{path}: is a {'symbolic link' if path.is_symlink() else 'folder'}; remove it")
-            for given in self.inputs:
-                if path.exists() and given.exists() and os.path.samefile(path, given):
-                    raise OutputError(f"{path}: is an input of the same call")
-        for name in names:
-            os.replace(self.folder / name, self.target / name)
-
-
 def write_all(matches: Matches, folder: Path, values: Any, notes: list[str]) -> None:
     """Writes all results into a folder."""
     from .._output import Outputs
@@ -242,8 +205,7 @@ def write_tables(matches: Matches, folder: Path, values: Any) -> None:
     """Writes the tables of comma-separated values."""
     matches.to_file(folder / "tables")
     for path in list((folder / "tables").iterdir()):
-        if path.stem != "network":
-            os.replace(path, folder / path.name)
+        os.replace(path, folder / path.name)
     shutil.rmtree(folder / "tables")
     write_table(matches.stops(values.standing), folder / "stops.csv")
     if matches.points["time"].notna().any():
