@@ -16,7 +16,7 @@ def track_of(positions: pd.DataFrame, noise: float = 2.0) -> tuple[Track, pd.Ind
     return Track(codes[order], time, x, y, noise), names
 
 
-@pytest.mark.parametrize("interval, silent", [(1, False), (2, False), (5, False), (15, False), (2, True)])
+@pytest.mark.parametrize("interval, silent", [(1, False), (2, False), (5, False), (15, False), (30, False), (2, True)])
 def test_stops_are_found_within_an_interval(interval: int, silent: bool) -> None:
     good = count = found = parked = 0
     for seed in (7, 8, 9):
