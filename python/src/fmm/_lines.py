@@ -43,16 +43,23 @@ class EdgeLines:
         ids = np.asarray(ids, np.int64)
         if not len(self.ids):
             return np.full(ids.shape, -1)
-        most = int(self.ids.max())
-        if most < DENSE * len(self.ids) and self.ids.min() >= 0:
-            if self._by_id is None:
-                self._by_id = np.full(most + 2, -1)
-                self._by_id[self.ids] = np.arange(len(self.ids))
+        if self._by_id is None and self._order is None:
+            self._prepare_search()
+        if self._by_id is not None:
+            most = len(self._by_id) - 2
             return self._by_id[np.where((ids >= 0) & (ids <= most), ids, most + 1)]
-        if self._order is None:
-            self._order = np.argsort(self.ids, kind="stable")
+        assert self._order is not None
         at = self._order[np.minimum(self.ids.searchsorted(ids, sorter=self._order), len(self.ids) - 1)]
         return np.where(self.ids[at] == ids, at, -1)
+
+    def _prepare_search(self) -> None:
+        """Makes a table of all ids, or where they are sparse their order."""
+        most = int(self.ids.max())
+        if most < DENSE * len(self.ids) and self.ids.min() >= 0:
+            self._by_id = np.full(most + 2, -1)
+            self._by_id[self.ids] = np.arange(len(self.ids))
+        else:
+            self._order = np.argsort(self.ids, kind="stable")
 
     def take(self, index: np.ndarray) -> EdgeLines:
         """Some edges, in the order of the indices."""
