@@ -2,13 +2,11 @@
 from __future__ import annotations
 
 import ast
-import contextlib
 import json
 import os
 import random
 import resource
 import signal
-import sqlite3
 import subprocess
 import sys
 from collections.abc import Iterator
@@ -26,8 +24,6 @@ from fmm._programs import program, run, words_of
 from fmm._tables import read_table
 from fmm.commands import tables
 from fmm.errors import FmmError, InputError, MismatchError
-from fmm.feed.ordering import Position
-from fmm.feed.state import State
 from fmm.fleet.trace_file import TraceFile
 from fmm.options import Options
 from fmm.projection import Projection
@@ -334,26 +330,3 @@ def test_file_names_that_are_not_utf8(small: Path, tmp_path: Path, capfd: pytest
     capfd.readouterr()
     assert commands.main(["run", f"{odd}.csv", f"{odd}.gpx", "--into", str(tmp_path / "more")]) == 1
     assert "the programs take no names that are invalid UTF-8" in capfd.readouterr().err
-
-
-@pytest.mark.parametrize("change", [
-    "vehicle SET number = number + 1 WHERE id = 'b'", "vehicle SET time = time - 300", "vehicle SET positions = 7",
-    "drive SET id = 'a'", "drive SET begin = begin + 1", "waiting SET x = x + 100", "waiting SET time = time + 1",
-    "setting SET value = '1' || value WHERE name <> 'form'",
-])
-def test_a_changed_value_in_a_state_of_a_feed_is_noticed(tmp_path: Path, monkeypatch: pytest.MonkeyPatch, change: str) -> None:
-    """Each change leaves a state of the right form."""
-    monkeypatch.chdir(tmp_path)
-    words = ["--format", "rows", "--into", "out.csv", "--wait", "60"]
-    rows = "".join(f"{name},{at},0,{1_714_982_400 + 50 * at}\n" for at in range(4) for name in ("a", "b"))
-    assert feed(rows, *words).returncode == 0
-    state = State(Path("state.db"))
-    state.add_waiting([Position(1_714_982_700.0, "b", 5, 5, 1_714_982_700.0)])
-    state.commit()
-    state.close()
-    with contextlib.closing(sqlite3.connect("state.db")) as database, database:
-        assert database.execute(f"UPDATE {change}").rowcount > 0
-    before = Path("out.csv").read_bytes()
-    done = feed("b,9,0,1714982900\n", *words, "--ids", "ids.csv")
-    assert (done.returncode, done.stdout) == (1, "") and "state.db is damaged: " in done.stderr
-    assert Path("out.csv").read_bytes() == before

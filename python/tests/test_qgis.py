@@ -29,7 +29,8 @@ def process(folder: Path, *words: str) -> subprocess.CompletedProcess[str]:
     if PROGRAM is None:
         pytest.skip("the plugin of QGIS, since there is no qgis_process")
     environment = {**os.environ, "QT_QPA_PLATFORM": "offscreen", "QGIS_PLUGINPATH": str(PLUGIN.parent), "HOME": str(folder),
-                   "QGIS_CUSTOM_CONFIG_PATH": str(folder / "profile"), "XDG_RUNTIME_DIR": str(folder)}
+                   "QGIS_CUSTOM_CONFIG_PATH": str(folder / "profile"), "XDG_RUNTIME_DIR": str(folder),
+                   "PATH": f"/usr/bin:{os.environ['PATH']}"}  # QGIS takes its modules from beside the first python3
     environment.pop("PYTHONPATH", None)
     if not (folder / "profile").exists():
         (folder / "profile").mkdir()

@@ -102,7 +102,7 @@ def run_shares(names: Sequence[str], folder: Path, number: int, count: int, jobs
             wait(futures)
         except KeyboardInterrupt:
             for process in active_children():
-                os.kill(process.pid, signal.SIGINT)
+                os.kill(process.pid, signal.SIGTERM)
         for future in futures:
             with suppress(KeyboardInterrupt):  # one that had no case yet
                 whole.add(future.result())

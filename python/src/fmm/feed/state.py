@@ -86,7 +86,7 @@ class State:
     def get(self, name: str) -> Optional[str]:
         """A setting, or None."""
         row = self.connection.execute("SELECT * FROM setting WHERE name = ?", (name,)).fetchone()
-        return self._checked("setting", row, str, str)[1] if row else None
+        return self.checked("setting", row, str, str)[1] if row else None
 
     def count(self, name: str) -> int:
         """A setting that is a whole number; 0 if there is none."""
@@ -105,7 +105,7 @@ class State:
     def damaged(self) -> FmmError:
         return FmmError(f"{self.path} is damaged: put a copy in its place, or begin a new state")
 
-    def _checked(self, table: str, row: tuple[Any, ...], *kinds: type) -> tuple[Any, ...]:
+    def checked(self, table: str, row: tuple[Any, ...], *kinds: type) -> tuple[Any, ...]:
         """The values of a row of the file. They have to be of some types, and those that were written."""
         *values, mark = row
         if len(values) != len(kinds) or not all(map(isinstance, values, kinds)) or mark != mark_of(table, *values):
@@ -123,7 +123,7 @@ class State:
             row = self.connection.execute("SELECT * FROM vehicle WHERE id = ?", (name,)).fetchone()
             if row is None:
                 return None
-            found = self.vehicles[name] = Vehicle(*self._checked("vehicle", row, str, int, float, int)[1:])
+            found = self.vehicles[name] = Vehicle(*self.checked("vehicle", row, str, int, float, int)[1:])
         self.vehicles.move_to_end(name)
         return found
 
@@ -139,19 +139,19 @@ class State:
     def last_number(self) -> int:
         """The greatest number of a drive; 0 if there is none."""
         row = self.connection.execute("SELECT * FROM drive ORDER BY number DESC LIMIT 1").fetchone()
-        return self._checked("drive", row, int, str, float)[0] if row else 0
+        return self.checked("drive", row, int, str, float)[0] if row else 0
 
     def vehicle_of(self, number: int) -> str:
         """The vehicle of a drive."""
         row = self.connection.execute("SELECT * FROM drive WHERE number = ?", (number,)).fetchone()
         if row is None:
             raise self.damaged()
-        return str(self._checked("drive", row, int, str, float)[1])
+        return str(self.checked("drive", row, int, str, float)[1])
 
     def drives(self) -> Iterator[tuple[int, str]]:
         """The number and the vehicle of each drive, by rising number."""
         for row in self.connection.execute("SELECT * FROM drive ORDER BY number"):
-            number, name, _ = self._checked("drive", row, int, str, float)
+            number, name, _ = self.checked("drive", row, int, str, float)
             yield number, name
 
     def add_waiting(self, positions: Iterable[Position]) -> None:
@@ -167,7 +167,7 @@ class State:
     def waiting(self) -> Iterator[Position]:
         """The positions that wait."""
         for row in self.connection.execute("SELECT * FROM waiting ORDER BY arrived, vehicle, time"):
-            vehicle, time, x, y, arrived = self._checked("waiting", row, str, float, int, int, float)
+            vehicle, time, x, y, arrived = self.checked("waiting", row, str, float, int, int, float)
             yield Position(time, vehicle, x, y, arrived)
 
     def commit(self) -> None:

@@ -5,12 +5,12 @@ from collections.abc import Iterator, Sequence
 from dataclasses import dataclass
 
 from ..feed.ordering import Position
-from ..feed.state import State
+from ..feed.state import State, marked
 
 TABLES = (
     "CREATE TABLE IF NOT EXISTS tracked (number INTEGER, place INTEGER, time REAL NOT NULL, x INTEGER NOT NULL, "
-    "y INTEGER NOT NULL, PRIMARY KEY (number, place)) WITHOUT ROWID",
-    "CREATE TABLE IF NOT EXISTS delivered (number INTEGER PRIMARY KEY, positions INTEGER NOT NULL)",
+    "y INTEGER NOT NULL, mark INTEGER NOT NULL, PRIMARY KEY (number, place)) WITHOUT ROWID",
+    "CREATE TABLE IF NOT EXISTS delivered (number INTEGER PRIMARY KEY, positions INTEGER NOT NULL, mark INTEGER NOT NULL)",
 )
 
 
@@ -42,14 +42,15 @@ class Journal:
         rows = [Row(number, position.time, position.x, position.y) for number, position in numbered]
         first, self.place = self.place + 1, self.place + len(rows)
         self.state.connection.executemany(
-            "INSERT INTO tracked VALUES (?, ?, ?, ?, ?)",
-            [(row.number, place, row.time, row.x, row.y) for place, row in enumerate(rows, first)])
+            "INSERT INTO tracked VALUES (?, ?, ?, ?, ?, ?)",
+            [marked("tracked", row.number, place, float(row.time), row.x, row.y) for place, row in enumerate(rows, first)])
         return rows
 
     def rows(self) -> Iterator[Row]:
         """The rows of all open drives in the order in which they were added."""
-        for row in self.execute("SELECT number, time, x, y FROM tracked ORDER BY place"):
-            yield Row(*row)
+        for row in self.execute("SELECT * FROM tracked ORDER BY place"):
+            number, _, time, x, y = self.state.checked("tracked", row, int, int, float, int, int)
+            yield Row(number, time, x, y)
 
     def vehicles(self) -> dict[int, str]:
         """The vehicle of each drive that is open."""
@@ -58,12 +59,14 @@ class Journal:
 
     def delivered(self) -> dict[int, int]:
         """How many positions of each open drive were delivered."""
-        return dict(self.execute("SELECT number, positions FROM delivered").fetchall())
+        rows = self.execute("SELECT * FROM delivered").fetchall()
+        return {number: count for number, count in (self.state.checked("delivered", row, int, int) for row in rows)}
 
     def deliver(self, number: int, count: int) -> None:
         """Notes that further positions of a drive are delivered."""
-        self.execute("INSERT INTO delivered VALUES (?1, ?2) ON CONFLICT (number) DO UPDATE SET positions = positions + ?2",
-                     (number, count))
+        row = self.execute("SELECT * FROM delivered WHERE number = ?", (number,)).fetchone()
+        before = self.state.checked("delivered", row, int, int)[1] if row else 0
+        self.execute("INSERT OR REPLACE INTO delivered VALUES (?, ?, ?)", marked("delivered", number, before + count))
 
     def end(self, number: int, count: int) -> None:
         """Forgets a drive of `count` positions. A later drive of the number may have further ones."""

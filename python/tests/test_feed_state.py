@@ -1,0 +1,55 @@
+"""The state of a feed and of track: a value that something else changed is noticed."""
+from __future__ import annotations
+
+import contextlib
+import sqlite3
+from pathlib import Path
+
+import pytest
+from feeds import feed
+
+from fmm.errors import FmmError
+from fmm.feed.ordering import Position
+from fmm.feed.state import State
+from fmm.track.journal import Journal, Row
+
+
+@pytest.mark.parametrize("change", [
+    "vehicle SET number = number + 1 WHERE id = 'b'", "vehicle SET time = time - 300", "vehicle SET positions = 7",
+    "drive SET id = 'a'", "drive SET begin = begin + 1", "waiting SET x = x + 100", "waiting SET time = time + 1",
+    "setting SET value = '1' || value WHERE name <> 'form'",
+])
+def test_a_changed_value_in_a_state_of_a_feed_is_noticed(tmp_path: Path, monkeypatch: pytest.MonkeyPatch, change: str) -> None:
+    """Each change leaves a state of the right form."""
+    monkeypatch.chdir(tmp_path)
+    words = ["--format", "rows", "--into", "out.csv", "--wait", "60"]
+    rows = "".join(f"{name},{at},0,{1_714_982_400 + 50 * at}\n" for at in range(4) for name in ("a", "b"))
+    assert feed(rows, *words).returncode == 0
+    state = State(Path("state.db"))
+    state.add_waiting([Position(1_714_982_700.0, "b", 5, 5, 1_714_982_700.0)])
+    state.commit()
+    state.close()
+    with contextlib.closing(sqlite3.connect("state.db")) as database, database:
+        assert database.execute(f"UPDATE {change}").rowcount > 0
+    before = Path("out.csv").read_bytes()
+    done = feed("b,9,0,1714982900\n", *words, "--ids", "ids.csv")
+    assert (done.returncode, done.stdout) == (1, "") and "state.db is damaged: " in done.stderr
+    assert Path("out.csv").read_bytes() == before
+
+
+@pytest.mark.parametrize("change", ["tracked SET x = x + 1", "tracked SET time = time + 1", "delivered SET positions = 2",
+                                    "drive SET id = 'b'"])
+def test_a_changed_value_in_a_state_of_track_is_noticed(tmp_path: Path, change: str) -> None:
+    path = tmp_path / "state.db"
+    with contextlib.closing(State(path)) as state:
+        state.begin_drive(1, "a", 5.0)
+        journal = Journal(state)
+        journal.add([(1, Position(5.0, "a", 10, 20, 5.0))])
+        journal.deliver(1, 1)
+        state.commit()
+        assert (list(journal.rows()), journal.vehicles(), journal.delivered()) == ([Row(1, 5.0, 10, 20)], {1: "a"}, {1: 1})
+    with contextlib.closing(sqlite3.connect(path)) as database, database:
+        assert database.execute(f"UPDATE {change}").rowcount == 1
+    with contextlib.closing(State(path)) as state, pytest.raises(FmmError, match="state.db is damaged"):
+        journal = Journal(state)
+        print(list(journal.rows()), journal.vehicles(), journal.delivered())
