@@ -215,3 +215,10 @@ def test_names_for_screen_readers_and_a_phone(page: Any) -> None:
     element(page, "toggle").click()
     assert element(page, "panel").is_displayed() and drawn(page)["positions"] == 23
     assert page.execute_script("return document.documentElement.scrollWidth <= window.innerWidth")
+
+
+def test_frames_are_counted_while_the_map_moves(page: Any) -> None:
+    middle = page.execute_script("return fmm.map.getCenter().lng")
+    found = page.execute_async_script("fmm.measure(0.5).then(arguments[0])")
+    assert found["frames"] > 0 and found["seconds"] >= 0.4 and found["longest"] > 0
+    assert page.execute_script("return fmm.map.getCenter().lng") != middle

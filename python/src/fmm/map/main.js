@@ -19,6 +19,7 @@ async function opened() {
   app.map.fitBounds(app.bounds(app.drives), { animate: false });
   app.layer = new CanvasLayer((context, view) => draw(app, context, view)).addTo(app.map);
   app.redraw = () => app.layer.redraw();
+  app.measure = (seconds) => measured(app, seconds);
   app.refilter = () => { app.filter.update(); app.redraw(); };
   let candidates = null;
   app.candidates = () => candidates ||= about.candidates.first ? unpacked("candidates", about.candidates) : Promise.resolve(null);
@@ -29,6 +30,25 @@ async function opened() {
   if (window.innerWidth <= 700) app.panel.toggle();
   keys(app);
   return app;
+}
+
+// Pans the map for some seconds, as a hand does, and counts the frames that the browser shows.
+function measured(app, seconds) {
+  return new Promise((resolve) => {
+    const begin = performance.now();
+    let frames = 0, last = begin, longest = 0, moving = true;
+    const step = () => {
+      const now = performance.now();
+      frames++;
+      longest = Math.max(longest, now - last);
+      last = now;
+      if (moving) requestAnimationFrame(step);
+      else resolve({ frames, seconds: (now - begin) / 1000, longest, drawing: app.layer.milliseconds });
+    };
+    app.map.once("moveend", () => { moving = false; });
+    requestAnimationFrame(step);
+    app.map.panBy([200, 100], { animate: true, duration: seconds, easeLinearity: 1 });
+  });
 }
 
 function boundsOf(app, drives) {
