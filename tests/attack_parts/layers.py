@@ -65,11 +65,12 @@ def judge(network: Network, clean: dict[int, str], data: bytes) -> str:
     found = Counter(network.edges["name"].tolist())
     for at, line in clean.items():
         if line in text:
-            hold(found[f"Street {at}"] == 2, f"street {at} is {found[f'Street {at}']} edges")
-            edge = network.edges["name"].tolist().index(f"Street {at}")
-            x, y = network.lines.xy[network.lines.first[edge]]
-            hold((x, y) in (((500_000 + 10 * at) * 100, (6_000_000 + 100 * at) * 100),
-                            ((500_050 + 10 * at) * 100, (6_000_000 + 100 * at) * 100)), f"street {at} is elsewhere")
+            others = sum(f"Street {at}" in other for other in text if other != line)  # a fault may give another line its name
+            hold(2 <= found[f"Street {at}"] <= 2 + 2 * others, f"street {at} is {found[f'Street {at}']} edges")
+            x, y = (500_000 + 10 * at) * 100, (6_000_000 + 100 * at) * 100
+            named = [network.lines.first[edge] for edge, name in enumerate(network.edges["name"]) if name == f"Street {at}"]
+            begins = {tuple(network.lines.xy[first].tolist()) for first in named}
+            hold({(x, y), (x + 5_000, y)} <= begins, f"street {at} is elsewhere")
     records = sum(line != "" for line in text[1:])
     said = [int(words.split()[0]) for words in str(network.report).split("left out: ")[1:]]
     hold(2 * (records - sum(said)) == network.edge_count, f"{records} records, {said} left out, {network.edge_count} edges")
