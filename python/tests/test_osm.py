@@ -194,6 +194,16 @@ def test_too_little_room_for_places_is_said_before(tmp_path: Path, monkeypatch: 
         Network.from_osm(path)
 
 
+def test_a_disk_without_room_for_places_is_named(tmp_path: Path, monkeypatch: pytest.MonkeyPatch) -> None:
+    def full(words: str) -> None:
+        raise RuntimeError("Could not resize file: Not enough space on filesystem: No space left on device")
+
+    path = write(tmp_path, osm_text(NODES, {7: street([1, 2, 3])}))
+    monkeypatch.setattr("fmm._osm.reading.osmium.index.create_map", full)
+    with pytest.raises(OutputError, match="fmm-.*: Could not resize file: .*No space left on device; name another folder"):
+        Network.from_osm(path)
+
+
 def test_a_box_keeps_the_streets_up_to_the_next_node(tmp_path: Path) -> None:
     nodes, ways = grid(6)
     path = write(tmp_path, osm_text(nodes, ways))

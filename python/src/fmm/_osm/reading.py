@@ -247,7 +247,10 @@ def read_places(source: Source, wanted: np.ndarray) -> tuple[np.ndarray, np.ndar
     known = np.zeros(len(wanted), bool)
     with tempfile.TemporaryDirectory(prefix="fmm-", dir=room_for(source)) as folder:
         path = os.path.join(folder, "nodes")
-        index = osmium.index.create_map(f"sparse_file_array,{path}")
+        try:
+            index = osmium.index.create_map(f"sparse_file_array,{path}")
+        except RuntimeError as fault:  # it begins with a file of 16 MB
+            raise OutputError(f"{folder}: {fault}; name another folder in TMPDIR") from None
         source.apply(osm_entity_bits.NODE, osmium.NodeLocationsForWays(index))
         count = index.used_memory() // NODE.itemsize
         for begin in range(0, count, CHUNK):
