@@ -74,10 +74,10 @@ def is_python(pid: int) -> bool:
 
 
 @contextmanager
-def running(network: Path, *words: str) -> Iterator[Service]:
-    """A service of a network, until the end of the block."""
+def running(network: Path, *words: str, given: Optional[int] = None) -> Iterator[Service]:
+    """A service of a network, until the end of the block. `given` is its standard input."""
     command = [str(TOP / "fmm"), "serve", str(network), "--port", "0", *words]
-    process = subprocess.Popen(command, stderr=subprocess.PIPE, text=True)
+    process = subprocess.Popen(command, stdin=given, stderr=subprocess.PIPE, text=True)
     try:
         yield Service(process, url_of(process))
     finally:

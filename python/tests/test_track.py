@@ -1,5 +1,6 @@
 """`fmm track` over standard input, as a user runs it."""
 import array
+import contextlib
 import fcntl
 import json
 import os
@@ -109,7 +110,8 @@ def test_a_program_that_is_killed_is_replaced(made, tmp_path):
         run.give(lines[200 * kill:200 * (kill + 1)])
         run.wait_for(30 + 150 * kill)
         for program in programs_of(run):
-            os.kill(program, signal.SIGKILL)
+            with contextlib.suppress(ProcessLookupError):  # it may be one that is being replaced
+                os.kill(program, signal.SIGKILL)
     run.give(lines[600:])
     assert run.end() == 0
     assert_once_and_as_matched(run.objects(), made, tmp_path)
@@ -211,6 +213,30 @@ def test_the_program_ends_drives_if_it_can(made, tmp_path):
         assert run.end() == 2
         assert run.said.read_text() == ("fmm track: --idle: fmm streams does not have this option yet; leave it out, and --gap "
                                         "ends drives\n")
+
+
+STAND_IN = """#!/bin/sh
+# Takes the option idle, and hands the other words to the program.
+echo "$@" >> {folder}/words.txt
+rest=
+while [ $# -gt 0 ]; do
+    if [ "$1" = --idle ]; then shift; else rest="$rest $1"; fi
+    shift
+done
+exec {program} $rest
+"""
+
+
+def test_idle_is_handed_to_a_program_that_knows_it(made, tmp_path, monkeypatch):
+    program = tmp_path / "program"
+    program.write_text(STAND_IN.format(folder=tmp_path, program=_programs.program(False)))
+    program.chmod(0o755)
+    monkeypatch.setenv("FMM_PROGRAM", str(program))
+    run = Run(made.network.path, tmp_path, "--idle", "100", "--no-provisional")
+    run.give(made.lines())
+    assert run.end() == 0, run.said.read_text()
+    assert_once_and_as_matched(run.objects(), made, tmp_path)
+    assert "--idle 100" in (tmp_path / "words.txt").read_text()
 
 
 @pytest.mark.parametrize("words, message", [

@@ -6,6 +6,8 @@ otherwise. It has no access control and no encryption: put a reverse proxy befor
     fmm serve network.csv
     curl 'http://127.0.0.1:8000/match/v1/car/9.43,54.31;9.435,54.31?geometries=geojson'
 
+With a pipe from fmm track, fmm serve network.csv --live - shows a live fleet.
+
 / is a page with a map on which a GPX file can be dropped; /docs lists the endpoints.
 """
 from __future__ import annotations
@@ -33,7 +35,8 @@ def main(words: list[str]) -> int:
     limits = Limits(values["positions"], size, values["seconds"], values["waiting"], values["memory"])
     source: dict[str, Any] = {name: values[name] for name in ("crs", "profile") if values[name] is not None}
     network = Network.from_file(path, **source)
-    serve(network, Settings(options, values["processes"], limits, values["allow_origin"] or ""), values["host"], values["port"])
+    settings = Settings(options, values["processes"], limits, values["allow_origin"] or "", values["live"] == "-")
+    serve(network, settings, values["host"], values["port"])
     return 0
 
 
@@ -48,6 +51,7 @@ def parser() -> Parser:
         help="workers, each with a program (the processors, at most 4)")
     add("--allow-origin", type=origin, metavar="ORIGIN",
         help="pages of this origin, such as https://example.org, may read answers of match and nearest; * is any")
+    add("--live", choices=("-",), metavar="-", help="standard input has what fmm track writes; GET /live and the page show it")
     add("--crs", metavar="CRS", help="the projection of a network file without side files")
     add("--profile", metavar="NAME", help="for an OpenStreetMap file: whose streets (car)")
     match = made.add_argument_group("options of the match, in metres and seconds (fmm run --help explains them)")

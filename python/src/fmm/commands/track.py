@@ -87,7 +87,8 @@ def run(args: argparse.Namespace) -> int:
         try:
             tracker = parts.tracker(state, source_of(args, notices), sinks, stop)
             for number in (signal.SIGTERM, signal.SIGINT, signal.SIGHUP):
-                signal.signal(number, lambda *_: stop.set())
+                if signal.getsignal(number) != signal.SIG_IGN:
+                    signal.signal(number, lambda *_: stop.set())
             try:
                 unwritten = tracker.run()
             finally:

@@ -5,7 +5,7 @@ import asyncio
 import json
 import time
 from contextlib import asynccontextmanager
-from typing import Any, AsyncIterator, Awaitable, Callable, Dict, List, Tuple
+from typing import Any, AsyncIterator, Awaitable, Callable, Dict, List, Optional, Tuple
 
 from starlette.applications import Starlette
 from starlette.requests import ClientDisconnect, Request
@@ -14,6 +14,7 @@ from starlette.routing import Route
 from starlette.types import Receive, Scope, Send
 
 from . import page
+from .live import Live
 from .metrics import Metrics
 from .openapi import description, documents
 from .pool import Pool
@@ -36,9 +37,9 @@ class Service:
     """The application of one service; `app` is what a server runs."""
 
     def __init__(self, pool: Pool, settings: Settings, metrics: Metrics, about: Dict[str, Any],
-                 begin: Callable[[], None]) -> None:
+                 begin: Callable[[], None], live: Optional[Live] = None) -> None:
         """`about` is what the page says of the network. `begin` is called when the server has its handlers of signals."""
-        self.begin = begin
+        self.begin, self.live = begin, live
         self.pool, self.settings, self.metrics, self.about = pool, settings, metrics, about
         self.began = time.monotonic()
         routes = [
@@ -46,6 +47,7 @@ class Service:
               for name in ("match", "nearest")),
             Route("/match", self._counted("post", self._post("posted")), methods=["POST"]),
             Route("/map", self._counted("map", self._post("map")), methods=["POST"]),
+            Route("/live", self._counted("live", self._live)),
             Route("/health", self._counted("health", self._health)),
             Route("/metrics", self._counted("metrics", self._metrics)),
             Route("/openapi.json", self._counted("openapi", self._openapi)),
@@ -122,8 +124,17 @@ class Service:
             ("fmm_memory_bytes", "gauge", "Memory of all workers and their programs; what workers share counts for each.",
              pool.memory),
             ("fmm_replaced_programs_total", "counter", "Programs that were replaced.", pool.replaced_programs),
+            ("fmm_live_clients", "gauge", "Clients of /live.", len(self.live.clients) if self.live else 0),
+            ("fmm_live_dropped_total", "counter", "Clients of /live that were too slow.", self.live.dropped if self.live else 0),
             ("fmm_up_seconds", "gauge", "Seconds since the start.", time.monotonic() - self.began),
         ]), media_type="text/plain; version=0.0.4")
+
+    async def _live(self, request: Request) -> Response:
+        if self.live is None:
+            raise Refused("InvalidUrl", "this service has no live fleet: it was started without --live", 404)
+        if request.method == "HEAD":
+            return Response(media_type="text/event-stream")
+        return self.live.answer()
 
     async def _openapi(self, request: Request) -> Response:
         return JSONResponse(description(self.settings))
@@ -183,7 +194,7 @@ def check_origin(request: Request) -> None:
 
 async def unknown(request: Request, fault: Exception) -> Response:
     """The answer for a path that is none."""
-    services = "/match/v1/{profile}/{coordinates}, /nearest/v1/{profile}/{coordinates}, /match, /map; /docs describes them"
+    services = "/match/v1/{profile}/{coordinates}, /nearest/v1/{profile}/{coordinates}, /match, /map, /live; /docs describes them"
     return Response(json.dumps({"code": "InvalidUrl", "message": f"there is no such path; there are {services}"}), 404, HEADERS,
                     "application/json")
 

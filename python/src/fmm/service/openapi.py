@@ -76,6 +76,9 @@ def description(settings: Settings) -> Words:
                                 "responses": answers("application/geo+json")}},
             "/map": {"post": {"summary": "match a file and get a page with a map, for a browser", "parameters": POSTED[1:],
                               "requestBody": {"required": True, "content": content}, "responses": answers("text/html")}},
+            "/live": {"get": {"summary": "where the vehicles of a live fleet are, as server-sent events", "responses": {
+                "200": {"description": "events without end", "content": {"text/event-stream": {"schema": {"type": "string"}}}},
+                "404": {"description": "the service has no live fleet"}, "503": {"description": "there are too many clients"}}}},
             "/network.json": {"get": {"summary": "the network and the options", "responses": simple}},
             "/health": {"get": {"summary": "whether workers are ready", "responses": simple}},
             "/metrics": {"get": {"summary": "counters for Prometheus", "responses": simple}},

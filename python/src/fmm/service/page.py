@@ -6,7 +6,7 @@ from typing import Tuple
 
 LEAFLET = Path("/usr/share/javascript/leaflet")  # of Debian's libjs-leaflet
 HERE = Path(__file__).parent / "files"
-FILES = {"/": "index.html", "/page.js": "page.js", "/page.css": "page.css", "/leaflet.js": "leaflet.js",
+FILES = {"/": "index.html", "/page.js": "page.js", "/live.js": "live.js", "/page.css": "page.css", "/leaflet.js": "leaflet.js",
          "/leaflet.css": "leaflet.css"}
 KINDS = {".html": "text/html; charset=utf-8", ".js": "text/javascript; charset=utf-8", ".css": "text/css; charset=utf-8"}
 

@@ -4,7 +4,7 @@ from __future__ import annotations
 import asyncio
 import socket
 from dataclasses import asdict
-from typing import Any, Dict
+from typing import Any, Dict, Optional
 
 import numpy as np
 import uvicorn
@@ -14,6 +14,7 @@ from ..errors import FmmError, MismatchError
 from ..network import Network
 from .app import Service
 from .forks import Forks
+from .live import PATIENCE, Live, StandardInput, give_up_after
 from .metrics import Metrics
 from .pool import Pool
 from .settings import Settings
@@ -46,6 +47,8 @@ def serve(network: Network, settings: Settings, host: str, port: int) -> None:
         listening.close()  # only the main process accepts
         worker.serve(connection)
 
+    if settings.live:
+        give_up_after(listening, PATIENCE)
     forks = Forks(work)
     faster_loop()
     try:
@@ -64,6 +67,17 @@ def faster_loop() -> None:
     uvloop.install()
 
 
+class Server(uvicorn.Server):
+    """A server that ends the answers of /live when it is to end, since they have no end of their own."""
+
+    live: Optional[Live] = None
+
+    def handle_exit(self, sig: int, frame: Any) -> None:
+        if self.live:
+            self.live.close()
+        super().handle_exit(sig, frame)
+
+
 async def run(forks: Forks, listening: socket.socket, settings: Settings, facts: Dict[str, Any]) -> None:
     """Starts the workers, then the server."""
     metrics = Metrics()
@@ -72,10 +86,16 @@ async def run(forks: Forks, listening: socket.socket, settings: Settings, facts:
         await pool.start()
         host, port = listening.getsockname()[:2]
         address = f"http://{f'[{host}]' if ':' in host else host}:{port}/"
-        service = Service(pool, settings, metrics, facts, lambda: say(f"fmm serve: {address} ({settings.processes} workers)"))
+        live = Live() if settings.live else None
+        begin = f"fmm serve: {address} ({settings.processes} workers)"
+        service = Service(pool, settings, metrics, facts, lambda: say(begin), live)
         config = uvicorn.Config(service.app, log_level="warning", access_log=False, lifespan="on", timeout_keep_alive=30,
                                 limit_concurrency=settings.limits.waiting + settings.processes + 256, server_header=False)
-        await uvicorn.Server(config).serve(sockets=[listening])
+        server = Server(config)
+        server.live = live
+        if live:
+            StandardInput(live)
+        await server.serve(sockets=[listening])
     finally:
         await pool.close()
 
@@ -85,6 +105,7 @@ def about(network: Network, settings: Settings) -> Dict[str, Any]:
     low, high = network.lines.xy.min(axis=0), network.lines.xy.max(axis=0)
     corners = np.array([[low[0], low[1]], [low[0], high[1]], [high[0], low[1]], [high[0], high[1]]], np.float64)
     x, y = network.projection.to_crs(corners[:, 0], corners[:, 1], 4326)
+    bounds = [float(x.min()), float(y.min()), float(x.max()), float(y.max())]
+    options = {name: value for name, value in asdict(settings.options).items() if name != "workers"}
     return {"edges": network.edge_count, "nodes": network.node_count, "projection": network.projection.name,
-            "sha256": network.checksum, "bounds": [float(x.min()), float(y.min()), float(x.max()), float(y.max())],
-            "options": {name: value for name, value in asdict(settings.options).items() if name != "workers"}}
+            "sha256": network.checksum, "bounds": bounds, "live": settings.live, "options": options}

@@ -28,9 +28,11 @@ class Limits:
 
 @dataclass(frozen=True)
 class Settings:
-    """The options of all matches, how many workers there are, the limits, and whose pages may read answers ("": none)."""
+    """The options of all matches, how many workers there are, the limits, whose pages may read answers ("": none), and whether
+    standard input has what `track` writes."""
 
     options: Options = field(default_factory=lambda: Options(gap=300.0))
     processes: int = 2
     limits: Limits = field(default_factory=Limits)
     origin: str = ""
+    live: bool = False

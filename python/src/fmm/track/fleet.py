@@ -114,13 +114,13 @@ class Fleet:
         self.drives.open.clear()
         self.heard.clear()
         self.number_of.clear()
-        vehicles, delivered, now = self.journal.vehicles(), self.journal.delivered(), self.intake.clock.now()
+        vehicles, now = self.journal.vehicles(), self.intake.clock.now()
         found: list[Found] = []
         rows = self.journal.rows()
         while some := list(islice(rows, AT_ONCE)):
             for row in some:
                 vehicle = vehicles[row.number]
-                self._add(row, vehicle, now).delivered = delivered.get(row.number, 0)
+                self._add(row, vehicle, now).delivered = self.journal.delivered(row.number)
             found += self.drives.read(self.streams.take([row.text() for row in some], int(some[-1].time)))
         old = [number for number, drive in self.drives.open.items() if self.number_of[drive.vehicle] != number]
         text = [line for number in old for line in self._closing(number)]

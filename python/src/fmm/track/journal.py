@@ -36,6 +36,10 @@ class Journal:
         for statement in TABLES:
             self.execute(statement)
         self.place = int(self.execute("SELECT coalesce(max(place), 0) FROM tracked").fetchone()[0])
+        self.counts: dict[int, int] = {}
+        for row in self.execute("SELECT * FROM delivered"):
+            number, count = state.checked("delivered", row, int, int)
+            self.counts[number] = count
 
     def add(self, numbered: Sequence[tuple[int, Position]]) -> list[Row]:
         """Notes positions with the numbers of their drives."""
@@ -57,19 +61,18 @@ class Journal:
         numbers = self.execute("SELECT DISTINCT number FROM tracked").fetchall()
         return {number: self.state.vehicle_of(number) for number, in numbers}
 
-    def delivered(self) -> dict[int, int]:
-        """How many positions of each open drive were delivered."""
-        rows = self.execute("SELECT * FROM delivered").fetchall()
-        return {number: count for number, count in (self.state.checked("delivered", row, int, int) for row in rows)}
+    def delivered(self, number: int) -> int:
+        """How many positions of an open drive were delivered."""
+        return self.counts.get(number, 0)
 
     def deliver(self, number: int, count: int) -> None:
         """Notes that further positions of a drive are delivered."""
-        row = self.execute("SELECT * FROM delivered WHERE number = ?", (number,)).fetchone()
-        before = self.state.checked("delivered", row, int, int)[1] if row else 0
-        self.execute("INSERT OR REPLACE INTO delivered VALUES (?, ?, ?)", marked("delivered", number, before + count))
+        self.counts[number] = self.counts.get(number, 0) + count
+        self.execute("INSERT OR REPLACE INTO delivered VALUES (?, ?, ?)", marked("delivered", number, self.counts[number]))
 
     def end(self, number: int, count: int) -> None:
         """Forgets a drive of `count` positions. A later drive of the number may have further ones."""
         self.execute("DELETE FROM tracked WHERE number = ?1 AND place IN "
                      "(SELECT place FROM tracked WHERE number = ?1 ORDER BY place LIMIT ?2)", (number, count))
         self.execute("DELETE FROM delivered WHERE number = ?", (number,))
+        self.counts.pop(number, None)

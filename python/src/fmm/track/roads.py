@@ -15,20 +15,21 @@ from .._places import Places
 from .._tables import read_table, whole_numbers
 from ..errors import MismatchError
 from ..network import Network
-from ..service.drives import Roads, leg_metres, lines_of
+from ..projection import DEGREES, transformer
+from ..service.drives import leg_metres, lines_of
 
 MOST_NODES = 300  # that a search for a way looks at
 Label = tuple[int, int]  # id of an edge, offset in centimetres
 
 
-class Streets(Roads):
+class Streets:
     """The roads of a network. `back` is the option of the match in centimetres."""
 
     def __init__(self, network: Network, back: int, lookup: Optional[Path] = None) -> None:
-        super().__init__(network)
-        self.back = back
-        references = network.table["ref"].to_numpy(object)
-        self.names = np.where(self.names == "", references, self.names)
+        self.network, self.back, self.places = network, back, Places(network.lines)
+        self._to_degrees = transformer(network.projection.crs, DEGREES)
+        names = network.table["name"].to_numpy(object)
+        self.names: np.ndarray = np.where(names == "", network.table["ref"].to_numpy(object), names)
         if lookup is not None:
             self._look_up(lookup)
         lines = network.lines
@@ -45,6 +46,11 @@ class Streets(Roads):
             raise MismatchError(f"has an edge {frame['edge'][int(np.argmin(at))]} that the network lacks", path)
         self.names = self.names.copy()
         self.names[at] = frame["name"].to_numpy(object)
+
+    def degrees(self, centimetres: np.ndarray) -> np.ndarray:
+        """Longitudes and latitudes of places, rounded to seven decimals (a centimetre)."""
+        x, y = self._to_degrees.transform(centimetres[:, 0] / 100, centimetres[:, 1] / 100)
+        return np.round(np.stack([x, y], axis=1), 7)
 
     def index(self, edges: Sequence[int]) -> np.ndarray:
         """The index of each edge id."""
@@ -99,7 +105,6 @@ class Streets(Roads):
                          np.zeros(count, np.int64), zero, zero, np.array([count - 1]), zero, one * len(edges), edges, None)
         along = along_routes(text, np.arange(count), self.places, self.back)
         line = lines_of(self.places, along)[0].places(self.places)
-        return float(sum(part.sum() for part in leg_metres(along))), self.degrees(line).tolist()
-
-
-__all__ = ["Label", "Places", "Streets"]
+        same = np.append(False, (line[1:] == line[:-1]).all(axis=1))
+        places = self.degrees(line[~same]).tolist()
+        return float(sum(part.sum() for part in leg_metres(along))), places * 2 if len(places) == 1 else places

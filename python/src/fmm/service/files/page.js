@@ -22,6 +22,7 @@ function start() {
     const [west, south, east, north] = about.bounds;
     map.fitBounds([[south, west], [north, east]]);
     L.rectangle([[south, west], [north, east]], {color: "#6b7480", weight: 1, fill: false, interactive: false}).addTo(map);
+    if (about.live) new Fleet(map, drawn).listen();
   });
   takeFiles(map, layer);
 }
