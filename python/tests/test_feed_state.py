@@ -47,7 +47,7 @@ def test_a_changed_value_in_a_state_of_track_is_noticed(tmp_path: Path, change: 
         journal.add([(1, Position(5.0, "a", 10, 20, 5.0))])
         journal.deliver(1, 1)
         state.commit()
-        assert (list(journal.rows()), journal.vehicles(), journal.delivered()) == ([Row(1, 5.0, 10, 20)], {1: "a"}, {1: 1})
+        assert (list(journal.rows()), journal.vehicles(), journal.counts) == ([Row(1, 5.0, 10, 20)], {1: "a"}, {1: 1})
     with contextlib.closing(sqlite3.connect(path)) as database, database:
         assert database.execute(f"UPDATE {change}").rowcount == 1
     with contextlib.closing(State(path)) as state, pytest.raises(FmmError, match="state.db is damaged"):
