@@ -86,6 +86,21 @@ def test_csv_is_text_that_people_read(matches: Matches, tmp_path: Path) -> None:
     assert points["edge"].tolist()[5:7] == ["", ""] and points["WKT"][5] == ""
 
 
+def test_gdal_takes_the_ids_of_csv_as_texts(matches: Matches, tmp_path: Path) -> None:
+    """Also where it is asked to guess types: 007 stays 007."""
+    matches.to_file(tmp_path / "out")
+    for table, lines in {
+            "points": ("id: String", "time: DateTime", "edge: Integer64", "offset: Real", "Geometry: "),
+            "edges": ("id: String", "way: String", "entry: DateTime", "whole: Integer(Boolean)", "seconds: Real"),
+            "network_edges": ("edge: Integer64", "way: String", "maxspeed: Real", "oneway: Integer(Boolean)")}.items():
+        made = tmp_path / f"{table}.gpkg"
+        subprocess.run(["ogr2ogr", "-oo", "AUTODETECT_TYPE=YES", str(made), str(tmp_path / "out" / f"{table}.csv")], check=True)
+        shown = ogrinfo("-so", "-al", made)
+        for line in lines:
+            assert line in shown, line
+    assert set(geopandas.read_file(tmp_path / "points.gpkg")["id"]) == {"007", "42"}
+
+
 def test_geojson_has_a_file_for_each_layer_in_degrees(matches: Matches, tmp_path: Path) -> None:
     matches.to_file(tmp_path / "a.b.geojson")
     assert sorted(path.name for path in tmp_path.iterdir()) == [
@@ -110,7 +125,8 @@ def test_geojson_of_one_layer(matches: Matches, tmp_path: Path) -> None:
 def test_the_folder_has_the_network_too(matches: Matches, tmp_path: Path) -> None:
     matches.to_file(tmp_path / "out")
     assert sorted(path.name for path in (tmp_path / "out").iterdir()) == [
-        "edges.csv", "matches.json", "network_edges.csv", "points.csv", "routes.csv"]
+        "edges.csv", "edges.csvt", "matches.json", "network_edges.csv", "network_edges.csvt", "points.csv", "points.csvt",
+        "routes.csv", "routes.csvt"]
     table = pd.read_csv(tmp_path / "out" / "network_edges.csv")
     network = matches.network.edges  # type: ignore[union-attr]
     assert table["edge"].tolist() == network.index.tolist() and table["name"].tolist() == network["name"].tolist()

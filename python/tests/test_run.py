@@ -16,8 +16,9 @@ import pytest
 import fmm
 from fmm import _picture, commands
 
-FILES = ["distances.csv", "edges.csv", "map.html", "matches.json", "network_edges.csv", "picture.png", "points.csv", "report.txt",
-         "result.gpkg", "result.json", "routes.csv", "stops.csv", "travel_times.csv"]
+TABLES = ["distances", "edges", "network_edges", "points", "routes", "stops", "travel_times"]
+FILES = sorted([f"{name}.{end}" for name in TABLES for end in ("csv", "csvt")] + [
+    "map.html", "matches.json", "picture.png", "report.txt", "result.gpkg", "result.json"])
 
 
 @pytest.fixture

@@ -10,6 +10,7 @@ import numpy as np
 import pandas as pd
 
 from . import _geometry
+from ._column_types import write_column_types
 from ._evidence import checksum_of, compare, part, read_side_file, write_side_file
 from ._layer_files import read_layer, write_layer
 from ._libraries import explained
@@ -33,7 +34,7 @@ TAKEN = ("fid", "geom", "geometry", "ogc_fid", "wkt")
 
 
 def to_file(matches: Matches, path: PathText, layer: Optional[str] = None) -> None:
-    """Writes a GeoPackage, files of GeoJSON, or a folder of .csv files."""
+    """Writes a GeoPackage, files of GeoJSON, or a folder of .csv files with their column types."""
     name = os.fspath(path)
     inputs = [source["path"] for source in matches.evidence.get("sources", []) if source.get("sha256")]
     inputs += [] if matches.network is None else [os.fspath(matches.network.path)]
@@ -122,10 +123,11 @@ def to_folder(matches: Matches, outputs: Outputs, path: str) -> Dict[str, str]:
     written = {}
     for name, frame in layers_of(matches).items():
         name = FILES.get(name, name)
-        file = outputs.open(folder / f"{name}.csv")
-        write_rows(file, readable(safe(frame), frame.crs), os.fspath(folder / f"{name}.csv"))
+        file, table = outputs.open(folder / f"{name}.csv"), safe(frame)
+        write_rows(file, readable(table, frame.crs), os.fspath(folder / f"{name}.csv"))
         file.flush()
         written[f"{name}.csv"] = checksum_of(outputs.outputs[-1].unfinished)
+        write_column_types(outputs, folder / f"{name}.csv", table)
     return written
 
 

@@ -11,6 +11,7 @@ FOLDER gets
   travel_times.csv                   how long each street took, by hour
   distances.csv                      how far each vehicle drove, by day
   stops.csv                          where and how long vehicles stood
+  points.csvt, routes.csvt, ..       the types of the columns of each table, which GDAL and QGIS read
   map.html                           a map to look at: positions, roads, drives in time, and what is in doubt
   picture.png                        the driven roads on the map
   report.txt                         what was chosen and why, what was left out, and what to look at
@@ -215,6 +216,7 @@ def write_tables(matches: Matches, folder: Path, values: Any) -> None:
 
 def write_table(frame: Any, path: Path) -> None:
     """Writes a summary. Geometries are WKT, and times ISO texts."""
+    from .._column_types import write_column_types
     from .._exports import readable
     from .._output import Outputs
     from .._tables import write_table as write
@@ -222,3 +224,4 @@ def write_table(frame: Any, path: Path) -> None:
         frame = frame.assign(median=frame["median"].round(3))
     with Outputs() as outputs:
         write(outputs, path, readable(frame, getattr(frame, "crs", None)))
+        write_column_types(outputs, path, frame)
