@@ -172,7 +172,8 @@ class Asked:
             status, kind = about["status"], about["kind"]
         except Refused as fault:
             response = refusal(fault)
-            status, kind, content, more = fault.status, "application/json", response.body, response.raw_headers[2:]
+            status, kind, content = fault.status, "application/json", response.body
+            more = [(name, value) for name, value in response.raw_headers if name == b"retry-after"]
         headers = [(b"content-type", kind.encode()), (b"content-length", b"%d" % len(content)), *self.headers, *more]
         await send({"type": "http.response.start", "status": status, "headers": headers})
         await send({"type": "http.response.body", "body": b"" if scope["method"] == "HEAD" else content})
