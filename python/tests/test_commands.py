@@ -78,7 +78,7 @@ def test_list_of_packages(top: Path) -> None:
             group, name, use = line.split(maxsplit=2)
             groups.setdefault(group, set()).add(name)
     assert groups["python"] == {"python3", *REQUIRED.values()}
-    assert groups["functions"] == set(OPTIONAL.values())
+    assert groups["functions"] == {*OPTIONAL.values(), "python3-httptools", "python3-uvloop"}  # uvicorn takes the last two itself
 
 
 class Raising:
