@@ -9,7 +9,6 @@ from pathlib import Path
 from typing import Any
 
 import numpy as np
-import pandas as pd
 
 from .common import Progress
 
@@ -89,6 +88,7 @@ class Grid:
 
     def bytes_of_run(self, x: np.ndarray, y: np.ndarray, trace: np.ndarray) -> int:
         """The memory for all rows of one run over positions in centimetres, in the order of their traces."""
+        import pandas as pd  # here, since the tasks of a fleet start in half the time without it
         apart = np.hypot(np.diff(x).astype(np.float64), np.diff(y).astype(np.float64)) * 6 > self.bound
         distant = np.concatenate([[False], apart & (np.diff(trace) == 0)])[:len(x)]
         number, cells = pd.factorize(self.cells(x, y))
