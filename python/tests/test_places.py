@@ -7,7 +7,7 @@ from typing import List, Tuple
 
 import numpy as np
 import pytest
-from hypothesis import given, settings, strategies as st
+from hypothesis import HealthCheck, given, settings, strategies as st
 
 from fmm._lines import EdgeLines
 from fmm._match_text import read_match
@@ -69,7 +69,10 @@ def test_driven_parts_are_cut_from_the_lines(polylines: List[List[Tuple[int, int
     edges = np.array(data.draw(st.lists(st.integers(0, len(polylines) - 1), min_size=1, max_size=4)))
     ends = [sorted(data.draw(st.lists(st.integers(0, int(places.length[edge])), min_size=2, max_size=2))) for edge in edges]
     begin, end = np.array(ends).T
-    offsets, xy = places.driven(edges, begin, end)
+    driven = places.driven(edges, begin, end)
+    offsets, xy, known = driven.first, driven.places, driven.point >= 0
+    assert (lines.xy[driven.point[known]] == xy[known]).all()
+    assert not known[(xy % 1 != 0).any(axis=1)].any()
     for number, edge in enumerate(edges.tolist()):
         so_far = lines.so_far[lines.first[edge]:lines.first[edge + 1]].tolist()
         inner = [polylines[edge][at] for at in range(len(so_far)) if begin[number] < so_far[at] < end[number]]
@@ -88,6 +91,7 @@ def place_of(line: List[Tuple[int, int]], so_far: List[int], offset: int) -> Tup
 
 
 @given(st.lists(st.lists(st.integers(-50, 50), min_size=1, max_size=12), min_size=1, max_size=4))
+@settings(deadline=None, suppress_health_check=[HealthCheck.too_slow])
 def test_rising_values_are_those_of_pooled_neighbours(groups: List[List[int]]) -> None:
     values = np.array([value for group in groups for value in group])
     of = np.repeat(np.arange(len(groups)), [len(group) for group in groups])

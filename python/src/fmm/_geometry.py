@@ -1,14 +1,15 @@
 """Many shapely geometries at once, from arrays of coordinates.
 
 Shapely 2 has functions for this. Shapely 1.8 makes a million points in ten seconds and lines in twenty. So there the geometries
-are made by two calls of GEOS each, as shapely's own constructors make them, but without the copies: that takes two seconds.
+are made by GEOS as by shapely's own constructors, but without the copies: that takes two seconds.
 """
 from __future__ import annotations
 
 import contextlib
 import ctypes
 import gc
-from typing import Any, Callable, Iterator, Optional, Tuple
+from itertools import repeat
+from typing import Any, Iterator, Optional, Tuple
 
 import numpy as np
 import shapely
@@ -64,39 +65,35 @@ def _no_collection() -> Iterator[None]:
 def _fill(out: np.ndarray, rows: np.ndarray, kind: type, xy: np.ndarray, first: np.ndarray, counts: np.ndarray) -> None:
     """Puts geometries of `counts` places from `first` on into the rows of `out`."""
     xy = np.ascontiguousarray(xy, np.float64)
-    make = _maker(kind)
+    made = _made(kind, xy, first, counts)
     with _no_collection():
-        if make is not None:
-            for row, begin, count in zip(rows.tolist(), (xy.ctypes.data + 16 * first).tolist(), counts.tolist()):
-                out[row] = make(begin, count)
+        if made is not None:
+            new, put = object.__new__, object.__setattr__
+            for row, pointer in zip(rows.tolist(), made):
+                geometry: Any = new(kind)
+                put(geometry, "__geom__", pointer)
+                put(geometry, "_ndim", 2)
+                put(geometry, "_is_empty", False)
+                out[row] = geometry
             return
         places = xy.tolist()
         for row, begin, count in zip(rows.tolist(), first.tolist(), counts.tolist()):
             out[row] = kind(places[begin] if kind is shapely.geometry.Point else places[begin:begin + count])
 
 
-def _maker(kind: type) -> Optional[Callable[[int, int], Any]]:
-    """A function that makes a geometry of so many places at an address; None where GEOS is older than 3.10."""
+def _made(kind: type, xy: np.ndarray, first: np.ndarray, counts: np.ndarray) -> Optional[Iterator[int]]:
+    """Makes geometries of GEOS, and gives their addresses; None where GEOS is older than 3.10."""
     from shapely import geos
-    library = geos._lgeos  # the functions of GEOS that shapely 1.8 has opened
-    try:
-        copy = library.GEOSCoordSeq_copyFromBuffer_r
-        build = library.GEOSGeom_createPoint_r if kind is shapely.geometry.Point else library.GEOSGeom_createLineString_r
-    except AttributeError:
+    library, handle = geos._lgeos, repeat(geos.lgeos.geos_handle)  # the functions of GEOS that shapely 1.8 has opened
+    if not hasattr(library, "GEOSCoordSeq_copyFromBuffer_r"):
         return None
-    pointer, whole = ctypes.c_void_p, ctypes.c_int
-    copy = ctypes.CFUNCTYPE(pointer, pointer, pointer, ctypes.c_uint, whole, whole)((copy.__name__, library))
-    build = ctypes.CFUNCTYPE(pointer, pointer, pointer)((build.__name__, library))
-    handle, put = geos.lgeos.geos_handle, object.__setattr__
-
-    def make(begin: int, count: int) -> Any:
-        geometry: Any = object.__new__(kind)
-        put(geometry, "__geom__", build(handle, copy(handle, begin, count, 0, 0)))
-        put(geometry, "_ndim", 2)
-        put(geometry, "_is_empty", False)
-        return geometry
-
-    return make
+    pointer, whole, number = ctypes.c_void_p, ctypes.c_int, ctypes.c_double
+    if kind is shapely.geometry.Point:
+        point = ctypes.CFUNCTYPE(pointer, pointer, number, number)(("GEOSGeom_createPointFromXY_r", library))
+        return map(point, handle, *xy[first].T.tolist())
+    copy = ctypes.CFUNCTYPE(pointer, pointer, pointer, ctypes.c_uint, whole, whole)(("GEOSCoordSeq_copyFromBuffer_r", library))
+    line = ctypes.CFUNCTYPE(pointer, pointer, pointer)(("GEOSGeom_createLineString_r", library))
+    return map(line, handle, map(copy, handle, (xy.ctypes.data + 16 * first).tolist(), counts.tolist(), repeat(0), repeat(0)))
 
 
 def coordinates(values: GeometryArray) -> Tuple[np.ndarray, np.ndarray]:

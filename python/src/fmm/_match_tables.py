@@ -8,7 +8,7 @@ import numpy as np
 import pandas as pd
 
 from . import _geometry
-from ._places import without_doubles
+from ._places import DrivenLines
 from ._solution import RowPlaces, Solution, seconds_to_times
 
 ABOUT = ("way", "class", "name", "ref")
@@ -34,6 +34,21 @@ def about(solution: Solution, street: np.ndarray, names: tuple[str, ...]) -> Dic
 def in_crs(solution: Solution, places: np.ndarray, crs: Any) -> np.ndarray:
     """Places in centimetres as coordinates of a CRS (metres of the plane for None)."""
     return np.stack(solution.network.projection.to_crs(places[:, 0], places[:, 1], crs), axis=1)
+
+
+def lines_in_crs(solution: Solution, lines: DrivenLines, crs: Any) -> DrivenLines:
+    """Lines in centimetres as lines in a CRS. Each point of the network is projected once, however often it was passed."""
+    if crs is None:
+        return DrivenLines(lines.first, in_crs(solution, lines.places, crs), lines.point)
+    points, between = solution.streets.lines.xy, np.flatnonzero(lines.point < 0)
+    used = np.zeros(len(points) + 1, bool)
+    used[lines.point] = True
+    passed = np.flatnonzero(used[:-1])
+    projected = np.empty((len(points) + 1, 2))
+    projected[passed] = in_crs(solution, points[passed], crs)
+    places = projected[lines.point]
+    places[between] = in_crs(solution, lines.places[between], crs)
+    return DrivenLines(lines.first, places, lines.point)
 
 
 def points(solution: Solution, places: RowPlaces, crs: Any) -> geopandas.GeoDataFrame:
@@ -76,19 +91,19 @@ def crs_of(solution: Solution, crs: Any) -> Any:
     return solution.network.projection.crs if crs is None else crs
 
 
-def routes(solution: Solution, crs: Any, lines: tuple[np.ndarray, np.ndarray]) -> geopandas.GeoDataFrame:
-    """One row for each piece. `lines` are those of the driven edges."""
+def routes(solution: Solution, crs: Any, lines: DrivenLines) -> geopandas.GeoDataFrame:
+    """One row for each piece. `lines` are those of the driven edges, in the CRS."""
     text, along = solution.text, solution.along
     first, last = along.row[along.first[:-1]], along.row[along.first[1:] - 1]
     begin, end = solution.passing.times[along.first[:-1]], solution.passing.times[along.first[1:] - 1]
-    offsets, places = without_doubles(lines[0][solution.routes.first], lines[1])
+    joined = DrivenLines(lines.first[solution.routes.first], lines.places, lines.point).without_doubles()
     columns = {
         "id": solution.ids[text.piece_trace], "trace": text.traces[text.piece_trace], "piece": solution.piece_numbers(),
         "first_row": first, "last_row": last,
         "begin": seconds_to_times(begin), "end": seconds_to_times(end), "seconds": end - begin,
         "metres": summed(solution.driven.metres, solution.routes.first), "cost": text.cost, "edges": route_texts(solution),
     }
-    geometry = _geometry.lines(offsets, in_crs(solution, places, crs), crs_of(solution, crs))
+    geometry = _geometry.lines(joined.first, joined.places, crs_of(solution, crs))
     return geopandas.GeoDataFrame(pd.DataFrame(columns, copy=False), geometry=geometry)
 
 
@@ -107,9 +122,8 @@ def route_texts(solution: Solution) -> np.ndarray:
     return out
 
 
-def edges(solution: Solution, crs: Any, lines: tuple[np.ndarray, np.ndarray],
-          standing: Optional[np.ndarray]) -> geopandas.GeoDataFrame:
-    """One row for each driven edge. `standing` has the seconds that the vehicle stood there."""
+def edges(solution: Solution, crs: Any, lines: DrivenLines, standing: Optional[np.ndarray]) -> geopandas.GeoDataFrame:
+    """One row for each driven edge, with its line in the CRS. `standing` has the seconds that the vehicle stood there."""
     driven, text = solution.driven, solution.text
     trace = text.piece_trace[driven.piece]
     seconds = driven.exit - driven.entry
@@ -124,5 +138,5 @@ def edges(solution: Solution, crs: Any, lines: tuple[np.ndarray, np.ndarray],
         "entry": seconds_to_times(driven.entry, 3), "exit": seconds_to_times(driven.exit, 3), "seconds": seconds,
         "standing": stood, "metres": metres, "whole": driven.whole, "speed": speed,
     }
-    geometry = _geometry.lines(lines[0], in_crs(solution, lines[1], crs), crs_of(solution, crs))
+    geometry = _geometry.lines(lines.first, lines.places, crs_of(solution, crs))
     return geopandas.GeoDataFrame(pd.DataFrame(columns, copy=False), geometry=geometry)

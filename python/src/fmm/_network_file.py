@@ -55,7 +55,13 @@ def read_network(path: PathText) -> EdgeLines:
 
 
 def whole(frame: pd.DataFrame, column: str, greatest: int) -> np.ndarray:
-    texts = [text.strip(" \t") for text in frame[column]]
+    texts = frame[column].tolist()
+    joined = "".join(texts)
+    if joined.isascii() and joined.isdigit() and "" not in texts and max(map(len, texts)) <= 19:
+        values = np.fromiter(map(int, texts), np.uint64, len(texts))
+        if values.max() <= greatest:
+            return values
+    texts = [text.strip(" \t") for text in texts]
     wrong = np.array([not (text.isascii() and text.isdigit() and len(text) <= 20 and int(text) <= greatest) for text in texts])
     if wrong.any():
         refuse(frame, wrong, column, f"is not a whole number from 0 to {greatest}")
@@ -65,20 +71,35 @@ def whole(frame: pd.DataFrame, column: str, greatest: int) -> np.ndarray:
 def points_of(frame: pd.DataFrame) -> tuple[np.ndarray, np.ndarray]:
     """The points of all lines, and where each line begins."""
     texts = frame["line"].tolist()
-    wrong = np.array([not LINE.fullmatch(text) for text in texts])
-    if wrong.any():
-        refuse(frame, wrong, "line", "is not a line of two or more points in whole centimetres, such as 0 40000;5000 42000")
-    first = np.concatenate([[0], np.cumsum([text.count(";") + 1 for text in texts])]).astype(np.int64)
-    values = np.array(" ".join(texts).replace(";", " ").split(), dtype=np.float64)
+    count = np.fromiter((text.count(";") + 1 for text in texts), np.int64, len(texts))
+    joined = ";".join(texts)
+    values: np.ndarray
+    if are_plain(joined.encode(), int(count.sum())) and count.min() > 1:
+        values = np.fromstring(joined.replace(";", " "), np.int64, sep=" ")
+    else:
+        wrong = np.array([not LINE.fullmatch(text) for text in texts])
+        if wrong.any():
+            refuse(frame, wrong, "line", "is not a line of two or more points in whole centimetres, such as 0 40000;5000 42000")
+        values = np.array(joined.replace(";", " ").split(), dtype=np.float64)
+    first = np.concatenate([[0], np.cumsum(count)]).astype(np.int64)
     xy = values.reshape(-1, 2).astype(np.int64)
-    line = np.repeat(np.arange(len(texts)), np.diff(first))
-    far = np.abs(values).reshape(-1, 2).max(axis=1) > FARTHEST
+    line = np.repeat(np.arange(len(texts)), count)
+    far = ((values > FARTHEST) | (values < -FARTHEST)).reshape(-1, 2).any(axis=1)
     same = np.zeros(len(xy), bool)
-    same[1:] = (xy[1:] == xy[:-1]).all(axis=1) & (line[1:] == line[:-1])
+    same[1:] = (xy[1:, 0] == xy[:-1, 0]) & (xy[1:, 1] == xy[:-1, 1]) & (line[1:] == line[:-1])
     for bad, text in ((far, "has a coordinate beyond 1,000,000,000 cm"), (same, "has a point that equals the one before it")):
         if bad.any():
             refuse(frame, np.isin(np.arange(len(texts)), line[bad]), "line", text)
     return xy, first
+
+
+def are_plain(text: bytes, count: int) -> bool:
+    """Whether a text is so many points such as `0 -40000`, with a semicolon between two of them, and nothing else."""
+    if text.translate(None, b"-0123456789") != b" ;" * (count - 1) + b" ":
+        return False
+    padded = b";%b;" % text
+    signs = padded.count(b" -") + padded.count(b";-")
+    return signs == text.count(b"-") and not any(gap in padded for gap in (b" ;", b"; ", b"- ", b"-;"))
 
 
 def refuse(frame: pd.DataFrame, wrong: np.ndarray, column: str, text: str) -> None:

@@ -5,14 +5,32 @@ whole centimetres; places between them are float64 centimetres.
 """
 from __future__ import annotations
 
+from dataclasses import dataclass
 from typing import Any, Tuple
 
 import numpy as np
 
 from ._lines import EdgeLines
-from ._ragged import offsets_of, rows_of, spread
+from ._ragged import offsets_of, spread
 
 SHORT = 2_000_000  # centimetres: up to this length of a segment, products fit 64 bits
+
+
+@dataclass
+class DrivenLines:
+    """Lines along edges, one after the other."""
+
+    first: np.ndarray  # int64[n + 1]: where each line begins
+    places: np.ndarray  # float64[p, 2]
+    point: np.ndarray  # int64[p]: the point of the network at this place; -1 between two points
+
+    def without_doubles(self) -> DrivenLines:
+        """The lines without places that equal the one before in their line."""
+        x, y = self.places.T
+        kept = np.ones(len(x), bool)
+        kept[1:] = (x[1:] != x[:-1]) | (y[1:] != y[:-1])
+        kept[self.first[:-1]] = True
+        return DrivenLines(offsets_of(kept)[self.first], self.places[kept], self.point[kept])
 
 
 class Places:
@@ -77,19 +95,25 @@ class Places:
         best = np.lexsort((offset, d2))[0]
         return int(d2[best]), int(offset[best])
 
-    def driven(self, edge: np.ndarray, begin: np.ndarray, end: np.ndarray) -> Tuple[np.ndarray, np.ndarray]:
-        """The lines of parts of edges from offset `begin` to `end`, not before it: where each begins, and their places."""
+    def driven(self, edge: np.ndarray, begin: np.ndarray, end: np.ndarray) -> DrivenLines:
+        """The lines of parts of edges from offset `begin` to `end`, not before it, in centimetres."""
         end = np.maximum(begin, end)
         base = self._base[edge]
         after = self._along.searchsorted(base + begin, side="right")
         until = self._along.searchsorted(base + end, side="left")
         inner = np.maximum(until - after, 0)
-        offsets = offsets_of(inner + 2)
-        places = np.empty((offsets[-1], 2))
-        twice = np.concatenate([edge, edge])
-        places[np.concatenate([offsets[:-1], offsets[1:] - 1])] = self.at(twice, np.concatenate([begin, end]))
-        places[spread(offsets[:-1] + 1, inner)] = self.lines.xy[spread(after, inner)]
-        return without_doubles(offsets, places)
+        first = offsets_of(inner + 2)
+        point = np.empty(first[-1], np.int64)
+        point[spread(first[:-1] + 1, inner)] = spread(after, inner)
+        ends, near = np.concatenate([first[:-1], first[1:] - 1]), np.concatenate([after - 1, until])
+        near = np.minimum(near, np.tile(self.lines.first[edge + 1] - 1, 2))
+        offset = np.concatenate([begin, end])
+        between = np.flatnonzero(self._along[near] != np.tile(base, 2) + offset)
+        point[ends] = near
+        places = self.lines.xy[point].astype(np.float64)
+        places[ends[between]] = self.at(np.tile(edge, 2)[between], offset[between])
+        point[ends[between]] = -1
+        return DrivenLines(first, places, point).without_doubles()
 
     def driven_points(self, route: np.ndarray, begin: int, end: int) -> np.ndarray:
         """The points of the network on a route from offset `begin` of its first edge to offset `end` of its last one, without
@@ -100,14 +124,6 @@ class Places:
         points = spread(first, np.maximum(until - first, 0))
         x, y = self.lines.xy[points].T
         return points[np.append(True, (x[1:] != x[:-1]) | (y[1:] != y[:-1]))[:len(points)]]
-
-
-def without_doubles(offsets: np.ndarray, places: np.ndarray) -> Tuple[np.ndarray, np.ndarray]:
-    """The lines without places that equal the one before in their line."""
-    rows = rows_of(np.diff(offsets))
-    kept = np.ones(len(places), bool)
-    kept[1:] = (places[1:] != places[:-1]).any(axis=1) | (rows[1:] != rows[:-1])
-    return offsets_of(np.bincount(rows[kept], minlength=len(offsets) - 1)), places[kept]
 
 
 def rising(values: np.ndarray, group: np.ndarray) -> np.ndarray:

@@ -11,7 +11,7 @@ from ._along import Along, Routes, along_routes
 from ._between import nearest_on_routes, route_at, with_between
 from ._edge_times import EdgeTimes, Passing, edge_times
 from ._match_text import MatchText
-from ._places import Places
+from ._places import DrivenLines, Places
 from ._traces import Traces
 from .network import Network
 from .positions import Positions
@@ -92,6 +92,8 @@ class Solution:
 
     def measured(self, rows: np.ndarray) -> np.ndarray:
         """The measured places of some rows in centimetres of the network's plane, float64[n, 2]."""
+        if len(self.traces.places):
+            return self.traces.places[rows].astype(np.float64)
         frame = self.positions.frame
         x, y = frame["x"].to_numpy()[rows], frame["y"].to_numpy()[rows]
         return np.stack(self.network.projection.to_centimetres(x, y, self.positions.crs), axis=1).astype(np.float64)
@@ -139,8 +141,8 @@ class Solution:
         first = np.searchsorted(trace, trace, side="left")
         return np.arange(len(trace)) - first + 1
 
-    def driven_lines(self) -> tuple[np.ndarray, np.ndarray]:
-        """The line of each driven edge: where each begins, and the places in centimetres."""
+    def driven_lines(self) -> DrivenLines:
+        """The line of each driven edge in centimetres."""
         return self.streets.driven(self.driven.edge, self.driven.begin, self.driven.end)
 
 

@@ -65,7 +65,7 @@ def read_table(path: PathText, *, required: Sequence[str] = (), unique: Sequence
     """
     name = name or ("standard input" if os.fspath(path) == "-" else os.fspath(path))
     text = decoded(read_bytes(path, name), name)
-    lines = text.split("\n")
+    lines, quotes = text.split("\n"), '"' in text
     lines.pop()
     del text
     numbers = np.arange(1, len(lines) + 1)
@@ -74,7 +74,7 @@ def read_table(path: PathText, *, required: Sequence[str] = (), unique: Sequence
         numbers, lines = numbers[kept], [line for line in lines if line]
     if not lines:
         raise InputError("has no header", name)
-    header, columns = split_records(lines, numbers, name)
+    header, columns = split_records(lines, numbers, name, quotes)
     check_header(header, lines[0], name, int(numbers[0]), required)
     frame = pd.DataFrame(dict(zip(header, columns)), columns=header, dtype=object)
     frame.attrs.update(path=name, lines=LineNumbers(numbers[1:]))
@@ -120,10 +120,10 @@ def line_at(data: bytes, place: int) -> int:
     return data.count(b"\n", 0, place) + 1
 
 
-def split_records(lines: list[str], numbers: np.ndarray, name: str) -> tuple[list[str], list[list[str]]]:
+def split_records(lines: list[str], numbers: np.ndarray, name: str, quotes: bool) -> tuple[list[str], list[list[str]]]:
     """The header and the columns. Refuses records with another number of fields than the header."""
     rows: Iterator[list[str]]
-    if any('"' in line for line in lines):
+    if quotes:
         rows = quoted_records(lines, numbers, name)
         header = next(rows)
         fields: list[str] = []

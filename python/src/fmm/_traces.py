@@ -31,6 +31,7 @@ class Traces:
               were measured after the position with this index in the trace and not after the next one
     notes     lines for a report
     x, y      centimetres, of each position of the file (int64); empty if the file was made elsewhere
+    places    centimetres of each row of the input (int64[n, 2]), NOWHERE if it has no place; empty if they are not known
     """
 
     path: Path
@@ -42,6 +43,7 @@ class Traces:
     notes: List[str] = field(default_factory=list)
     x: np.ndarray = field(default_factory=lambda: np.zeros(0, np.int64))
     y: np.ndarray = field(default_factory=lambda: np.zeros(0, np.int64))
+    places: np.ndarray = field(default_factory=lambda: np.zeros((0, 2), np.int64))
 
 
 def write_traces(positions: Positions, network: Any, options: Options, folder: Path) -> Traces:
@@ -97,6 +99,7 @@ class Plan:
         self.time = frame["time"].to_numpy()[self.row]
         self.source = positions.origin["source"].to_numpy()[self.row] if len(positions.origin) else np.zeros_like(self.row)
         self.x = self.y = np.zeros(0, dtype=np.int64)
+        self.places = np.zeros((0, 2), dtype=np.int64)
         self.twins: Tuple[np.ndarray, np.ndarray] = (np.zeros(0, dtype=np.int64), np.zeros(0, dtype=np.int64))
         self.notes: List[str] = []
 
@@ -114,8 +117,9 @@ class Plan:
     def project(self, projection: Any) -> None:
         """Whole centimetres of the network's projection."""
         frame = self.positions.frame
-        x, y = frame["x"].to_numpy()[self.row], frame["y"].to_numpy()[self.row]
-        self.x, self.y = projection.to_centimetres(x, y, self.positions.crs)
+        x, y = projection.to_centimetres(frame["x"].to_numpy(), frame["y"].to_numpy(), self.positions.crs)
+        self.places = np.stack([x, y], axis=1)
+        self.x, self.y = x[self.row], y[self.row]
         self.keep((self.x != NOWHERE) & (self.y != NOWHERE), "too far from the area of the network's projection")
 
     def drop_untimed(self) -> None:
@@ -238,7 +242,7 @@ class Plan:
         between = self.between(trace, kept)
         out = np.flatnonzero(self.reasons != "")
         reasons = pd.Series(self.reasons[out], index=pd.Index(out, name="row"), dtype=object, name="reason")
-        return Traces(path, numbers, rows, drives, reasons, between, self.notes, table["x"], table["y"])
+        return Traces(path, numbers, rows, drives, reasons, between, self.notes, table["x"], table["y"], self.places)
 
     def between(self, trace: np.ndarray, kept: np.ndarray) -> pd.DataFrame:
         """Where the thinned and the repeated rows belong."""

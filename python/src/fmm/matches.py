@@ -9,7 +9,8 @@ import pandas as pd
 
 from . import _match_tables, _summaries
 from ._match_text import MatchText
-from ._solution import Solution
+from ._places import DrivenLines
+from ._solution import RowPlaces, Solution
 from ._traces import Traces
 from .errors import OptionError, PathText
 from .network import Network
@@ -41,7 +42,8 @@ class Matches:
         self.network, self.options, self.evidence, self.crs = network, options, evidence, crs
         self.left_out = pd.DataFrame(columns=["row", "file", "line", "id", "reason"])
         self.solution: Optional[Solution] = None
-        self._driven: Optional[tuple[np.ndarray, np.ndarray]] = None
+        self._driven: Optional[DrivenLines] = None
+        self._rows: Optional[RowPlaces] = None
         self._tables: Dict[str, geopandas.GeoDataFrame] = {}
         self._stretches: Dict[float, _summaries.Stretches] = {}
         self._report = Report()
@@ -82,8 +84,8 @@ class Matches:
         | geometry | Point | the place on the edge; where there is none, the measured place |
         """
         if "points" not in self._tables:
-            solution = self._known_solution()
-            self._tables["points"] = _match_tables.points(solution, solution.row_places(self.far), self.crs)
+            self._tables["points"] = _match_tables.points(self._known_solution(), self.row_places(), self.crs)
+            self._rows = None
         return self._tables["points"]
 
     @property
@@ -220,14 +222,21 @@ class Matches:
         """The report of matches that were read from a file."""
         self._report = report
 
+    def row_places(self) -> RowPlaces:
+        """Where each row of the input belongs."""
+        if self._rows is None:
+            self._rows = self._known_solution().row_places(self.far)
+        return self._rows
+
     def _known_solution(self) -> Solution:
         assert self.solution is not None
         return self.solution
 
-    def _lines(self) -> tuple[np.ndarray, np.ndarray]:
-        """The lines of the driven edges."""
+    def _lines(self) -> DrivenLines:
+        """The lines of the driven edges in the CRS."""
         if self._driven is None:
-            self._driven = self._known_solution().driven_lines()
+            solution = self._known_solution()
+            self._driven = _match_tables.lines_in_crs(solution, solution.driven_lines(), self.crs)
         return self._driven
 
     def _metres(self) -> np.ndarray:

@@ -68,7 +68,7 @@ def report_of(matches: Matches, suggestion: Any, given: Dict[str, Any]) -> Repor
     """The report of matches that were just solved."""
     solution = matches.solution
     assert solution is not None
-    places = solution.row_places(matches.far)
+    places = matches.row_places()
     reasons, counts = np.unique(places.reason[places.street < 0].astype(str), return_counts=True)
     order = np.argsort(-counts, kind="stable")
     report = Report(

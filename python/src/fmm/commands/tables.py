@@ -23,6 +23,7 @@ from .. import _programs
 from .._checks import compare_lines, compare_places, compare_traces
 from .._evidence import checksum_of, compare, part, read_side_file
 from .._match_text import MatchText, read_match
+from .._plain_numbers import plain_numbers
 from .._ragged import runs
 from .._tables import numbers, read_table, whole_numbers
 from .._traces import Traces
@@ -34,8 +35,8 @@ from ..positions import Positions, Source
 from ..projection import Projection
 from ._parser import Parser
 
-LAST = 4_294_967_295
-COLUMNS = ("trace", "x", "y", "time")
+LAST, MOST = 4_294_967_295, 10 ** 9
+HEADERS = (["trace", "x", "y"], ["trace", "x", "y", "time"])
 UNITS = {"k": 1.0, "workers": 1.0, "gap": 1.0}  # the others are centimetres
 HINT = "; write the options of the match after --, or --trust to take it as it is"
 
@@ -113,18 +114,29 @@ def check_side_file(path: str, network: Network) -> None:
 
 def read_traces(path: str) -> Tuple[np.ndarray, np.ndarray, np.ndarray, np.ndarray]:
     """Trace, x, y (int64) and time (float64, NaN without times) of each position of a trace file."""
+    plain = plain_numbers(path)
+    if plain is not None and are_traces(plain):
+        trace = plain["trace"]
+        return trace, plain["x"], plain["y"], plain["time"].astype(np.float64) if "time" in plain else np.full(len(trace), np.nan)
     frame = read_table(path)
     header = list(frame.columns)
-    if header not in (list(COLUMNS[:3]), list(COLUMNS)):
+    if header not in HEADERS:
         raise InputError(f"the header is {','.join(header)[:60]}, not trace,x,y or trace,x,y,time", path)
     x, y = (whole(frame, name) for name in ("x", "y"))
     time = whole_numbers(frame, "time", 0, LAST).astype(np.float64) if "time" in header else np.full(len(frame), np.nan)
     return whole_numbers(frame, "trace", 0, LAST), x, y, time
 
 
+def are_traces(columns: Dict[str, np.ndarray]) -> bool:
+    """Whether columns of whole numbers are those of traces."""
+    limits = {"trace": (0, LAST), "x": (-MOST, MOST), "y": (-MOST, MOST), "time": (0, LAST)}
+    return list(columns) in HEADERS and all(limits[name][0] <= values.min() and values.max() <= limits[name][1]
+                                            for name, values in columns.items())
+
+
 def whole(frame: pd.DataFrame, name: str) -> np.ndarray:
     """A column of whole centimetres."""
-    values = numbers(frame, name, -10 ** 9, 10 ** 9)
+    values = numbers(frame, name, -MOST, MOST)
     wrong = np.flatnonzero(values != np.rint(values))
     if len(wrong):
         at = int(wrong[0])
@@ -164,7 +176,8 @@ def traces_of(path: str, frame: pd.DataFrame, text: MatchText, order: np.ndarray
                            "end": frame["time"].to_numpy()[last], "positions": np.diff(text.position_first)},
                           index=pd.Index(text.traces, name="trace"))
     nothing = pd.DataFrame({"row": [], "trace": [], "point": []}, dtype=np.int64)
-    return Traces(Path(path), text.traces[text.trace_of], order, drives, pd.Series([], dtype=object), nothing)
+    places = np.rint(100 * frame[["x", "y"]].to_numpy()).astype(np.int64)
+    return Traces(Path(path), text.traces[text.trace_of], order, drives, pd.Series([], dtype=object), nothing, places=places)
 
 
 def run_again(network: Network, args: Any, text: MatchText, words: Sequence[str]) -> Dict[str, Any]:
