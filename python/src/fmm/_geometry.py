@@ -68,12 +68,11 @@ def _fill(out: np.ndarray, rows: np.ndarray, kind: type, xy: np.ndarray, first: 
     made = _made(kind, xy, first, counts)
     with _no_collection():
         if made is not None:
-            new, put = object.__new__, object.__setattr__
+            new = object.__new__
             for row, pointer in zip(rows.tolist(), made):
                 geometry: Any = new(kind)
-                put(geometry, "__geom__", pointer)
-                put(geometry, "_ndim", 2)
-                put(geometry, "_is_empty", False)
+                about = geometry.__dict__
+                about["__geom__"], about["_ndim"], about["_is_empty"] = pointer, 2, False
                 out[row] = geometry
             return
         places = xy.tolist()
@@ -84,15 +83,16 @@ def _fill(out: np.ndarray, rows: np.ndarray, kind: type, xy: np.ndarray, first: 
 def _made(kind: type, xy: np.ndarray, first: np.ndarray, counts: np.ndarray) -> Optional[Iterator[int]]:
     """Makes geometries of GEOS, and gives their addresses; None where GEOS is older than 3.10."""
     from shapely import geos
-    library, handle = geos._lgeos, repeat(geos.lgeos.geos_handle)  # the functions of GEOS that shapely 1.8 has opened
+    library = geos._lgeos  # the functions of GEOS that shapely 1.8 has opened
     if not hasattr(library, "GEOSCoordSeq_copyFromBuffer_r"):
         return None
-    pointer, whole, number = ctypes.c_void_p, ctypes.c_int, ctypes.c_double
+    pointer, whole, number, function = ctypes.c_void_p, ctypes.c_int, ctypes.c_double, ctypes.PYFUNCTYPE
+    handle = repeat(pointer(geos.lgeos.geos_handle))
     if kind is shapely.geometry.Point:
-        point = ctypes.CFUNCTYPE(pointer, pointer, number, number)(("GEOSGeom_createPointFromXY_r", library))
+        point = function(pointer, pointer, number, number)(("GEOSGeom_createPointFromXY_r", library))
         return map(point, handle, *xy[first].T.tolist())
-    copy = ctypes.CFUNCTYPE(pointer, pointer, pointer, ctypes.c_uint, whole, whole)(("GEOSCoordSeq_copyFromBuffer_r", library))
-    line = ctypes.CFUNCTYPE(pointer, pointer, pointer)(("GEOSGeom_createLineString_r", library))
+    copy = function(pointer, pointer, pointer, ctypes.c_uint, whole, whole)(("GEOSCoordSeq_copyFromBuffer_r", library))
+    line = function(pointer, pointer, pointer)(("GEOSGeom_createLineString_r", library))
     return map(line, handle, map(copy, handle, (xy.ctypes.data + 16 * first).tolist(), counts.tolist(), repeat(0), repeat(0)))
 
 
