@@ -93,6 +93,6 @@ def test_a_real_map(extract: Path, tmp_path: Path, monkeypatch: pytest.MonkeyPat
     if not shutil.which("ogrinfo"):
         pytest.skip("reading the layers of a real map again, since there is no ogrinfo")
     for name, wanted in (("points", count), ("routes", len(found.routes)), ("edges", len(found.edges)),
-                         ("network", network.edge_count)):
+                         ("network", network.edge_count), ("stops", len(found.stops()))):
         shown = layer(tmp_path / "out" / "result.gpkg", name)
         assert f"Feature Count: {wanted}\n" in shown and 'ID["EPSG",4326]' in shown, name

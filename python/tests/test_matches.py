@@ -12,6 +12,7 @@ import pandas as pd
 import pytest
 import simulated
 
+from fmm._summaries import travel_times
 from fmm.errors import MismatchError, OptionError
 from fmm.matches import Matches
 from fmm.matching import match
@@ -90,6 +91,14 @@ def test_travel_times_leave_out_parking(fleet: Tuple[Matches, simulated.Truth, p
     assert matches.edges["seconds"].max() > 2000
     assert matches.travel_times(standing=None)["seconds"].max() > 150
     assert (found["speed"] < 80).all() and (found["name"] != "").all()
+
+
+def test_a_vehicle_that_stood_nearly_all_the_time_has_no_travel_time() -> None:
+    """As in a roundabout on which it parked: 18 m are no road of 0.1 ms."""
+    edges = pd.DataFrame({"edge": 1, "metres": 18.0, "seconds": [272.0, 6.0], "whole": True, "way": "7", "class": "primary",
+                          "name": "", "ref": "", "direction": "forward", "maxspeed": np.nan})
+    found = travel_times(edges, np.array([271.9999, 0.0]), {})
+    assert found["drives"].tolist() == [1] and found["seconds"].tolist() == [6.0]
 
 
 def test_distances_are_those_driven(fleet: Tuple[Matches, simulated.Truth, pd.DataFrame]) -> None:

@@ -21,9 +21,9 @@ def test_columns_of_whole_numbers(tmp_path: Path) -> None:
 
 
 @pytest.mark.parametrize("text", [
-    "", "a,b\n", "a,b", "a,b\n1,2", "a,b\n1,2\n\n", "a,b\n\n1,2\n", "a,b\n1,2,3\n", "a,b\n1\n", "a,b\n1,\n", "a,b\n,\n", "a,b\n1,-\n",
-    "a,b\n1,1-2\n", "a,b\n1,--2\n", "a,b\n1,+2\n", "a,b\n1, 2\n", "a,b\n1,2.0\n", "a,b\n1,2e3\n", "a,b\r\n1,2\r\n", '"a",b\n1,2\n',
-    "a,b\n1,2\n\0", "a,ü\n1,2\n", "a,b\n1," + "9" * 40 + "\n", "a,b\n1," + "-" + "9" * 40 + "\n",
+    "", "a,b\n", "a,b", "a,b\n1,2", "a,b\n1,2\n\n", "a,b\n\n1,2\n", "a,b\n1,2,3\n", "a,b\n1\n", "a,b\n1,\n", "a,b\n,\n",
+    "a,b\n1,-\n", "a,b\n1,1-2\n", "a,b\n1,--2\n", "a,b\n1,+2\n", "a,b\n1, 2\n", "a,b\n1,2.0\n", "a,b\n1,2e3\n",
+    "a,b\r\n1,2\r\n", '"a",b\n1,2\n', "a,b\n1,2\n\0", "a,ü\n1,2\n", "a,b\n1," + "9" * 40 + "\n", "a,b\n1,-" + "9" * 40 + "\n",
 ])
 def test_everything_else_is_left_to_the_strict_reader(tmp_path: Path, text: str) -> None:
     path = tmp_path / "t.csv"

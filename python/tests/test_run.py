@@ -61,8 +61,10 @@ def test_results(place: Path, capsys: pytest.CaptureFixture[str]) -> None:
 def test_layers(place: Path) -> None:
     """The GeoPackage has typed layers, as GDAL itself reads them."""
     assert run("village.osm", "monday.gpx") == 0
-    layers = {name: geopandas.read_file("out/result.gpkg", layer=name) for name in ("points", "routes", "edges", "network")}
+    names = ("points", "routes", "edges", "network", "stops")
+    layers = {name: geopandas.read_file("out/result.gpkg", layer=name) for name in names}
     assert [len(layers[name]) for name in ("points", "routes", "network")] == [33, 2, 26]
+    assert len(layers["stops"]) == len(rows("stops.csv"))
     assert layers["edges"]["seconds"].dtype == float and layers["edges"].crs == 4326
     if not shutil.which("ogrinfo"):
         pytest.skip("the layers as ogrinfo reads them, since there is no ogrinfo")

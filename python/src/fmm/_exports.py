@@ -33,14 +33,14 @@ DECIMALS = {"offset": 2, "distance": 8, "margin": 0, "seconds": 3, "metres": 2, 
 TAKEN = ("fid", "geom", "geometry", "ogc_fid", "wkt")
 
 
-def to_file(matches: Matches, path: PathText, layer: Optional[str] = None) -> None:
+def to_file(matches: Matches, path: PathText, layer: Optional[str], standing: float) -> None:
     """Writes a GeoPackage, files of GeoJSON, or a folder of .csv files with their column types."""
     name = os.fspath(path)
     inputs = [source["path"] for source in matches.evidence.get("sources", []) if source.get("sha256")]
     inputs += [] if matches.network is None else [os.fspath(matches.network.path)]
     with Outputs(inputs) as outputs:
         if name.endswith(".gpkg"):
-            written = to_geopackage(matches, outputs, name)
+            written = to_geopackage(matches, outputs, name, standing)
         elif name.endswith((".geojson", ".json")):
             written = to_geojson(matches, outputs, name, layer)
         elif Path(name).suffix and not Path(name).is_dir():
@@ -90,9 +90,9 @@ def layers_of(matches: Matches) -> Dict[str, geopandas.GeoDataFrame]:
     return layers
 
 
-def to_geopackage(matches: Matches, outputs: Outputs, path: str) -> Dict[str, str]:
+def to_geopackage(matches: Matches, outputs: Outputs, path: str, standing: float) -> Dict[str, str]:
     unfinished = outputs.path(path)
-    for name, frame in layers_of(matches).items():
+    for name, frame in {**layers_of(matches), "stops": matches.stops(standing)}.items():
         write_layer(safe(frame), unfinished, "GPKG", name, path)
     return {Path(path).name: checksum_of(unfinished)}
 

@@ -11,7 +11,8 @@ import geopandas
 from ._output import reason
 from .errors import InputError, OutputError, PathText
 
-SHAPES = {"points": "Point", "routes": "LineString", "edges": "LineString", "network": "LineString"}
+SHAPES = {"points": "Point", "routes": "LineString", "edges": "LineString", "network": "LineString",
+          "stops": "Point"}
 
 
 def engine() -> str:

@@ -10,6 +10,7 @@ import pandas as pd
 from . import _geometry
 from ._places import DrivenLines
 from ._solution import RowPlaces, Solution, seconds_to_times
+from .options import FASTEST
 
 ABOUT = ("way", "class", "name", "ref")
 POINT_COLUMNS = ("id", "time", "x", "y", "trace", "point", "piece", "edge", "offset", "distance", "margin", *ABOUT, "reason",
@@ -130,7 +131,8 @@ def edges(solution: Solution, crs: Any, lines: DrivenLines, standing: Optional[n
     stood = np.where(np.isnan(seconds), np.nan, 0 if standing is None else np.minimum(standing, seconds))
     metres = driven.metres
     with np.errstate(invalid="ignore", divide="ignore"):
-        speed = np.where((seconds - stood > 0) & (metres > 0), 3.6 * metres / (seconds - stood), np.nan)
+        known = (seconds - stood > 0) & (metres > 0) & ((stood == 0) | (metres <= FASTEST * (seconds - stood)))
+        speed = np.where(known, 3.6 * metres / (seconds - stood), np.nan)
     columns = {
         "id": solution.ids[trace], "trace": text.traces[trace], "piece": solution.piece_numbers()[driven.piece],
         "number": driven.number, "edge": solution.network.streets.ids[driven.edge],

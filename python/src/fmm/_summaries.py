@@ -11,6 +11,7 @@ import pandas as pd
 from . import _geometry
 from ._stops import Standing, Track, overlaps, standing
 from .errors import OptionError
+from .options import FASTEST
 
 ABOUT = ["way", "class", "name", "ref"]
 TIMES = ("hour", "day", "weekday")
@@ -110,9 +111,10 @@ def keys_of(edges: pd.DataFrame, points: pd.DataFrame, by: By, zone: str) -> Dic
 
 
 def travel_times(edges: pd.DataFrame, stood: np.ndarray, keys: Dict[str, Any]) -> pd.DataFrame:
-    """The time that whole edges took, without the seconds in `stood`."""
+    """The time that whole edges took, without the seconds in `stood`. A vehicle that stood nearly all the time says nothing."""
     seconds = edges["seconds"].to_numpy(np.float64) - stood
     used = edges["whole"].to_numpy(bool) & np.isfinite(seconds)
+    used &= (stood == 0) | (edges["metres"].to_numpy(np.float64) <= FASTEST * seconds)
     table = pd.DataFrame({"edge": edges["edge"].array, **keys, "metres": edges["metres"].array, "seconds": seconds})[used]
     grouped = table.groupby(["edge", *keys], sort=True, observed=True)
     out = grouped.agg(drives=("seconds", "size"), seconds=("seconds", "mean"), median=("seconds", "median"),

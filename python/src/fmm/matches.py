@@ -171,12 +171,13 @@ class Matches:
             raise OptionError(f"seconds is a number above 0, not {seconds}")
         return _summaries.stops(self.points, self._stretches_of(float(seconds)), self._from_metres, self.points.crs)
 
-    def to_file(self, path: PathText, layer: Optional[str] = None) -> None:
-        """Writes the tables points, routes, edges and network: as layers of `result.gpkg`; as a folder of .csv files, where the
-        network is network_edges.csv; or, for `result.geojson`, as result.points.geojson, .. With `layer` that file has this
-        layer alone. A side file (JSON) says what made them. open_matches reads the first two."""
+    def to_file(self, path: PathText, layer: Optional[str] = None, *, standing: float = 120.0) -> None:
+        """Writes the tables points, routes, edges and network: as layers of `result.gpkg`, which has a layer `stops` of at least
+        `standing` seconds, too; as a folder of .csv files, where the network is network_edges.csv; or, for `result.geojson`, as
+        result.points.geojson, .. With `layer` that file has this layer alone. A side file (JSON) says what made them.
+        open_matches reads the first two."""
         from ._exports import to_file
-        to_file(self, path, layer)
+        to_file(self, path, layer, standing)
 
     def to_postgis(self, engine: Any, *, schema: Optional[str] = None, replace: bool = False) -> None:
         """Writes the tables points, routes, edges and network to a PostGIS database, all or none of them."""

@@ -8,7 +8,7 @@ import numpy as np
 
 from ._noise import Motion, interval_of, moving_noise, noise_beside, residual_noise, speed_of, standing_noise
 from ._traces import Plan
-from .options import Options
+from .options import FASTEST, Options
 from .positions import Positions
 
 USUAL_NOISE = 5.0  # metres of a usual receiver, where the data show nothing
@@ -17,7 +17,6 @@ OFF_ROAD = 4.0  # times the error that motion shows: what is farther from the ro
 GAP = 300.0  # seconds
 MANY = 16  # candidates: at a junction of five streets ten edges are about as near as the true one
 BETA = 0.08  # see suggest
-FASTEST = 70.0  # metres a second
 
 
 @dataclass(frozen=True)

@@ -5,7 +5,7 @@ format that geopandas reads. POSITIONS are GPX files, tables of comma-separated 
 with rows in any order.
 
 FOLDER gets
-  result.gpkg                        the layers points, routes, edges and network
+  result.gpkg                        the layers points, routes, edges, network and stops
   points.csv, routes.csv, edges.csv  a row for each position, each piece of road, and each driven edge
   network_edges.csv                  a row for each edge of the network
   travel_times.csv                   how long each street took, by hour
@@ -174,7 +174,7 @@ def write_all(matches: Matches, folder: Path, values: Any, notes: list[str]) -> 
     from .._output import Outputs
     from ..report import Report
     write_map(matches, folder, values, notes)  # adds margins to the points
-    matches.to_file(folder / "result.gpkg")
+    matches.to_file(folder / "result.gpkg", standing=values.standing)
     write_tables(matches, folder, values)
     report: Report = matches.report
     try:
