@@ -58,6 +58,7 @@ def test_results(place: Path, capsys: pytest.CaptureFixture[str]) -> None:
     assert json.loads(Path("out/result.json").read_text())["kind"] == "matches"
 
 
+@pytest.mark.filterwarnings("error:You are attempting to write an empty DataFrame")
 def test_layers(place: Path) -> None:
     """The GeoPackage has typed layers, as GDAL itself reads them."""
     assert run("village.osm", "monday.gpx") == 0

@@ -3,6 +3,7 @@ from __future__ import annotations
 
 import importlib.util
 import logging
+import warnings
 from pathlib import Path
 from typing import Any, Dict, List
 
@@ -36,7 +37,9 @@ def write_layer(frame: geopandas.GeoDataFrame, path: Path, driver: str, layer: s
     level = log.level
     log.setLevel(logging.CRITICAL)
     try:
-        frame.to_file(path, driver=driver, engine=engine(), **words, **shape_of(frame, SHAPES[layer]))
+        with warnings.catch_warnings():
+            warnings.filterwarnings("ignore", "You are attempting to write an empty DataFrame")  # such as no stops
+            frame.to_file(path, driver=driver, engine=engine(), **words, **shape_of(frame, SHAPES[layer]))
     except OSError as fault:
         raise OutputError(f"{name}: {reason(fault)}") from None
     except Exception as fault:  # the libraries' own exceptions differ
