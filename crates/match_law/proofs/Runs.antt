@@ -9,7 +9,11 @@ use Rattle.command_line.specs.declared.fault.WordsFault.{WordsFault}
 use Rattle.cost_model.specs.declared.params.Params.{Params}
 use Rattle.edge_io.specs.Sink.{Rose}
 use Rattle.edge_io.specs.State.{ShelfState, SinkState, new_shelf, new_sink}
-use Rattle.match_law.specs.MatchIsLeast.{IsMatchRun, MatchIsLeast, Wrote}
+use Rattle.listed_files.specs.NetworkText.{NetworksAreRead, network_text}
+use Rattle.listed_files.specs.TraceText.{TracesAreRead, traces_text}
+use Rattle.match_law.specs.ListedMatch.{ListedMatchIsLeast}
+use Rattle.match_law.specs.MatchIsLeast.{IsMatchRun, MatchIsLeast}
+use Rattle.match_law.specs.Wrote.{Wrote}
 use Rattle.match_law.proofs.Texts.{match_text, texts_are_least}
 use Rattle.match_work.specs.Matches.{match_text as match_job}
 use Rattle.program_frame.specs.Asked.{asked_of}
@@ -141,3 +145,21 @@ match_is_least words files n p traces shelf out err status run kept =
           (subst (λ (ts : List Trace). All IsLawfulTrace ts) run.traces_are (IsLawfulTrace-file_traces run.trace_bytes)),
       wrote words files text shelf out err status (outcome_is words files n p traces run) kept,
     )
+
+-- ---- files that list a network and traces
+
+pub listed_match_is_least : NetworksAreRead → TracesAreRead → ListedMatchIsLeast
+listed_match_is_least networks_are_read traces_are_read words files n p traces shelf out err status run kept =
+    let says = traces_are_read traces run.traces_listed in
+    match_is_least words files n p traces shelf out err status (record {
+      network = run.network;
+      positions = run.positions;
+      network_bytes = network_text n;
+      trace_bytes = traces_text traces;
+      words_are = run.words_are;
+      network_held = run.network_held;
+      traces_held = run.traces_held;
+      network_is = networks_are_read n run.network_listed;
+      traces_are = says.are;
+      faultless = says.faultless;
+    }) kept
