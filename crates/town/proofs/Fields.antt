@@ -1,20 +1,12 @@
 -- What `csv` and the network reader make of the fields of an edge.
-use Rattle.std.proofs.Common.{◌≡◌, ◌⊎◌, ℕ, zero, suc, ◌*◌, ◌<◌, ◌≤◌, ◌^◌, ◌==◌, false, List, [], ◌∷◌, ◌++◌, All, length, pos, Ok, map, codes, refl, ap, ◌∙◌, inl, inr, ⊎_elim, arith, append_assoc}
-use Rattle.std.specs.List.{list_any, slice_split, before_first, after_first}
+use Rattle.std.proofs.Common.{◌≡◌, ℕ, ◌*◌, ◌<◌, ◌≤◌, ◌^◌, ◌==◌, false, List, [], ◌∷◌, ◌++◌, All, pos, Ok, codes, refl, ap, ◌∙◌, inl, inr, arith, append_assoc}
+use Rattle.std.specs.List.{slice_split}
 use Rattle.std.proofs.lemmas.Bool.{ne_eqb}
-use Rattle.std.proofs.lemmas.List.{append-nil}
 use Rattle.std.proofs.lemmas.List.Elements.{All-append, All-cons, All-nil, All-weaker}
-use Rattle.std.proofs.lemmas.List.Folds.{list_any_none}
 use Rattle.std.proofs.lemmas.List.Splits.{slice_split_at, slice_split_none}
-use Rattle.csv.specs.Reading.{default_config, records_from, records_next}
-use Rattle.csv.specs.Machine.{next_record}
-use Rattle.csv.specs.Writing.{default_writer, fields_text, is_blank as is_blank_record, needs_byte, read_back, row_text}
-use Rattle.csv.specs.declared.parser.State.TheVariants as st
-use Rattle.csv.proofs.RoundTrip.{read-write}
-use Rattle.decimal_text.specs.Blank.{is_blank, trim}
-use Rattle.decimal_text.specs.Number.{decimal, signed_within}
-use Rattle.decimal_text.proofs.Laws.{length-decimal, signed_within-signed_decimal}
-use Rattle.road_network.specs.NetworkFile.{both, line_of, make_point, point_of, points_of}
+use Rattle.csv.specs.Writing.{default_writer, row_text}
+use Rattle.decimal_text.specs.Number.{decimal}
+use Rattle.road_network.specs.NetworkFile.{line_of, point_of, points_of}
 use Rattle.town.specs.declared.corner.Corner.{Corner}
 use Rattle.town.specs.Network.{edge_line, line_text, place_of, place_text}
 use Rattle.town.specs.Corners.{node_id}

@@ -1,16 +1,15 @@
 -- The network file of a town: its text is that of its records, and they are read back.
-use Rattle.std.proofs.Common.{◌≡◌, ◌⊎◌, ℕ, zero, suc, ◌+◌, ◌*◌, ◌/◌, ◌%◌, ◌<◌, ◌≤◌, ◌^◌, cond, List, [], ◌∷◌, ◌++◌, All, length, Ok, Err, map, codes, refl, sym, ap, ap₂, ◌∙◌, subst, inl, inr, arith, add-one, append_assoc, length-append, mul-le-mul, div-le_self}
+use Rattle.std.proofs.Common.{◌≡◌, ◌⊎◌, ℕ, zero, suc, ◌+◌, ◌*◌, ◌/◌, ◌%◌, ◌<◌, ◌≤◌, ◌^◌, List, [], ◌∷◌, ◌++◌, All, length, Ok, map, codes, refl, sym, ap, ap₂, ◌∙◌, subst, inl, inr, arith, add-one, append_assoc, length-append, mul-le-mul, div-le_self}
 use Rattle.std.specs.List.{fold}
-use Rattle.std.proofs.lemmas.Bool.{cases_Bool, le-ltb}
+use Rattle.std.proofs.lemmas.Bool.{cases_Bool}
 use Rattle.std.proofs.lemmas.List.Elements.{All-append, All-cons, All-head, All-nil, All-tail}
-use Rattle.csv.specs.Reading.{default_config, records, records_from, strip_bom}
-use Rattle.csv.specs.Writing.{default_writer, fields_text, is_blank as is_blank_record, read_back, row_text}
+use Rattle.csv.specs.Reading.{default_config, records, records_from}
+use Rattle.csv.specs.Writing.{default_writer, read_back, row_text}
 use Rattle.csv.specs.declared.parser.State.TheVariants as st
 use Rattle.decimal_text.specs.Number.{decimal}
 use Rattle.decimal_text.proofs.Laws.{length-decimal}
 use Rattle.road_network.specs.declared.limits.NetworkLimits.TheVariants.{Standard}
-use Rattle.road_network.specs.NetworkFile.{add_records, header, network_of, network_of_records, no_net, with_row}
-use Rattle.road_network.specs.declared.fault.NetworkFault.TheVariants as fault
+use Rattle.road_network.specs.NetworkFile.{header, network_of, network_of_records, no_net, with_row}
 use Rattle.town.specs.declared.corner.Corner.{Corner}
 use Rattle.town.specs.declared.corner.Heading.{Heading}
 use Rattle.town.specs.declared.corner.Heading.TheVariants.{East, North}

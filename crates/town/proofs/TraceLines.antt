@@ -1,16 +1,16 @@
 -- The lines of a trace file, read one after the other.
-use Rattle.std.proofs.Common.{◌≡◌, ◌⊎◌, ℕ, ◌+◌, ◌<◌, ◌≤◌, ◌^◌, ◌==◌, false, List, [], ◌∷◌, ◌++◌, All, length, get_or, ◌-◌, ℤ, nat_abs, Ok, Result, Some, codes, refl, sym, ap, ◌∙◌, inl, arith, append_assoc, length-append}
+use Rattle.std.proofs.Common.{◌≡◌, ◌⊎◌, ℕ, ◌+◌, ◌<◌, ◌≤◌, ◌^◌, ◌==◌, false, List, [], ◌∷◌, ◌++◌, All, length, get_or, ◌-◌, nat_abs, Ok, Result, Some, codes, refl, sym, ap, ◌∙◌, inl, arith, append_assoc, length-append}
 use Rattle.std.specs.List.{list_all, slice_split}
 use Rattle.std.proofs.lemmas.Bool.{ne_eqb}
-use Rattle.std.proofs.lemmas.List.{get_or_append_left, get_or-append-add}
+use Rattle.std.proofs.lemmas.List.{get_or_append_left}
 use Rattle.std.proofs.lemmas.List.Elements.{All-append, All-cons, All-nil}
 use Rattle.std.proofs.lemmas.List.Splits.{slice_split_at, slice_split_none}
 use Rattle.decimal_text.specs.Blank.{is_blank}
-use Rattle.decimal_text.specs.Number.{decimal, signed_decimal, signed_within, unsigned_within}
-use Rattle.decimal_text.proofs.Laws.{length-decimal, signed_within-signed_decimal, unsigned_within-decimal}
+use Rattle.decimal_text.specs.Number.{decimal, signed_decimal}
+use Rattle.decimal_text.proofs.Laws.{length-decimal}
 use Rattle.trace_reader.specs.Content.{Content, add_row, read_line, without_return}
 use Rattle.trace_reader.specs.Reading.{Progress, Reading, end_line, read_bytes, reads}
-use Rattle.trace_reader.specs.Row.{coordinate_of, fields_of, row_of, u32_of}
+use Rattle.trace_reader.specs.Row.{fields_of, row_of}
 use Rattle.trace_reader.specs.declared.row.Header.TheVariants.{Untimed}
 use Rattle.trace_reader.specs.declared.row.Row.{Row}
 use Rattle.trace_reader.specs.declared.trace.Fix.{Fix}
@@ -19,7 +19,7 @@ use Rattle.trace_reader.proofs.Lines.{row_line}
 use Rattle.trace_reader.proofs.Unended.{read_ended, with_part}
 use Rattle.town.specs.Traces.{fix_line}
 use Rattle.listed_files.proofs.Traces.{coordinate-read, first-solid, last-place, number-read}
-use Rattle.listed_files.proofs.Numerals.{in-decimal, in-signed, length-signed, none-is, solid-at, trim-number}
+use Rattle.listed_files.proofs.Numerals.{in-decimal, in-signed, length-signed, none-is, solid-at}
 
 -- a fix whose line can be read back: under the header without times
 pub record IsPlainFix (fix : Fix) : Type 0 where
