@@ -1,5 +1,5 @@
 -- Which option is out of its range.
-use Rattle.std.specs.Prelude.{ℕ, ◌≤◌}
+use Rattle.std.specs.Prelude.{◌≤◌}
 use Rattle.cost_model.specs.declared.params.Params.{Params}
 use Rattle.cost_model.specs.declared.params.ParamFault.{ParamFault}
 use Rattle.cost_model.specs.declared.params.ParamFault.TheVariants.{KRange, RadiusRange, SigmaRange, BetaRange, BoundRange, WorkersRange, BackRange}

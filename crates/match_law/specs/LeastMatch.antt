@@ -4,7 +4,7 @@ use Rattle.std.specs.List.{AllZip, Contains, concat, range_with_len, sum_by}
 use Rattle.cost_model.specs.Costs.{difference, emission, transition}
 use Rattle.cost_model.specs.declared.params.Params.{Params}
 use Rattle.decimal_text.specs.Number.{decimal}
-use Rattle.match_text.specs.MatchText.{text_of}
+use Rattle.match_text.specs.Lines.{text_of}
 use Rattle.match_text.specs.declared.matched.Label.{Label}
 use Rattle.match_text.specs.declared.matched.Label.TheVariants.{Missing, On}
 use Rattle.match_text.specs.declared.matched.MatchedTrace.{MatchedTrace}

@@ -1,26 +1,32 @@
 -- What `fmm match NET TRACES` does where the two files list a network and traces: it writes the least match
 -- of each trace.
-use Rattle.std.specs.Prelude.{◌≡◌, ℕ, List, [], Option, Some, None, Ok}
-use Rattle.command_line.specs.Work.PlainWork.{match_files}
-use Rattle.command_line.specs.Words.{command_of}
+use Rattle.std.specs.Prelude.{◌≡◌, ℕ, List, [], Option, Some, IfSome, unwrap_or}
+use Rattle.cost_model.specs.Options.{default_options}
 use Rattle.cost_model.specs.declared.params.Params.{Params}
 use Rattle.edge_io.specs.State.{ShelfState, SinkState, new_shelf, new_sink}
 use Rattle.listed_files.specs.NetworkText.{IsListed, network_text}
 use Rattle.listed_files.specs.TraceText.{AreListed, traces_text}
 use Rattle.match_law.specs.LeastMatch.{IsMatchText}
 use Rattle.match_law.specs.Wrote.{Wrote}
+use Rattle.match_words.specs.MatchWords.{AreInRange, IsName, match_words}
 use Rattle.program_frame.specs.Promises.{Promises}
 use Rattle.program_run.specs.RunLines.{run_lines}
 use Rattle.program_run.specs.Words.{asked_by}
 use Rattle.road_network.specs.Net.{Net}
 use Rattle.trace_reader.specs.declared.trace.Trace.{Trace}
 
--- the words ask to match, with these options; the files that they name list this network and these traces
+-- the words are `match NETWORK TRACES`, alone or with options in their ranges; the two files list this
+-- network and these traces
 pub record IsListedRun (words : List (List ℕ)) (files : List ℕ → Option (List ℕ)) (n : Net) (p : Params)
     (traces : List Trace) : Type 0 where
   pub network : List ℕ
   pub positions : List ℕ
-  pub words_are : command_of words ≡ Ok (record { work = match_files network positions None; options = p })
+  pub given : Option Params
+  pub words_are : words ≡ match_words network positions given
+  pub network_named : IsName network
+  pub traces_named : IsName positions
+  pub in_range : IfSome given AreInRange
+  pub options_are : p ≡ unwrap_or given default_options
   pub network_held : files network ≡ Some (network_text n)
   pub traces_held : files positions ≡ Some (traces_text traces)
   pub network_listed : IsListed n

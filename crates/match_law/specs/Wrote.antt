@@ -2,7 +2,8 @@
 use Rattle.std.specs.Prelude.{◌≡◌, ◌≢◌, ◌⊎◌, ℕ, List, [], take, Some}
 use Rattle.edge_io.specs.State.{ShelfState, SinkState}
 
--- the run wrote this text, or it ended early for the reason that its status says, after a part of the text
+-- the run wrote this text, or it ended early after a part of the text: out of memory (1), after a failed read
+-- (3) or after a failed write (4)
 pub record Wrote (text : List ℕ) (shelf : ShelfState) (out err : SinkState) (status : ℕ) : Type 0 where
   pub done : status ≡ 0 → (out.written ≡ Some text) × (err.written ≡ Some [])
   pub early : status ≢ 0

@@ -11,12 +11,14 @@ ghost use Rattle.match_law.specs.MatchIsLeast.{MatchIsLeast};
 ghost use Rattle.match_law.specs.Matches.{MatchesAreLeast};
 
 use listed_files::{networks_are_read, traces_are_read};
+use match_words::match_words_are_read;
 
 /// A run of `match` over files that list a network and traces writes the least match of each trace, or ends
 /// early with status 1, 3 or 4.
 pub fn listed_match_is_least()
     ensures { ListedMatchIsLeast }
 {
+    match_words_are_read();
     networks_are_read();
     traces_are_read();
 }
