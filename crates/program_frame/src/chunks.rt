@@ -1,7 +1,6 @@
 //! A trace file in chunks. Serves every function that reads one; decided by `NextChunk`.
 ghost use Rattle.std.specs.Prelude.{◌≡◌, ◌+◌, ◌≤◌, []};
-ghost use Rattle.program_frame.specs.Chunks.{NextChunk};
-ghost use Rattle.program_frame.specs.Refusals.{trace_limit};
+ghost use Rattle.program_frame.specs.Chunks.{MayReadOn, NextChunk};
 
 use crate::stop::{File, Stop};
 use edge_io::{Shelf, Taken};
@@ -31,9 +30,10 @@ impl Chunks {
         }
     }
 
-    /// Reads the next chunk. False at the end of the file, and after the first byte above the limit.
+    /// Reads the next chunk. False at the end of the file, and after the first byte above the limit. Nothing is
+    /// read after the first fault, since the bytes so far must have none.
     pub fn next<S: Shelf>(&mut self, shelf: &mut S, name: &str) -> Result<bool, Stop>
-        requires { self.old.at ≤ trace_limit + 1 }
+        requires { MayReadOn name.now (S.state shelf.old) self.old.at }
         ensures { NextChunk name.now (S.state shelf.old) (S.state shelf.new)
             self.old.at self.new.at self.new.bytes.items result }
     {
