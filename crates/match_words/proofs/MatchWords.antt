@@ -1,14 +1,11 @@
 -- The words that ask to match are read as that.
-use Rattle.std.proofs.Common.{◌≡◌, ℕ, ◌+◌, ◌<◌, ◌≤◌, ◌^◌, ◌==◌, false, cond, List, [], ◌∷◌, ◌++◌, get_or, codes, fold, find, unwrap_or, Option, Some, None, Result, Ok, Err, refl, ap, ap₂, ◌∙◌, arith}
-use Rattle.std.specs.Option.{option_map_or}
-use Rattle.std.specs.Str.{bytes_eq}
-use Rattle.std.proofs.lemmas.Bool.{le-leb, ne_eqb}
-use Rattle.clap.specs.Faults.{check_fault, defaults_fault, bundle_fault, fault_of, flag_word_fault, level_fault, other_fault, settle_fault, step_fault, turn_fault, walk_fault}
+use Rattle.std.proofs.Common.{◌≡◌, ℕ, ◌<◌, ◌≤◌, ◌^◌, false, cond, List, [], ◌∷◌, ◌++◌, codes, find, unwrap_or, Some, None, Result, Ok, Err, refl, ap, ap₂, ◌∙◌, arith}
+use Rattle.std.proofs.lemmas.Bool.{le-leb}
+use Rattle.clap.specs.Faults.{check_fault, defaults_fault, fault_of, level_fault, settle_fault}
 use Rattle.clap.specs.Kinds.{Kinds, or_else}
-use Rattle.clap.specs.Lexer.{long_of, short_of}
 use Rattle.clap.specs.Simple.{Shape, built, label_of, new_shape, subcommand_of}
 use Rattle.clap.specs.Values.{reading_of}
-use Rattle.clap.specs.Walk.{Held, Row, Rule, Text, Waiting, Walk, after_step, answers_to, arg_by_index, finished, idle, long_or_other, next, nothing_held, option, plain_word, settled, short_or_plain, to_positional, trailing, value, walk, walk_from, walked, word_met}
+use Rattle.clap.specs.Walk.{Row, Text, Walk, answers_to, finished, idle, nothing_held, settled, walk_from}
 use Rattle.clap.specs.declared.builder.value_parser.ValueParser.TheVariants as vp
 use Rattle.clap.specs.declared.parser.matches.ValueSource.TheVariants.{CommandLine}
 use Rattle.clap.proofs.OnLiterals.{clap_on_literals}
@@ -25,111 +22,24 @@ use Rattle.command_line.specs.declared.value.ValueName.TheVariants.{K, Radius, S
 use Rattle.cost_model.specs.Options.{default_options}
 use Rattle.cost_model.specs.declared.params.Params.{Params}
 use Rattle.decimal_text.specs.Number.{decimal}
-use Rattle.decimal_text.proofs.Laws.{digit_in-decimal, length-decimal, unsigned_within-decimal}
+use Rattle.decimal_text.proofs.Laws.{unsigned_within-decimal}
 use Rattle.match_words.specs.MatchWords.{AreInRange, IsName, MatchWordsAreRead, match_words}
-
--- ---- a word that is no option
-
-record IsValue (v : Text) : Type 0 where
-  dashes : bytes_eq v (45 ∷ 45 ∷ []) ≡ false
-  long : long_of v ≡ None
-  short : short_of v ≡ None
-
-value-of : (v : Text) → IsName v → IsValue v
-value-of [] is = record { dashes = refl; long = refl; short = refl }
-value-of (byte ∷ word) is =
-    let other : (byte == 45) ≡ false = ne_eqb byte 45 is in
-    record { dashes = rw other refl; long = rw other refl; short = rw other refl }
-
-name-of : (text : List ℕ) → 48 ≤ get_or text 0 0 → IsName text
-name-of [] high = tt
-name-of (byte ∷ text) high = λ same. omega (arith, high, same)
-
-number-of : (n : ℕ) → n < 2 ^ 64 → IsValue (decimal n)
-number-of n small =
-    let digit = digit_in-decimal n 0 small (let some = (length-decimal n small).0 in omega (arith, some)) in
-    value-of (decimal n) (name-of (decimal n) digit.0)
-
-met-idle : (c : List Rule) (position : ℕ) (v : Text) (h : Held) → IsValue v → word_met c [] false idle position v h ≡ (h, value)
-met-idle c position v h is =
-    ap (λ b. cond b (h, trailing position) (long_or_other c idle v (long_of v) h)) is.dashes
-    ∙ ap (λ o. long_or_other c idle v o h) is.long
-    ∙ ap (λ o. short_or_plain c idle v o h) is.short
-
-met-option : (c : List Rule) (id : Text) (position : ℕ) (v : Text) (h : Held) → IsValue v → word_met c [] false (option id) position v h ≡ plain_word c (option id) v h
-met-option c id position v h is =
-    ap (λ b. cond b (h, trailing position) (long_or_other c (option id) v (long_of v) h)) is.dashes
-    ∙ ap (λ o. long_or_other c (option id) v o h) is.long
-    ∙ ap (λ o. short_or_plain c (option id) v o h) is.short
-
-free-word : (s : Shape) (v : Text) (h : Held) → IsValue v → other_fault s None v h ≡ []
-free-word s v h is =
-    ap (λ b. cond b [] (flag_word_fault s.rules s.args_override_self (long_of v) v h)) is.dashes
-    ∙ ap (λ o. flag_word_fault s.rules s.args_override_self o v h) is.long
-    ∙ ap (λ o. option_map_or (λ flags. bundle_fault s.rules s.args_override_self flags h) o []) is.short
-
--- ---- the walk over the words of `match`, without a fault
-
-abbrev at : List Row → Option (Text × List Text) → Waiting → ℕ → Walk
-at rows pending waiting position = record {
-  held = record { rows = rows; pending = pending; skip = 0 };
-  waiting = waiting;
-  position = position;
-  is_trailing = false;
-  stopped = None;
-}
-
-record Turns (s : Shape) (w : Walk) (words : List Text) (end : Walk) : Type 0 where
-  walks : fold (walked s.rules []) w words ≡ end
-  free : walk_fault s [] w words ≡ []
-
-turns-end : (s : Shape) (w : Walk) → Turns s w [] w
-unfolding walk_fault
-turns-end s w = record { walks = refl; free = refl }
-
-turns-more : (s : Shape) (w after : Walk) (word : Text) (words : List Text) (end : Walk) → walked s.rules [] w word ≡ after → turn_fault s [] w word ≡ [] → Turns s after words end → Turns s w (word ∷ words) end
-unfolding walk_fault
-turns-more s w after word words end walks free rest = record {
-  walks = ap (λ x. fold (walked s.rules []) x words) walks ∙ rest.walks;
-  free = ap₂ (λ k x. or_else k (walk_fault s [] x words)) free walks ∙ rest.free;
-}
-
--- a word goes to a positional argument
-turns-place : (s : Shape) (rows : List Row) (pending : Option (Text × List Text)) (position : ℕ) (v : Text) (words : List Text) (end : Walk) → IsValue v
-    → step_fault s position (record { rows = rows; pending = pending; skip = 0 }) value ≡ []
-    → Turns s (to_positional s.rules (arg_by_index s.rules position) v (at rows pending idle position) (record { rows = rows; pending = pending; skip = 0 })) words end
-    → Turns s (at rows pending idle position) (v ∷ words) end
-unfolding walked
-turns-place s rows pending position v words end is free rest =
-    let h : Held = record { rows = rows; pending = pending; skip = 0 } in
-    let met = met-idle s.rules position v h is in
-    turns-more s (at rows pending idle position) (to_positional s.rules (arg_by_index s.rules position) v (at rows pending idle position) h) v words end
-    (ap (λ m. after_step s.rules v (at rows pending idle position) m.0 m.1) met)
-    (ap₂ (λ k m. or_else k (step_fault s position m.0 m.1)) (free-word s v h is) met ∙ free)
-    rest
-
--- an option and its value
-turns-option : (s : Shape) (rows after : List Row) (pending : Option (Text × List Text)) (id flag v : Text) (words : List Text) (end : Walk) → IsValue v
-    → walked s.rules [] (at rows pending idle 3) flag ≡ at after (Some (id, [])) (option id) 3
-    → turn_fault s [] (at rows pending idle 3) flag ≡ []
-    → plain_word s.rules (option id) v (record { rows = after; pending = Some (id, []); skip = 0 }) ≡ (record { rows = after; pending = Some (id, v ∷ []); skip = 0 }, next idle)
-    → Turns s (at after (Some (id, v ∷ [])) idle 3) words end
-    → Turns s (at rows pending idle 3) (flag ∷ v ∷ words) end
-unfolding walked
-turns-option s rows after pending id flag v words end is walks free plain rest =
-    let h : Held = record { rows = after; pending = Some (id, []); skip = 0 } in
-    let met = met-option s.rules id 3 v h is ∙ plain in
-    turns-more s (at rows pending idle 3) (at after (Some (id, [])) (option id) 3) flag (v ∷ words) end walks free
-    (turns-more s (at after (Some (id, [])) (option id) 3) (at after (Some (id, v ∷ [])) idle 3) v words end
-    (ap (λ m. after_step s.rules v (at after (Some (id, [])) (option id) 3) m.0 m.1) met)
-    (ap₂ (λ k m. or_else k (step_fault s 3 m.0 m.1)) (free-word s v h is) met)
-    rest)
+use Rattle.match_words.proofs.Turns.{IsValue, Turns, at, number-of, turns-end, turns-option, turns-place, value-of}
 
 -- ---- the words of `match`
 
 -- `match` as the built program has it
 match_shape : Shape
 match_shape = unwrap_or (find (λ s. answers_to (codes "match") (label_of s)) (built program).subs) (new_shape [])
+
+-- the faults of a level that were found when its words were walked over, and those after them
+abbrev level_after : Walk → Kinds → Kinds
+level_after w kinds =
+    or_else kinds (or_else (settle_fault match_shape.rules match_shape.args_override_self w.held)
+    (or_else (defaults_fault (settled match_shape.rules w.held).rows match_shape.rules) (check_fault match_shape (finished match_shape.rules w.held) false)))
+
+level-is : (words : List Text) (end : Walk) → Turns match_shape (walk_from nothing_held) words end → level_fault match_shape [] nothing_held words false [] ≡ level_after end []
+level-is words end turns = ap₂ level_after turns.walks turns.free
 
 abbrev row : Text → Text → Row
 row id v = record { id = id; values = v ∷ []; count = None; source = Some CommandLine; reading = reading_of vp.String }
@@ -209,10 +119,7 @@ module _ (net tra k radius sigma beta bound workers back gap : Text) where
   module _ (turns : Turns match_shape (walk_from nothing_held) words_after last_walk) where
     free-level : level_fault match_shape [] nothing_held words_after false [] ≡ []
     unfolding clap_on_literals program match_shape
-    free-level =
-        ap₂ (λ (w : Walk) (kinds : Kinds). or_else kinds (or_else [] (or_else (settle_fault match_shape.rules match_shape.args_override_self w.held)
-        (or_else (defaults_fault (settled match_shape.rules w.held).rows match_shape.rules) (check_fault match_shape (finished match_shape.rules w.held) false)))))
-        turns.walks turns.free
+    free-level = level-is words_after last_walk turns
 
     free-words : fault_of program (codes "match" ∷ words_after) ≡ []
     unfolding clap_on_literals program match_shape
@@ -285,10 +192,7 @@ module _ (net tra : Text) where
   module _ (turns : Turns match_shape (walk_from nothing_held) (net ∷ tra ∷ []) plain_walk) where
     plain-level : level_fault match_shape [] nothing_held (net ∷ tra ∷ []) false [] ≡ []
     unfolding clap_on_literals program match_shape
-    plain-level =
-        ap₂ (λ (w : Walk) (kinds : Kinds). or_else kinds (or_else [] (or_else (settle_fault match_shape.rules match_shape.args_override_self w.held)
-        (or_else (defaults_fault (settled match_shape.rules w.held).rows match_shape.rules) (check_fault match_shape (finished match_shape.rules w.held) false)))))
-        turns.walks turns.free
+    plain-level = level-is (net ∷ tra ∷ []) plain_walk turns
 
     plain-free : fault_of program (codes "match" ∷ net ∷ tra ∷ []) ≡ []
     unfolding clap_on_literals program match_shape
