@@ -1,6 +1,6 @@
 //! The reader: a trace file in chunks, its traces one by one on the relay. Serves `live_traces`; decided
 //! by `HasRead`.
-ghost use Rattle.std.specs.Prelude.{◌≡◌, ◌+◌, ◌≤◌, []};
+ghost use Rattle.std.specs.Prelude.{◌≡◌, []};
 ghost use Rattle.program_frame.specs.Chunks.{MayReadOn};
 ghost use Rattle.live_pipeline.specs.Feeding.{HasFed};
 ghost use Rattle.live_pipeline.specs.Reading.{EndsAt, HasPut, HasRead, PutsChunks, ReadsNext};
