@@ -46,31 +46,27 @@ fn is_read_up_to_seven(alloc: Global, shelf: &mut AskedShelf) -> bool {
 
 const SIX_BEFORE_THE_LIMIT: u64 = 1_099_511_627_770;
 
-fn asks_for_seven_more(alloc: Global, shelf: &mut AskedShelf) -> bool {
-    let mut chunks = Chunks {
+fn asks_for_seven_more(alloc: Global) -> bool {
+    let chunks = Chunks {
         at: SIX_BEFORE_THE_LIMIT,
         bytes: Vec::new(alloc),
     };
-    matches!(chunks.next(&mut *shelf, "a"), Ok(false))
-        && shelf.asked.as_slice() == [(SIX_BEFORE_THE_LIMIT, 7)].as_slice()
+    chunks.wanted() == 7
 }
 
-fn stops_above_limit(alloc: Global, file: File) -> bool {
-    let Ok(mut shelf) = nine_bytes(alloc) else {
-        return false;
-    };
-    match file {
-        File::Traces => asks_for_seven_more(alloc, &mut shelf),
-        _ => is_read_up_to_seven(alloc, &mut shelf),
+fn stops_above_limit(alloc: Global) -> bool {
+    match nine_bytes(alloc) {
+        Ok(mut shelf) => is_read_up_to_seven(alloc, &mut shelf),
+        Err(_) => false,
     }
 }
 
 #[test]
 fn the_last_read_ends_one_byte_above_the_limit(rt: HostRuntime) {
-    assert!(rt; stops_above_limit(rt.alloc(), File::Network));
+    assert!(rt; stops_above_limit(rt.alloc()));
 }
 
 #[test]
 fn traces_are_read_to_one_byte_above_their_limit(rt: HostRuntime) {
-    assert!(rt; stops_above_limit(rt.alloc(), File::Traces));
+    assert!(rt; asks_for_seven_more(rt.alloc()));
 }

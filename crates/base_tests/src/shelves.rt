@@ -1,10 +1,11 @@
 //! Shelves and sinks, in memory and real ones.
 use edge_io::{
-    FileShelf, MemoryShelf, MemorySink, Put, Shelf, Sink, StreamSink, Taken, read_again,
+    FileShelf, FileSource, MemoryShelf, MemorySink, NamedFiles, Put, Shelf, Sink, StreamSink,
+    Taken, read_again,
 };
 use polyline_geometry::List;
 use std::alloc::{AllocError, Global};
-use std::io::{BufWriter, ErrorKind, Read};
+use std::io::{BufWriter, ErrorKind, Read, Write};
 use std::{fs, io};
 
 fn list<T: Copy>(alloc: Global, items: &[T]) -> Result<List<T>, AllocError> {
@@ -27,7 +28,7 @@ const FAILED: i64 = -1;
 const NO_MEMORY: i64 = -2;
 
 // Reads as a caller does that knows the trait alone.
-fn read<S: Shelf + Send>(shelf: &mut S, name: &str, at: u32, into: &mut Vec<u8>) -> i64 {
+fn read<S: Shelf>(shelf: &mut S, name: &str, at: u32, into: &mut Vec<u8>) -> i64 {
     match shelf.read(name, u64::from(at), into, 2) {
         Taken::Got(count) => i64::from(count),
         Taken::End => 0,
@@ -37,7 +38,7 @@ fn read<S: Shelf + Send>(shelf: &mut S, name: &str, at: u32, into: &mut Vec<u8>)
 }
 
 // Whether each read gives its count, and all of them together these bytes.
-fn gives<S: Shelf + Send>(
+fn gives<S: Shelf>(
     alloc: Global,
     shelf: &mut S,
     reads: &[(&'static str, u32, i64)],
@@ -149,6 +150,35 @@ fn a_real_file_is_read_on_where_it_is_open(rt: HostRuntime) {
     assert!(rt; is_read_on(&rt, &mut shelf));
 }
 
+// The file `a` is read in parts, at its end, behind it and again from a place within; `b` is missing.
+fn is_read_in_parts<F: FileSource + Drop>(alloc: Global, source: F) -> bool {
+    let reads = [
+        ("a", 0, 2),
+        ("a", 2, 1),
+        ("a", 3, 0),
+        ("a", 9, 0),
+        ("a", 1, 2),
+        ("b", 0, FAILED),
+        ("b", 3, FAILED),
+    ];
+    let mut shelf = FileShelf::new(alloc, source);
+    gives(alloc, &mut shelf, &reads, b"xyzyz")
+}
+
+fn are_named_files_read(alloc: Global) -> bool {
+    match file_a(alloc, b"xyz") {
+        Ok(files) => is_read_in_parts(alloc, NamedFiles(files.as_slice())),
+        Err(_) => false,
+    }
+}
+
+#[test]
+fn named_files_are_read_like_real_ones(rt: HostRuntime) {
+    assert!(rt; are_named_files_read(rt.alloc()));
+    assert!(rt; fs::write(&rt, "a", "xyz").is_ok());
+    assert!(rt; is_read_in_parts(rt.alloc(), rt));
+}
+
 // A reader whose first reads are interrupted.
 #[derive(Drop)]
 struct Interrupted {
@@ -197,4 +227,45 @@ fn writes_through(rt: &HostRuntime) -> bool {
 #[test]
 fn a_stream_is_flushed_after_each_text(rt: HostRuntime) {
     assert!(rt; writes_through(&rt));
+}
+
+// A stream whose first writes are interrupted, and which then takes a byte at a time.
+#[derive(Drop)]
+struct SlowStream {
+    interrupts: u32,
+    bytes: Vec<u8>,
+}
+
+impl Write for SlowStream {
+    fn write(&mut self, text: &[u8]) -> io::Result<usize> {
+        if self.interrupts > 0 {
+            self.interrupts -= 1;
+            return Err(io::Error::from(ErrorKind::Interrupted));
+        }
+        match text {
+            [first, ..] => {
+                self.bytes.push(*first)?;
+                Ok(1)
+            }
+            [] => Ok(0),
+        }
+    }
+
+    fn flush(&mut self) -> io::Result<()> {
+        Ok(())
+    }
+}
+
+fn writes_slowly(alloc: Global) -> bool {
+    let mut sink = StreamSink::new(SlowStream {
+        interrupts: 2,
+        bytes: Vec::new(alloc),
+    });
+    matches!(put(&mut sink, b"abc"), Put::All)
+        && sink.into_stream().bytes.as_slice() == b"abc".as_slice()
+}
+
+#[test]
+fn an_interrupted_write_is_tried_again(rt: HostRuntime) {
+    assert!(rt; writes_slowly(rt.alloc()));
 }

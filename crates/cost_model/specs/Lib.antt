@@ -1,2 +1,3 @@
 pub mod Options
+pub mod Faults
 pub mod Costs

@@ -1,6 +1,7 @@
 //! The options of a match with their ranges and defaults. Serves every command; decided by `IsAccepted`.
 ghost use Rattle.std.specs.Prelude.{◌≡◌, ◌↔◌, IsOk, IfOk, IfErr};
-ghost use Rattle.cost_model.specs.Options.{IsAccepted, IsFirstFault};
+ghost use Rattle.cost_model.specs.Faults.{IsFirstFault};
+ghost use Rattle.cost_model.specs.Options.{IsAccepted};
 
 /// The options of a match. [`Params::check`] tests their ranges.
 #[derive(Clone, Copy, PartialEq, Eq, Debug)]

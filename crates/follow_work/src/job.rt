@@ -1,5 +1,5 @@
 //! The job of `follow`. Serves the programs that follow traces; decided by `follow_job`.
-ghost use Rattle.std.specs.Prelude.{◌≡◌, ◌++◌, [], true, IfOk, OnErr, OnOk};
+ghost use Rattle.std.specs.Prelude.{◌≡◌, ◌++◌, [], false, true, IfOk, OnErr, OnOk};
 ghost use Rattle.bounded_search.specs.Rows.{AreRowsOf, AsksFor};
 ghost use Rattle.cost_model.specs.Options.{IsAccepted};
 ghost use Rattle.trace_match.specs.Asked.{AsksTraces};
@@ -109,6 +109,12 @@ impl<'n> Job for FollowJob<'n> {
     ghost text = { λ job. follow_job job.matcher };
 
     ghost has = { λ job traces. HasFollowed job.matcher job.rows job.tally traces };
+
+    ghost each_read = { false };
+
+    fn puts_each_read(&self) -> bool {
+        false
+    }
 
     fn take(&mut self, alloc: Global, traces: &[Trace], into: &mut List<u8>) -> Result<(), Stop> {
         let pieces = write_followed(alloc, &self.matcher, &mut self.rows, traces, into)?;

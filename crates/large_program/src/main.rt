@@ -11,7 +11,7 @@ use std::process::ExitCode;
 
 fn main(rt: HostRuntime) -> ExitCode {
     let mut err = StreamSink::new(rt.stderr());
-    match Outside::open(rt, rt.stdout(), &mut err) {
+    match Outside::open(rt.alloc(), &rt, rt, rt.stdout(), &mut err) {
         Ok(mut to) => ExitCode::from(run_within(
             NetworkLimits::Large,
             &rt,

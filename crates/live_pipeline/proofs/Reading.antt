@@ -2,7 +2,7 @@
 use Rattle.std.proofs.Common.{◌≡◌, ◌≢◌, ℕ, ◌+◌, ◌≤◌, List, [], ◌∷◌, ◌++◌, length, Some, None, Ok, Err, refl, sym, ◌∙◌, ap, subst, inl, inr, arith, append-nil, length-append}
 use Rattle.std.specs.declared.option.Option.{Option}
 use Rattle.edge_io.specs.State.{ShelfState}
-use Rattle.program_frame.specs.Chunks.{AreRead, IsChunk}
+use Rattle.program_frame.specs.Chunks.{AreRead, IsChunk, MayReadOn}
 use Rattle.program_frame.specs.Read.{FailsToRead, IsFront, IsReadSoFar, Notes, ReadsWhole}
 use Rattle.program_frame.specs.Refusals.{trace_limit}
 use Rattle.program_frame.specs.declared.stop.File.TheVariants.{Traces as OfTraces}
@@ -13,6 +13,7 @@ use Rattle.trace_reader.specs.declared.reader.TraceReader.{TraceReader}
 use Rattle.trace_reader.specs.declared.trace.Trace.{Trace}
 use Rattle.trace_reader.specs.declared.fault.TraceFault.{TraceFault}
 use Rattle.trace_reader.specs.declared.fault.TraceFault.TheVariants as faults
+use Rattle.trace_reader.proofs.Laws.{fault_in-StandsFor}
 use Rattle.trace_relay.specs.Order.{MayFollow, Parts}
 use Rattle.trace_relay.specs.Pieces.{IsLast, parts_of}
 use Rattle.trace_relay.specs.declared.part.Part.{Part}
@@ -41,6 +42,14 @@ nothing_fed name shelf reader put has = record { fed = []; has = has; place = re
 -- the bytes that were read so far
 pub fed_read : {name : List ℕ} {shelf : ShelfState} {at : ℕ} {reader : TraceReader} {put : List Part} → (feeding : IsFeeding name shelf at reader put) → at ≤ trace_limit + 1 → AreRead name shelf at feeding.fed
 fed_read feeding within = record { place = feeding.place; front = feeding.front; within = within }
+
+-- these bytes have no fault, so the file may be read on
+pub may_feed_on : {name : List ℕ} {shelf : ShelfState} {at : ℕ} {reader : TraceReader} {put : List Part} (shelf' : ShelfState) → IsFeeding name shelf at reader put → shelf' ≡ shelf → at ≤ trace_limit + 1 → MayReadOn name shelf' at
+may_feed_on {name = name} {at = at} {reader = reader} shelf' feeding same within = subst (λ s. MayReadOn name s at) (sym same) (record {
+  fed = feeding.fed;
+  read = fed_read feeding within;
+  faultless = fault_in-StandsFor reader feeding.fed feeding.has.stands;
+})
 
 pub feeding_more : {name : List ℕ} {shelf : ShelfState} {at : ℕ} {reader : TraceReader} {put : List Part} (at' : ℕ) (chunk : List ℕ) (reader' : TraceReader) (put' : List Part) → (feeding : IsFeeding name shelf at reader put) → AreRead name shelf at' (feeding.fed ++ chunk) → HasFed (feeding.fed ++ chunk) reader' put' → IsFeeding name shelf at' reader' put'
 feeding_more at' chunk reader' put' feeding read has =

@@ -1,7 +1,7 @@
 //! The reader: a trace file in chunks, its traces one by one on the relay. Serves `live_traces`; decided
 //! by `HasRead`.
-ghost use Rattle.std.specs.Prelude.{◌≡◌, ◌+◌, ◌≤◌, []};
-ghost use Rattle.program_frame.specs.Refusals.{trace_limit};
+ghost use Rattle.std.specs.Prelude.{◌≡◌, []};
+ghost use Rattle.program_frame.specs.Chunks.{MayReadOn};
 ghost use Rattle.live_pipeline.specs.Feeding.{HasFed};
 ghost use Rattle.live_pipeline.specs.Reading.{EndsAt, HasPut, HasRead, PutsChunks, ReadsNext};
 
@@ -24,7 +24,7 @@ fn part_of_stop(stop: Stop) -> Part
 
 // Reads the next chunk of a file. `Err` has the last part if the chunk was not read.
 fn next_chunk<S: Shelf>(chunks: &mut Chunks, shelf: &mut S, name: &str) -> Result<bool, Part>
-    requires { chunks.old.at ≤ trace_limit + 1 }
+    requires { MayReadOn name.now (S.state shelf.old) chunks.old.at }
     ensures { ReadsNext name.now (S.state shelf.old) (S.state shelf.new)
         chunks.old.at chunks.new.at chunks.new.bytes.items result }
 {

@@ -5,12 +5,19 @@ use Rattle.std.proofs.lemmas.Bool.{cases_eq, cases_lt}
 use Rattle.std.proofs.lemmas.Bool.Decides.{nat_tests}
 use Rattle.std.proofs.lemmas.List.{take_all}
 use Rattle.command_line.specs.Work.{PlainCommand}
+use Rattle.command_line.specs.Work.PlainWork.{match_files}
+use Rattle.command_line.specs.Words.{command_of}
 use Rattle.command_line.specs.declared.fault.WordsFault.{WordsFault}
 use Rattle.cost_model.specs.declared.params.Params.{Params}
 use Rattle.edge_io.specs.Sink.{Rose}
 use Rattle.edge_io.specs.State.{ShelfState, SinkState, new_shelf, new_sink}
-use Rattle.match_law.specs.MatchIsLeast.{IsMatchRun, MatchIsLeast, Wrote}
+use Rattle.listed_files.specs.NetworkText.{NetworksAreRead, network_text}
+use Rattle.listed_files.specs.TraceText.{TracesAreRead, traces_text}
+use Rattle.match_law.specs.ListedMatch.{IsListedRun, ListedMatchIsLeast}
+use Rattle.match_law.specs.MatchIsLeast.{IsMatchRun, MatchIsLeast}
+use Rattle.match_law.specs.Wrote.{Wrote}
 use Rattle.match_law.proofs.Texts.{match_text, texts_are_least}
+use Rattle.match_words.specs.MatchWords.{MatchWordsAreRead}
 use Rattle.match_work.specs.Matches.{match_text as match_job}
 use Rattle.program_frame.specs.Asked.{asked_of}
 use Rattle.program_frame.specs.Jobs.{bytes_give, traces_give}
@@ -141,3 +148,28 @@ match_is_least words files n p traces shelf out err status run kept =
           (subst (λ (ts : List Trace). All IsLawfulTrace ts) run.traces_are (IsLawfulTrace-file_traces run.trace_bytes)),
       wrote words files text shelf out err status (outcome_is words files n p traces run) kept,
     )
+
+-- ---- files that list a network and traces
+
+listed_words : MatchWordsAreRead → (words : List (List ℕ)) (files : List ℕ → Option (List ℕ)) (n : Net) (p : Params) (traces : List Trace) (run : IsListedRun words files n p traces)
+    → command_of words ≡ Ok (record { work = match_files run.network run.positions None; options = p })
+listed_words words_are_read words files n p traces run =
+    ap command_of run.words_are
+    ∙ words_are_read run.network run.positions run.given run.network_named run.traces_named run.in_range
+    ∙ ap (λ (options : Params). let r : Result PlainCommand WordsFault = Ok (record { work = match_files run.network run.positions None; options = options }) in r) (sym run.options_are)
+
+pub listed_match_is_least : MatchWordsAreRead → NetworksAreRead → TracesAreRead → ListedMatchIsLeast
+listed_match_is_least words_are_read networks_are_read traces_are_read words files n p traces shelf out err status run kept =
+    let says = traces_are_read traces run.traces_listed in
+    match_is_least words files n p traces shelf out err status (record {
+      network = run.network;
+      positions = run.positions;
+      network_bytes = network_text n;
+      trace_bytes = traces_text traces;
+      words_are = listed_words words_are_read words files n p traces run;
+      network_held = run.network_held;
+      traces_held = run.traces_held;
+      network_is = networks_are_read n run.network_listed;
+      traces_are = says.are;
+      faultless = says.faultless;
+    }) kept

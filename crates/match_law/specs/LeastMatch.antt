@@ -4,7 +4,7 @@ use Rattle.std.specs.List.{AllZip, Contains, concat, range_with_len, sum_by}
 use Rattle.cost_model.specs.Costs.{difference, emission, transition}
 use Rattle.cost_model.specs.declared.params.Params.{Params}
 use Rattle.decimal_text.specs.Number.{decimal}
-use Rattle.match_text.specs.MatchText.{text_of}
+use Rattle.match_text.specs.Lines.{text_of}
 use Rattle.match_text.specs.declared.matched.Label.{Label}
 use Rattle.match_text.specs.declared.matched.Label.TheVariants.{Missing, On}
 use Rattle.match_text.specs.declared.matched.MatchedTrace.{MatchedTrace}
@@ -44,8 +44,8 @@ IsStepCost n p f a g b cost =
     (r : Route) × IsTheRoute n p.bound p.back a b r
     × (cost ≡ transition p (route_length n a b r) (straight (place f) (place g)))
 
--- chosen candidates cost so much: the sum of their emissions and steps. They cost nothing at all where two
--- neighbours are not joined. Here positions and candidates stand from the last back to the first
+-- chosen candidates cost so much: the sum of their emissions and steps. They have no cost where two neighbours
+-- are not joined. Here positions and candidates stand from the last back to the first
 abbrev pub IsCost : Net → Params → List Fix → List Candidate → ℕ → Type 0
 IsCost n p [] [] cost = cost ≡ 0
 IsCost n p (f ∷ []) (a ∷ []) cost = cost ≡ emission p a.d2

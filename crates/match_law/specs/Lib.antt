@@ -1,3 +1,5 @@
 pub mod LeastMatch
 pub mod Matches
+pub mod Wrote
 pub mod MatchIsLeast
+pub mod ListedMatch

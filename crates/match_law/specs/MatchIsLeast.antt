@@ -1,10 +1,12 @@
--- What `fmm match NET TRACES` does: it writes the least match of each trace.
-use Rattle.std.specs.Prelude.{◌≡◌, ◌≢◌, ◌⊎◌, ℕ, List, [], take, Option, Some, None, Ok}
+-- What `fmm match NET TRACES` does, whatever the bytes of the two files are: it writes the least match of
+-- each trace.
+use Rattle.std.specs.Prelude.{◌≡◌, ℕ, List, [], Option, Some, None, Ok}
 use Rattle.command_line.specs.Work.PlainWork.{match_files}
 use Rattle.command_line.specs.Words.{command_of}
 use Rattle.cost_model.specs.declared.params.Params.{Params}
 use Rattle.edge_io.specs.State.{ShelfState, SinkState, new_shelf, new_sink}
 use Rattle.match_law.specs.LeastMatch.{IsMatchText}
+use Rattle.match_law.specs.Wrote.{Wrote}
 use Rattle.program_frame.specs.Promises.{Promises}
 use Rattle.program_run.specs.RunLines.{run_lines}
 use Rattle.program_run.specs.Words.{asked_by}
@@ -28,15 +30,6 @@ pub record IsMatchRun (words : List (List ℕ)) (files : List ℕ → Option (Li
   pub network_is : network_of Standard network_bytes ≡ Ok n
   pub traces_are : file_traces trace_bytes ≡ traces
   pub faultless : file_fault trace_bytes ≡ None
-
--- the run wrote this text, or it ended early for the reason that its status says, after a part of the text
-pub record Wrote (text : List ℕ) (shelf : ShelfState) (out err : SinkState) (status : ℕ) : Type 0 where
-  pub done : status ≡ 0 → (out.written ≡ Some text) × (err.written ≡ Some [])
-  pub early : status ≢ 0
-      → (status ≡ 1)
-      ⊎ ((status ≡ 3) × (shelf.failed ≢ []))
-      ⊎ ((status ≡ 4) × ((out.faults ≢ 0) ⊎ (err.faults ≢ 0)))
-  pub part : (count : ℕ) × (out.written ≡ Some (take count text))
 
 -- whatever keeps the promises of a run of these words, as `run` does, wrote the text of the least matches
 abbrev pub MatchIsLeast : Type 0

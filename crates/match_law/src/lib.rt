@@ -1,12 +1,27 @@
 //! What `fmm match NET TRACES` writes, as one law.
 //!
-//! [`match_is_least`] says of every run that keeps its promises (the clause of `run` in `program_run`) that
-//! it writes the least match of each trace. The statement is in `specs/MatchIsLeast.antt`, and its words are
-//! in `specs/LeastMatch.antt`.
+//! [`listed_match_is_least`] says of every run that keeps its promises (the clause of `run` in `program_run`)
+//! that it writes the least match of each trace, where the two files list a network and traces line by line.
+//! [`match_is_least`] says the same of all files without a fault. The statements are in
+//! `specs/ListedMatch.antt` and `specs/MatchIsLeast.antt`, and their words are in `specs/LeastMatch.antt`.
 #![tactic(auto)]
 
+ghost use Rattle.match_law.specs.ListedMatch.{ListedMatchIsLeast};
 ghost use Rattle.match_law.specs.MatchIsLeast.{MatchIsLeast};
 ghost use Rattle.match_law.specs.Matches.{MatchesAreLeast};
+
+use listed_files::{networks_are_read, traces_are_read};
+use match_words::match_words_are_read;
+
+/// A run of `match` over files that list a network and traces writes the least match of each trace, or ends
+/// early with status 1, 3 or 4.
+pub fn listed_match_is_least()
+    ensures { ListedMatchIsLeast }
+{
+    match_words_are_read();
+    networks_are_read();
+    traces_are_read();
+}
 
 /// A run of `match` over a network and traces without a fault writes the least match of each trace, or
 /// ends early with status 1, 3 or 4.

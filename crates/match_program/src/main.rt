@@ -10,7 +10,7 @@ use std::process::ExitCode;
 
 fn main(rt: HostRuntime) -> ExitCode {
     let mut err = StreamSink::new(rt.stderr());
-    match Outside::open(rt, rt.stdout(), &mut err) {
+    match Outside::open(rt.alloc(), &rt, rt, rt.stdout(), &mut err) {
         Ok(mut to) => ExitCode::from(run(
             &rt,
             rt.alloc(),

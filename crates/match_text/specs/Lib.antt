@@ -1,3 +1,4 @@
+pub mod Lines
 pub mod MatchText
 pub mod Parts
 pub mod Reading

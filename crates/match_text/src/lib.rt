@@ -10,8 +10,8 @@
 //! can write one line ([`write_trace`], [`write_label`], [`write_piece`], [`write_end`]) or read one
 //! ([`read_trace`], [`read_piece`]); [`front`] reads words and numbers.
 //!
-//! `text_of` in `specs/MatchText.antt` defines the text, and `IsLawful` defines lawful. Read the
-//! clauses of [`read_match`] first.
+//! `text_of` in `specs/Lines.antt` defines the text, and `IsLawful` in `specs/MatchText.antt` defines
+//! lawful. Read the clauses of [`read_match`] first.
 #![tactic(auto)]
 
 mod fault;

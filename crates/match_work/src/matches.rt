@@ -1,5 +1,5 @@
 //! `match NET TRACES`. Serves the programs; decided by `match_plan`.
-ghost use Rattle.std.specs.Prelude.{◌≡◌, ◌≤◌, ◌^◌, ◌++◌, [], All, Ok, IfOk, OnOk};
+ghost use Rattle.std.specs.Prelude.{◌≡◌, ◌≤◌, ◌^◌, ◌++◌, [], false, All, Ok, IfOk, OnOk};
 ghost use Rattle.cost_model.specs.Options.{IsAccepted};
 ghost use Rattle.match_pool.specs.Learning.{AreReadersFor};
 ghost use Rattle.match_pool.specs.Working.{AreJobTraces};
@@ -76,6 +76,12 @@ where
 
     ghost has = { λ job traces. HasMatched job.matcher.now job.readers job.tally traces
         × MatchesBatches F.Fn job.matcher.now job.match_batch × WritesMatches W.Fn job.write };
+
+    ghost each_read = { false };
+
+    fn puts_each_read(&self) -> bool {
+        false
+    }
 
     fn take(&mut self, alloc: Global, traces: &[Trace], into: &mut List<u8>) -> Result<(), Stop> {
         let first = self.tally.traces;

@@ -1,5 +1,5 @@
 -- What a chunk of a trace file leaves.
-use Rattle.std.proofs.Common.{◌≡◌, ◌≢◌, ℕ, ◌+◌, ◌<◌, ◌≤◌, ◌^◌, ◌⊎◌, zero, suc, IsSome, ◌==◌, Bool, true, false, List, [], ◌∷◌, ◌++◌, length, take, drop, Some, None, Ok, Err, Result, refl, sym, ◌∙◌, ap, subst, inl, inr, arith, append_assoc, append-nil, length-append}
+use Rattle.std.proofs.Common.{◌≡◌, ◌≢◌, ℕ, ◌+◌, ◌<◌, ◌≤◌, ◌^◌, ◌⊎◌, zero, suc, IsSome, OnOk, ◌==◌, Bool, true, false, List, [], ◌∷◌, ◌++◌, length, take, drop, Some, None, Ok, Err, Result, refl, sym, ◌∙◌, ap, subst, inl, inr, arith, append_assoc, append-nil, length-append}
 use Rattle.std.specs.declared.option.Option.{Option}
 use Rattle.std.specs.Io.KnownBytes.{Appends}
 use Rattle.std.proofs.lemmas.Bool.Decides.{nat_tests}
@@ -139,6 +139,11 @@ between_written job has has' base out out' fed reader after waiting left (Ok don
     record { stands = subst (λ r. StandsFor r fed) (sym same) between.stands; holds = writes.0; room = omega (arith, none) }
 between_written job has has' base out out' fed reader after waiting left (Err stop) between same writes =
     stops_for (with_later job (closed fed)) (λ rest. bytes_give job (fed ++ rest)) base out' stop (rest_later job fed) writes
+
+-- and then none of them waits
+pub none_waits : (job : JobText) (has : Has) (base out : SinkState) (traces left : List Trace) (ended : Result (Unit {0}) Stop) → WritesBatch job has base out traces left ended → OnOk ended (left ≡ [])
+none_waits job has base out traces left (Ok done) writes = writes.1
+none_waits job has base out traces left (Err stop) writes = tt
 
 -- some of a chunk was taken
 pub record IsUnderway (job : JobText) (has has' : List Trace → Type 0) (chunk rest : List ℕ) (first out : SinkState) (reader reader' : TraceReader) (waiting waiting' : List Trace) : Type 0 where

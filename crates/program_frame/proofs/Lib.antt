@@ -17,3 +17,4 @@ pub mod Streaming
 pub mod TakenTraces
 pub mod TraceCounts
 pub mod WholeReading
+pub mod Words

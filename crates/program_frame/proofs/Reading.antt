@@ -5,9 +5,9 @@ use Rattle.edge_io.specs.State.{ShelfState, SinkState}
 use Rattle.trace_reader.specs.Reading.{closed}
 use Rattle.trace_reader.specs.declared.reader.TraceReader.{TraceReader}
 use Rattle.trace_reader.specs.declared.trace.Trace.{Trace}
-use Rattle.trace_reader.proofs.Laws.{closed-none}
+use Rattle.trace_reader.proofs.Laws.{closed-none, fault_in-StandsFor}
 use Rattle.program_frame.specs.Batches.{Holds, IsBetween}
-use Rattle.program_frame.specs.Chunks.{AreRead, IsChunk}
+use Rattle.program_frame.specs.Chunks.{AreRead, IsChunk, MayReadOn}
 use Rattle.program_frame.specs.Jobs.{JobText, bytes_give}
 use Rattle.program_frame.specs.Performs.{Performs}
 use Rattle.program_frame.specs.Refusals.{trace_limit}
@@ -49,6 +49,14 @@ streaming shelf' reading same within = record {
 -- the bytes that were read so far
 pub are_read : {job : JobText} {has : Has} {name : List ℕ} {shelf : ShelfState} {base out : SinkState} {at : ℕ} {reader : TraceReader} {waiting : List Trace} → (reading : IsReading job has name shelf base out at reader waiting) → at ≤ trace_limit + 1 → AreRead name shelf at reading.fed
 are_read reading within = record { place = reading.place; front = reading.front; within = within }
+
+-- these bytes have no fault, so the file may be read on
+pub may_read_on : {job : JobText} {has : Has} {name : List ℕ} {shelf : ShelfState} {base out : SinkState} {at : ℕ} {reader : TraceReader} {waiting : List Trace} (shelf' : ShelfState) → IsReading job has name shelf base out at reader waiting → shelf' ≡ shelf → at ≤ trace_limit + 1 → MayReadOn name shelf' at
+may_read_on {name = name} {at = at} {reader = reader} shelf' reading same within = subst (λ s. MayReadOn name s at) (sym same) (record {
+  fed = reading.fed;
+  read = are_read reading within;
+  faultless = fault_in-StandsFor reader reading.fed reading.between.stands;
+})
 
 -- one more chunk was taken
 pub reading_more : {job : JobText} {has : Has} {name : List ℕ} {shelf : ShelfState} {base out : SinkState} {at : ℕ} {reader : TraceReader} {waiting : List Trace} (has' : Has) (out' : SinkState) (at' : ℕ) (chunk : List ℕ) (reader' : TraceReader) (waiting' : List Trace) → (reading : IsReading job has name shelf base out at reader waiting) → AreRead name shelf at' (reading.fed ++ chunk) → IsBetween job has' base out' (reading.fed ++ chunk) reader' waiting' → IsReading job has' name shelf base out' at' reader' waiting'

@@ -1,5 +1,5 @@
 -- The traces of a file that is fed whole to a reader.
-use Rattle.std.proofs.Common.{◌≡◌, ◌≢◌, ℕ, ◌+◌, ◌≤◌, List, [], ◌++◌, length, take, drop, Some, None, Result, Ok, Err, sym, ◌∙◌, ap, arith, refl, length-append}
+use Rattle.std.proofs.Common.{◌≡◌, ◌≢◌, ℕ, ◌+◌, ◌≤◌, List, [], ◌++◌, length, take, drop, Some, None, Result, Ok, Err, sym, ◌∙◌, ap, subst, arith, refl, length-append}
 use Rattle.std.proofs.lemmas.List.{take-append-drop, take-take}
 use Rattle.std.specs.declared.option.Option.{Option}
 use Rattle.edge_io.specs.State.{ShelfState}
@@ -9,8 +9,8 @@ use Rattle.trace_reader.specs.declared.fault.TraceFault.{TraceFault}
 use Rattle.trace_reader.specs.declared.fault.TraceFault.TheVariants.{Memory}
 use Rattle.trace_reader.specs.declared.reader.TraceReader.{TraceReader}
 use Rattle.trace_reader.specs.declared.trace.Trace.{Trace}
-use Rattle.trace_reader.proofs.Laws.{closed-none, file_fault_known}
-use Rattle.program_frame.specs.Chunks.{AreRead, IsChunk}
+use Rattle.trace_reader.proofs.Laws.{closed-none, fault_in-StandsFor, file_fault_known}
+use Rattle.program_frame.specs.Chunks.{AreRead, IsChunk, MayReadOn}
 use Rattle.program_frame.specs.Loads.{FailsToLoad, Loads}
 use Rattle.program_frame.specs.Outcome.{seen}
 use Rattle.program_frame.specs.Read.{IsFront, IsReadSoFar, IsReadWhole, ReadsWhole}
@@ -30,6 +30,14 @@ holds_nothing name shelf reader traces stands none =
 -- the bytes that were read so far
 pub has_read : {name : List ℕ} {shelf : ShelfState} {at : ℕ} {reader : TraceReader} {traces : List Trace} → (holds : IsHolding name shelf at reader traces) → at ≤ trace_limit + 1 → AreRead name shelf at holds.fed
 has_read holds within = record { place = holds.place; front = holds.front; within = within }
+
+-- these bytes have no fault, so the file may be read on
+pub may_feed_on : {name : List ℕ} {shelf : ShelfState} {at : ℕ} {reader : TraceReader} {traces : List Trace} (shelf' : ShelfState) → IsHolding name shelf at reader traces → shelf' ≡ shelf → at ≤ trace_limit + 1 → MayReadOn name shelf' at
+may_feed_on {name = name} {at = at} {reader = reader} shelf' holds same within = subst (λ s. MayReadOn name s at) (sym same) (record {
+  fed = holds.fed;
+  read = has_read holds within;
+  faultless = fault_in-StandsFor reader holds.fed holds.stands;
+})
 
 -- one more chunk was fed
 pub holds_more : (name : List ℕ) (shelf : ShelfState) (at at' : ℕ) (reader reader' : TraceReader) (traces traces' : List Trace) (chunk : List ℕ) → (holds : IsHolding name shelf at reader traces)

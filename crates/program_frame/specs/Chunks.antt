@@ -1,6 +1,7 @@
 -- A trace file that is read chunk by chunk.
-use Rattle.std.specs.Prelude.{◌≡◌, ℕ, ◌+◌, ◌≤◌, ◌<◌, ◌^◌, List, [], ◌++◌, length, Bool, true, false, Result, Ok, Err}
+use Rattle.std.specs.Prelude.{◌≡◌, ℕ, ◌+◌, ◌≤◌, ◌<◌, ◌^◌, List, [], ◌++◌, length, Bool, true, false, Result, Ok, Err, None}
 use Rattle.edge_io.specs.State.{ShelfState}
+use Rattle.trace_reader.specs.Reading.{fault_in}
 use Rattle.program_frame.specs.Read.{FailsToRead, IsReadSoFar, ReadsWhole}
 use Rattle.program_frame.specs.Refusals.{trace_limit}
 use Rattle.program_frame.specs.declared.stop.File.TheVariants.{Traces}
@@ -11,6 +12,12 @@ pub record AreRead (name : List ℕ) (shelf : ShelfState) (at : ℕ) (fed : List
   pub place : length fed ≡ at
   pub front : IsReadSoFar shelf.holds name fed
   pub within : at ≤ trace_limit + 1
+
+-- the bytes that were read up to this place have no fault: only then is the file read on
+pub record MayReadOn (name : List ℕ) (shelf : ShelfState) (at : ℕ) : Type 0 where
+  pub fed : List ℕ
+  pub read : AreRead name shelf at fed
+  pub faultless : fault_in fed ≡ None
 
 -- a chunk of at least one byte was read
 pub record IsChunk (at at' : ℕ) (chunk : List ℕ) : Type 0 where

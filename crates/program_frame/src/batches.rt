@@ -1,6 +1,6 @@
 //! Traces read from chunks of a file, and passed to a job batch by batch. Serves `work_traces`; decided
 //! by `bytes_give`.
-ghost use Rattle.std.specs.Prelude.{◌≡◌, ◌≤◌, ◌<◌, ◌^◌, [], IfOk, length, drop};
+ghost use Rattle.std.specs.Prelude.{◌≡◌, ◌≤◌, ◌<◌, ◌^◌, [], true, IfOk, OnOk, length, drop};
 ghost use Rattle.trace_reader.specs.Reader.{StandsFor};
 ghost use Rattle.program_frame.specs.Batches.{PutsBefore};
 ghost use Rattle.program_frame.specs.Jobs.{HasTaken, JobText};
@@ -139,6 +139,7 @@ impl<J: Job + Drop> Batches<J> {
         ensures text { J.text self.new.job ≡ J.text self.old.job }
         ensures writes { WritesRead J.text J.has self.old self.new
             (K.state out.old) (K.state out.new) result }
+        ensures none_waits { J.each_read ≡ true → OnOk result (self.new.waiting ≡ []) }
     {
         if !self.job.puts_each_read() {
             return Ok(());
@@ -146,8 +147,8 @@ impl<J: Job + Drop> Batches<J> {
         self.write(alloc, out)
     }
 
-    /// Takes the next chunk of the file. Writes each batch of traces that it fills, and then the waiting
-    /// traces if the job wants its text after each read.
+    /// Takes the next chunk of the file. Writes each batch of traces that it fills. If the job wants its text after
+    /// each read, then writes all that wait, so no text waits for the next read.
     pub fn take_chunk<K: Sink>(
         &mut self,
         alloc: Global,
@@ -159,6 +160,7 @@ impl<J: Job + Drop> Batches<J> {
         ensures text { J.text self.new.job ≡ J.text self.old.job }
         ensures takes { Takes J.text J.has self.old self.new
             (K.state out.old) (K.state out.new) chunk.now result }
+        ensures none_waits { J.each_read ≡ true → OnOk result (self.new.waiting ≡ []) }
     {
         let mut rest = chunk;
         while !rest.is_empty() {

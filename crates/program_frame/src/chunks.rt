@@ -1,6 +1,6 @@
 //! A trace file in chunks. Serves every function that reads one; decided by `NextChunk`.
-ghost use Rattle.std.specs.Prelude.{◌≡◌, ◌+◌, ◌≤◌, []};
-ghost use Rattle.program_frame.specs.Chunks.{NextChunk};
+ghost use Rattle.std.specs.Prelude.{◌≡◌, ◌+◌, ◌-◌, ◌≤◌, [], min};
+ghost use Rattle.program_frame.specs.Chunks.{MayReadOn, NextChunk};
 ghost use Rattle.program_frame.specs.Refusals.{trace_limit};
 
 use crate::stop::{File, Stop};
@@ -31,9 +31,18 @@ impl Chunks {
         }
     }
 
-    /// Reads the next chunk. False at the end of the file, and after the first byte above the limit.
+    /// How many bytes the next read asks for: at most to the first byte above the limit.
+    pub fn wanted(&self) -> u32
+        requires { self.now.at ≤ trace_limit + 1 }
+        ensures { result ≡ min (trace_limit + 1 - self.now.at) 65_536 }
+    {
+        (TRACE_LIMIT + 1 - self.at).min(CHUNK) as u32
+    }
+
+    /// Reads the next chunk. False at the end of the file, and after the first byte above the limit. Nothing is
+    /// read after the first fault, since the bytes so far must have none.
     pub fn next<S: Shelf>(&mut self, shelf: &mut S, name: &str) -> Result<bool, Stop>
-        requires { self.old.at ≤ trace_limit + 1 }
+        requires { MayReadOn name.now (S.state shelf.old) self.old.at }
         ensures { NextChunk name.now (S.state shelf.old) (S.state shelf.new)
             self.old.at self.new.at self.new.bytes.items result }
     {
@@ -41,7 +50,7 @@ impl Chunks {
         if self.at > TRACE_LIMIT {
             return Ok(false);
         }
-        let most = (TRACE_LIMIT + 1 - self.at).min(CHUNK) as u32;
+        let most = self.wanted();
         match shelf.read(name, self.at, &mut self.bytes, most) {
             Taken::Got(count) => {
                 self.at += u64::from(count);

@@ -1,5 +1,5 @@
 //! What a job does with the traces of a file. Serves `work_traces`; decided by `traces_give`.
-ghost use Rattle.std.specs.Prelude.{◌≡◌, ◌++◌, List as ListOf, OnOk};
+ghost use Rattle.std.specs.Prelude.{◌≡◌, ◌++◌, Bool, List as ListOf, OnOk};
 ghost use Rattle.trace_reader.specs.declared.trace.Trace.{Trace};
 ghost use Rattle.program_frame.specs.Jobs.{CanTake, HasTaken, JobText, TakesMore};
 
@@ -16,10 +16,12 @@ pub trait Job {
     /// The job has taken these traces.
     ghost has: { Self → ListOf Trace → Type 0 };
 
-    /// Whether the text is written after each read of the file instead of after each full batch.
-    fn puts_each_read(&self) -> bool {
-        false
-    }
+    /// The text is written after each read of the file, instead of after each full batch.
+    ghost each_read: { Bool };
+
+    /// Whether the text is written after each read.
+    fn puts_each_read(&self) -> bool
+        ensures { result ≡ each_read };
 
     /// Takes more traces, and appends their text. If the job refuses one of them, it appends the
     /// text up to that trace, and returns the refusal.

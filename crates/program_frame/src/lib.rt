@@ -3,7 +3,7 @@
 //!
 //! - `stop` has why work ends early, the error line, and the status.
 //! - `files` reads a file whole, `chunks` a trace file chunk by chunk, `texts` writes a text, `load` reads
-//!   the network, and `outside` has the words, files and streams of a program. `fault_line` has the trait
+//!   the network. `outside` has the words, files and streams of a program, and `arguments` reads its words. `fault_line` has the trait
 //!   for faults with a line, and the refusal for one.
 //! - `jobs` has the trait for what is done with traces, `stream` reads their file in chunks, and
 //!   `batches` holds the waiting traces; `total` counts them. `whole_traces` reads all traces of a
@@ -15,6 +15,7 @@
 //! `specs/Promises.antt`; then the clause of `work_traces`.
 #![tactic(auto)]
 
+mod arguments;
 mod batches;
 mod chunks;
 mod fault_line;
@@ -29,6 +30,7 @@ mod texts;
 mod total;
 mod whole_traces;
 
+pub use arguments::{Arguments, GivenArguments, read_words};
 pub use chunks::{CHUNK, Chunks};
 pub use fault_line::{FaultLine, refuse_fault};
 pub use files::read_file;

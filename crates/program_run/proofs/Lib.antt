@@ -9,4 +9,5 @@ pub mod Workers
 pub mod ReadNetworks
 pub mod ProvedFiles
 pub mod ProvedRuns
+pub mod OverStreams
 mod Statuses

@@ -8,3 +8,4 @@ pub mod TableFiles
 pub mod Workers
 pub mod Words
 pub mod Statuses
+pub mod OverStreams

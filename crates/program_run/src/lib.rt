@@ -15,6 +15,8 @@
 #![tactic(auto)]
 
 pub mod laws;
+mod over_streams;
 mod top;
 
+pub use over_streams::{run_over, run_over_bytes};
 pub use top::{run, run_within};

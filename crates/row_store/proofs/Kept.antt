@@ -1,11 +1,9 @@
 -- The two views of a reader, and the slots of its store.
-use Rattle.std.proofs.Common.{◌≡◌, ◌≤◌, ℕ, List, [], map, Option, Some, None, Bool, ◌&&◌, cond, false, true, true≢false, is_some, refl, sym, ap, ◌∙◌, subst, arith}
+use Rattle.std.proofs.Common.{◌≡◌, ◌≤◌, ℕ, map, Option, Some, None, Bool, ◌&&◌, cond, false, true, true≢false, is_some, refl, sym, ap, ◌∙◌, subst, arith}
 use Rattle.std.proofs.lemmas.Bool.{leb-true}
 use Rattle.std.specs.Option.{IfSome, option_map}
 use Rattle.std.specs.Prelude.{nat_le, slice_index_or}
-use Rattle.road_network.specs.Net.{Net}
-use Rattle.bounded_search.specs.Table.{TableRow}
-use Rattle.row_store.specs.Store.{NearSlots, Reading, SlotSet, Stored, Viewing, lender, looks_near, near_bound, near_of, near_slots, table_of, table_slots, takes_near}
+use Rattle.row_store.specs.Store.{NearSlots, Reading, SlotSet, Stored, lender, looks_near, near_bound, near_of, near_slots, table_of, table_slots, takes_near}
 use Rattle.row_store.specs.StoreInside.{AreOfOne, IsStored, near_of_set, stored}
 use Rattle.row_store.specs.ReaderInside.{IsNearOf, IsNearView, near_seen}
 use Rattle.row_store.specs.Views.{IsViewOf, seen_of}

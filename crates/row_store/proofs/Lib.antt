@@ -3,3 +3,4 @@ pub mod Kept
 pub mod Opened
 pub mod Places
 pub mod Readings
+pub mod Vouching

@@ -1,11 +1,11 @@
 -- A view that is opened at first need.
-use Rattle.std.proofs.Common.{◌≡◌, ℕ, zero, suc, List, Option, Some, None, Bool, false, is_some, not, true≢false, length, replicate, refl, sym, ap, ◌∙◌, subst}
+use Rattle.std.proofs.Common.{◌≡◌, ℕ, zero, suc, Option, Some, None, Bool, false, is_some, not, true≢false, length, replicate, refl, sym, ap, ◌∙◌, subst}
 use Rattle.std.specs.Option.{IfSome}
 use Rattle.std.specs.Prelude.{slice_get, slice_index_or}
-use Rattle.road_network.specs.Net.{HasNode, Net}
-use Rattle.bounded_search.specs.Table.{TableRow, IsRow}
-use Rattle.row_store.specs.Store.{IsSeen, SlotSet, Viewing, is_seen}
-use Rattle.row_store.specs.Views.{HasOpenRow, IsOpen, IsView, IsViewAt, IsViewOf, StaysView, seen_of, viewing_of}
+use Rattle.road_network.specs.Net.{HasNode}
+use Rattle.bounded_search.specs.Table.{TableRow}
+use Rattle.row_store.specs.Store.{IsSeen, SlotSet, is_seen}
+use Rattle.row_store.specs.Views.{IsOpen, IsViewAt, IsViewOf, StaysView, seen_of, viewing_of}
 use Rattle.row_store.specs.declared.view.View.{View}
 
 abbrev no_row : Option TableRow

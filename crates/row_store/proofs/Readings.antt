@@ -1,6 +1,5 @@
 -- What a look at one slot leaves of a reader.
-use Rattle.std.proofs.Common.{◌≡◌, ◌⊎◌, inl, inr, ℕ, zero, suc, List, [], ◌∷◌, ◌++◌, length, length-set, Option, Some, Contains, Result, refl, sym, ap, ◌∙◌, subst, ⊎_elim, arith}
-use Rattle.std.specs.Prelude.{slice_get}
+use Rattle.std.proofs.Common.{◌≡◌, inl, inr, ℕ, zero, suc, List, [], ◌∷◌, ◌++◌, length, length-set, Option, Some, Result, refl, sym, ap, ◌∙◌, subst, ⊎_elim, arith}
 use Rattle.std.proofs.lemmas.List.Elements.{Contains-append_cases, Contains-append_left, Contains-append_right}
 use Rattle.bounded_search.specs.Known.{Adds, Extends, known_nodes}
 use Rattle.bounded_search.specs.Rows.{AsksAll, AsksFor, AsksOnly}

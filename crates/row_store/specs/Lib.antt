@@ -1,4 +1,5 @@
 pub mod Store
+pub mod Vouchers
 pub mod Places
 pub mod Sights
 pub mod Views

@@ -49,8 +49,8 @@ abbrev pub IsSearcherOf : SlotSet → BoundedTable → Type 0
 IsSearcherOf slots t = t ≡ record { network = slots.network; bound = slots.bound }
 
 -- the place of node v of some slots, and a searcher for their rows
-pub record IsPlaceOf (slots : SlotSet) (v : ℕ) (t : BoundedTable) (p : Place) : Type 0 where
+pub record IsPlaceOf (slots : SlotSet) (v : ℕ) (t : SlotSet) (p : Place) : Type 0 where
   pub node : HasNode slots.network v
   pub cells_count : length slots.cells ≡ length slots.network.nodes
-  pub searcher : IsSearcherOf slots t
+  pub judge : t ≡ slots
   pub fits : Fits slots.network slots.bound v (slice_index slots.cells v) p

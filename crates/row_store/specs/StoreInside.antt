@@ -1,5 +1,5 @@
 -- What a store is made of.
-use Rattle.std.specs.Prelude.{◌≡◌, Option, Some, None, map}
+use Rattle.std.specs.Prelude.{◌≡◌}
 use Rattle.std.specs.Option.{IfSome, option_map}
 use Rattle.row_store.specs.Store.{NearSlots, SlotSet, Stored, near_bound}
 use Rattle.row_store.specs.declared.store.RowStore.TheInside.{Inside}

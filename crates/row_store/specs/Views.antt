@@ -1,7 +1,7 @@
 -- What a view of slots is made of.
 use Rattle.std.specs.Prelude.{◌≡◌, ◌⊎◌, ℕ, List, Option, Some, None, IfSome, IsSome, Result, OnOk, map, length, slice_get, slice_index}
 use Rattle.road_network.specs.Net.{HasNode, Net}
-use Rattle.row_store.specs.Places.{Fits, IsReady, IsSearcherOf}
+use Rattle.row_store.specs.Places.{Fits, IsReady}
 use Rattle.bounded_search.specs.Table.{TableRow}
 use Rattle.row_store.specs.Store.{Sees, SlotSet, Viewing, fresh_view}
 use Rattle.row_store.specs.declared.place.Place.{Place}
@@ -24,7 +24,7 @@ pub record IsView (view : View) : Type 0 where
   pub cells_count : length view.slots.now.cells ≡ length view.slots.now.network.nodes
   pub places_count : length view.places.items ≡ length view.slots.now.network.nodes
   pub fit : AllFit view.slots.now view.places.items
-  pub searcher : IsSearcherOf view.slots.now view.searcher
+  pub judge : view.judge ≡ view.slots.now
 
 -- node v is one of its nodes
 pub record IsViewAt (view : View) (v : ℕ) : Type 0 where

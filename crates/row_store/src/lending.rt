@@ -11,7 +11,7 @@ ghost use Rattle.row_store.specs.Store.{SeesRow, lender, looks_near, near_of, ro
 
 use crate::opening::{fill_in, knows_in, lend_from};
 use crate::reader::Reader;
-use crate::slots::Slots;
+use crate::vouched::VouchedSlots;
 use bounded_search::{Row, Rows};
 use road_network::NodeId;
 use std::alloc::AllocError;
@@ -64,13 +64,13 @@ impl<'s> Reader<'s> {
     {
         let store = self.store;
         match &store.near {
-            Some(slots) => reach <= slots.bound && self.looks_near(slots, n),
+            Some(slots) => reach <= slots.slots.bound && self.looks_near(slots, n),
             None => false,
         }
     }
 
     /// Whether the near slot of n is to be looked at, although the row of n may be known.
-    fn looks_near(&self, slots: &Slots<'_>, n: NodeId) -> bool
+    fn looks_near(&self, slots: &VouchedSlots<'_>, n: NodeId) -> bool
         requires node { HasNode self.now.store.network n.0 }
         requires slots { IsNearOf self.now.store slots.now }
         ensures { result ≡ looks_near self.now n.0 }

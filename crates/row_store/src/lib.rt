@@ -1,5 +1,5 @@
 //! Rows that threads share without a lock: slots for each node, set once by the first thread, and readers that
-//! trust a row only after checking it.
+//! use a row only if it is right.
 //!
 //! - [`RowStore`] has the slots: the table's, for the rows within its bound, and for those who match along traces
 //!   also slots for near rows, within a third of it. It makes [`Reader`]s, one for each thread.
@@ -9,11 +9,15 @@
 //! - [`agree`] says that two readers that know a row of a node know the same row, and [`known_count`] for how
 //!   many nodes some reader knows one.
 //!
+//! A reader that knows that the row in a slot is right leaves a voucher beside it, and another reader that finds the
+//! voucher need not check the row. The vouchers follow a rule, `Vouched` in `specs/Vouchers.antt`.
+//!
 //! Read first the clauses of [`Reader::look`] and [`agree`]. No call waits.
 #![tactic(auto)]
 
 mod accepted;
 mod counting;
+mod judge;
 mod lending;
 mod near_slots;
 mod opening;
@@ -23,6 +27,8 @@ mod sight;
 mod slots;
 mod store;
 mod view;
+mod vouched;
+mod vouchers;
 
 pub use counting::known_count;
 pub use near_slots::agree_near;

@@ -1,5 +1,5 @@
 //! Views that are opened at first need. Serves `Reader`; decided by `IsViewOf`.
-ghost use Rattle.std.specs.Prelude.{◌≡◌, ◌↔◌, IfOk, IfSome, IsOk, OnErr, OnOk};
+ghost use Rattle.std.specs.Prelude.{◌≡◌, ◌↔◌, ◌<◌, IfOk, IfSome, IsOk, OnErr, OnOk, length};
 ghost use Rattle.road_network.specs.Net.{HasNode};
 ghost use Rattle.bounded_search.specs.Table.{IsRow};
 ghost use Rattle.row_store.specs.Sights.{row_seen, IsTable};
@@ -7,8 +7,8 @@ ghost use Rattle.row_store.specs.Store.{IsSeen, Sees, SeesRow, is_seen};
 ghost use Rattle.row_store.specs.Views.{Agreed, CanLook, Fills, HasOpenRow, IsOpen, IsViewOf, seen_of};
 
 use crate::sight::Sight;
-use crate::slots::Slots;
 use crate::view::View;
+use crate::vouched::VouchedSlots;
 use bounded_search::{Fans, Row};
 use road_network::NodeId;
 use std::alloc::AllocError;
@@ -16,11 +16,12 @@ use std::alloc::AllocError;
 /// Opens the view of these slots, if it is not open.
 fn open_view<'s>(
     view: &mut Option<View<'s>>,
-    slots: &'s Slots<'s>,
+    slots: &'s VouchedSlots<'s>,
     fans: &'s Fans<'s>,
 ) -> Result<(), AllocError>
     requires view { IfSome view.old (IsViewOf slots.now) }
     requires fans { fans.now ≡ slots.now.network }
+    requires some { 0 < length slots.now.network.nodes }
     ensures view { IfSome view.new (IsViewOf slots.now) }
     ensures open { OnOk result (IsOpen slots.now view.new) }
     ensures same { seen_of slots.now view.new ≡ seen_of slots.now view.old }
@@ -34,7 +35,7 @@ fn open_view<'s>(
 }
 
 /// Whether a row was seen in the slot of node n. Allocates nothing.
-pub fn knows_in(view: &Option<View<'_>>, _slots: &Slots<'_>, n: NodeId) -> bool
+pub fn knows_in(view: &Option<View<'_>>, _slots: &VouchedSlots<'_>, n: NodeId) -> bool
     requires view { IfSome view.now (IsViewOf _slots.now) }
     requires node { HasNode _slots.now.network n.0 }
     ensures { result ≡ is_seen (seen_of _slots.now view.now) n.0 }
@@ -48,7 +49,7 @@ pub fn knows_in(view: &Option<View<'_>>, _slots: &Slots<'_>, n: NodeId) -> bool
 /// Sees the row in the slot of n, as `Reader::look` returns it.
 pub fn look_in<'s>(
     view: &mut Option<View<'s>>,
-    slots: &'s Slots<'s>,
+    slots: &'s VouchedSlots<'s>,
     fans: &'s Fans<'s>,
     n: NodeId,
 ) -> Result<Sight<'s>, AllocError>
@@ -67,7 +68,7 @@ pub fn look_in<'s>(
 /// Offers a row to the slot of n, as `Reader::offer` does.
 pub fn offer_in<'s>(
     view: &mut Option<View<'s>>,
-    slots: &'s Slots<'s>,
+    slots: &'s VouchedSlots<'s>,
     fans: &'s Fans<'s>,
     n: NodeId,
     row: Row,
@@ -86,7 +87,7 @@ pub fn offer_in<'s>(
 /// Offers the row of n to the slot of n, as `Reader::offer_right` does.
 pub fn offer_right_in<'s>(
     view: &mut Option<View<'s>>,
-    slots: &'s Slots<'s>,
+    slots: &'s VouchedSlots<'s>,
     fans: &'s Fans<'s>,
     n: NodeId,
     row: Row,
@@ -106,7 +107,7 @@ pub fn offer_right_in<'s>(
 /// Has the row of n at hand: the one in its slot, or another where that is foreign.
 pub fn fill_in<'s>(
     view: &mut Option<View<'s>>,
-    slots: &'s Slots<'s>,
+    slots: &'s VouchedSlots<'s>,
     fans: &'s Fans<'s>,
     n: NodeId,
 ) -> Result<(), AllocError>
@@ -122,7 +123,7 @@ pub fn fill_in<'s>(
 }
 
 /// The row of n, which is at hand.
-pub fn lend_from<'a>(view: &'a Option<View<'_>>, _slots: &Slots<'_>, n: NodeId) -> &'a Row
+pub fn lend_from<'a>(view: &'a Option<View<'_>>, _slots: &VouchedSlots<'_>, n: NodeId) -> &'a Row
     requires view { IfSome view.now (IsViewOf _slots.now) }
     requires row { HasOpenRow n.0 view.now }
     ensures { IsRow _slots.now.network _slots.now.bound n.0 result.now }
@@ -137,7 +138,7 @@ pub fn lend_from<'a>(view: &'a Option<View<'_>>, _slots: &Slots<'_>, n: NodeId) 
 pub fn agree_in<'s>(
     a: &mut Option<View<'s>>,
     b: &mut Option<View<'s>>,
-    _slots: &Slots<'_>,
+    _slots: &VouchedSlots<'_>,
     n: NodeId,
 ) -> &'s Row
     requires a { IfSome a.old (IsViewOf _slots.now) × IsSeen (seen_of _slots.now a.old) n.0 }

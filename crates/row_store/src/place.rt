@@ -6,8 +6,9 @@ ghost use Rattle.bounded_search.specs.Table.{IsRow};
 ghost use Rattle.row_store.specs.Places.{Fits, IsCheckedFor, IsPlaceOf, IsReady, KeepsSight, StaysBlind, row_in};
 ghost use Rattle.row_store.specs.declared.place.Seen.TheVariants.{Nothing};
 
+use crate::judge::Judge;
 use crate::slots::Slots;
-use bounded_search::{Row, Searcher};
+use bounded_search::Row;
 use once_cell::race::{Note, OnceBox};
 use road_network::NodeId;
 use std::alloc::AllocError;
@@ -72,10 +73,20 @@ impl<'s> Place<'s> {
         !matches!(self.seen, Seen::Nothing)
     }
 
+    /// Tells other threads that the known row is right, if it is.
+    fn vouch(&mut self, _slots: &Slots<'_>, judge: &mut Judge<'s>, n: NodeId)
+        requires { IsPlaceOf _slots.now n.0 judge.old self.old }
+        ensures same { (self.new ≡ self.old) × (judge.new ≡ judge.old) }
+    {
+        if let Seen::Right(row) = self.seen {
+            judge.vouch(n, row, &mut self.note);
+        }
+    }
+
     /// Reads the cell. False if it is empty; then nothing is known.
-    pub fn look(&mut self, slots: &'s Slots<'s>, searcher: &mut Searcher<'s>, n: NodeId) -> bool
-        requires { IsPlaceOf slots.now n.0 searcher.old self.old }
-        ensures place { IsPlaceOf slots.now n.0 searcher.new self.new }
+    pub fn look(&mut self, slots: &'s Slots<'s>, judge: &mut Judge<'s>, n: NodeId) -> bool
+        requires { IsPlaceOf slots.now n.0 judge.old self.old }
+        ensures place { IsPlaceOf slots.now n.0 judge.new self.new }
         ensures seen { IsTrue result → KeepsSight self.old.note.known self.new.note.known }
         ensures empty { IsTrue result ⊎ StaysBlind self.old.note.known self.new.note.known }
     {
@@ -86,7 +97,9 @@ impl<'s> Place<'s> {
         let Some(row) = cell.get_as(&mut self.note) else {
             return false;
         };
-        self.seen = Seen::checked(row, searcher.check(n, row));
+        let right = judge.is_right(n, row, &mut self.note);
+        self.seen = Seen::checked(row, right);
+        self.vouch(slots, judge, n);
         true
     }
 
@@ -94,12 +107,12 @@ impl<'s> Place<'s> {
     pub fn offer(
         &mut self,
         slots: &'s Slots<'s>,
-        searcher: &mut Searcher<'s>,
+        judge: &mut Judge<'s>,
         n: NodeId,
         row: Row,
     ) -> Result<(), AllocError>
-        requires { IsPlaceOf slots.now n.0 searcher.old self.old }
-        ensures place { IsPlaceOf slots.now n.0 searcher.new self.new }
+        requires { IsPlaceOf slots.now n.0 judge.old self.old }
+        ensures place { IsPlaceOf slots.now n.0 judge.new self.new }
         ensures seen { OnOk result (KeepsSight self.old.note.known self.new.note.known) }
         ensures err { OnErr result (StaysBlind self.old.note.known self.new.note.known) }
     {
@@ -109,7 +122,9 @@ impl<'s> Place<'s> {
         let cell = &slots.cells[n.0 as usize];
         let offered = Box::new(slots.alloc, row)?;
         let held = cell.get_or_init_as(move || offered, &mut self.note);
-        self.seen = Seen::checked(held, searcher.check(n, held));
+        let right = judge.is_right(n, held, &mut self.note);
+        self.seen = Seen::checked(held, right);
+        self.vouch(slots, judge, n);
         Ok(())
     }
 
@@ -118,13 +133,13 @@ impl<'s> Place<'s> {
     pub fn offer_right(
         &mut self,
         slots: &'s Slots<'s>,
-        searcher: &mut Searcher<'s>,
+        judge: &mut Judge<'s>,
         n: NodeId,
         row: Row,
     ) -> Result<(), AllocError>
-        requires place { IsPlaceOf slots.now n.0 searcher.old self.old }
+        requires place { IsPlaceOf slots.now n.0 judge.old self.old }
         requires right { IsRow slots.now.network slots.now.bound n.0 row }
-        ensures place { IsPlaceOf slots.now n.0 searcher.new self.new }
+        ensures place { IsPlaceOf slots.now n.0 judge.new self.new }
         ensures seen { OnOk result (KeepsSight self.old.note.known self.new.note.known) }
         ensures err { OnErr result (StaysBlind self.old.note.known self.new.note.known) }
     {
@@ -137,7 +152,9 @@ impl<'s> Place<'s> {
         let Some(held) = cell.get_as(&mut self.note) else {
             unreachable!()
         };
-        self.seen = Seen::checked(held, first || searcher.check(n, held));
+        let right = judge.is_right_or(first, n, held, &mut self.note);
+        self.seen = Seen::checked(held, right);
+        self.vouch(slots, judge, n);
         Ok(())
     }
 
@@ -146,17 +163,17 @@ impl<'s> Place<'s> {
     pub fn make_own(
         &mut self,
         slots: &'s Slots<'s>,
-        searcher: &mut Searcher<'s>,
+        judge: &mut Judge<'s>,
         n: NodeId,
     ) -> Result<(), AllocError>
-        requires { IsPlaceOf slots.now n.0 searcher.old self.old }
-        ensures place { IsPlaceOf slots.now n.0 searcher.new self.new }
+        requires { IsPlaceOf slots.now n.0 judge.old self.old }
+        ensures place { IsPlaceOf slots.now n.0 judge.new self.new }
         ensures same { self.new.note.known ≡ self.old.note.known }
         ensures ready { OnOk result (IsReady self.new.seen) }
         ensures again { IsReady self.old.seen → IsOk result × (self.new ≡ self.old) }
     {
         if let Seen::Foreign(foreign) = self.seen {
-            let own = searcher.row(n)?;
+            let own = judge.row(n)?;
             self.seen = Seen::Replaced(Box::new(slots.alloc, Replacement { foreign, own })?);
         }
         Ok(())

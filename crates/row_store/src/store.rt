@@ -2,7 +2,7 @@
 ghost use Rattle.std.specs.Prelude.{◌≡◌, ◌≤◌, IfOk, None, is_some};
 ghost use Rattle.row_store.specs.Store.{HasNearRows, IsOpened, near_bound};
 
-use crate::slots::Slots;
+use crate::vouched::VouchedSlots;
 use bounded_search::Fans;
 use road_network::Network;
 use std::alloc::{AllocError, Global};
@@ -13,8 +13,8 @@ use std::marker::Model;
 pub struct RowStore<'n> {
     // The searches of all readers share them.
     pub(crate) fans: Fans<'n>,
-    pub(crate) table: Slots<'n>,
-    pub(crate) near: Option<Slots<'n>>,
+    pub(crate) table: VouchedSlots<'n>,
+    pub(crate) near: Option<VouchedSlots<'n>>,
 }
 
 // By hand, so that the functions that drop one call this.
@@ -54,7 +54,7 @@ impl<'n> RowStore<'n> {
         ensures { IfOk result (λ s. IsOpened network.now bound s × (s.near ≡ None)) }
     {
         let fans = Fans::new(alloc, network)?;
-        let table = Slots::open(alloc, network, bound)?;
+        let table = VouchedSlots::open(alloc, network, bound)?;
         Ok(RowStore {
             fans,
             table,
@@ -74,8 +74,8 @@ impl<'n> RowStore<'n> {
         ensures { IfOk result (λ s. IsOpened network.now bound s × HasNearRows s) }
     {
         let fans = Fans::new(alloc, network)?;
-        let table = Slots::open(alloc, network, bound)?;
-        let near = Slots::open(alloc, network, near_bound(bound))?;
+        let table = VouchedSlots::open(alloc, network, bound)?;
+        let near = VouchedSlots::open(alloc, network, near_bound(bound))?;
         Ok(RowStore {
             fans,
             table,
@@ -87,14 +87,14 @@ impl<'n> RowStore<'n> {
     pub fn network(&self) -> &'n Network
         ensures { result.now ≡ self.now.network }
     {
-        self.table.network
+        self.table.slots.network
     }
 
     /// The bound of the rows in the table's slots, in cm. Allocates nothing.
     pub fn bound(&self) -> u32
         ensures { result ≡ self.now.bound }
     {
-        self.table.bound
+        self.table.slots.bound
     }
 
     /// Whether there are slots for near rows. Allocates nothing.

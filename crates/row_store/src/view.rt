@@ -1,5 +1,5 @@
 //! What one thread has seen of the slots for one bound. Serves `Reader`; decided by `Viewing`.
-ghost use Rattle.std.specs.Prelude.{◌≡◌, ◌↔◌, IfOk, IsOk, OnOk, OnErr, slice_get, Some};
+ghost use Rattle.std.specs.Prelude.{◌≡◌, ◌↔◌, ◌<◌, length, IfOk, IsOk, OnOk, OnErr, slice_get, Some};
 ghost use Rattle.road_network.specs.Net.{HasNode};
 ghost use Rattle.bounded_search.specs.Table.{TableRow, IsRow};
 ghost use Rattle.row_store.specs.Sights.{row_seen, IsTable};
@@ -7,17 +7,19 @@ ghost use Rattle.row_store.specs.Store.{IsSeen, Sees, SeesRow, fresh_view, is_se
 ghost use Rattle.row_store.specs.Views.{Fills, HasRow, IsView, IsViewAt, IsViewOf, StaysView, viewing_of};
 
 use crate::accepted::Accepted;
+use crate::judge::Judge;
 use crate::place::{Place, Seen};
 use crate::sight::Sight;
 use crate::slots::Slots;
-use bounded_search::{Fans, Row, Searcher};
+use crate::vouched::VouchedSlots;
+use bounded_search::{Fans, Row};
 use road_network::NodeId;
 use std::alloc::AllocError;
 
-/// What one thread has seen of some slots and found out about it: a place for each node, and the arrays of a search.
+/// What one thread has seen of some slots and found out about it: a place for each node, and what finds and judges rows.
 pub struct View<'s> {
     pub slots: &'s Slots<'s>,
-    pub searcher: Searcher<'s>,
+    pub judge: Judge<'s>,
     pub places: Vec<Place<'s>>,
 }
 
@@ -26,7 +28,7 @@ impl<'s> Drop for View<'s> {
     fn drop(self) {
         let View {
             slots: _,
-            searcher: _,
+            judge: _,
             places: _,
         } = self;
     }
@@ -34,19 +36,28 @@ impl<'s> Drop for View<'s> {
 
 impl<'s> View<'s> {
     /// A view of these slots, of which nothing is seen yet.
-    pub fn open(slots: &'s Slots<'s>, fans: &'s Fans<'s>) -> Result<View<'s>, AllocError>
-        requires { fans.now ≡ slots.now.network }
+    pub fn open(vouched: &'s VouchedSlots<'s>, fans: &'s Fans<'s>) -> Result<View<'s>, AllocError>
+        requires fans { fans.now ≡ vouched.now.network }
+        requires some { 0 < length vouched.now.network.nodes }
+        ensures of { IfOk result (IsViewOf vouched.now) }
+        ensures fresh { IfOk result (λ view. viewing_of view ≡ fresh_view vouched.now) }
+    {
+        let judge = Judge::open(vouched, fans)?;
+        View::with(&vouched.slots, judge)
+    }
+
+    fn with(slots: &'s Slots<'s>, judge: Judge<'s>) -> Result<View<'s>, AllocError>
+        requires { judge ≡ slots.now }
         ensures of { IfOk result (IsViewOf slots.now) }
         ensures fresh { IfOk result (λ view. viewing_of view ≡ fresh_view slots.now) }
     {
-        let searcher = Searcher::open_with(slots.alloc, slots.network, fans, slots.bound)?;
         let mut places = Vec::with_capacity(slots.alloc, slots.cells.len())?;
         for cell in &slots.cells {
             places.push(Place::empty(cell))?;
         }
         Ok(View {
             slots,
-            searcher,
+            judge,
             places,
         })
     }
@@ -66,7 +77,7 @@ impl<'s> View<'s> {
         ensures row { IfOk result (IsRow self.old.slots.now.network self.old.slots.now.bound n.0) }
     {
         let known = Accepted::of(self.slots, self.places.as_slice());
-        self.searcher.row_from(&known, n)
+        self.judge.row_from(&known, n)
     }
 
     /// Sees the row in the slot of n. An empty slot is filled with the row of n.
@@ -79,7 +90,7 @@ impl<'s> View<'s> {
     {
         let slots = self.slots;
         let place = &mut self.places[n.0 as usize];
-        let held = place.look(slots, &mut self.searcher, n);
+        let held = place.look(slots, &mut self.judge, n);
         if held {
             return Ok(());
         }
@@ -97,7 +108,7 @@ impl<'s> View<'s> {
     {
         let slots = self.slots;
         let place = &mut self.places[n.0 as usize];
-        place.offer(slots, &mut self.searcher, n, row)
+        place.offer(slots, &mut self.judge, n, row)
     }
 
     /// Sees the row in the slot of n; it is this row if the slot was empty.
@@ -111,7 +122,7 @@ impl<'s> View<'s> {
     {
         let slots = self.slots;
         let place = &mut self.places[n.0 as usize];
-        place.offer_right(slots, &mut self.searcher, n, row)
+        place.offer_right(slots, &mut self.judge, n, row)
     }
 
     /// What was seen for node n.
@@ -203,7 +214,7 @@ impl<'s> View<'s> {
     {
         let slots = self.slots;
         let place = &mut self.places[n.0 as usize];
-        place.make_own(slots, &mut self.searcher, n)
+        place.make_own(slots, &mut self.judge, n)
     }
 
     /// The row of n, which is at hand.

@@ -50,12 +50,21 @@ fn see<'s>(
     Ok(both && agreed && give_right(a)? && give_right(b)?)
 }
 
+/// Whether a reader that looks after others sees the row with this second entry, and gives the right one.
+fn see_late(store: &RowStore<'_>, second: Option<Entry>) -> Result<bool, AllocError>
+    requires { HasNode store.now.network 1 }
+{
+    let mut late = store.reader()?;
+    Ok(is_seen(late.look(NodeId(1))?, second) && give_right(&mut late)?)
+}
+
 fn find_and_see(store: &RowStore<'_>) -> Result<bool, AllocError>
     requires { HasNode store.now.network 1 }
 {
     let mut a = store.reader()?;
     let mut b = store.reader()?;
-    Ok(!a.known(NodeId(1)) && see(&mut a, &mut b, right())?)
+    let seen = !a.known(NodeId(1)) && see(&mut a, &mut b, right())?;
+    Ok(seen && see_late(store, right())?)
 }
 
 fn offer_and_see(store: &RowStore<'_>, row: Row, second: Option<Entry>) -> Result<bool, AllocError>
@@ -65,10 +74,11 @@ fn offer_and_see(store: &RowStore<'_>, row: Row, second: Option<Entry>) -> Resul
     let mut a = store.reader()?;
     let mut b = store.reader()?;
     a.offer(NodeId(1), row)?;
-    see(&mut a, &mut b, second)
+    let seen = see(&mut a, &mut b, second)?;
+    Ok(seen && see_late(store, second)? && see_late(store, second)?)
 }
 
-/// Whether two readers see the row that the first finds.
+/// Whether readers see the row that the first finds.
 fn see_found(alloc: Global) -> Option<bool> {
     let net = read_network(alloc, TWO_EDGES).ok()?;
     if net.node_count() < 2 {
@@ -78,7 +88,7 @@ fn see_found(alloc: Global) -> Option<bool> {
     find_and_see(&store).ok()
 }
 
-/// Whether two readers see the row of node 1 with this second entry after the first has offered it.
+/// Whether readers see the row of node 1 with this second entry after the first has offered it.
 fn see_offered(alloc: Global, second: Option<Entry>) -> Option<bool> {
     let Ok(Some(row)) = offered(alloc, second) else {
         return None;
@@ -118,7 +128,7 @@ fn see_near<'s>(
     Ok(both && agreed && near && far && give_right(a)? && give_right(b)?)
 }
 
-/// Whether a near row that was offered, or else found, is seen by two readers, and a third one that finds the row
+/// Whether a near row that was offered, or else found, is seen by three readers, and a fourth one that finds the row
 /// first needs no near row.
 fn offer_near_and_see(
     store: &RowStore<'_>,
@@ -135,6 +145,8 @@ fn offer_near_and_see(
         a.offer_near(NodeId(1), row)?;
     }
     let seen = see_near(&mut a, &mut b, second)?;
+    let mut late = store.reader()?;
+    let seen = seen && is_seen_near(late.look_near(NodeId(1))?, second);
     let mut c = store.reader()?;
     let whole = has_second(c.row(NodeId(1))?, right());
     Ok(seen && whole && has_second(c.near_row(NodeId(1), 5_000)?, right()))
@@ -175,7 +187,7 @@ fn a_near_row_and_a_row_are_shared_side_by_side(rt: HostRuntime) {
 }
 
 #[test]
-fn two_readers_see_one_row(rt: HostRuntime) {
+fn all_readers_see_one_row(rt: HostRuntime) {
     assert!(rt; see_found(rt.alloc()) == Some(true), "a row that is found");
     assert!(rt;
         see_offered(rt.alloc(), right()) == Some(true),

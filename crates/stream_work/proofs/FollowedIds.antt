@@ -28,6 +28,7 @@ use Rattle.trace_sessions.specs.StreamText.{Point, all_lines, closing_lines, fix
 use Rattle.trace_sessions.proofs.ByteLines.{IsOneLine, IsPlain, decimal-plain, ids_have_follow_texts_before, none-leads, plain-word}
 use Rattle.stream_work.specs.FollowedIds.{FollowsEachId, IsStreamOf, StreamsFollowEachId}
 use Rattle.stream_work.specs.Streams.{pairs_of, streamed_of, stream_ending, stream_refusal, streams_job, too_long_line, whole_traces}
+use Rattle.stream_work.proofs.IdTraces.{traces-of_ids}
 use Rattle.stream_work.proofs.ReadIds.{HasShortId, read_ids}
 
 -- ---- ids below 2^32
@@ -113,6 +114,8 @@ follows on bytes whole none =
           ∙ ids_have_follow_texts_before on.network on.params points id total are small room some
           (total-one (length all) (points_of all) (pieces_of on all) (rows_of on all))
           (none-leads id total small (no-number (length all) (points_of all) (pieces_of on all) (rows_of on all))));
+      traces = all;
+      traces_are = traces-of_ids bytes;
       lines = concat (all_lines on.network on.params points);
       ended = text-is on traces;
     }

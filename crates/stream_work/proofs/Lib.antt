@@ -1,3 +1,4 @@
+pub mod IdTraces
 pub mod ReadIds
 pub mod FollowedIds
 pub mod StreamJobs

@@ -1,6 +1,7 @@
 -- Where `streams` is done: the lines of each id are what `follow` writes of its trace, and the last
 -- line is the total line of these traces.
-use Rattle.std.specs.Prelude.{◌≡◌, ℕ, ◌<◌, List, ◌++◌, Option, Some, None, Ok, length}
+use Rattle.std.specs.Prelude.{◌≡◌, ℕ, ◌<◌, List, [], ◌∷◌, ◌++◌, Option, Some, None, Ok, length, nat_eq}
+use Rattle.std.specs.List.{filter}
 use Rattle.cost_model.specs.declared.params.Params.{Params}
 use Rattle.program_frame.specs.Counts.{total_of}
 use Rattle.program_frame.specs.Outcome.{Outcome, seen}
@@ -15,7 +16,7 @@ use Rattle.trace_reader.specs.Reading.{file_fault, file_traces}
 use Rattle.trace_reader.specs.declared.trace.Trace.{Trace}
 use Rattle.trace_sessions.specs.FollowText.{follow_text}
 use Rattle.trace_sessions.specs.StreamText.{fixes_among, points_in, text_led_by}
-use Rattle.stream_work.specs.Streams.{streams_plan, whole_traces}
+use Rattle.stream_work.specs.Streams.{streams_plan}
 
 -- the trace of an id: all its positions in the trace file, in the order of the file
 abbrev pub trace_in : List ℕ → ℕ → Trace
@@ -25,15 +26,25 @@ trace_in bytes id = record { id = id; fixes = fixes_among id (points_in (file_tr
 abbrev pub HasId : List ℕ → ℕ → Type 0
 HasId bytes id = 0 < length (trace_in bytes id).fixes
 
+-- the traces with this id
+abbrev pub with_id : ℕ → List Trace → List Trace
+with_id id traces = filter (λ trace. nat_eq id trace.id) traces
+
+-- these are the traces of the ids of the file: each id has one, and no other id has any
+pub record AreTracesOfIds (bytes : List ℕ) (traces : List Trace) : Type 0 where
+  pub each : (id : ℕ) → HasId bytes id → with_id id traces ≡ trace_in bytes id ∷ []
+  pub others : (id : ℕ) → ¬ HasId bytes id → with_id id traces ≡ []
+
 -- a text for the bytes of a trace file: the lines that begin with an id and a space are, without
--- these, the follow text of the id's trace; and behind all lines stands the total line
+-- these, the follow text of the id's trace; and behind all lines stands the total line of the traces of the ids
 pub record FollowsEachId (on : Setting) (bytes text : List ℕ) : Type 0 where
   pub no_fault : file_fault bytes ≡ None
   pub followed : (id : ℕ) → HasId bytes id
       → text_led_by id text ≡ follow_text on.network on.params (trace_in bytes id)
+  pub traces : List Trace
+  pub traces_are : AreTracesOfIds bytes traces
   pub lines : List ℕ
-  pub ended : text
-      ≡ lines ++ total_of (pieces_of on) (rows_of on) (whole_traces (file_traces bytes))
+  pub ended : text ≡ lines ++ total_of (pieces_of on) (rows_of on) traces
 
 -- the files were accepted, and the text is such a text
 pub record IsStreamOf (limits : NetworkLimits) (network traces : List ℕ) (options : Params)

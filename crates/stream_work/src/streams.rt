@@ -1,5 +1,5 @@
 //! `streams NET TRACES`. Serves the program; decided by `streams_plan`.
-ghost use Rattle.std.specs.Prelude.{◌≡◌, ◌++◌, [], List as ListOf, Ok, IfOk, OnOk};
+ghost use Rattle.std.specs.Prelude.{◌≡◌, ◌++◌, [], true, List as ListOf, Ok, IfOk, OnOk};
 ghost use Rattle.bounded_search.specs.Rows.{AreRowsOf};
 ghost use Rattle.cost_model.specs.Options.{IsAccepted};
 ghost use Rattle.program_frame.specs.Performs.{Performs};
@@ -104,6 +104,8 @@ impl<'m> Job for StreamJob<'m> {
     ghost text = { λ job. streams_job job.matcher.now };
 
     ghost has = { λ job traces. HasStreamed job.matcher.now job.sessions job.rows job.tally traces };
+
+    ghost each_read = { true };
 
     // The lines of a position are written as soon as the row after it was read.
     fn puts_each_read(&self) -> bool {

@@ -1,4 +1,3 @@
-pub mod Numerals
 pub mod States
 pub mod Lines
 pub mod Walks

@@ -1,23 +1,25 @@
 -- The network file of a town: its text is that of its records, and they are read back.
-use Rattle.std.proofs.Common.{◌≡◌, ◌⊎◌, ℕ, zero, suc, ◌+◌, ◌*◌, ◌/◌, ◌%◌, ◌<◌, ◌≤◌, ◌^◌, cond, List, [], ◌∷◌, ◌++◌, All, length, Ok, Err, map, codes, refl, sym, ap, ap₂, ◌∙◌, subst, inl, inr, arith, add-one, append_assoc, length-append, mul-le-mul, div-le_self}
+use Rattle.std.proofs.Common.{◌≡◌, ◌⊎◌, ℕ, zero, suc, ◌+◌, ◌*◌, ◌/◌, ◌%◌, ◌<◌, ◌≤◌, ◌^◌, List, [], ◌∷◌, ◌++◌, All, length, Ok, map, codes, refl, sym, ap, ap₂, ◌∙◌, subst, inl, inr, arith, add-one, append_assoc, length-append, mul-le-mul, div-le_self}
 use Rattle.std.specs.List.{fold}
-use Rattle.std.proofs.lemmas.Bool.{cases_Bool, le-ltb}
+use Rattle.std.proofs.lemmas.Bool.{cases_Bool}
 use Rattle.std.proofs.lemmas.List.Elements.{All-append, All-cons, All-head, All-nil, All-tail}
-use Rattle.csv.specs.Reading.{default_config, records, records_from, strip_bom}
-use Rattle.csv.specs.Writing.{default_writer, fields_text, is_blank as is_blank_record, read_back, row_text}
+use Rattle.csv.specs.Reading.{default_config, records, records_from}
+use Rattle.csv.specs.Writing.{default_writer, read_back, row_text}
 use Rattle.csv.specs.declared.parser.State.TheVariants as st
 use Rattle.decimal_text.specs.Number.{decimal}
 use Rattle.decimal_text.proofs.Laws.{length-decimal}
 use Rattle.road_network.specs.declared.limits.NetworkLimits.TheVariants.{Standard}
-use Rattle.road_network.specs.NetworkFile.{add_records, header, network_of, network_of_records, no_net, with_row}
-use Rattle.road_network.specs.declared.fault.NetworkFault.TheVariants as fault
+use Rattle.road_network.specs.NetworkFile.{header, network_of, network_of_records, no_net, with_row}
 use Rattle.town.specs.declared.corner.Corner.{Corner}
 use Rattle.town.specs.declared.corner.Heading.{Heading}
 use Rattle.town.specs.declared.corner.Heading.TheVariants.{East, North}
 use Rattle.town.specs.Corners.{corner_at, is_border, next_corner, node_id}
 use Rattle.town.specs.Laws.{NetworkIsLawful}
 use Rattle.town.specs.Network.{Street, edge_line, line_text, place_text, street_lines, street_rows, street_to, streets, streets_below, streets_from}
-use Rattle.town.proofs.Fields.{IsNear, edge-row_text, edge_fields, records-back, text_of_records}
+use Rattle.road_network.proofs.Adding.{file-short}
+use Rattle.listed_files.proofs.Networks.{header-is, mark-free, of-records}
+use Rattle.listed_files.proofs.Records.{records-back, text_of_records}
+use Rattle.town.proofs.Fields.{IsNear, edge-row_text, edge_fields}
 use Rattle.town.proofs.Lines.{few_to, streets_more}
 use Rattle.town.proofs.Near.{joined_east, joined_north}
 use Rattle.town.proofs.TownNet.{IsAt, IsStreet, records_added, street_records}
@@ -83,22 +85,6 @@ lines-length (s ∷ rest) n edge all few =
     (omega (arith, sum, there.0, back.0, later.0), omega (arith, sum, there.1, back.1, later.1))
 
 -- the network of a text of lawful streets
-header-is : row_text default_writer header ≡ codes "edge,from,to,line\n"
-unfolding fields_text is_blank_record
-header-is = refl
-
-mark-free : (rest : List ℕ) → strip_bom (codes "edge,from,to,line\n" ++ rest) ≡ codes "edge,from,to,line\n" ++ rest
-unfolding strip_bom
-mark-free rest = refl
-
-of-records : (rows : List (List (List ℕ))) → network_of_records Standard (header ∷ rows) ≡ add_records Standard no_net rows
-unfolding network_of_records
-of-records rows = refl
-
-whole-file : (bytes : List ℕ) → length bytes ≤ 134_217_728 → network_of Standard bytes ≡ network_of_records Standard (records default_config (strip_bom bytes))
-unfolding network_of
-whole-file bytes few = ap (λ b. cond b (Err fault.FileTooLong) (network_of_records Standard (records default_config (strip_bom bytes)))) (le-ltb 134_217_728 (length bytes) few)
-
 empty-is : IsAt no_net 0 0
 empty-is = record { edges_are = refl; names = All-nil (λ e. e.name < 0); nodes_are = omega arith; points_are = refl }
 
@@ -113,7 +99,7 @@ text-read n list all few =
     let whole : length text ≡ 18 + length lines = length-append (codes "edge,from,to,line\n") lines in
     let same : text_of_records (header ∷ rows) ≡ text = ap₂ (λ a b. a ++ b) header-is (text-is list n 0 all (omega (arith, few))) in
     let turns : length (header ∷ rows) ≤ length text + 1 = omega (arith, whole, size.0, count_is list n 0) in
-    whole-file text (omega (arith, whole, size.1, few))
+    file-short Standard text (omega (arith, whole, size.1, few))
     ∙ ap (λ t. network_of_records Standard (records default_config t)) (mark-free lines)
     ∙ ap (λ t. network_of_records Standard (records_from default_config (length text + 1) st.StartRecord t)) (sym same)
     ∙ ap (network_of_records Standard) (records-back (header ∷ rows) (length text + 1) turns)

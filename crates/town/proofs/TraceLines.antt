@@ -1,16 +1,16 @@
 -- The lines of a trace file, read one after the other.
-use Rattle.std.proofs.Common.{◌≡◌, ◌⊎◌, ℕ, ◌+◌, ◌<◌, ◌≤◌, ◌^◌, ◌==◌, false, List, [], ◌∷◌, ◌++◌, All, length, get_or, ◌-◌, ℤ, nat_abs, Ok, Result, Some, codes, refl, sym, ap, ◌∙◌, inl, arith, append_assoc, length-append}
+use Rattle.std.proofs.Common.{◌≡◌, ◌⊎◌, ℕ, ◌+◌, ◌<◌, ◌≤◌, ◌^◌, ◌==◌, false, List, [], ◌∷◌, ◌++◌, All, length, get_or, ◌-◌, nat_abs, Ok, Result, Some, codes, refl, sym, ap, ◌∙◌, inl, arith, append_assoc, length-append}
 use Rattle.std.specs.List.{list_all, slice_split}
 use Rattle.std.proofs.lemmas.Bool.{ne_eqb}
-use Rattle.std.proofs.lemmas.List.{get_or_append_left, get_or-append-add}
+use Rattle.std.proofs.lemmas.List.{get_or_append_left}
 use Rattle.std.proofs.lemmas.List.Elements.{All-append, All-cons, All-nil}
 use Rattle.std.proofs.lemmas.List.Splits.{slice_split_at, slice_split_none}
 use Rattle.decimal_text.specs.Blank.{is_blank}
-use Rattle.decimal_text.specs.Number.{decimal, signed_decimal, signed_within, unsigned_within}
-use Rattle.decimal_text.proofs.Laws.{length-decimal, signed_within-signed_decimal, unsigned_within-decimal}
+use Rattle.decimal_text.specs.Number.{decimal, signed_decimal}
+use Rattle.decimal_text.proofs.Laws.{length-decimal}
 use Rattle.trace_reader.specs.Content.{Content, add_row, read_line, without_return}
 use Rattle.trace_reader.specs.Reading.{Progress, Reading, end_line, read_bytes, reads}
-use Rattle.trace_reader.specs.Row.{coordinate_of, fields_of, row_of, u32_of}
+use Rattle.trace_reader.specs.Row.{fields_of, row_of}
 use Rattle.trace_reader.specs.declared.row.Header.TheVariants.{Untimed}
 use Rattle.trace_reader.specs.declared.row.Row.{Row}
 use Rattle.trace_reader.specs.declared.trace.Fix.{Fix}
@@ -18,7 +18,8 @@ use Rattle.trace_reader.specs.declared.fault.TraceFault.{TraceFault}
 use Rattle.trace_reader.proofs.Lines.{row_line}
 use Rattle.trace_reader.proofs.Unended.{read_ended, with_part}
 use Rattle.town.specs.Traces.{fix_line}
-use Rattle.town.proofs.Numerals.{in-decimal, in-signed, length-signed, none-is, solid-at, trim-number}
+use Rattle.listed_files.proofs.Traces.{coordinate-read, first-solid, last-place, number-read}
+use Rattle.listed_files.proofs.Numerals.{in-decimal, in-signed, length-signed, none-is, solid-at}
 
 -- a fix whose line can be read back: under the header without times
 pub record IsPlainFix (fix : Fix) : Type 0 where
@@ -61,16 +62,6 @@ fields-are id fix small plain =
     ∙ ap (λ t. decimal id ∷ t) (slice_split_at p (signed_decimal fix.x) 44 (signed_decimal fix.y) x refl)
     ∙ ap (λ t. decimal id ∷ signed_decimal fix.x ∷ t) (slice_split_none p (signed_decimal fix.y) y)
 
-id-read : (id : ℕ) → id < 2 ^ 32 → u32_of (decimal id) ≡ Ok id
-id-read id small =
-    ap (unsigned_within 4_294_967_295) (trim-number (decimal id) (in-decimal id (omega (arith, small))) (length-decimal id (omega (arith, small))).0)
-    ∙ unsigned_within-decimal 4_294_967_295 id (omega (arith, small)) (omega arith)
-
-coordinate-read : (z : ℤ) → nat_abs z ≤ 1_000_000_000 → coordinate_of (signed_decimal z) ≡ Ok z
-coordinate-read z small =
-    ap (signed_within 1_000_000_000) (trim-number (signed_decimal z) (in-signed z (omega (arith, small))) (length-signed z (omega (arith, small))).0)
-    ∙ signed_within-signed_decimal 1_000_000_000 z small (omega arith)
-
 -- the row of a line
 abbrev pub row_with : ℕ → Fix → Row
 row_with id fix = record { id = id; fix = fix }
@@ -79,14 +70,9 @@ row-read : (line id : ℕ) (fix : Fix) → id < 2 ^ 32 → IsPlainFix fix → Ok
 unfolding row_of
 row-read line id fix small plain =
     let time : Ok (row_with id fix) ≡ Ok (row_with id (record { x = fix.x; y = fix.y; time = 0 })) = ap (λ t. Ok (row_with id (record { x = fix.x; y = fix.y; time = t }))) plain.no_time in
-    time ∙ rw (fields-are id fix small plain, id-read id small, coordinate-read fix.x plain.x_small, coordinate-read fix.y plain.y_small) refl
+    time ∙ rw (fields-are id fix small plain, number-read id small, coordinate-read fix.x plain.x_small, coordinate-read fix.y plain.y_small) refl
 
 -- nothing is dropped of a line, and it is not skipped
-last-place : (base y : List ℕ) → 1 ≤ length y → get_or (base ++ y) (length (base ++ y) - 1) 0 ≡ get_or y (length y - 1) 0
-last-place base y some =
-    let place : length (base ++ y) - 1 ≡ length base + (length y - 1) = omega (arith, length-append base y, some) in
-    ap (λ i. get_or (base ++ y) i 0) place ∙ get_or-append-add base y (length y - 1) 0
-
 not-return : (id : ℕ) (fix : Fix) → id < 2 ^ 32 → IsPlainFix fix → without_return (line_part id fix) ≡ line_part id fix
 not-return id fix small plain =
     let y = signed_decimal fix.y in
@@ -95,10 +81,6 @@ not-return id fix small plain =
     let byte = in-signed fix.y (omega (arith, plain.y_small)) (length y - 1) 0 (omega (arith, some)) in
     let other : (get_or (line_part id fix) (length (line_part id fix) - 1) 0 == 13) ≡ false = ne_eqb _ 13 (λ e. omega (arith, byte.0, e, last)) in
     rw other refl
-
-first-solid : (text : List ℕ) → 1 ≤ length text → is_blank (get_or text 0 0) ≡ false → list_all is_blank text ≡ false
-first-solid [] some solid = absurd (omega (arith, some))
-first-solid (c ∷ text) some solid = rw solid refl
 
 not-skipped : (id : ℕ) (fix : Fix) → id < 2 ^ 32 → IsPlainFix fix → list_all is_blank (without_return (line_part id fix)) ≡ false
 not-skipped id fix small plain =

@@ -12,11 +12,11 @@ use Rattle.matching.specs.Committed.{Agree, IsCommitted}
 use Rattle.matching.specs.CommittedValue.{committed_of, ends_of}
 use Rattle.matching.specs.Layers.{trellis}
 use Rattle.matching.specs.Pieces.{IsPiece}
-use Rattle.matching.specs.Sequences.{Trellis, IsBest, IsBestTo}
+use Rattle.matching.specs.Sequences.{IsBest, IsBestTo}
 use Rattle.matching.specs.Value.{best_of, solution}
 use Rattle.matching.proofs.CommittedValues.{committed_split, front, front_is, opens_first, whole}
 use Rattle.matching.proofs.Lists.{Among}
-use Rattle.matching.proofs.SolutionMatches.{best_of-is}
+use Rattle.matching.proofs.SolutionMatches.{best_of-is, solution_is_a_match}
 use Rattle.matching.proofs.Splits.{from_point, from_joins, Splits}
 use Rattle.match_text.specs.declared.matched.Label.{Label}
 use Rattle.online_commit.proofs.Handed.{solution-now}
@@ -25,8 +25,10 @@ use Rattle.trace_match.specs.Match.{label_of, labels_of, layer_of, layers_of, ma
 use Rattle.trace_match.proofs.DifferentEdges.{labels_agree}
 use Rattle.trace_match.proofs.FirstLabels.{first_labels}
 use Rattle.trace_reader.specs.declared.trace.Fix.{Fix}
-use Rattle.trace_reader.specs.Trace.{point_of_fix}
-use Rattle.trace_sessions.specs.CommonLabels.{CommittedIsCommonPrefix, IsLongestCommonPrefix, lists_from}
+use Rattle.trace_reader.specs.declared.trace.Trace.{Trace}
+use Rattle.trace_reader.specs.Trace.{IsLawfulTrace, point_of_fix}
+use Rattle.trace_sessions.specs.CommonLabels.{CommittedIsCommonPrefix, IsLongestCommonPrefix, LatestIsNear, label_lists, lists_from}
+use Rattle.trace_sessions.proofs.LatestPoint.{far-committed, latest-open}
 use Rattle.trace_sessions.proofs.BestEnds.{AllIn, IsEnd, all-among, among-all, among-mapped, best-end, end-in, end-length, ends-have, ends-told, some_of}
 
 -- ---- labels
@@ -187,10 +189,6 @@ law-from n p layers first k closed b committed s =
           ⊎_elim (λ few. omega (arith, few, size)) (λ many. let most = longer n p layers first k closed b committed s other each many in omega (arith, most, size)) (cases_lt (length other) first);
     }
 
-some-open : {L : Type 0} (t : Trellis L) (f : List ℕ → List Label) (xs : List L) → 0 < length (map f (ends_of t (reverse xs))) → 0 < length xs
-some-open t f [] some = absurd (omega (arith, some))
-some-open t f (l ∷ xs) some = omega arith
-
 stands : (n : Net) (p : Params) (layers : List Layer) (s : Splits (trellis n p) 0 layers) → AreTelling n p layers → 0 < length (drop s.closed layers)
     → Stands n p layers s.closed (front (trellis n p) (drop s.closed layers)) (labels_of n (take s.closed layers) s.ranks) (reverse (best_of (trellis n p) (drop s.closed layers)).ranks)
     (take (committed_of (trellis n p) layers) (labels_of n layers (solution (trellis n p) layers).ranks))
@@ -237,15 +235,36 @@ stands n p layers s tells some =
       tells = telling-drop n p s.closed layers tells;
     }
 
-pub committed_is_common_prefix : CommittedIsCommonPrefix
+-- the latest fix has a candidate
+
+shared-labels : (n : Net) (p : Params) (trace : Trace) → IsLawful n → IsLawfulTrace trace → LatestIsNear (layers_of n p trace)
+    → IsLongestCommonPrefix (label_lists n p (layers_of n p trace)) (committed_labels n p trace)
 unfolding match_of
-committed_is_common_prefix n p trace lawful trace_lawful some =
+shared-labels n p trace lawful trace_lawful near =
     let t = trellis n p in
     let layers = layers_of n p trace in
     let s = whole t layers in
     let first = opens_first t layers s in
-    let list : ℕ → List ℕ → List Label = λ at x. labels_of n layers (take at (solution t layers).ranks ++ some_of x) in
-    let there : 0 < length (lists_from n p layers s.closed) = subst (λ at. 0 < length (lists_from n p layers at)) first some in
+    let low = latest-open n p layers near in
+    let some : 0 < length (drop s.closed layers) = omega (arith, low, first, length-drop s.closed layers) in
     let tells = telling-fixes n p trace.fixes lawful trace_lawful.in_range in
-    let law = law-from n p layers s.closed _ _ _ _ (stands n p layers s tells (some-open t (list s.closed) (drop s.closed layers) there)) in
+    let law = law-from n p layers s.closed _ _ _ _ (stands n p layers s tells some) in
     subst (λ at. IsLongestCommonPrefix (lists_from n p layers at) (committed_labels n p trace)) (sym first) law
+
+-- it has none
+
+whole-labels : (n : Net) (p : Params) (trace : Trace) → ¬ LatestIsNear (layers_of n p trace) → committed_labels n p trace ≡ (match_of n p trace).labels
+unfolding match_of
+whole-labels n p trace far =
+    let t = trellis n p in
+    let layers = layers_of n p trace in
+    let ranks = (solution t layers).ranks in
+    let count = labels-count n layers ranks (solution_is_a_match t layers).ranks_count in
+    let value = far-committed n p layers far in
+    take_all (committed_of t layers) (labels_of n layers ranks) (omega (arith, count, value))
+
+pub committed_is_common_prefix : CommittedIsCommonPrefix
+committed_is_common_prefix n p trace lawful trace_lawful = record {
+  shared = shared-labels n p trace lawful trace_lawful;
+  whole = whole-labels n p trace;
+}

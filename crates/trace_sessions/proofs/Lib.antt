@@ -19,4 +19,5 @@ pub mod StreamLines
 pub mod StreamEnds
 pub mod ByteLines
 pub mod BestEnds
+pub mod LatestPoint
 pub mod CommonLabels

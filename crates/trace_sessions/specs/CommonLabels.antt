@@ -1,15 +1,15 @@
 -- The committed labels of a trace, as what lists of labels have in common.
-use Rattle.std.specs.Prelude.{ℕ, ◌<◌, ◌≤◌, List, ◌++◌, Some, length, map, take, drop, reverse}
+use Rattle.std.specs.Prelude.{◌≡◌, ℕ, ◌-◌, ◌≤◌, List, ◌++◌, Some, length, map, take, drop, reverse}
 use Rattle.std.specs.List.{All}
 use Rattle.cost_model.specs.declared.params.Params.{Params}
 use Rattle.road_network.specs.Net.{Net, IsLawful}
 use Rattle.matching.specs.CommittedValue.{ends_of, open_first}
-use Rattle.matching.specs.Layers.{trellis}
+use Rattle.matching.specs.Layers.{HasCandidateAt, trellis}
 use Rattle.matching.specs.Value.{solution}
 use Rattle.match_text.specs.declared.matched.Label.{Label}
 use Rattle.matching.specs.declared.parts.Layer.{Layer}
 use Rattle.trace_match.specs.Laws.{BeginsWith, committed_labels}
-use Rattle.trace_match.specs.Match.{labels_of, layers_of}
+use Rattle.trace_match.specs.Match.{labels_of, layers_of, match_of}
 use Rattle.trace_reader.specs.declared.trace.Trace.{Trace}
 use Rattle.trace_reader.specs.Trace.{IsLawfulTrace}
 
@@ -30,9 +30,17 @@ abbrev pub label_lists : Net → Params → List Layer → List (List Label)
 label_lists n p layers =
     lists_from n p layers (open_first (solution (trellis n p) layers).pieces (length layers))
 
--- where the latest fix is in a piece, the committed labels are the longest common prefix of these lists
+-- the latest of these points has a candidate
+abbrev pub LatestIsNear : List Layer → Type 0
+LatestIsNear layers = HasCandidateAt layers (length layers - 1)
+
+-- where the latest fix has a candidate, the committed labels are the longest common prefix of these lists;
+-- where it has none, they are all labels of the match
+pub record AreCommonLabels (n : Net) (p : Params) (trace : Trace) : Type 0 where
+  pub shared : LatestIsNear (layers_of n p trace)
+      → IsLongestCommonPrefix (label_lists n p (layers_of n p trace)) (committed_labels n p trace)
+  pub whole : ¬ LatestIsNear (layers_of n p trace) → committed_labels n p trace ≡ (match_of n p trace).labels
+
 abbrev pub CommittedIsCommonPrefix : Type 0
 CommittedIsCommonPrefix =
-    (n : Net) (p : Params) (trace : Trace) → IsLawful n → IsLawfulTrace trace
-    → 0 < length (label_lists n p (layers_of n p trace))
-    → IsLongestCommonPrefix (label_lists n p (layers_of n p trace)) (committed_labels n p trace)
+    (n : Net) (p : Params) (trace : Trace) → IsLawful n → IsLawfulTrace trace → AreCommonLabels n p trace

@@ -32,8 +32,9 @@ pub fn ids_are_answered_alone()
     ensures { IdsAreAnsweredAlone }
 {}
 
-/// If the latest position of a trace is in a piece, its committed labels are the longest common prefix of
-/// the lists of labels, one list for each best sequence to a candidate of that position.
+/// If the latest position of a trace has a candidate, the committed labels are the longest common prefix of the
+/// lists of labels, one list for each best sequence to a candidate of that position. If it has none, all labels
+/// are committed.
 pub fn committed_is_common_prefix()
     ensures { CommittedIsCommonPrefix }
 {}

@@ -1,7 +1,7 @@
 use Rattle.std.proofs.Common.{refl, sym, ◌∙◌, subst, arith}
 use Rattle.std.proofs.lemmas.Result.{err_from_is_err_and}
 use Rattle.program_frame.proofs.ChunkReads.{next_read, next_whole}
-use Rattle.live_pipeline.proofs.Reading.{IsFeeding, fed_all, fed_ends, fed_fault, fed_read, feeding_more, nothing_fed}
+use Rattle.live_pipeline.proofs.Reading.{IsFeeding, fed_all, fed_ends, fed_fault, fed_read, feeding_more, may_feed_on, nothing_fed}
 use Rattle.live_pipeline.proofs.reader.put_chunks.Goals as goal
 
 pub loop-chunks-init : goal.loop-chunks-init
@@ -14,7 +14,9 @@ loop-chunks-init g c = record {
 }
 
 pub next_chunk-requires : goal.next_chunk-requires
-next_chunk-requires g c = c.loop-chunks.invariant.within
+next_chunk-requires g c =
+    let inv = c.loop-chunks.invariant in
+    may_feed_on (g.S.Shelf.state c.loop-chunks.shelf) inv.feeding inv.same inv.within
 
 pub returns-in_err-next_chunk-clause-own : goal.returns-in_err-next_chunk-clause-own
 returns-in_err-next_chunk-clause-own g c = c.loop-chunks.invariant.own

@@ -6,7 +6,7 @@ use Rattle.program_frame.specs.Stream.{IsReading}
 use Rattle.program_frame.specs.Streams.{EndsWith, StopsAt}
 use Rattle.program_frame.proofs.ChunkEnds.{begun}
 use Rattle.program_frame.proofs.ChunkReads.{next_read, next_whole}
-use Rattle.program_frame.proofs.Reading.{are_read, nothing_read, reading_fails, reading_more, reading_stop, work_ends}
+use Rattle.program_frame.proofs.Reading.{are_read, may_read_on, nothing_read, reading_fails, reading_more, reading_stop, work_ends}
 use Rattle.program_frame.proofs.stream.work_traces.Goals as goal
 
 pub loop-chunks-init : goal.loop-chunks-init
@@ -21,7 +21,9 @@ loop-chunks-init g c =
     }
 
 pub next-requires : goal.next-requires
-next-requires g c = c.loop-chunks.invariant.within
+next-requires g c =
+    let inv = c.loop-chunks.invariant in
+    may_read_on (g.S.Shelf.state c.loop-chunks.shelf) inv.reading inv.same inv.within
 
 pub returns-in_err-next : goal.returns-in_err-next
 returns-in_err-next g c =

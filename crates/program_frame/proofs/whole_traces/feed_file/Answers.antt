@@ -5,7 +5,7 @@ use Rattle.program_frame.specs.WholeTraces.{IsHolding}
 use Rattle.program_frame.specs.declared.stop.File.TheVariants.{Traces}
 use Rattle.program_frame.proofs.ChunkReads.{next_read, next_whole}
 use Rattle.program_frame.proofs.Stages.{load_unread}
-use Rattle.program_frame.proofs.WholeReading.{chunk_refused, fed_whole, has_read, holds_more, holds_nothing}
+use Rattle.program_frame.proofs.WholeReading.{chunk_refused, fed_whole, has_read, holds_more, holds_nothing, may_feed_on}
 use Rattle.program_frame.proofs.whole_traces.feed_file.Goals as goal
 
 pub loop-chunks-init : goal.loop-chunks-init
@@ -17,7 +17,9 @@ loop-chunks-init g c = record {
 }
 
 pub next-requires : goal.next-requires
-next-requires g c = c.loop-chunks.invariant.within
+next-requires g c =
+    let inv = c.loop-chunks.invariant in
+    may_feed_on (g.S.Shelf.state c.loop-chunks.shelf) inv.holding inv.same inv.within
 
 pub returns-in_err-next : goal.returns-in_err-next
 returns-in_err-next g c =

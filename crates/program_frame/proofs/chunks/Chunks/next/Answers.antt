@@ -12,10 +12,10 @@ returns-in-Got g c =
     let grows = c.in-Got.ensures.grows in
     let long : length c.read.new.into.items ≡ c.in-Got.count = omega (arith, grows.longer, ap length c.truncate.ensures.items) in
     let low : c.args.self.now.at ≤ 1_099_511_627_776 = omega (arith, c.if-self-gt-TRACE_LIMIT.false) in
-    let within : c.args.self.now.at + c.in-Got.count ≤ 1_099_511_627_777 = omega (arith, grows.within, c.min-most.ensures, low) in
+    let within : c.args.self.now.at + c.in-Got.count ≤ 1_099_511_627_777 = omega (arith, grows.within, c.wanted-most.ensures, low) in
     let reads = reads_into (g.S.Shelf.state c.args.shelf.now).holds c.args.name.now c.args.self.now.at _ c.read.new.into.items (Got c.in-Got.count) c.truncate.ensures.items c.in-Got.ensures.bytes in
     rw c.from.ensures (
-      record { some = omega (arith, long, grows.some); short = omega (arith, long, grows.within, c.min-most.ensures); place = omega (arith, long); within = within },
+      record { some = omega (arith, long, grows.some); short = omega (arith, long, grows.within, c.wanted-most.ensures); place = omega (arith, long); within = within },
       c.in-Got.ensures.state,
       chunk_read c.args.name.now (g.S.Shelf.state c.args.shelf.now) c.args.self.now.at c.in-Got.count c.read.new.into.items long within reads,
     )

@@ -1,4 +1,4 @@
-use Rattle.std.proofs.Common.{◌≡◌, ◌≤◌, ◌∙◌, ap, arith, refl, sym, subst, true, true≢false, IsOk, List, None, Option, Some}
+use Rattle.std.proofs.Common.{◌≡◌, ◌≤◌, ap, arith, refl, sym, subst, true, true≢false, IsOk, List, None, Option, Some}
 use Rattle.std.specs.Option.{IfSome}
 use Rattle.std.proofs.lemmas.Result.{IfOk-from_err}
 use Rattle.bounded_search.specs.Rows.{AsksAll, AsksFor}

@@ -1,4 +1,4 @@
-use Rattle.std.proofs.Common.{length, ℕ, Bor, ◌<◌, ◌∙◌, Some, refl, sym, ap, subst, length-set}
+use Rattle.std.proofs.Common.{ℕ, ◌<◌, ◌∙◌, Some, refl, sym, ap, subst, length-set}
 use Rattle.std.specs.Prelude.{slice_index}
 use Rattle.row_store.specs.Store.{SlotSet}
 use Rattle.row_store.specs.Views.{viewing_of}
@@ -29,7 +29,7 @@ returns-clause-stays c =
           cells_count = i.cells_count;
           places_count = length-set _ _ _ ∙ i.places_count;
           fit = same_fit c.args.self.now.slots.now _ _ _ _ i.fit h c.index_mut-mine.ensures.value c.compare.ensures.same.0;
-          searcher = i.searcher;
+          judge = i.judge;
         };
       },
       record {
@@ -38,7 +38,7 @@ returns-clause-stays c =
           cells_count = j.cells_count;
           places_count = length-set _ _ _ ∙ j.places_count;
           fit = same_fit c.args.other.now.slots.now _ _ _ _ j.fit k c.index_mut-theirs.ensures.value c.compare.ensures.same.1;
-          searcher = j.searcher;
+          judge = j.judge;
         };
       },
     )

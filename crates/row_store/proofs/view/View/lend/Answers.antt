@@ -1,4 +1,4 @@
-use Rattle.std.proofs.Common.{Some, sym, subst, ◌∙◌}
+use Rattle.std.proofs.Common.{Some, subst, ◌∙◌}
 use Rattle.std.specs.Option.{IsSome}
 use Rattle.row_store.specs.Places.{IsReady}
 use Rattle.row_store.specs.declared.place.Place.{Place}

@@ -1,7 +1,5 @@
-use Rattle.std.proofs.Common.{ℕ, ◌≡◌, length, ◌<◌, ◌∙◌, Some, refl, sym, ap, subst, length-set, true≢false}
-use Rattle.bounded_search.specs.Table.{IsRow, TableRow}
+use Rattle.std.proofs.Common.{ℕ, ◌<◌, ◌∙◌, refl, sym, subst, length-set}
 use Rattle.bounded_search.proofs.KnownNodes.{get_set}
-use Rattle.row_store.specs.declared.place.Place.{Place}
 use Rattle.row_store.specs.Views.{viewing_of}
 use Rattle.row_store.proofs.Places.{all_fit, fits_at, known_as, known_here, known_there, right_ready, same_reading, some_is, on_ok}
 use Rattle.row_store.proofs.view.View.make_own.Goals as goal
@@ -13,7 +11,7 @@ make_own-requires c =
     record {
       node = c.requires.0.node;
       cells_count = i.cells_count;
-      searcher = i.searcher;
+      judge = i.judge;
       fits = fits_at c.args.self.now.slots.now _ _ _ i.fit h c.index_mut-place.ensures.value;
     }
 
@@ -26,7 +24,7 @@ returns-clause-stays c =
         cells_count = i.cells_count;
         places_count = length-set _ _ _ ∙ i.places_count;
         fit = all_fit _ _ _ _ c.make_own.ensures.place.fits i.fit;
-        searcher = c.make_own.ensures.place.searcher;
+        judge = c.make_own.ensures.place.judge;
       };
     }
 

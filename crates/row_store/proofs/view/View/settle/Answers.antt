@@ -13,7 +13,7 @@ look-held-requires c =
     record {
       node = c.requires.node;
       cells_count = i.cells_count;
-      searcher = i.searcher;
+      judge = i.judge;
       fits = fits_at c.args.self.now.slots.now _ _ _ i.fit h c.index_mut-place.ensures.value;
     }
 
@@ -26,7 +26,7 @@ returns-then-held-clause-stays c =
         cells_count = i.cells_count;
         places_count = length-set _ _ _ ∙ i.places_count;
         fit = all_fit _ _ _ _ c.look-held.ensures.place.fits i.fit;
-        searcher = c.look-held.ensures.place.searcher;
+        judge = c.look-held.ensures.place.judge;
       };
     }
 
@@ -42,7 +42,7 @@ find-requires c = record {
     cells_count = c.requires.is.cells_count;
     places_count = length-set _ _ _ ∙ c.requires.is.places_count;
     fit = all_fit _ _ _ _ c.look-held.ensures.place.fits c.requires.is.fit;
-    searcher = c.look-held.ensures.place.searcher;
+    judge = c.look-held.ensures.place.judge;
   };
   node = c.requires.node;
 }
@@ -54,7 +54,7 @@ returns-in_err-row-clause-stays c = subst (StaysView c.args.self.now) (sym c.fin
     cells_count = c.requires.is.cells_count;
     places_count = length-set _ _ _ ∙ c.requires.is.places_count;
     fit = all_fit _ _ _ _ c.look-held.ensures.place.fits c.requires.is.fit;
-    searcher = c.look-held.ensures.place.searcher;
+    judge = c.look-held.ensures.place.judge;
   };
 })
 
@@ -76,7 +76,7 @@ settle_right-requires-clause-at c = subst (λ (v : View). IsViewAt v c.args.n.0)
     cells_count = c.requires.is.cells_count;
     places_count = length-set _ _ _ ∙ c.requires.is.places_count;
     fit = all_fit _ _ _ _ c.look-held.ensures.place.fits c.requires.is.fit;
-    searcher = c.look-held.ensures.place.searcher;
+    judge = c.look-held.ensures.place.judge;
   };
   node = c.requires.node;
 })

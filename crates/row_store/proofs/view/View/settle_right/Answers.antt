@@ -10,7 +10,7 @@ offer_right-requires-clause-place c =
     record {
       node = c.requires.at.node;
       cells_count = i.cells_count;
-      searcher = i.searcher;
+      judge = i.judge;
       fits = fits_at c.args.self.now.slots.now _ _ _ i.fit h c.index_mut-place.ensures.value;
     }
 
@@ -23,7 +23,7 @@ returns-clause-stays c =
         cells_count = i.cells_count;
         places_count = length-set _ _ _ ∙ i.places_count;
         fit = all_fit _ _ _ _ c.offer_right.ensures.place.fits i.fit;
-        searcher = c.offer_right.ensures.place.searcher;
+        judge = c.offer_right.ensures.place.judge;
       };
     }
 

@@ -1,13 +1,13 @@
 use Rattle.std.proofs.Common.{◌≡◌, ◌<◌, ◌∙◌, ◌∷◌, [], ℕ, List, Option, None, length, get_or, replicate, refl, sym, ap, subst, length-append, arith}
 use Rattle.std.proofs.lemmas.List.{length-map}
 use Rattle.once_cell.specs.Once.{cell_name}
-use Rattle.bounded_search.specs.Table.{BoundedTable, TableRow}
+use Rattle.bounded_search.specs.Table.{TableRow}
 use Rattle.std.specs.Prelude.{slice_index}
 use Rattle.std.specs.declared.alloc.Global.{Global as Heap}
 use Rattle.row_store.specs.declared.place.Place.{Place}
 use Rattle.row_store.specs.Store.{SlotSet, Viewing}
 use Rattle.row_store.proofs.Places.{fits_more, empty_fits, none_more, name_at}
-use Rattle.row_store.proofs.view.View.open.Goals as goal
+use Rattle.row_store.proofs.view.View.with.Goals as goal
 
 pub loop-cell-preserved : goal.loop-cell-preserved
 loop-cell-preserved c =
@@ -41,7 +41,7 @@ returns-clause-of c =
         cells_count = omega (arith, c.slots.invariant.0, nodes, seen, length-map cells cell_name);
         places_count = omega (arith, c.loop-cell.invariant.count, c.slots.invariant.0, nodes, all);
         fit = c.loop-cell.invariant.fit;
-        searcher = c.in_ok-searcher.ensures ∙ ap (λ (s : SlotSet). let t : BoundedTable = record { network = s.network; bound = s.bound } in t) c.slots.view_is;
+        judge = c.requires;
       };
     }
 

@@ -1,7 +1,7 @@
 use Rattle.std.proofs.Common.{◌≡◌, map, length, replicate, None}
 use Rattle.row_store.specs.Views.{AllFit}
 use Rattle.row_store.proofs.Places.{known_of}
-use Rattle.row_store.proofs.view.View.open.Given as goal
+use Rattle.row_store.proofs.view.View.with.Given as goal
 
 abbrev pub invariant-loop-cell : goal.invariant-loop-cell
 invariant-loop-cell l = record {

@@ -1,0 +1,7 @@
+pub mod Numerals
+pub mod Records
+pub mod Points
+pub mod Edges
+pub mod Nodes
+pub mod Networks
+pub mod Traces

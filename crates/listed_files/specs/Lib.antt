@@ -1,0 +1,2 @@
+pub mod NetworkText
+pub mod TraceText

@@ -1,0 +1,43 @@
+-- What `fmm match NET TRACES` does where the two files list a network and traces: it writes the least match
+-- of each trace.
+use Rattle.std.specs.Prelude.{◌≡◌, ℕ, List, [], Option, Some, IfSome, unwrap_or}
+use Rattle.cost_model.specs.Options.{default_options}
+use Rattle.cost_model.specs.declared.params.Params.{Params}
+use Rattle.edge_io.specs.State.{ShelfState, SinkState, new_shelf, new_sink}
+use Rattle.listed_files.specs.NetworkText.{IsListed, network_text}
+use Rattle.listed_files.specs.TraceText.{AreListed, traces_text}
+use Rattle.match_law.specs.LeastMatch.{IsMatchText}
+use Rattle.match_law.specs.Wrote.{Wrote}
+use Rattle.match_words.specs.MatchWords.{AreInRange, IsName, match_words}
+use Rattle.program_frame.specs.Promises.{Promises}
+use Rattle.program_run.specs.RunLines.{run_lines}
+use Rattle.program_run.specs.Words.{asked_by}
+use Rattle.road_network.specs.Net.{Net}
+use Rattle.trace_reader.specs.declared.trace.Trace.{Trace}
+
+-- the words are `match NETWORK TRACES`, alone or with options in their ranges; the two files list this
+-- network and these traces
+pub record IsListedRun (words : List (List ℕ)) (files : List ℕ → Option (List ℕ)) (n : Net) (p : Params)
+    (traces : List Trace) : Type 0 where
+  pub network : List ℕ
+  pub positions : List ℕ
+  pub given : Option Params
+  pub words_are : words ≡ match_words network positions given
+  pub network_named : IsName network
+  pub traces_named : IsName positions
+  pub in_range : IfSome given AreInRange
+  pub options_are : p ≡ unwrap_or given default_options
+  pub network_held : files network ≡ Some (network_text n)
+  pub traces_held : files positions ≡ Some (traces_text traces)
+  pub network_listed : IsListed n
+  pub traces_listed : AreListed traces
+
+-- whatever keeps the promises of a run of these words, as `run` does, wrote the text of the least matches
+abbrev pub ListedMatchIsLeast : Type 0
+ListedMatchIsLeast =
+    (words : List (List ℕ)) (files : List ℕ → Option (List ℕ)) (n : Net) (p : Params) (traces : List Trace)
+    (shelf : ShelfState) (out err : SinkState) (status : ℕ)
+    → IsListedRun words files n p traces
+    → Promises run_lines (asked_by words) (new_shelf (Some files)) shelf (new_sink (Some [])) out
+    (new_sink (Some [])) err status
+    → (text : List ℕ) × IsMatchText n p traces text × Wrote text shelf out err status
