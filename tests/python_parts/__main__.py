@@ -20,7 +20,8 @@ LIBRARIES = ("fmm.commands", "fmm.matches", "fmm.network", "fmm.positions", "fmm
              "hypothesis.strategies", "matplotlib.figure", "numpy.random", "pyproj", "pytest", "shapely", "sqlite3", "tqdm")
 NO_TESTS = 5  # the status of pytest if it ran none, since all were left out or there are none
 # These take longest, so they are started first.
-FIRST = ("test_style.py", "test_service.py", "test_map_browser.py", "test_qgis.py", "test_service_files.py", "test_attacks.py")
+FIRST = ("test_types.py", "test_service.py", "test_map_browser.py", "test_qgis.py", "test_stops.py", "test_service_files.py",
+         "test_run.py", "test_attacks.py", "test_style.py")
 
 
 @dataclass
@@ -110,7 +111,7 @@ def main() -> int:
     words, more = parser.parse_known_args()
     os.chdir(PYTHON)
     names = words.files or [path.name for path in sorted(Path("tests").glob("test_*.py"))]
-    waiting = sorted(names, key=lambda name: name not in FIRST)
+    waiting = sorted(names, key=lambda name: FIRST.index(name) if name in FIRST else len(FIRST))
     preload()
     with tempfile.TemporaryDirectory(prefix="fmm-tests-") as folder:
         children = Children(Path(folder), more)
