@@ -3,6 +3,7 @@ from __future__ import annotations
 
 import json
 import os
+import signal
 import subprocess
 import sys
 import time
@@ -76,6 +77,7 @@ class Run:
         self.pid = os.fork()
         if self.pid == 0:
             status = 99
+            signal.signal(signal.SIGINT, signal.default_int_handler)  # ignored if a shell runs the tests in the background
             try:
                 os.close(self.input)
                 os.dup2(read, 0)
@@ -122,12 +124,12 @@ class Run:
             os.close(self.input)
         self.input = -1
 
-    def end(self, signal: Optional[int] = None) -> int:
+    def end(self, number: Optional[int] = None) -> int:
         """Ends the input, or sends a signal, and waits for the end."""
-        if signal is None:
+        if number is None:
             self.close()
         elif self.is_running():
-            os.kill(self.pid, signal)
+            os.kill(self.pid, number)
         end = time.monotonic() + 120
         while self.is_running():
             assert time.monotonic() < end, self.said.read_text()
