@@ -3,7 +3,9 @@
 
 Matches the first N positions (100,000) of a trace file in centimetres, makes the map, opens it in Chromium without a window or a
 graphics card, and pans it at some zooms. Prints the size of the file, the milliseconds to open it, and for each zoom the frames
-a second, the longest frame, and how long one drawing of the map took. It needs chromium, chromium-driver and python3-selenium.
+a second, the longest frame, the milliseconds of JavaScript and of all work of the page's thread in a frame, and how long one
+drawing of the map took. Chromium then also fills the pixels on the processor, in threads of its own, which a graphics card does
+elsewhere. It needs chromium, chromium-driver and python3-selenium.
 """
 import argparse
 import sys
@@ -45,9 +47,16 @@ def browser():
     return driver
 
 
+def spent(driver):
+    """Milliseconds of JavaScript, and of all work of the page's thread."""
+    found = {one["name"]: one["value"] for one in driver.execute_cdp_cmd("Performance.getMetrics", {})["metrics"]}
+    return 1000 * found["ScriptDuration"], 1000 * found["TaskDuration"]
+
+
 def measure(path):
     driver = browser()
     try:
+        driver.execute_cdp_cmd("Performance.enable", {})
         driver.get(path.as_uri())
         opened = driver.execute_async_script(
             "const done = arguments[0];"
@@ -56,10 +65,14 @@ def measure(path):
         print(f"{path.stat().st_size / 1e6:.1f} MB, opened in {opened:.0f} ms", flush=True)
         for step in (0, 1, 1, 2):
             driver.execute_script(f"fmm.map.setZoom(fmm.map.getZoom() + {step}, {{animate: false}})")
-            found = driver.execute_async_script("setTimeout(() => fmm.measure(3).then(arguments[0]), 1000)")
+            driver.execute_async_script("setTimeout(arguments[0], 1000)")
+            before = spent(driver)
+            found = driver.execute_async_script("fmm.measure(3).then(arguments[0])")
+            script, task = ((now - then) / found["frames"] for now, then in zip(spent(driver), before))
             drawn = driver.execute_script("return fmm.drawn")
-            print(f"{found['frames'] / found['seconds']:.0f} frames a second, longest {found['longest']:.0f} ms, "
-                  f"one drawing {found['drawing']:.0f} ms, {drawn['positions']} positions", flush=True)
+            print(f"{found['frames'] / found['seconds']:.0f} frames a second, longest {found['longest']:.0f} ms, a frame takes "
+                  f"{script:.1f} ms of JavaScript and {task:.1f} in all, one drawing {found['drawing']:.0f} ms, "
+                  f"{drawn['positions']} positions", flush=True)
     finally:
         driver.quit()
 

@@ -4,6 +4,7 @@ from __future__ import annotations
 import sys
 from pathlib import Path
 
+import profiles  # noqa: F401  sets the profile of hypothesis
 import pytest
 
 TOP = Path(__file__).resolve().parents[2]

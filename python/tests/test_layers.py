@@ -9,8 +9,9 @@ import geopandas
 import numpy as np
 import pandas as pd
 import pytest
-from hypothesis import given, settings
+from hypothesis import given
 from hypothesis import strategies as some
+from profiles import slow
 from shapely import wkt
 from shapely.geometry import LineString, MultiLineString, Point
 
@@ -63,7 +64,7 @@ def test_one_way_values_and_columns() -> None:
     assert Network.from_geodataframe(roads, columns={"name": "fclass"}).edges.name.iloc[0] == "primary"
 
 
-@settings(deadline=None, max_examples=8)
+@slow
 @given(places=some.lists(some.tuples(some.integers(0, 400), some.integers(0, 400)), min_size=2, max_size=12, unique=True))
 def test_two_crs_give_the_same_roads(places: list) -> None:
     lines = [[(500_000 + a[0], 6_000_000 + a[1]), (500_000 + b[0], 6_000_000 + b[1])] for a, b in zip(places, places[1:])]

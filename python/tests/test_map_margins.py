@@ -181,7 +181,7 @@ def traces_of(traces: List[List[Place]]) -> TraceFile:
     return TraceFile(number, x, y, None)
 
 
-@settings(max_examples=60, deadline=None, suppress_health_check=list(HealthCheck))
+@settings(suppress_health_check=list(HealthCheck))
 @given(cases(), st.sampled_from([0, 1, 3]))
 def test_margins_are_those_of_all_sequences(tmp_path_factory: Any, case: Tuple[Any, Any, Dict[str, int]], near: int) -> None:
     edges, traces, words = case

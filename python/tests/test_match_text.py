@@ -7,7 +7,7 @@ from typing import List
 
 import numpy as np
 import pytest
-from hypothesis import given, settings, strategies as st
+from hypothesis import given, strategies as st
 
 from fmm._match_text import MatchText, read_match
 from fmm.errors import InputError
@@ -77,7 +77,6 @@ def test_no_traces_and_a_joined_text() -> None:
 
 @pytest.mark.parametrize("command", TEXTS)
 @given(data=st.data())
-@settings(max_examples=150, deadline=None)
 def test_no_line_can_be_lost_doubled_or_halved(command: str, data: st.DataObject) -> None:
     lines = list(LINES[command])
     at = data.draw(st.integers(0, len(lines) - 1))
@@ -96,7 +95,6 @@ def test_no_line_can_be_lost_doubled_or_halved(command: str, data: st.DataObject
 
 
 @given(data=st.data())
-@settings(max_examples=150, deadline=None)
 def test_lines_of_a_trace_cannot_be_exchanged(data: st.DataObject) -> None:
     lines = list(LINES["match"])
     first, second = sorted(data.draw(st.lists(st.integers(0, len(lines) - 1), min_size=2, max_size=2, unique=True)))
@@ -108,7 +106,6 @@ def test_lines_of_a_trace_cannot_be_exchanged(data: st.DataObject) -> None:
 
 
 @given(data=st.data())
-@settings(max_examples=200, deadline=None)
 def test_a_changed_byte_is_refused_or_another_number(data: st.DataObject) -> None:
     text = bytearray(TEXTS["match"])
     at = data.draw(st.integers(0, len(text) - 1))
@@ -125,7 +122,6 @@ def test_a_changed_byte_is_refused_or_another_number(data: st.DataObject) -> Non
 
 
 @given(data=st.data())
-@settings(max_examples=60, deadline=None)
 def test_a_text_that_is_cut_is_refused(data: st.DataObject) -> None:
     command = data.draw(st.sampled_from(sorted(TEXTS)))
     error = refused(TEXTS[command][:data.draw(st.integers(0, len(TEXTS[command]) - 1))].decode())

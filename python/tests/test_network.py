@@ -7,7 +7,7 @@ from pathlib import Path
 
 import numpy as np
 import pytest
-from hypothesis import given, settings
+from hypothesis import given
 from hypothesis import strategies as some
 from osm_maps import grid, osm_text, street, write
 
@@ -117,7 +117,6 @@ def test_roots_are_whole_parts(numbers: list[int]) -> None:
         assert root * root <= square < (root + 1) ** 2
 
 
-@settings(deadline=None, max_examples=30)
 @given(some.lists(some.lists(some.tuples(COORDINATE, COORDINATE), min_size=2, max_size=5, unique=True), min_size=1, max_size=5))
 def test_edge_lines(lines: list) -> None:
     first = np.cumsum([0, *map(len, lines)])

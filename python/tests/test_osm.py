@@ -4,6 +4,7 @@ from __future__ import annotations
 import bz2
 import gzip
 import math
+import os
 import shutil
 import tempfile
 from pathlib import Path
@@ -202,6 +203,19 @@ def test_a_disk_without_room_for_places_is_named(tmp_path: Path, monkeypatch: py
     monkeypatch.setattr("fmm._osm.reading.osmium.index.create_map", full)
     with pytest.raises(OutputError, match="fmm-.*: Could not resize file: .*No space left on device; name another folder"):
         Network.from_osm(path)
+
+
+def test_no_file_of_places_stays_open(tmp_path: Path) -> None:
+    """Its room comes back before the process ends, also after a refusal."""
+    nodes, ways = grid(2)
+    text = osm_text(nodes, ways)
+    twice = text.replace("</osm>", next(line for line in text.splitlines() if "<node" in line) + "</osm>")
+    before = set(os.listdir("/dev/fd"))
+    for _ in range(2):
+        Network.from_osm(write(tmp_path, text))
+        with pytest.raises(InputError, match="comes twice"):
+            Network.from_osm(write(tmp_path, twice))
+    assert set(os.listdir("/dev/fd")) == before
 
 
 def test_a_box_keeps_the_streets_up_to_the_next_node(tmp_path: Path) -> None:

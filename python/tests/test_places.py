@@ -41,7 +41,6 @@ POLYLINES = st.lists(st.lists(POINTS, min_size=2, max_size=5).filter(lambda line
 
 
 @given(POLYLINES, st.data())
-@settings(max_examples=200, deadline=None)
 def test_snaps_are_those_of_each_edge(polylines: List[List[Tuple[int, int]]], data: st.DataObject) -> None:
     lines = lines_of(polylines)
     places = Places(lines)
@@ -62,7 +61,6 @@ def test_snaps_are_those_of_each_edge(polylines: List[List[Tuple[int, int]]], da
 
 
 @given(POLYLINES, st.data())
-@settings(max_examples=200, deadline=None)
 def test_driven_parts_are_cut_from_the_lines(polylines: List[List[Tuple[int, int]]], data: st.DataObject) -> None:
     lines = lines_of(polylines)
     places = Places(lines)
@@ -91,7 +89,7 @@ def place_of(line: List[Tuple[int, int]], so_far: List[int], offset: int) -> Tup
 
 
 @given(st.lists(st.lists(st.integers(-50, 50), min_size=1, max_size=12), min_size=1, max_size=4))
-@settings(deadline=None, suppress_health_check=[HealthCheck.too_slow])
+@settings(suppress_health_check=[HealthCheck.too_slow])
 def test_rising_values_are_those_of_pooled_neighbours(groups: List[List[int]]) -> None:
     values = np.array([value for group in groups for value in group])
     of = np.repeat(np.arange(len(groups)), [len(group) for group in groups])

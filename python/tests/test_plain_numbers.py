@@ -35,7 +35,7 @@ def test_everything_else_is_left_to_the_strict_reader(tmp_path: Path, text: str)
 @given(some.text("07 ;-", max_size=24))
 @example("0 -40000;5000 42000")
 @example("1 2;-3 -4;5 6")
-@settings(deadline=None, suppress_health_check=[HealthCheck.too_slow])
+@settings(suppress_health_check=[HealthCheck.too_slow])
 def test_plain_points(text: str) -> None:
     wanted = bool(re.fullmatch("-?[0-9]+ -?[0-9]+(;-?[0-9]+ -?[0-9]+)*", text))
     assert are_plain(text.encode(), text.count(";") + 1) == wanted

@@ -12,7 +12,7 @@ import numpy as np
 import pandas as pd
 import pytest
 import shapely.wkb
-from hypothesis import given, settings
+from hypothesis import given
 from hypothesis import strategies as st
 from shapely.geometry import LineString, Point
 
@@ -178,7 +178,6 @@ def test_any_time_is_read_as_python_does(when: pd.Timestamp, minutes: int) -> No
 
 
 @given(st.lists(st.text("0123456789-T:Z+. eE_", max_size=26), min_size=1, max_size=8))
-@settings(max_examples=300)
 def test_a_time_has_a_value_or_a_fault(texts: List[str]) -> None:
     found, faults = seconds(pd.Series(texts, dtype=object))
     for text, value, fault in zip(texts, found, faults):
@@ -342,7 +341,6 @@ ROWS = st.tuples(st.text("ab7 0,\"=é", min_size=1, max_size=4).filter(str.strip
 
 
 @given(st.lists(ROWS, min_size=1, max_size=20))
-@settings(max_examples=60, deadline=None)
 def test_a_table_of_any_rows(tmp_path_factory: pytest.TempPathFactory, rows: List[tuple]) -> None:
     frame = pd.DataFrame(rows, columns=["id", "lon", "lat", "time"])
     path = tmp_path_factory.mktemp("any") / "any.csv"

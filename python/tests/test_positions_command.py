@@ -134,6 +134,8 @@ def test_hostile_names_and_ids(small: Path, tmp_path: Path, network: Network) ->
     status, nothing, out = fmm(tmp_path, "positions", os.fsdecode(name), *TO)
     assert (status, nothing) == (0, "") and "\x1b" not in out and "\\xff" in out
     rows = read_table(tmp_path / "t.rows.csv")
+    number, text = '"Integer64"', '"String"'
+    assert (tmp_path / "t.rows.csvt").read_text() == ",".join((number, text, number, text, number, number, text)) + "\n"
     assert rows["id"].tolist() == ['a\\x1b[31m,"=1', "7", "007"]
     assert rows["reason"].tolist() == ["", "time \\x1b]0;x is neither an ISO time nor seconds since 1970", ""]
 

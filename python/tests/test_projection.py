@@ -4,8 +4,9 @@ from __future__ import annotations
 import numpy as np
 import pyproj
 import pytest
-from hypothesis import given, settings
+from hypothesis import given
 from hypothesis import strategies as some
+from profiles import slow
 
 from fmm.errors import OptionError
 from fmm.projection import NOWHERE, Projection, extent_of
@@ -34,7 +35,7 @@ def test_wide_extents_get_a_fitting_plane(extent: tuple, kind: str, error: float
     assert not plane.matches(Projection.of("32N")) and plane.matches(Projection(None))
 
 
-@settings(deadline=None, max_examples=12)
+@slow
 @given(west=some.floats(-180, 179), south=some.floats(-80, 79), width=some.floats(0.01, 20), height=some.floats(0.01, 20))
 def test_places_come_back_and_lengths_are_right(west: float, south: float, width: float, height: float) -> None:
     east, north = (west + width + 180) % 360 - 180, min(south + height, 85.0)

@@ -8,7 +8,7 @@ import shutil
 import subprocess
 import xml.etree.ElementTree as xml
 from pathlib import Path
-from typing import Any
+from typing import Any, Callable
 
 import geopandas
 import pytest
@@ -24,18 +24,22 @@ PLUGIN = TOP / "python" / "qgis" / "fmm_qgis"
 PROGRAM = shutil.which("qgis_process.bin") or shutil.which("qgis_process")
 
 
-def process(folder: Path, *words: str) -> subprocess.CompletedProcess[str]:
-    """`qgis_process` with a profile of its own."""
+Process = Callable[..., "subprocess.CompletedProcess[str]"]
+
+
+@pytest.fixture(scope="module")
+def process(tmp_path_factory: pytest.TempPathFactory) -> Process:
+    """`qgis_process` with a profile that has the plugin. Each start of QGIS takes seconds."""
     if PROGRAM is None:
         pytest.skip("the plugin of QGIS, since there is no qgis_process")
+    folder = tmp_path_factory.mktemp("home")
     environment = {**os.environ, "QT_QPA_PLATFORM": "offscreen", "QGIS_PLUGINPATH": str(PLUGIN.parent), "HOME": str(folder),
                    "QGIS_CUSTOM_CONFIG_PATH": str(folder / "profile"), "XDG_RUNTIME_DIR": str(folder),
                    "PATH": f"/usr/bin:{os.environ['PATH']}"}  # QGIS takes its modules from beside the first python3
     environment.pop("PYTHONPATH", None)
-    if not (folder / "profile").exists():
-        (folder / "profile").mkdir()
-        subprocess.run([PROGRAM, "plugins", "enable", "fmm_qgis"], env=environment, capture_output=True, check=True)
-    return subprocess.run([PROGRAM, *words], env=environment, capture_output=True, text=True)
+    (folder / "profile").mkdir()
+    subprocess.run([PROGRAM, "plugins", "enable", "fmm_qgis"], env=environment, capture_output=True, check=True)
+    return lambda *words: subprocess.run([PROGRAM, *words], env=environment, capture_output=True, text=True)
 
 
 def results(done: subprocess.CompletedProcess[str]) -> dict[str, Any]:
@@ -43,15 +47,15 @@ def results(done: subprocess.CompletedProcess[str]) -> dict[str, Any]:
     return json.loads(done.stdout[done.stdout.index("{"):])["results"]
 
 
-def test_a_network_and_a_match(tmp_path: Path) -> None:
+def test_a_network_and_a_match(process: Process, tmp_path: Path) -> None:
     network = tmp_path / "network.csv"
-    made = process(tmp_path, "run", "fmm:network", "--json", f"--EXTRACT={SMALL / 'village.osm'}", f"--NETWORK={network}")
+    made = process("run", "fmm:network", "--json", f"--EXTRACT={SMALL / 'village.osm'}", f"--NETWORK={network}")
     assert results(made)["NETWORK"] == str(network) and fmm.Network.open(network).edge_count == 26
     positions = fmm.read_positions(SMALL / "fleet.csv").frame
     points = geopandas.points_from_xy(positions["x"], positions["y"])
     table = geopandas.GeoDataFrame({"id": positions["id"], "time": positions["time"]}, geometry=points, crs=4326)
     table.to_file(tmp_path / "fleet.gpkg", driver="GPKG")
-    done = process(tmp_path, "run", "fmm:match", "--json", f"--NETWORK={network}", f"--POSITIONS={tmp_path / 'fleet.gpkg'}",
+    done = process("run", "fmm:match", "--json", f"--NETWORK={network}", f"--POSITIONS={tmp_path / 'fleet.gpkg'}",
                    "--ID=id", "--TIME=time", "--SIGMA=12", "--GAP=300", f"--FOLDER={tmp_path / 'out'}")
     found = results(done)
     path, _, layer = found["ROUTES"].partition("|layername=")
@@ -61,13 +65,13 @@ def test_a_network_and_a_match(tmp_path: Path) -> None:
     assert routes["edges"].tolist() == matches.routes["edges"].tolist()
 
 
-def test_faults_are_in_the_log(tmp_path: Path) -> None:
+def test_faults_are_in_the_log(process: Process, tmp_path: Path) -> None:
     wrong = tmp_path / "wrong.osm"
     wrong.write_text("<osm></osm>\n")
-    done = process(tmp_path, "run", "fmm:network", f"--EXTRACT={wrong}", f"--NETWORK={tmp_path / 'n.csv'}")
+    done = process("run", "fmm:network", f"--EXTRACT={wrong}", f"--NETWORK={tmp_path / 'n.csv'}")
     assert done.returncode != 0 and "wrong.osm" in done.stdout + done.stderr
     assert not (tmp_path / "n.csv").exists()
-    done = process(tmp_path, "run", "fmm:network", f"--NETWORK={tmp_path / 'n.csv'}")
+    done = process("run", "fmm:network", f"--NETWORK={tmp_path / 'n.csv'}")
     assert "an extract or a layer" in done.stdout + done.stderr
 
 
@@ -83,11 +87,11 @@ def test_the_style_has_a_symbol_for_each_rule() -> None:
     assert {rule.get("symbol") for rule in style.iter("rule")} == symbols
 
 
-def test_a_network_from_a_layer(tmp_path: Path) -> None:
+def test_a_network_from_a_layer(process: Process, tmp_path: Path) -> None:
     network = fmm.Network.from_osm(SMALL / "village.osm")
     streets = network.edges[network.edges["direction"] == "forward"].drop(columns=["from_node", "to_node"])
     streets.assign(way="").to_file(tmp_path / "roads.gpkg", driver="GPKG")
-    done = process(tmp_path, "run", "fmm:network", "--json", f"--LAYER={tmp_path / 'roads.gpkg'}", "--ONEWAY=oneway",
+    done = process("run", "fmm:network", "--json", f"--LAYER={tmp_path / 'roads.gpkg'}", "--ONEWAY=oneway",
                    "--FORWARD=1,True", f"--NETWORK={tmp_path / 'n.csv'}")
     results(done)
     made = fmm.Network.open(tmp_path / "n.csv")

@@ -9,9 +9,10 @@ from typing import Iterator
 
 import numpy as np
 import pytest
-from hypothesis import given, settings
+from hypothesis import given
 from hypothesis import strategies as some
 from osm_maps import METRE, grid, osm_text, street, turn, way_id, write
+from profiles import slow
 
 from fmm import Network
 from fmm._match_text import MatchText, read_match
@@ -214,7 +215,7 @@ def random_turns(seed: int, nodes: dict, ways: dict) -> Iterator[tuple]:
         yield turn(1 + number, kind, draw.choice(at[via]), via, draw.choice(at[via]))
 
 
-@settings(deadline=None, max_examples=5)
+@slow
 @given(seed=some.integers(0, 2**32), step=some.sampled_from([0.04, 0.3, 4.0, 100.0]))
 def test_routes_are_those_that_the_restrictions_permit(tmp_path_factory: pytest.TempPathFactory, seed: int, step: float) -> None:
     folder = tmp_path_factory.getbasetemp()

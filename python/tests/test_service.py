@@ -15,7 +15,8 @@ from pathlib import Path
 import httpx
 import numpy as np
 import pytest
-from services import Service, alive, answered, coordinates, degrees, drives, grid, matched, pieces_of, running
+from profiles import PROFILE, REQUESTS
+from services import TOP, Service, alive, answered, coordinates, degrees, drives, grid, matched, pieces_of, running
 
 from fmm import Network
 from fmm.service.polylines import decode
@@ -185,7 +186,7 @@ def test_bodies_are_bounded(service: Service) -> None:
 
 
 def test_sixteen_clients_get_the_answers_of_match(service: Service, network: Network, tmp_path: Path) -> None:
-    places = [degrees(network, drive) for drive in drives(1000, far=0.01)]
+    places = [degrees(network, drive) for drive in drives(REQUESTS[PROFILE], far=0.01)]
     text = matched(network, places, tmp_path)
     order = list(range(len(places)))
     random.Random(5).shuffle(order)
@@ -215,29 +216,29 @@ def wait_for(answers: list[object], count: int) -> None:
         time.sleep(0.01)
 
 
-def test_a_killed_program_or_worker_loses_no_request(network: Network, drive: np.ndarray, tmp_path: Path) -> None:
+def test_a_killed_program_or_worker_loses_no_request(service: Service, network: Network, drive: np.ndarray,
+                                                     tmp_path: Path) -> None:
     wanted = pieces_of(matched(network, [drive], tmp_path), 0)
-    with running(network.path, "--processes", "2") as service:
-        done = threading.Event()
-        answers: list[object] = []
+    done = threading.Event()
+    answers: list[object] = []
 
-        def ask() -> None:
-            while not done.is_set():
-                answers.append(answered(httpx.get(f"{service.url}/match/v1/car/{coordinates(drive)}", timeout=60).json()))
+    def ask() -> None:
+        while not done.is_set():
+            answers.append(answered(httpx.get(f"{service.url}/match/v1/car/{coordinates(drive)}", timeout=60).json()))
 
-        threads = [threading.Thread(target=ask) for _ in range(3)]
-        for thread in threads:
-            thread.start()
-        for kind in (1, 0, 1, 0, 1):
-            wait_for(answers, len(answers) + 4)
-            for pid in service.children()[kind][:1]:
-                os.kill(pid, signal.SIGKILL)
-        wait_for(answers, len(answers) + 8)
-        done.set()
-        for thread in threads:
-            thread.join()
-        assert all(answer == wanted for answer in answers)
-        assert service.metric("fmm_lost_workers_total") + service.metric("fmm_replaced_programs_total") >= 1
+    threads = [threading.Thread(target=ask) for _ in range(3)]
+    for thread in threads:
+        thread.start()
+    for kind in (1, 0, 1, 0, 1):
+        wait_for(answers, len(answers) + 4)
+        for pid in service.children()[kind][:1]:
+            os.kill(pid, signal.SIGKILL)
+    wait_for(answers, len(answers) + 8)
+    done.set()
+    for thread in threads:
+        thread.join()
+    assert all(answer == wanted for answer in answers)
+    assert service.metric("fmm_lost_workers_total") + service.metric("fmm_replaced_programs_total") >= 1
 
 
 def test_a_stopped_program_harms_its_own_request_only(network: Network, drive: np.ndarray) -> None:
@@ -293,7 +294,7 @@ def test_large_programs_are_replaced(network: Network, drive: np.ndarray, tmp_pa
 
 
 def test_the_service_ends_with_all_its_processes(network: Network) -> None:
-    with running(network.path) as service:
+    with running(network.path, "--processes", "2") as service:
         workers, programs = service.children()
         assert workers and programs
     until = time.monotonic() + 10
@@ -302,8 +303,22 @@ def test_the_service_ends_with_all_its_processes(network: Network) -> None:
     assert not any(map(alive, workers + programs)) and service.process.returncode == 0
 
 
+def test_a_signal_while_workers_start_ends_the_service(network: Network, tmp_path: Path) -> None:
+    program = tmp_path / "program"
+    program.write_text(f"#!/bin/sh\necho > {tmp_path}/started\nexec sleep 30\n")
+    program.chmod(0o755)
+    process = subprocess.Popen([str(TOP / "fmm"), "serve", str(network.path), "--port", "0"], stderr=subprocess.DEVNULL,
+                               env={**os.environ, "FMM_PROGRAM": str(program)})
+    until = time.monotonic() + 60
+    while not (tmp_path / "started").exists() and time.monotonic() < until:
+        time.sleep(0.05)
+    time.sleep(0.5)
+    process.send_signal(signal.SIGTERM)
+    assert process.wait(60) == 128 + signal.SIGTERM
+
+
 def test_no_process_is_left_when_the_service_is_killed(network: Network) -> None:
-    with running(network.path) as service:
+    with running(network.path, "--processes", "2") as service:
         workers, programs = service.children()
         assert workers and programs
         service.process.kill()

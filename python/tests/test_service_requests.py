@@ -6,7 +6,7 @@ from typing import Any
 
 import numpy as np
 import pytest
-from hypothesis import given, settings
+from hypothesis import given
 from hypothesis import strategies as st
 from services import grid
 
@@ -44,7 +44,6 @@ def test_other_polylines_are_refused_or_read(text: str) -> None:
 
 
 @given(st.text(alphabet="0123456789.,;-+eE polyine()6%", max_size=60))
-@settings(max_examples=300)
 def test_coordinates_are_places_or_refused(text: str) -> None:
     try:
         places = places_of(text, 5)
@@ -129,7 +128,6 @@ def test_lines_of_streams_become_a_follow_text() -> None:
 
 
 @given(st.lists(st.tuples(st.booleans(), st.integers(0, 3)), min_size=1, max_size=12), st.integers(1, 30), st.data())
-@settings(deadline=None, max_examples=50)
 def test_both_readers_of_a_drive_agree(positions: list[tuple[bool, int]], drive: int, data: st.DataObject) -> None:
     lines, run = [f"trace {drive}", "fix 0"], -1
     for number, (found, edge) in enumerate(positions):

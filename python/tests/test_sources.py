@@ -8,8 +8,9 @@ from typing import Any, Dict, List, Tuple
 import geopandas
 import numpy as np
 import pandas as pd
-from hypothesis import given, settings
+from hypothesis import given
 from hypothesis import strategies as st
+from profiles import slow
 
 from fmm.matches import Matches
 from fmm.matching import match
@@ -77,7 +78,7 @@ def tables(matches: Matches) -> Dict[str, pd.DataFrame]:
         geometry=[place.wkb for place in table.geometry]) for name, table in found.items()}
 
 
-@settings(max_examples=12, deadline=None)
+@slow
 @given(frame=drives())
 def test_the_match_of_a_table_is_that_of_its_files(frame: pd.DataFrame) -> None:
     network = Network.from_osm(TOP / "recipes" / "small" / "village.osm")

@@ -7,7 +7,7 @@ from pathlib import Path
 import numpy as np
 import pandas as pd
 import pytest
-from hypothesis import given, settings
+from hypothesis import given
 from hypothesis import strategies as some
 
 from fmm._output import Outputs
@@ -43,6 +43,9 @@ def test_a_header_alone_has_no_records(tmp_path: Path) -> None:
     (b'a,b\n1,"2\n3,4\n', "line 2: a quoted field does not end in its line"),
     (b'a,b\n"1\n2",3\n', "line 2: a quoted field does not end in its line"),
     (b'a,b\n1,"2"3\n', "line 2: a stray quote"),
+    (b've"hicle,b\n1,2\n', "line 1: a stray quote in the header"),
+    (b'"a",b"\n1,2\n', "line 1: a stray quote in the header"),
+    (b'a"b,c"d\n1,2\n', "line 1: a stray quote in the header"),
     (b"a,b\n1,2\0\n", r"line 2: is not text \(NUL\)"),
     (b"a,b\n1,2\r3,4\n", "line 2: a carriage return without a line feed"),
     (b"a,b\n1,2\n3,\xff\n", "line 3: is not UTF-8 text; convert it first: iconv"),
@@ -69,7 +72,6 @@ def test_a_missing_file_is_named(tmp_path: Path) -> None:
         read_table(tmp_path / "no.csv")
 
 
-@settings(deadline=None, max_examples=40)
 @given(data=some.data(), cut=some.integers(1, 28))
 def test_no_cut_passes(tmp_path_factory: pytest.TempPathFactory, data: some.DataObject, cut: int) -> None:
     folder = tmp_path_factory.getbasetemp()
@@ -86,7 +88,6 @@ def test_no_cut_passes(tmp_path_factory: pytest.TempPathFactory, data: some.Data
 TEXT = some.text(some.characters(blacklist_categories=["Cs"]), max_size=8)
 
 
-@settings(deadline=None, max_examples=40)
 @given(rows=some.lists(some.tuples(TEXT, TEXT, some.floats(allow_nan=False, allow_infinity=False)), max_size=6))
 def test_what_is_written_can_be_read(tmp_path_factory: pytest.TempPathFactory, rows: list) -> None:
     path = tmp_path_factory.getbasetemp() / "w.csv"

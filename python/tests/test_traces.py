@@ -7,7 +7,7 @@ from typing import Any, List, Optional
 import numpy as np
 import pandas as pd
 import pytest
-from hypothesis import given, settings
+from hypothesis import given
 from hypothesis import strategies as st
 
 from fmm._thinning import jumps, thinned
@@ -147,7 +147,6 @@ ROWS = st.lists(st.tuples(st.sampled_from(["a", "b", "7", "007"]), st.integers(-
 
 
 @given(ROWS, st.sampled_from([None, 0, 5, 300]), st.sampled_from([None, 5, 500]))
-@settings(max_examples=150, deadline=None)
 def test_each_row_is_in_the_file_or_has_a_reason(tmp_path_factory: pytest.TempPathFactory, rows: List[tuple],
                                                  gap: Optional[float], thin: Optional[float]) -> None:
     positions = positions_of(rows)
@@ -163,7 +162,6 @@ def test_each_row_is_in_the_file_or_has_a_reason(tmp_path_factory: pytest.TempPa
 
 
 @given(ROWS, st.randoms())
-@settings(max_examples=100, deadline=None)
 def test_the_order_of_rows_changes_nothing(tmp_path_factory: pytest.TempPathFactory, rows: List[tuple], random: Any) -> None:
     rows = [(name, x, y, 7 * number) for number, (name, x, y, _) in enumerate(rows)]
     mixed = list(rows)

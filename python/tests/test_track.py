@@ -33,7 +33,10 @@ def programs_of(run):
     return sorted(pid for pid, parent in processes().items() if parent == run.pid)
 
 
-def test_a_fleet_has_the_roads_of_the_match_of_the_same_rows(made, tmp_path):
+def test_a_fleet_has_the_roads_of_the_match_of_the_same_rows(tmp_path):
+    """FMM_FLEET of the environment is the number of vehicles."""
+    vehicles = int(os.environ.get("FMM_FLEET", "30"))
+    made = fleet(tmp_path, vehicles)
     run = Run(made.network.path, tmp_path)
     run.give(made.lines())
     assert run.end() == 0
@@ -41,7 +44,7 @@ def test_a_fleet_has_the_roads_of_the_match_of_the_same_rows(made, tmp_path):
     assert_once_and_as_matched(objects, made, tmp_path)
     count = len(made.rows)
     assert run.said.read_text().splitlines()[-1] == (
-        f"fmm track: positions: {count}, settled: {count}, left out: 0, drives that ended: 30")
+        f"fmm track: positions: {count}, settled: {count}, left out: 0, drives that ended: {vehicles}")
     streets = made.network.edges["name"]
     for one in of_kind(objects, "position"):
         assert one["street"] == ("" if one["edge"] is None else streets[one["edge"]])
@@ -248,10 +251,14 @@ def test_idle_is_handed_to_a_program_that_knows_it(made, tmp_path, monkeypatch):
     (["--gap", "1", "--idle", "1"], "--gap and --idle exclude each other"),
     (["--most", "100000"], "100000 is not a number from 1 to 99999"),
     (["--lookup", "none.csv"], "none.csv"),
+    (["--lookup", "twice.csv"], "twice.csv line 3 column edge: 1 comes a second time"),
+    (["--lookup", "other.csv"], "other.csv: has an edge 4000000000 that the network lacks"),
     (["--radius", "0"], "radius is from 0.01 to 1000 metres, not 0"),
 ])
 def test_faults_are_one_line(made, tmp_path, words, message, monkeypatch):
     monkeypatch.chdir(tmp_path)
+    (tmp_path / "twice.csv").write_text("edge,name\n1,a\n1,b\n")
+    (tmp_path / "other.csv").write_text("edge,name\n4000000000,a\n")
     run = Run(made.network.path, tmp_path, *words)
     assert run.end() in (1, 2)
     said = run.said.read_text()

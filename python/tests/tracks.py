@@ -41,8 +41,9 @@ class Fleet:
     def matched(self, folder: Path) -> dict[str, MatchText]:
         """What `fmm match` says of each vehicle's positions, matched from one file."""
         names = sorted({row[0] for row in self.rows})
-        lines = [f"{number},{round(100 * x)},{round(100 * y)},{time}\n" for number, name in enumerate(names, 1)
-                 for vehicle, x, y, time in self.rows if vehicle == name]
+        number = {name: number for number, name in enumerate(names, 1)}
+        lines = [f"{number[vehicle]},{round(100 * x)},{round(100 * y)},{time}\n"
+                 for vehicle, x, y, time in sorted(self.rows, key=lambda row: number[row[0]])]
         (folder / "same.csv").write_text("trace,x,y,time\n" + "".join(lines))
         words = [str(TOP / "fmm"), "match", str(self.network.path), str(folder / "same.csv"), "--back", "2000"]
         text = subprocess.run(words, check=True, capture_output=True).stdout.split(b"trace ")[1:]

@@ -4,6 +4,7 @@ from __future__ import annotations
 import argparse
 import os
 import random
+import resource
 import signal
 import sys
 import tempfile
@@ -23,6 +24,7 @@ from .common import Broken, Draw, Kind
 
 BLOCK = 500  # cases of one run of hypothesis, which keeps all of them in memory
 SHOWN = 20  # failures that are shown
+FILES = 128  # that may be open at once, so that cases fail if files stay open
 
 
 class Attack:
@@ -122,8 +124,10 @@ def main() -> int:
         parser.error("--case needs one --kind")
     number = random.SystemRandom().getrandbits(32) if words.seed is None else words.seed
     warnings.simplefilter("ignore")
+    resource.setrlimit(resource.RLIMIT_NOFILE, (FILES, FILES))
     signal.signal(signal.SIGTERM, signal.default_int_handler)
     with tempfile.TemporaryDirectory(prefix="fmm-attack-", dir="/dev/shm" if Path("/dev/shm").is_dir() else None) as folder:
+        tempfile.tempdir = folder  # also that of the package
         names = words.kind or list(KINDS)
         if words.case is not None:
             attack = Attack(names, Path(folder))

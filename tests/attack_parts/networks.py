@@ -16,16 +16,19 @@ BYTE_FAULTS = [common.cut, common.cut_anywhere, common.changed_byte, common.chan
 
 
 class Networks:
-    """Three files that belong together, with faults in one or two. What is not refused is the same network."""
+    """Three files that belong together, with faults in some. What is not refused is the network that they were, or another one if
+    all three are of it."""
 
     def __init__(self, room: Path) -> None:
         village = TOP / "recipes" / "small" / "village.osm"
         self.room, self.path = room, room / "network.csv"
-        Network.from_osm(village, crs="33N").save(room / "other.csv")
-        self.other = {name: (room / name.replace("network", "other")).read_bytes() for name in FILES}
-        Network.from_osm(village, crs="32N").save(self.path)
-        self.clean = {name: (room / name).read_bytes() for name in FILES}
-        self.network = Network.open(self.path)
+        self.other, self.other_network = self.files_of(Network.from_osm(village, crs="33N"))
+        self.clean, self.network = self.files_of(Network.from_osm(village, crs="32N"))
+
+    def files_of(self, network: Network) -> tuple[dict[str, bytes], Network]:
+        """The three files of a network, and the network that is read from them."""
+        network.save(self.path)
+        return {name: (self.room / name).read_bytes() for name in FILES}, Network.open(self.path)
 
     def case(self, draw: Draw) -> str:
         """See Kind."""
@@ -47,15 +50,17 @@ class Networks:
             network = Network.open(self.path)
         except FmmError as fault:
             return refusal(fault, *FILES)
-        self.compare(network)
+        compare(network, self.other_network if files == self.other else self.network)
         return AS_CLEAN
 
-    def compare(self, network: Network) -> None:
-        lines, known = network.lines, self.network.lines
-        same = all(len(a) == len(b) and (a == b).all() for a, b in (
-            (lines.ids, known.ids), (lines.first, known.first), (lines.xy, known.xy), (lines.from_node, known.from_node),
-            (lines.to_node, known.to_node), (network.parts.street, self.network.parts.street)))
-        hold(same, "other edges")
-        hold(network.table.equals(self.network.table), "another table")
-        hold(network.projection.crs == self.network.projection.crs, "another projection")
-        hold(str(network.report) == str(self.network.report), "another report")
+
+def compare(network: Network, wanted: Network) -> None:
+    """Both have to be the same network."""
+    lines, known = network.lines, wanted.lines
+    same = all(len(a) == len(b) and (a == b).all() for a, b in (
+        (lines.ids, known.ids), (lines.first, known.first), (lines.xy, known.xy), (lines.from_node, known.from_node),
+        (lines.to_node, known.to_node), (network.parts.street, wanted.parts.street)))
+    hold(same, "other edges")
+    hold(network.table.equals(wanted.table), "another table")
+    hold(network.projection.crs == wanted.projection.crs, "another projection")
+    hold(str(network.report) == str(wanted.report), "another report")

@@ -2,7 +2,7 @@
 ghost use Rattle.std.specs.Prelude.{◌≡◌, ◌≤◌, ◌^◌, IfSome};
 ghost use Rattle.tickets.specs.Tickets.{HasEnded, IsOpenTicket, IsTicketOf};
 
-use polyline_geometry::List;
+use plain_list::List;
 use std::alloc::{AllocError, Global};
 use tickets::{Claims, Ticket};
 

@@ -1,6 +1,7 @@
 //! Roots, lengths, snaps and lists.
+use plain_list::List;
 use polyline_geometry::{
-    List, NearSegments, Point, Snap, extend_offsets, line_length, nearest_in_box, nearest_segment,
+    NearSegments, Point, Snap, extend_offsets, line_length, nearest_in_box, nearest_segment,
     nearest_segments, offset_on, root, snap_line, snap_segment, straight,
 };
 use std::alloc::Global;

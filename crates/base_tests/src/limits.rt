@@ -1,7 +1,7 @@
 //! What the last reads before a limit ask for.
 use crate::shelves::file_a;
 use edge_io::{MemoryShelf, Shelf, Taken};
-use polyline_geometry::List;
+use plain_list::List;
 use program_frame::{Chunks, File, read_file};
 use std::alloc::{AllocError, Global};
 

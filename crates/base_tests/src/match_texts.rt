@@ -1,6 +1,6 @@
 //! Match texts read, written again, and refused.
 use match_text::{Label, MatchedTrace, TextFault, read_match, write_match};
-use polyline_geometry::List;
+use plain_list::List;
 use std::alloc::Global;
 
 const ONE_PIECE: &[u8] =

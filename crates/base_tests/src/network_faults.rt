@@ -1,5 +1,5 @@
 //! The faults of network files.
-use polyline_geometry::List;
+use plain_list::List;
 use road_network::{NetworkFault, read_network};
 use std::alloc::Global;
 

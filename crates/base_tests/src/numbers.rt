@@ -3,7 +3,7 @@ use decimal_text::{
     NumberFault, digits_at_front, parse_signed, parse_unsigned, signed_at_front, write_signed,
     write_unsigned,
 };
-use polyline_geometry::List;
+use plain_list::List;
 
 #[test]
 fn reads_at_the_front(rt: HostRuntime) {

@@ -3,7 +3,7 @@ use edge_io::{
     FileShelf, FileSource, MemoryShelf, MemorySink, NamedFiles, Put, Shelf, Sink, StreamSink,
     Taken, read_again,
 };
-use polyline_geometry::List;
+use plain_list::List;
 use std::alloc::{AllocError, Global};
 use std::io::{BufWriter, ErrorKind, Read, Write};
 use std::{fs, io};

@@ -1,7 +1,7 @@
 //! Trace files in chunks, and their faults.
 ghost use Rattle.std.specs.Prelude.{◌<◌};
 
-use polyline_geometry::List;
+use plain_list::List;
 use std::alloc::Global;
 use trace_reader::{Fix, Trace, TraceFault, TraceReader};
 

@@ -5,7 +5,7 @@ use Rattle.std.proofs.lemmas.List.{get_or_default, get_or-take}
 use Rattle.std.proofs.lemmas.List.Elements.{All-append, All-cons, All-drop, All-take}
 use Rattle.std.proofs.lemmas.List.Kept.{AllPairs-cons}
 use Rattle.candidate_search.specs.declared.best.NearEdge.{NearEdge}
-use Rattle.candidate_search.specs.Best.{AreApart, IsApart}
+use Rattle.candidate_search.specs.inside.Best.{AreApart, IsApart}
 
 pub of_contained : (P : NearEdge → Type 0) (xs : List NearEdge) (x : NearEdge) → All P xs → Contains xs x → P x
 of_contained P xs x h there = subst P there.2 (h there.0 x there.1)

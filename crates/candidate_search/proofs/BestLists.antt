@@ -7,7 +7,7 @@ use Rattle.std.proofs.lemmas.List.Edits.{get_or-insert_at, get_or-remove_above, 
 use Rattle.std.proofs.lemmas.List.Elements.{All-take}
 use Rattle.std.proofs.lemmas.List.Quantifiers.{all_pairs_remove}
 use Rattle.candidate_search.specs.declared.best.NearEdge.{NearEdge}
-use Rattle.candidate_search.specs.Best.{AreApart, ComesBefore, IsAccounted, IsApart, IsBehind, IsNoLater, IsPlaceFor, IsPlaceOf, IsWanted, Precedes, Puts, Takes}
+use Rattle.candidate_search.specs.inside.Best.{AreApart, ComesBefore, IsAccounted, IsApart, IsBehind, IsNoLater, IsPlaceFor, IsPlaceOf, IsWanted, Precedes, Puts, Takes}
 use Rattle.candidate_search.proofs.ApartLists.{all_contained, apart_insert, apart_take, from_insert, from_take, in_insert, of_contained}
 
 pub precedes_twice : (a e b f c g : ℕ) → Precedes a e b f → Precedes b f c g → Precedes a e c g

@@ -20,7 +20,7 @@ use Rattle.grid_index.specs.Extent.{AreCorners, IsInside, Widens}
 use Rattle.grid_index.proofs.Extents.{box_inside}
 use Rattle.candidate_search.specs.declared.boxes.EdgeBox.{EdgeBox}
 use Rattle.candidate_search.specs.declared.placed.Placed.{Placed}
-use Rattle.candidate_search.specs.Boxes.{HoldsPoints, IsEdgeBox, IsGrown, overlap, touches}
+use Rattle.candidate_search.specs.inside.Boxes.{HoldsPoints, IsEdgeBox, IsGrown, overlap, touches}
 
 abbrev pub origin : Point
 origin = record { x = pos 0; y = pos 0 }

@@ -17,7 +17,7 @@ use Rattle.candidate_search.specs.declared.wanted.Search.{Search}
 use Rattle.polyline_geometry.proofs.Nearest.{snap_nearest}
 use Rattle.road_network.specs.declared.Candidate.{Candidate}
 use Rattle.road_network.specs.Near.{is_before, placed}
-use Rattle.candidate_search.specs.Nearest.{AllAreFar, IsFound, IsNearestOf, IsPlace, with_one}
+use Rattle.candidate_search.specs.inside.Nearest.{AllAreFar, IsFound, IsNearestOf, IsPlace, with_one}
 use Rattle.road_network.proofs.NearOrder.{before_false, before_later, before_true, placed_after, placed_first}
 
 not_before : (c d : Candidate) → d.d2 ≤ c.d2 → d.edge.0 < c.edge.0 → is_before c d ≡ false

@@ -4,7 +4,7 @@ use Rattle.std.proofs.lemmas.Bool.{cases_lt}
 use Rattle.std.proofs.lemmas.List.{get_or_default}
 use Rattle.candidate_search.specs.declared.best.NearEdge.{NearEdge}
 use Rattle.candidate_search.specs.declared.wanted.Search.{Search}
-use Rattle.candidate_search.specs.Best.{AreApart, ComesBefore, IsBehind, IsLimit, IsNoLater, IsPlaceOf, Precedes}
+use Rattle.candidate_search.specs.inside.Best.{AreApart, ComesBefore, IsBehind, IsLimit, IsNoLater, IsPlaceOf, Precedes}
 use Rattle.candidate_search.proofs.BestLists.{precedes_twice}
 
 abbrev pub no_edge : NearEdge

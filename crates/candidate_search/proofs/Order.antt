@@ -6,7 +6,7 @@ use Rattle.std.proofs.lemmas.List.Elements.{All-filter, filter-append}
 use Rattle.road_network.specs.declared.Candidate.{Candidate}
 use Rattle.road_network.specs.Near.{in_order, is_before, placed}
 use Rattle.road_network.proofs.NearOrder.{chain, placed_after, placed_first, stand}
-use Rattle.candidate_search.specs.Nearest.{nearest, with_one}
+use Rattle.candidate_search.specs.inside.Nearest.{nearest, with_one}
 
 swap_both : (x c d : Candidate) (r : List Candidate) → x.edge.0 < c.edge.0 → is_before c d ≡ true → is_before x d ≡ true
     → placed x (placed c (d ∷ r)) ≡ placed c (placed x (d ∷ r))

@@ -5,7 +5,7 @@ use Rattle.std.proofs.lemmas.Bool.{cases_lt}
 use Rattle.std.proofs.lemmas.List.Edits.{get_or-insert_at, get_or-insert_below, length-insert}
 use Rattle.std.proofs.lemmas.List.Elements.{All-take}
 use Rattle.candidate_search.specs.declared.best.NearEdge.{NearEdge}
-use Rattle.candidate_search.specs.Best.{AreApart, ComesBefore, IsAccounted, IsBehind, IsNewPair, IsPlaceFor, IsWanted, Precedes, PutsPair, Takes, TakesPair}
+use Rattle.candidate_search.specs.inside.Best.{AreApart, ComesBefore, IsAccounted, IsBehind, IsNewPair, IsPlaceFor, IsWanted, Precedes, PutsPair, Takes, TakesPair}
 use Rattle.candidate_search.proofs.ApartLists.{all_contained, apart_insert, apart_take, from_insert, from_take, in_insert, of_contained}
 use Rattle.candidate_search.proofs.BestLists.{accounted_later, accounted_one, precedes_twice}
 

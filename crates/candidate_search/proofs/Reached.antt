@@ -15,8 +15,8 @@ use Rattle.road_network.specs.NearLaws.{AreNearest, IsWithin}
 use Rattle.road_network.proofs.NearOrder.{are_nearest, before_of, chain, is_before_of}
 use Rattle.candidate_search.specs.declared.best.NearEdge.{NearEdge}
 use Rattle.candidate_search.specs.declared.wanted.Search.{Search}
-use Rattle.candidate_search.specs.Best.{AreApart, IsNearEdge, Precedes}
-use Rattle.candidate_search.specs.Nearest.{AreNearestEdges, IsNearestOn}
+use Rattle.candidate_search.specs.inside.Best.{AreApart, IsNearEdge, Precedes}
+use Rattle.candidate_search.specs.inside.Nearest.{AreNearestEdges, IsNearestOn}
 use Rattle.candidate_search.proofs.ApartLists.{of_contained}
 
 head_or_tail : (c x : Candidate) (l : List Candidate) → Contains (c ∷ l) x → (c ≡ x) ⊎ Contains l x

@@ -15,10 +15,10 @@ use Rattle.road_network.specs.Near.{candidate_at, candidates, in_order, within}
 use Rattle.grid_index.specs.declared.extent.Extent.{Extent}
 use Rattle.grid_index.specs.Extent.{IsInside}
 use Rattle.candidate_search.specs.declared.boxes.EdgeBox.{EdgeBox}
-use Rattle.candidate_search.specs.Boxes.{AreBoxes, AreBoxesFor, AreEnough, HoldsPoints, IsEdgeBox, IsGrown, touches}
-use Rattle.candidate_search.specs.Nearest.{IsFound, nearest, with_one}
+use Rattle.candidate_search.specs.inside.Boxes.{AreBoxes, AreBoxesFor, AreEnough, HoldsPoints, IsEdgeBox, IsGrown, touches}
+use Rattle.candidate_search.specs.inside.Nearest.{IsFound, nearest, with_one}
 use Rattle.candidate_search.specs.declared.placed.Placed.{Placed}
-use Rattle.candidate_search.specs.Placed.{points_of}
+use Rattle.candidate_search.specs.inside.Placed.{points_of}
 use Rattle.candidate_search.proofs.EdgeBoxes.{far_edge, origin}
 use Rattle.candidate_search.proofs.Parts.{All-parts}
 use Rattle.candidate_search.proofs.Order.{nearest_push}

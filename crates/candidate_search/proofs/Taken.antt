@@ -6,7 +6,7 @@ use Rattle.road_network.specs.declared.Candidate.{Candidate}
 use Rattle.polyline_geometry.specs.declared.plane.Point.{Point}
 use Rattle.road_network.specs.Net.{Net}
 use Rattle.road_network.specs.Near.{candidate_at}
-use Rattle.candidate_search.specs.Nearest.{IsFound, nearest, with_one}
+use Rattle.candidate_search.specs.inside.Nearest.{IsFound, nearest, with_one}
 use Rattle.candidate_search.proofs.Order.{nearest_push}
 
 -- one more edge by its number

@@ -12,7 +12,7 @@ use Rattle.grid_index.specs.declared.runs.Run.{Run}
 use Rattle.grid_index.specs.Runs.{HasSegment, IsReverse, IsRun, IsTwin, twin_of_run}
 use Rattle.candidate_search.specs.declared.best.NearEdge.{NearEdge}
 use Rattle.candidate_search.specs.declared.wanted.Search.{Search}
-use Rattle.candidate_search.specs.Best.{AreNearestIn, HasSeen, HasSeenOwn, HasSeenTwin, IsAccounted, IsNearEdge, IsNearestOfTwin}
+use Rattle.candidate_search.specs.inside.Best.{AreNearestIn, HasSeen, HasSeenOwn, HasSeenTwin, IsAccounted, IsNearEdge, IsNearestOfTwin}
 use Rattle.candidate_search.proofs.BestLists.{accounted_later}
 use Rattle.candidate_search.proofs.Turned.{turned_d2}
 

@@ -16,8 +16,8 @@ use Rattle.grid_index.proofs.NearestCells.{nearest_place}
 use Rattle.grid_index.proofs.RunBoxes.{run_holds}
 use Rattle.candidate_search.specs.declared.best.NearEdge.{NearEdge}
 use Rattle.candidate_search.specs.declared.wanted.Search.{Search}
-use Rattle.candidate_search.specs.Best.{AreBest, HasSeen, HasSeenRows, HasSeenWide}
-use Rattle.candidate_search.specs.Nearest.{AreNearestEdges}
+use Rattle.candidate_search.specs.inside.Best.{AreBest, HasSeen, HasSeenRows, HasSeenWide}
+use Rattle.candidate_search.specs.inside.Nearest.{AreNearestEdges}
 
 -- a number whose square is at most another's is at most the other
 square_le : (x y r : ℕ) → x * x + y ≤ r * r → x ≤ r

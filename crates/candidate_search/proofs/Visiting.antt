@@ -17,7 +17,7 @@ use Rattle.grid_index.specs.Runs.{IsRun}
 use Rattle.grid_index.proofs.RunBoxes.{segment_within}
 use Rattle.candidate_search.specs.declared.best.NearEdge.{NearEdge}
 use Rattle.candidate_search.specs.declared.wanted.Search.{Search}
-use Rattle.candidate_search.specs.Best.{AreBest, HasSeen, HasSeenCell, HasSeenRow, HasSeenRows, HasSeenWide, IsLimit, IsNearEdge, Steps, Takes, TakesPair}
+use Rattle.candidate_search.specs.inside.Best.{AreBest, HasSeen, HasSeenCell, HasSeenRow, HasSeenRows, HasSeenWide, IsLimit, IsNearEdge, Steps, Takes, TakesPair}
 use Rattle.candidate_search.proofs.ApartLists.{all_contained, of_contained}
 use Rattle.candidate_search.proofs.Twins.{same_d2}
 

@@ -9,7 +9,7 @@ use Rattle.polyline_geometry.specs.declared.plane.Point.{Point}
 use Rattle.polyline_geometry.specs.Plane.{InRange}
 use Rattle.road_network.specs.declared.Candidate.{Candidate}
 use Rattle.candidate_search.specs.declared.placed.Placed.{Placed}
-use Rattle.candidate_search.specs.Placed.{ArePlaced, AreWritten, IsAsked, IsListed, IsPlaced}
+use Rattle.candidate_search.specs.inside.Placed.{ArePlaced, AreWritten, IsAsked, IsListed, IsPlaced}
 use Rattle.candidate_search.proofs.EdgeBoxes.{no_point, origin}
 
 abbrev pub Lists : Type 0

@@ -1,5 +1,1 @@
-pub mod Best
-pub mod Boxes
-pub mod Nearest
-pub mod Placed
-pub mod Scanned
+pub mod inside

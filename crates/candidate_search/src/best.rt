@@ -2,7 +2,7 @@
 //! `Takes` and `TakesPair`.
 ghost use Rattle.std.specs.Prelude.{◌≡◌, ◌+◌, ◌-◌, ◌*◌, ◌≤◌, ◌<◌, ◌↔◌, ◌++◌, ◌∷◌, [], IsTrue, length, take, OnOk};
 ghost use Rattle.std.specs.List.{All, remove};
-ghost use Rattle.candidate_search.specs.Best.{AreApart, ComesBefore, HasNeither, Inserts, IsBehind, IsLimit, IsNewPair, IsNoLater, IsPlaceOf, Puts, PutsPair, Takes, TakesPair};
+ghost use Rattle.candidate_search.specs.inside.Best.{AreApart, ComesBefore, HasNeither, Inserts, IsBehind, IsLimit, IsNewPair, IsNoLater, IsPlaceOf, Puts, PutsPair, Takes, TakesPair};
 
 use crate::wanted::Search;
 use road_network::EdgeId;

@@ -1,13 +1,12 @@
-//! Boxes of edges, and the boxes near a box of points. Serves `EdgeScan`; decided by
-//! `AreBoxes` and `touches`.
+//! Boxes of edges, and the boxes near a box of positions. Serves `EdgeScan`; decided by `AreBoxes` and `touches`.
 ghost use Rattle.std.specs.Prelude.{◌≡◌, ◌<◌, ◌≤◌, All, IfOk, length, map, pos, ◌+ℤ◌, ◌-ℤ◌};
 ghost use Rattle.std.specs.Int.RustNames.{unsigned_abs};
 ghost use Rattle.std.specs.List.{filter, range_with_len};
 ghost use Rattle.polyline_geometry.specs.Plane.{InRange};
 ghost use Rattle.road_network.specs.Net.{HasEdge};
 ghost use Rattle.grid_index.specs.Extent.{AreCorners};
-ghost use Rattle.candidate_search.specs.Boxes.{AreBoxes, HoldsPoints, IsEdgeBox, IsGrown, overlap, touches};
-ghost use Rattle.candidate_search.specs.Placed.{points_of};
+ghost use Rattle.candidate_search.specs.inside.Boxes.{AreBoxes, HoldsPoints, IsEdgeBox, IsGrown, overlap, touches};
+ghost use Rattle.candidate_search.specs.inside.Placed.{points_of};
 
 use crate::placed::Placed;
 use grid_index::Extent;
@@ -15,12 +14,12 @@ use polyline_geometry::Point;
 use road_network::{EdgeId, Network};
 use std::alloc::{AllocError, Global};
 
-/// A line parallel to an axis that divides points: those on it count as below.
+/// A line parallel to an axis that divides positions: those on it count as below.
 #[derive(Clone, Copy)]
 pub(crate) enum Cut {
-    /// Points up to this x are below.
+    /// Positions up to this x are below.
     X(i32),
-    /// Points up to this y are below.
+    /// Positions up to this y are below.
     Y(i32),
 }
 
@@ -68,7 +67,7 @@ fn overlap(low: i32, high: i32, first: i32, last: i32) -> bool
 }
 
 impl Cut {
-    /// Whether a point is below.
+    /// Whether a position is below.
     pub(crate) fn has_below(self, at: Point) -> bool {
         match self {
             Cut::X(x) => at.x <= x,
@@ -77,7 +76,7 @@ impl Cut {
     }
 }
 
-/// The extent of these points.
+/// The extent of these positions.
 pub(crate) fn extent_of(group: &[Placed]) -> Extent
     requires some { 0 < length group.now }
     requires in_range { All (λ x. InRange x.at) group.now }

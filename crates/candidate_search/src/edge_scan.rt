@@ -8,12 +8,13 @@ use crate::boxes::{EdgeBox, boxes_of};
 use crate::groups::{Among, empty_lists, list_group};
 use crate::placed::with_places;
 use cost_model::Params;
-use polyline_geometry::{List, Point};
+use plain_list::List;
+use polyline_geometry::Point;
 use road_network::{Candidate, Network};
 use std::alloc::{AllocError, Global};
 use std::marker::Model;
 
-/// The boxes of all edges of a network, for candidate searches at many points.
+/// The boxes of all edges of a network, for candidate searches at many positions.
 pub struct EdgeScan<'n> {
     net: &'n Network,
     boxes: Vec<EdgeBox>,
@@ -31,7 +32,7 @@ impl<'n> Model for EdgeScan<'n> {
 
     ghost Value = { Net };
 
-    ghost use Rattle.candidate_search.specs.Scanned.{HasAllBoxes, scanned};
+    ghost use Rattle.candidate_search.specs.inside.Scanned.{HasAllBoxes, scanned};
 
     ghost view = { scanned };
 
@@ -48,7 +49,7 @@ impl<'n> EdgeScan<'n> {
         Ok(EdgeScan { net, boxes })
     }
 
-    /// The candidates of each point, without a grid.
+    /// The candidates of each position, without a grid.
     ///
     /// The points are divided in two by their positions, again and again, and each part visits only the
     /// boxes that are near the part from which it was divided. So nearby points share most of the work,

@@ -1,12 +1,12 @@
-//! The candidates of groups of points, among the edges whose boxes are near a group. Serves `EdgeScan`;
-//! decided by `AreWritten`.
+//! The candidates of groups of positions, among the edges whose boxes are near a group. Serves `EdgeScan`; decided
+//! by `AreWritten`.
 ghost use Rattle.std.specs.Prelude.{◌≡◌, ◌<◌, List as ListOf, All, IfOk, OnOk, [], length, replicate};
 ghost use Rattle.polyline_geometry.specs.declared.plane.Point.{Point as PointOf};
 ghost use Rattle.polyline_geometry.specs.Plane.{InRange};
 ghost use Rattle.cost_model.specs.Options.{IsAccepted};
 ghost use Rattle.road_network.specs.Near.{candidates};
-ghost use Rattle.candidate_search.specs.Boxes.{AreBoxes, AreBoxesFor, AreEnough, HoldsPoints};
-ghost use Rattle.candidate_search.specs.Placed.{AreWritten, IsAsked, IsPlaced, points_of};
+ghost use Rattle.candidate_search.specs.inside.Boxes.{AreBoxes, AreBoxesFor, AreEnough, HoldsPoints};
+ghost use Rattle.candidate_search.specs.inside.Placed.{AreWritten, IsAsked, IsPlaced, points_of};
 
 use crate::boxes::{EdgeBox, boxes_near, extent_of, grown};
 use crate::nearest::consider;
@@ -14,7 +14,8 @@ use crate::placed::{Placed, cut_in_two};
 use crate::search::search_for;
 use cost_model::Params;
 use grid_index::Extent;
-use polyline_geometry::{List, Point};
+use plain_list::List;
+use polyline_geometry::Point;
 use road_network::{Candidate, Network};
 use std::alloc::{AllocError, Global};
 
@@ -37,7 +38,7 @@ pub(crate) fn empty_lists(alloc: Global, count: usize) -> Result<Vec<List<Candid
     Ok(lists)
 }
 
-/// The candidates of a point among the edges of these boxes.
+/// The candidates of a position among the edges of these boxes.
 fn candidates_among(
     alloc: Global,
     among: Among<'_>,
@@ -57,7 +58,7 @@ fn candidates_among(
     Ok(List::from_vec(found))
 }
 
-/// Writes the candidates of each point of a group at its place.
+/// Writes the candidates of each position of a group at its place.
 fn list_each(
     alloc: Global,
     among: Among<'_>,
@@ -94,8 +95,8 @@ fn boxes_for(
     Ok(near)
 }
 
-/// Writes the candidates of each point of a group at its place. Parts of the group visit only the boxes
-/// that are near the whole group.
+/// Writes the candidates of each position of a group at its place. Parts of the group visit only the boxes that are
+/// near the whole group.
 pub(crate) fn list_group(
     alloc: Global,
     among: Among<'_>,

@@ -1,4 +1,4 @@
-//! The candidates of a point: the k nearest edges of a network within the radius.
+//! The candidates of a position: the k nearest edges of a network within the radius.
 //!
 //! [`candidates`] visits only the runs of segments near the point in a grid, and [`candidates_plain`]
 //! all edges; both have one contract: the list that road_network's `candidates` defines, ordered by
@@ -8,11 +8,10 @@
 //! once for its edge and its twin, and both are inserted at once. [`candidates`] needs no square root:
 //! the network stores the offsets of the points of its lines.
 //!
-//! A [`CandidateSearch`] gives the result of [`candidates`] for one point after another, and keeps its
-//! memory from each to the next.
+//! A [`CandidateSearch`] gives the result of [`candidates`] for one position after another, and keeps its memory
+//! from each to the next.
 //!
-//! An [`EdgeScan`] gives the same result for many points, by a scan of all edges that nearby points
-//! share.
+//! An [`EdgeScan`] gives the same result for many positions, by a scan of all edges that nearby positions share.
 #![tactic(auto)]
 
 mod best;

@@ -5,7 +5,7 @@ ghost use Rattle.std.specs.List.{All};
 ghost use Rattle.std.specs.List.Sorted.{IsNonDecreasingBy};
 ghost use Rattle.road_network.specs.Net.{HasEdge, edge_line};
 ghost use Rattle.road_network.specs.Near.{candidate_at, placed};
-ghost use Rattle.candidate_search.specs.Nearest.{AllAreFar, IsFound, IsNearestOf, IsPlace, with_one};
+ghost use Rattle.candidate_search.specs.inside.Nearest.{AllAreFar, IsFound, IsNearestOf, IsPlace, with_one};
 
 use crate::wanted::Search;
 use polyline_geometry::{NearSegment, nearest_segment, snap_on};

@@ -3,31 +3,31 @@
 ghost use Rattle.std.specs.Prelude.{◌<◌, ◌^◌, ◌++◌, ◌∷◌, [], IfOk, IfSome, OnOk, length};
 ghost use Rattle.std.specs.List.Sorted.{IsPermutation};
 ghost use Rattle.grid_index.specs.Extent.{AreCorners};
-ghost use Rattle.candidate_search.specs.Placed.{AreHalves, ArePlaced, both};
+ghost use Rattle.candidate_search.specs.inside.Placed.{AreHalves, ArePlaced, both};
 
 use crate::boxes::{Cut, middle};
 use grid_index::Extent;
 use polyline_geometry::Point;
 use std::alloc::{AllocError, Global};
 
-/// How many points share the last visit of boxes.
+/// How many positions share the last visit of boxes. Speed only: any value is right.
 const FEW: usize = 4;
 
-/// A point with its index in the request.
+/// A position with its index in the request.
 #[derive(Clone, Copy)]
 pub(crate) struct Placed {
     pub(crate) place: u32,
     pub(crate) at: Point,
 }
 
-/// The points of a group, divided in two.
+/// The positions of a group, divided in two.
 #[derive(Drop)]
 pub(crate) struct Halves {
     pub(crate) below: Vec<Placed>,
     pub(crate) above: Vec<Placed>,
 }
 
-/// Points with their indices.
+/// Positions with their indices.
 pub(crate) fn with_places(alloc: Global, points: &[Point]) -> Result<Vec<Placed>, AllocError>
     requires { length points.now < 2 ^ 32 }
     ensures { IfOk result (λ group. ArePlaced points.now group.items) }
@@ -43,7 +43,7 @@ pub(crate) fn with_places(alloc: Global, points: &[Point]) -> Result<Vec<Placed>
 }
 
 impl Halves {
-    /// Takes one more point, on its side of the division.
+    /// Takes one more position, on its side of the division.
     fn take(&mut self, cut: Cut, point: Placed) -> Result<(), AllocError>
         ensures { OnOk result (IsPermutation (both self.old ++ point ∷ []) (both self.new)) }
     {
@@ -57,8 +57,7 @@ impl Halves {
     }
 }
 
-/// The points of a group on each side of the middle of its extent; `None` if they are few, or all on
-/// one side.
+/// The positions of a group on each side of the middle of its extent; `None` if they are few, or all on one side.
 pub(crate) fn cut_in_two(
     alloc: Global,
     group: &[Placed],

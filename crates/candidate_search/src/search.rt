@@ -1,9 +1,9 @@
-//! The candidates of a point. Decided by road_network's `candidates`.
+//! The candidates of a position. Decided by road_network's `candidates`.
 ghost use Rattle.std.specs.Prelude.{◌≡◌, ◌≤◌, All, IfOk, OnOk, map};
 ghost use Rattle.polyline_geometry.specs.Plane.{InRange};
 ghost use Rattle.cost_model.specs.Options.{IsAccepted};
 ghost use Rattle.road_network.specs.Near.{candidate_at, candidates};
-ghost use Rattle.candidate_search.specs.Nearest.{AreNearestEdges, IsNearestOn};
+ghost use Rattle.candidate_search.specs.inside.Nearest.{AreNearestEdges, IsNearestOn};
 
 use crate::best::NearEdge;
 use crate::nearest::consider;
@@ -11,7 +11,8 @@ use crate::visit::{Look, look_at_cells, look_at_wide};
 use crate::wanted::Search;
 use cost_model::Params;
 use grid_index::Grid;
-use polyline_geometry::{List, Point, offset_on};
+use plain_list::List;
+use polyline_geometry::{Point, offset_on};
 use road_network::{Candidate, EdgeId, Network};
 use std::alloc::{AllocError, Global};
 
@@ -66,7 +67,7 @@ fn candidates_of(
     Ok(list)
 }
 
-/// Finds the nearest edges by the runs of the grid; none for a point far from the whole network.
+/// Finds the nearest edges by the runs of the grid; none for a position far from the whole network.
 fn find_nearest(
     net: &Network,
     grid: &Grid,
@@ -91,8 +92,8 @@ fn find_nearest(
     look_at_wide(look, found)
 }
 
-/// Searches for the candidates of many points, one after another. It keeps the memory that one search
-/// needs for the next one.
+/// Searches for the candidates of many positions, one after another. It keeps the memory that one search needs for
+/// the next one.
 #[derive(Drop)]
 pub struct CandidateSearch {
     alloc: Global,
@@ -108,7 +109,7 @@ impl CandidateSearch {
         }
     }
 
-    /// The candidates of a point, among the runs of the grid.
+    /// The candidates of a position, among the runs of the grid.
     pub fn candidates(
         &mut self,
         net: &Network,
@@ -130,8 +131,7 @@ impl CandidateSearch {
     }
 }
 
-/// The candidates of a point, among the runs of the grid. For many points a [`CandidateSearch`] is
-/// faster.
+/// The candidates of a position, among the runs of the grid. For many positions a [`CandidateSearch`] is faster.
 pub fn candidates(
     alloc: Global,
     net: &Network,
@@ -149,7 +149,7 @@ pub fn candidates(
     search.candidates(net, grid, p, at)
 }
 
-/// The candidates of a point, by a scan of all edges.
+/// The candidates of a position, by a scan of all edges.
 pub fn candidates_plain(
     alloc: Global,
     net: &Network,

@@ -1,10 +1,10 @@
-//! Visits the runs near a point, cell by cell from its own cell outwards. Serves `candidates`; decided
-//! by `HasSeenCell`.
+//! Visits the runs near a position, cell by cell from its own cell outwards. Serves `candidates`; decided by
+//! `HasSeenCell`.
 ghost use Rattle.std.specs.Prelude.{◌≡◌, ◌<◌, OnOk};
 ghost use Rattle.polyline_geometry.specs.Plane.{InRange};
 ghost use Rattle.road_network.specs.Net.{Net};
 ghost use Rattle.grid_index.specs.Runs.{IsBoxDistance, IsRun};
-ghost use Rattle.candidate_search.specs.Best.{AreBest, HasSeen, HasSeenCell, HasSeenRow, HasSeenRows, HasSeenWide, IsLimit, IsNearestOfTwin, Steps};
+ghost use Rattle.candidate_search.specs.inside.Best.{AreBest, HasSeen, HasSeenCell, HasSeenRow, HasSeenRows, HasSeenWide, IsLimit, IsNearestOfTwin, Steps};
 
 use crate::best::{NearEdge, limit_for, take_near, take_pair};
 use crate::wanted::Search;
@@ -176,7 +176,7 @@ fn look_at_columns(
     Ok(())
 }
 
-/// Visits the cells of a row, the point's own column first.
+/// Visits the cells of a row, the position's own column first.
 fn look_at_row(
     look: Look<'_, '_>,
     found: &mut Vec<NearEdge>,
@@ -216,7 +216,7 @@ fn look_at_rows(
     Ok(())
 }
 
-/// Visits cells, those of the point's own row first.
+/// Visits cells, those of the position's own row first.
 pub(crate) fn look_at_cells(
     look: Look<'_, '_>,
     found: &mut Vec<NearEdge>,

@@ -4,7 +4,7 @@ ghost use Rattle.polyline_geometry.specs.Plane.{InRange};
 
 use polyline_geometry::Point;
 
-/// For which point candidates are wanted, and which.
+/// For which position candidates are wanted, and which.
 #[derive(Clone, Copy)]
 pub(crate) struct Search {
     pub(crate) at: Point,

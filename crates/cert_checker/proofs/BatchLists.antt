@@ -10,7 +10,7 @@ use Rattle.road_network.specs.Net.{Net}
 use Rattle.trace_reader.specs.declared.trace.Fix.{Fix}
 use Rattle.trace_reader.specs.declared.trace.Trace.{Trace}
 use Rattle.trace_reader.specs.Trace.{IsLawfulTrace, point_of_fix}
-use Rattle.bounded_search.specs.Table.{TableRow}
+use Rattle.bounded_table.specs.Table.{TableRow}
 use Rattle.potential_certificate.specs.declared.proof.TraceProof.{TraceProof}
 use Rattle.matching.specs.declared.parts.Layer.{Layer}
 use Rattle.trace_match.specs.Match.{layer_of, layers_of}
@@ -18,7 +18,7 @@ use Rattle.cert_checker.specs.declared.batch.Batch.{Batch}
 use Rattle.cert_checker.specs.declared.verdict.Condition.{Condition}
 use Rattle.cert_checker.specs.declared.verdict.Verdict.{Verdict}
 use Rattle.cert_checker.specs.declared.verdict.Verdict.TheVariants.{Proved, Refused}
-use Rattle.cert_checker.specs.Batches.{AreBatchesOf, FollowFrom, batch_verdict, first_refused}
+use Rattle.cert_checker.specs.inside.Batches.{AreBatchesOf, FollowFrom, batch_verdict, first_refused}
 use Rattle.cert_checker.specs.Verdicts.{case_of, or_else, trace_verdict}
 use Rattle.cert_checker.specs.Whole.{verdict_from}
 

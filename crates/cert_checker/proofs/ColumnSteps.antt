@@ -7,7 +7,7 @@ use Rattle.matching.specs.Cells.{cell_at}
 use Rattle.cert_checker.specs.declared.point_ways.PointWays.{PointWays}
 use Rattle.cert_checker.specs.Case.{Case, table, ways}
 use Rattle.cert_checker.specs.Cells.{is_first_pointer, is_relaxed, is_tight}
-use Rattle.cert_checker.specs.Columns.{AreWaysOf, each_cell, with_column}
+use Rattle.cert_checker.specs.inside.Columns.{AreWaysOf, each_cell, with_column}
 use Rattle.cert_checker.proofs.EachBelow.{any_more, each_more}
 
 one_cell : (c : Case) (i n : ℕ) (test : List (Option ℕ) → Cell → Bool) (b : Bool) → b ≡ each_cell test c i n

@@ -9,9 +9,9 @@ use Rattle.cert_checker.specs.declared.verdict.Condition.{Condition}
 use Rattle.cert_checker.specs.declared.verdict.Condition.TheVariants.{Break, Candidates, Chosen, FirstCost, Pointer, Relaxed, Route, Row, Tight}
 use Rattle.cert_checker.specs.declared.verdict.Verdict.TheVariants.{Proved, Refused}
 use Rattle.cert_checker.specs.Case.{Case, has_way, is_looked_at, width}
-use Rattle.cert_checker.specs.Checked.{HasCells, of_cells}
-use Rattle.cert_checker.specs.Columns.{are_first_cells, each_cell}
-use Rattle.cert_checker.specs.InHand.{AreLeft}
+use Rattle.cert_checker.specs.inside.Checked.{HasCells, of_cells}
+use Rattle.cert_checker.specs.inside.Columns.{are_first_cells, each_cell}
+use Rattle.cert_checker.specs.inside.InHand.{AreLeft}
 use Rattle.cert_checker.specs.Pieces.{begins, goes_on, is_in_any, rise_from}
 use Rattle.cert_checker.specs.Verdicts.{breaks_right, each_later, first_failing, has_breaks, has_candidates, has_first_costs, has_rows, holds, is_last, or_else, order, refused_at, trace_verdict, verdict_before}
 use Rattle.cert_checker.proofs.FailingFirst.{fails_here, fails_later, passed}

@@ -3,12 +3,12 @@ use Rattle.std.proofs.Common.{◌≡◌, ℕ, ◌+◌, List, [], ◌∷◌, ◌+
 use Rattle.road_network.specs.Net.{IsLawful, source, target}
 use Rattle.road_network.specs.Walk.{IsLeastWalk}
 use Rattle.road_network.specs.declared.EdgeId.{EdgeId}
-use Rattle.bounded_search.specs.Table.{IsRow, TableRow}
+use Rattle.bounded_table.specs.Table.{IsRow, TableRow}
 use Rattle.matching.specs.Routes.{Direct, IsRoute}
 use Rattle.route_rebuild.specs.Numbers.{numbers}
 use Rattle.cert_checker.specs.Case.{Case}
-use Rattle.cert_checker.specs.Legs.{IsLeftAfter, IsLeg, chosen_in, leg}
-use Rattle.cert_checker.specs.RowPlaces.{IsRowPlace}
+use Rattle.cert_checker.specs.inside.Legs.{IsLeftAfter, IsLeg, chosen_in, leg}
+use Rattle.cert_checker.specs.inside.RowPlaces.{IsRowPlace}
 use Rattle.cert_checker.proofs.Legs.{HasWalkWithin, after_more, after_none, direct_leg, leg_walk, walked_leg}
 use Rattle.cert_checker.proofs.RowsAtPlaces.{row_at_place}
 

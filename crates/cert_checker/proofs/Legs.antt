@@ -11,8 +11,8 @@ use Rattle.road_network.specs.Walk.{IsLeastWalk, IsWalk, Leads, walk_length}
 use Rattle.road_network.specs.declared.Candidate.{Candidate}
 use Rattle.road_network.specs.declared.EdgeId.{EdgeId}
 use Rattle.road_network.proofs.Travel.{leads_from_walk}
-use Rattle.bounded_search.specs.declared.table_row.Entry.{Entry}
-use Rattle.bounded_search.specs.Table.{IsRow, TableRow, entry_in, label_of}
+use Rattle.bounded_table.specs.declared.table_row.Entry.{Entry}
+use Rattle.bounded_table.specs.Table.{IsRow, TableRow, entry_in, label_of}
 use Rattle.matching.specs.Routes.{Route, Direct, Over, HasNoRoute, IsRoute}
 use Rattle.matching.specs.RouteBetween.{route_between}
 use Rattle.matching.proofs.RouteBetweens.{route_between-is}
@@ -20,7 +20,7 @@ use Rattle.matching.proofs.Routes.{direct_route, over_route}
 use Rattle.route_rebuild.specs.Numbers.{numbers}
 use Rattle.route_rebuild.specs.Routes.{edges_to}
 use Rattle.route_rebuild.proofs.RouteValue.{route_found}
-use Rattle.cert_checker.specs.Legs.{IsLeftAfter, are_names}
+use Rattle.cert_checker.specs.inside.Legs.{IsLeftAfter, are_names}
 
 -- no id is left where one is wanted
 pub none_after : (n : Net) (names : List ℕ) (e : ℕ) → None ≡ slice_get names 0 → IsLeftAfter n names (e ∷ []) None

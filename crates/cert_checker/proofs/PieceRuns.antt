@@ -21,11 +21,11 @@ use Rattle.matching.proofs.RouteLengths.{length_of_route-none}
 use Rattle.match_text.specs.declared.matched.Routed.{Routed}
 use Rattle.route_rebuild.specs.Chosen.{IsChosenPoint}
 use Rattle.cert_checker.specs.Case.{Case, has_row, has_way, is_looked_at, layer, rank, table, way, ways, width}
-use Rattle.cert_checker.specs.CaseSeen.{IsCheckable, IsReady}
+use Rattle.cert_checker.specs.inside.CaseSeen.{IsCheckable, IsReady}
 use Rattle.cert_checker.specs.Cells.{is_cost, is_least_rank, is_tight, is_tight_by, pointer_of}
-use Rattle.cert_checker.specs.Checked.{HasCells, IsAtEnd}
-use Rattle.cert_checker.specs.InHand.{HasPoint, IsEnding}
-use Rattle.cert_checker.specs.Legs.{IsRoutable, chosen_in}
+use Rattle.cert_checker.specs.inside.Checked.{HasCells, IsAtEnd}
+use Rattle.cert_checker.specs.inside.InHand.{HasPoint, IsEnding}
+use Rattle.cert_checker.specs.inside.Legs.{IsRoutable, chosen_in}
 use Rattle.cert_checker.specs.Pieces.{begins, goes_on, is_in_any}
 use Rattle.cert_checker.specs.Verdicts.{breaks_right, each_below, has_candidates, is_chosen, is_rank_of}
 use Rattle.cert_checker.proofs.EachBelow.{each_at}

@@ -8,7 +8,7 @@ use Rattle.std.proofs.lemmas.List.Folds.{list_all-append}
 use Rattle.std.proofs.lemmas.Option.{same_Some}
 use Rattle.match_text.specs.declared.matched.Routed.{Routed}
 use Rattle.cert_checker.specs.Pieces.{begins, goes_on, is_in, is_in_any, rise_from}
-use Rattle.cert_checker.specs.InHand.{AreLeft, IsEnding}
+use Rattle.cert_checker.specs.inside.InHand.{AreLeft, IsEnding}
 use Rattle.cert_checker.proofs.RisingPieces.{AllMiss, Misses, all_ended, all_later, none_passes, not_in, not_last, one_any, placed}
 
 -- the first of the pieces that end at point i or later

@@ -6,7 +6,7 @@ use Rattle.std.proofs.lemmas.Bool.{and_from, and_parts, eq-eqb, le-ltb, ltb-true
 use Rattle.std.proofs.lemmas.List.Folds.{list_any-append}
 use Rattle.match_text.specs.declared.matched.Routed.{Routed}
 use Rattle.cert_checker.specs.Case.{Case}
-use Rattle.cert_checker.specs.InHand.{AreLeft, IsEnding}
+use Rattle.cert_checker.specs.inside.InHand.{AreLeft, IsEnding}
 use Rattle.cert_checker.specs.Pieces.{rise_from}
 use Rattle.cert_checker.specs.Verdicts.{breaks_right, each_ended, has_breaks, is_last}
 use Rattle.cert_checker.proofs.RisingPieces.{ended_is}

@@ -9,8 +9,8 @@ use Rattle.cost_model.specs.Options.{IsAccepted}
 use Rattle.road_network.specs.Net.{Edge, IsLawful, Net, edge_name, no_edge}
 use Rattle.trace_reader.specs.declared.trace.Fix.{Fix}
 use Rattle.trace_reader.specs.declared.trace.Trace.{Trace}
-use Rattle.bounded_search.specs.RowValue.{rows_where}
-use Rattle.bounded_search.specs.Table.{TableRow}
+use Rattle.bounded_table.specs.RowValue.{rows_where}
+use Rattle.bounded_table.specs.Table.{TableRow}
 use Rattle.trace_reader.specs.Trace.{IsLawfulTrace}
 use Rattle.matching.specs.declared.parts.Cell.{Cell}
 use Rattle.matching.specs.declared.parts.Layer.{Layer}

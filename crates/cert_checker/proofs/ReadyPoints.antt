@@ -7,8 +7,8 @@ use Rattle.matching.specs.Cells.{cell_at}
 use Rattle.matching.specs.Layers.{AreNeighbours, IsLayer, end_of}
 use Rattle.route_rebuild.specs.Routes.{no_layer}
 use Rattle.cert_checker.specs.Case.{Case, has_row, is_looked_at, layer, table, width}
-use Rattle.cert_checker.specs.CaseSeen.{IsCheckable, IsReady}
-use Rattle.cert_checker.specs.Columns.{has_row_of}
+use Rattle.cert_checker.specs.inside.CaseSeen.{IsCheckable, IsReady}
+use Rattle.cert_checker.specs.inside.Columns.{has_row_of}
 use Rattle.cert_checker.specs.Verdicts.{each_below, has_candidates}
 use Rattle.cert_checker.proofs.EachBelow.{each_at}
 use Rattle.cert_checker.proofs.RightRows.{both_true}

@@ -4,9 +4,9 @@ use Rattle.std.specs.Prelude.{◌&&◌, nat_le, nat_lt}
 use Rattle.std.proofs.lemmas.Bool.{leb-true, ltb-true, true≢false}
 use Rattle.std.proofs.lemmas.List.{drop_all}
 use Rattle.road_network.specs.Net.{Net}
-use Rattle.bounded_search.specs.RightRow.{is_right_row}
-use Rattle.bounded_search.specs.Table.{TableRow}
-use Rattle.bounded_search.proofs.RightRows.{has_right_entries}
+use Rattle.bounded_table.specs.RightRow.{is_right_row}
+use Rattle.bounded_table.specs.Table.{TableRow}
+use Rattle.bounded_table.proofs.RightRows.{has_right_entries}
 use Rattle.matching.proofs.Lists.{drop-at}
 use Rattle.cert_checker.specs.Rows.{bad_row_from, is_next_row}
 

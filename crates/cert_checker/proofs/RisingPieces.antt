@@ -6,7 +6,7 @@ use Rattle.std.proofs.lemmas.Bool.{and_parts, and_from, and_left, and_right, or_
 use Rattle.std.proofs.lemmas.List.Folds.{list_any-append, list_all-append}
 use Rattle.match_text.specs.declared.matched.Routed.{Routed}
 use Rattle.cert_checker.specs.Pieces.{begins, goes_on, is_in, is_in_any, rise_from}
-use Rattle.cert_checker.specs.InHand.{HasPoint}
+use Rattle.cert_checker.specs.inside.InHand.{HasPoint}
 
 -- the piece lies behind point i or before it
 abbrev pub Misses : ℕ → Routed → Type 0

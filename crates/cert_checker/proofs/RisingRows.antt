@@ -10,10 +10,10 @@ use Rattle.std.proofs.lemmas.List.{length-map}
 use Rattle.std.proofs.lemmas.List.Elements.{All-filter, All-head, All-map, All-tail}
 use Rattle.std.proofs.lemmas.List.FromFn.{get_or-range_with_len, length-range_with_len}
 use Rattle.std.proofs.lemmas.List.Kept.{IsStrictlyIncreasing-filter}
-use Rattle.bounded_search.proofs.RightRows.{has_right_entries, right_is}
-use Rattle.bounded_search.specs.RightRow.{is_right_row}
-use Rattle.bounded_search.specs.RowValue.{row_of, rows_where}
-use Rattle.bounded_search.specs.Table.{TableRow}
+use Rattle.bounded_table.proofs.RightRows.{has_right_entries, right_is}
+use Rattle.bounded_table.specs.RightRow.{is_right_row}
+use Rattle.bounded_table.specs.RowValue.{row_of, rows_where}
+use Rattle.bounded_table.specs.Table.{TableRow}
 use Rattle.matching.proofs.Lists.{all-cons}
 use Rattle.road_network.specs.Net.{HasNode, Net}
 use Rattle.cert_checker.specs.Case.{has_row}

@@ -3,7 +3,7 @@ use Rattle.std.proofs.Common.{◌≡◌, ◌<◌, ◌≤◌, ℕ, suc, ◌+◌, 
 use Rattle.match_text.specs.declared.matched.Routed.{Routed}
 use Rattle.route_rebuild.specs.Routes.{legs, route_of}
 use Rattle.cert_checker.specs.Case.{Case}
-use Rattle.cert_checker.specs.Legs.{IsLeftAfter, are_names, chosen_in, leg}
+use Rattle.cert_checker.specs.inside.Legs.{IsLeftAfter, are_names, chosen_in, leg}
 use Rattle.cert_checker.specs.Verdicts.{has_route}
 
 -- the legs from point i to the piece's last

@@ -5,8 +5,8 @@ use Rattle.std.specs.List.{AllZip}
 use Rattle.std.specs.Option.{option_or}
 use Rattle.std.proofs.lemmas.List.{drop_all, take-append-drop}
 use Rattle.road_network.specs.Net.{Net}
-use Rattle.bounded_search.specs.Table.{TableRow}
-use Rattle.cert_checker.specs.RowParts.{bad_in_part, first_place}
+use Rattle.bounded_table.specs.Table.{TableRow}
+use Rattle.cert_checker.specs.inside.RowParts.{bad_in_part, first_place}
 use Rattle.cert_checker.specs.Rows.{bad_row_from, first_bad_row, is_next_row}
 use Rattle.cert_checker.specs.declared.row_part.RowPart.{RowPart}
 use Rattle.cert_checker.proofs.BatchLists.{part_length}

@@ -2,13 +2,13 @@
 use Rattle.std.proofs.Common.{◌<◌, ◌≤◌, ℕ, zero, suc, ◌+◌, ◌==◌, ◌^◌, Bool, true, false, cond, List, [], ◌∷◌, ◌++◌, length, map, Option, Some, None, IfSome, refl, arith}
 use Rattle.std.specs.List.{AllByRecursion, filter, range_with_len}
 use Rattle.std.proofs.lemmas.List.{length-map}
-use Rattle.bounded_search.specs.RowValue.{arrives, entries_from, first_arriving, label_within, or_edge, or_label, row_of, rows_where}
-use Rattle.bounded_search.specs.Closed.{origin_label}
-use Rattle.bounded_search.specs.Labels.{entry_of}
-use Rattle.bounded_search.specs.Table.{TableRow}
-use Rattle.bounded_search.specs.declared.table_row.Label.{Label}
-use Rattle.bounded_search.proofs.RowChecks.{rules_of_row}
-use Rattle.bounded_search.proofs.RowValues.{row_of_is}
+use Rattle.bounded_table.specs.RowValue.{arrives, entries_from, first_arriving, label_within, or_edge, or_label, row_of, rows_where}
+use Rattle.bounded_table.specs.Closed.{origin_label}
+use Rattle.bounded_table.specs.RowValue.{entry_of}
+use Rattle.bounded_table.specs.Table.{TableRow}
+use Rattle.bounded_table.specs.declared.table_row.Label.{Label}
+use Rattle.bounded_table.proofs.RowChecks.{rules_of_row}
+use Rattle.bounded_table.proofs.RowValues.{row_of_is}
 use Rattle.road_network.specs.Net.{HasNode, IsLawful, Net}
 use Rattle.road_network.specs.declared.EdgeId.{EdgeId}
 use Rattle.row_text.specs.Laws.{EntryFits, IsRowValue}

@@ -2,14 +2,14 @@
 use Rattle.std.proofs.Common.{◌≡◌, ◌<◌, ◌≤◌, ℕ, zero, suc, ◌+◌, Bool, true, false, cond, List, [], ◌∷◌, length, get_or, Option, Some, None, refl, sym, ap, ◌∙◌, subst, arith}
 use Rattle.std.specs.Prelude.{nat_lt}
 use Rattle.std.proofs.lemmas.Bool.{ltb-true}
-use Rattle.bounded_search.proofs.RightRows.{right_rows}
-use Rattle.bounded_search.specs.RightRow.{is_right_row}
-use Rattle.bounded_search.specs.Table.{IsRow, TableRow}
+use Rattle.bounded_table.proofs.RightRows.{right_rows}
+use Rattle.bounded_table.specs.RightRow.{is_right_row}
+use Rattle.bounded_table.specs.Table.{IsRow, TableRow}
 use Rattle.road_network.specs.Net.{HasNode, IsLawful, Net, target}
 use Rattle.trellis.specs.declared.steps.Origin.{Origin}
 use Rattle.trellis.specs.declared.steps.Step.{Step}
 use Rattle.trellis.specs.Steps.{IsOriginAt, IsRowFor}
-use Rattle.cert_checker.specs.RowPlaces.{AreRightRows, IsRowPlace}
+use Rattle.cert_checker.specs.inside.RowPlaces.{AreRightRows, IsRowPlace}
 use Rattle.cert_checker.specs.Rows.{bad_row_from, first_bad_row, is_next_row}
 use Rattle.cert_checker.proofs.RightRows.{both_true, next_within, no_row}
 

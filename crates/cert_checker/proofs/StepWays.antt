@@ -15,9 +15,9 @@ use Rattle.matching.specs.Local.{AreNext, IsTightCost}
 use Rattle.matching.proofs.Costs.{added-parts}
 use Rattle.matching.proofs.Growth.{emission_le, transition_le}
 use Rattle.cert_checker.specs.Case.{Case, has_way, layer, table, way, ways, width}
-use Rattle.cert_checker.specs.CaseSeen.{IsReady}
+use Rattle.cert_checker.specs.inside.CaseSeen.{IsReady}
 use Rattle.cert_checker.specs.Cells.{is_first_pointer, is_relaxed, is_tight}
-use Rattle.cert_checker.specs.Columns.{AreWaysOf, each_cell}
+use Rattle.cert_checker.specs.inside.Columns.{AreWaysOf, each_cell}
 use Rattle.cert_checker.proofs.CellTests.{IsBound, pointer, relaxed, tight}
 use Rattle.cert_checker.proofs.ReadyPoints.{cells_before, neighbours}
 use Rattle.cert_checker.proofs.ListTests.{IsThere, each_below_n, itself, some_below_n, some_element, some_way, there}

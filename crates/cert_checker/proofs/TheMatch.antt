@@ -6,7 +6,7 @@ use Rattle.cost_model.specs.Options.{IsAccepted}
 use Rattle.road_network.specs.Net.{Net, IsLawful}
 use Rattle.trace_reader.specs.declared.trace.Trace.{Trace}
 use Rattle.trace_reader.specs.Trace.{IsLawfulTrace}
-use Rattle.bounded_search.specs.Table.{TableRow}
+use Rattle.bounded_table.specs.Table.{TableRow}
 use Rattle.trace_match.specs.Match.{layer_of, layers_of}
 use Rattle.trace_match.proofs.TraceLayers.{matchable}
 use Rattle.potential_certificate.specs.declared.proof.TraceProof.{TraceProof}

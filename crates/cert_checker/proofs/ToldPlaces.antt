@@ -5,9 +5,9 @@ use Rattle.std.proofs.lemmas.Bool.Decides.{nat_tests}
 use Rattle.std.proofs.lemmas.List.{get_or_past, get_or-replicate}
 use Rattle.std.proofs.lemmas.List.Folds.{list_any_at, list_any_none}
 use Rattle.std.proofs.Math.ListN.{length-replicate}
-use Rattle.bounded_search.specs.Table.{TableRow}
-use Rattle.cert_checker.specs.PlacedInside.{told_place}
-use Rattle.cert_checker.specs.RowPlaces.{FindsRow, IsRowPlace}
+use Rattle.bounded_table.specs.Table.{TableRow}
+use Rattle.cert_checker.specs.inside.PlacedInside.{told_place}
+use Rattle.cert_checker.specs.inside.RowPlaces.{FindsRow, IsRowPlace}
 use Rattle.cert_checker.proofs.RightRows.{no_row}
 
 -- the numbers tell the places of the first k rows

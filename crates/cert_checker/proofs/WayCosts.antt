@@ -6,7 +6,7 @@ use Rattle.cost_model.specs.declared.params.Params.{Params}
 use Rattle.cost_model.specs.Costs.{transition}
 use Rattle.road_network.specs.declared.Candidate.{Candidate}
 use Rattle.road_network.specs.Net.{Net, target}
-use Rattle.bounded_search.specs.Table.{IsRow, TableRow}
+use Rattle.bounded_table.specs.Table.{IsRow, TableRow}
 use Rattle.matching.specs.declared.parts.Layer.{Layer}
 use Rattle.matching.specs.Layers.{candidate_of_rank, end_of, trellis}
 use Rattle.matching.specs.Routes.{HasNoRoute}

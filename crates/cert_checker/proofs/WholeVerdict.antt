@@ -8,7 +8,7 @@ use Rattle.cost_model.specs.Options.{IsAccepted}
 use Rattle.road_network.specs.Net.{IsLawful, Net}
 use Rattle.trace_reader.specs.declared.trace.Trace.{Trace}
 use Rattle.trace_reader.specs.Trace.{IsLawfulTrace}
-use Rattle.bounded_search.specs.Table.{TableRow}
+use Rattle.bounded_table.specs.Table.{TableRow}
 use Rattle.matching.proofs.Lists.{all-cons}
 use Rattle.potential_certificate.specs.declared.proof.TraceProof.{TraceProof}
 use Rattle.cert_checker.specs.declared.verdict.Condition.{Condition}

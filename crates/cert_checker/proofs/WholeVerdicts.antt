@@ -8,7 +8,7 @@ use Rattle.cost_model.specs.Options.{IsAccepted}
 use Rattle.road_network.specs.Net.{Net}
 use Rattle.trace_reader.specs.declared.trace.Trace.{Trace}
 use Rattle.trace_reader.specs.Trace.{IsLawfulTrace}
-use Rattle.bounded_search.specs.Table.{TableRow}
+use Rattle.bounded_table.specs.Table.{TableRow}
 use Rattle.matching.specs.declared.parts.Layer.{Layer}
 use Rattle.matching.specs.Layers.{IsLayer}
 use Rattle.matching.proofs.CandidateLayers.{candidates_narrow, layer_of_candidates}
@@ -19,7 +19,7 @@ use Rattle.cert_checker.specs.declared.verdict.Condition.{Condition}
 use Rattle.cert_checker.specs.declared.verdict.Finding.TheVariants.{BadRow, Judged}
 use Rattle.cert_checker.specs.declared.verdict.Verdict.{Verdict}
 use Rattle.cert_checker.specs.declared.verdict.Verdict.TheVariants.{Proved, Refused}
-use Rattle.cert_checker.specs.CaseSeen.{IsCheckable}
+use Rattle.cert_checker.specs.inside.CaseSeen.{IsCheckable}
 use Rattle.cert_checker.specs.Rows.{first_bad_row}
 use Rattle.cert_checker.specs.Verdicts.{case_of, or_else, trace_verdict}
 use Rattle.cert_checker.specs.Whole.{apart_from, finding, found_of, refused_whole, verdict, verdict_from}

@@ -7,8 +7,8 @@ use Rattle.cost_model.specs.Options.{IsAccepted}
 use Rattle.road_network.specs.Net.{HasNode, IsLawful, Net}
 use Rattle.trace_reader.specs.declared.trace.Trace.{Trace}
 use Rattle.trace_reader.specs.Trace.{IsLawfulTrace}
-use Rattle.bounded_search.specs.RowValue.{row_of, rows_where}
-use Rattle.bounded_search.specs.Table.{TableRow}
+use Rattle.bounded_table.specs.RowValue.{row_of, rows_where}
+use Rattle.bounded_table.specs.Table.{TableRow}
 use Rattle.trace_match.specs.Match.{asks, match_of, solution_of}
 use Rattle.potential_certificate.specs.HasText.{HasText}
 use Rattle.potential_certificate.specs.declared.proof.Certificate.{Certificate}

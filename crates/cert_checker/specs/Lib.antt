@@ -1,16 +1,8 @@
 pub mod Rows
-pub mod RowParts
 pub mod Case
 pub mod Cells
 pub mod Pieces
 pub mod Verdicts
 pub mod Whole
-pub mod CaseSeen
-pub mod InHand
-pub mod Legs
-pub mod RowPlaces
-pub mod Columns
-pub mod PlacedInside
-pub mod Checked
 pub mod Laws
-pub mod Batches
+pub mod inside

@@ -1,8 +1,8 @@
 -- Which rows of a certificate are right, and the first that is not.
 use Rattle.std.specs.Prelude.{ℕ, ◌+◌, ◌&&◌, Bool, nat_le, if◌then◌else◌, List, [], ◌∷◌, Option, Some, None}
 use Rattle.road_network.specs.Net.{Net}
-use Rattle.bounded_search.specs.RightRow.{is_right_row}
-use Rattle.bounded_search.specs.Table.{TableRow}
+use Rattle.bounded_table.specs.RightRow.{is_right_row}
+use Rattle.bounded_table.specs.Table.{TableRow}
 
 -- whether a row is right, and its origin not below `least`
 abbrev pub is_next_row : Net → ℕ → ℕ → TableRow → Bool

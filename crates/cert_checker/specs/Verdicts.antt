@@ -1,4 +1,4 @@
--- The verdict on a trace: the first condition that fails, at the first point where one fails.
+-- The verdict on a trace: the first condition that fails, at the first position where one fails.
 use Rattle.std.specs.Prelude.{ℕ, zero, suc, ◌+◌, ◌-◌, ◌==◌, ◌&&◌, ◌||◌, not, Bool, true, nat_le, nat_lt, is_some, if◌then◌else◌, List, [], ◌∷◌, length, map, Option, Some, None}
 use Rattle.std.specs.Cmp.Lexicographic.{pointwise}
 use Rattle.std.specs.Option.{option_eq}
@@ -7,7 +7,7 @@ use Rattle.cost_model.specs.declared.params.Params.{Params}
 use Rattle.cost_model.specs.Costs.{emission}
 use Rattle.road_network.specs.Net.{Net, edge_name}
 use Rattle.trace_reader.specs.declared.trace.Trace.{Trace}
-use Rattle.bounded_search.specs.Table.{TableRow}
+use Rattle.bounded_table.specs.Table.{TableRow}
 use Rattle.matching.specs.declared.parts.Cell.{Cell}
 use Rattle.matching.specs.declared.parts.Piece.{Piece}
 use Rattle.matching.specs.Cells.{cell_at}
@@ -28,11 +28,11 @@ use Rattle.cert_checker.specs.Pieces.{begins, goes_on, is_in_any, rise_from}
 abbrev pub each_below : ℕ → (ℕ → Bool) → Bool
 each_below n test = list_all test (range_with_len 0 n)
 
--- point i is the last of the trace
+-- position i is the last of the trace
 abbrev pub is_last : Case → ℕ → Bool
 is_last c i = i + 1 == length c.layers
 
--- a rank of so many candidates, and none where there are none
+-- a rank below the number of candidates; none if there is no candidate
 abbrev pub is_rank_of : ℕ → Option ℕ → Bool
 is_rank_of w None = w == 0
 is_rank_of w (Some r) = nat_lt r w
@@ -52,14 +52,14 @@ has_rows c i =
     not (is_some ((cell_at (table c (i - 1)) a).cost))
     || has_row c.rows (end_of c.net (layer c (i - 1)) a))
 
--- the point begins a piece, goes on with one or is in none, as its transitions tell
+-- the position begins a piece, goes on with one or is in none, as its transitions tell
 abbrev pub breaks_right : Case → ℕ → Bool
 breaks_right c i =
     if width c i == 0 then not (is_in_any c.proof.pieces i)
     else if is_looked_at c i && has_way c i then goes_on c.proof.pieces i
     else begins c.proof.pieces i
 
--- and at the first and the last point, the pieces stand in order within the trace
+-- and at the first and the last position, the pieces are in order within the trace
 abbrev pub has_breaks : Case → ℕ → Bool
 has_breaks c i =
     breaks_right c i
@@ -72,20 +72,20 @@ has_first_costs c i =
     || each_below (width c i) (λ j.
     is_first_cell (emission c.params (candidate_of_rank (layer c i) j).d2) (cell_at (table c i) j))
 
--- a test of each cell of a later point of a piece, by the ways to it
+-- a test of each cell of a later position of a piece, by the ways to it
 abbrev pub each_later : (List (Option ℕ) → Cell → Bool) → Case → ℕ → Bool
 each_later test c i =
     not (goes_on c.proof.pieces i)
     || each_below (width c i) (λ j. test (ways c i j) (cell_at (table c i) j))
 
--- at each point of the piece but the last the chosen rank is the pointer of the next chosen cell
+-- at each position of the piece but the last the chosen rank is the pointer of the next chosen cell
 abbrev pub follows_pointers : Case → Routed → Bool
 follows_pointers c q =
     each_below (q.last - q.first) (λ k.
     option_eq (λ a b. a == b) (rank c (q.first + k))
     (pointer_of (table c (q.first + k + 1)) (rank c (q.first + k + 1))))
 
--- a test of each piece that ends with point i
+-- a test of each piece that ends with position i
 abbrev pub each_ended : (Routed → Bool) → Case → ℕ → Bool
 each_ended test c i = list_all (λ q. not (q.last == i) || test q) c.proof.pieces
 
@@ -100,7 +100,7 @@ abbrev pub has_route : Case → Routed → Bool
 has_route c q =
     pointwise (λ a b. a == b) q.route (map (edge_name c.net) (route_of c.net c.params c.layers c.proof.ranks (piece_of q)))
 
--- the conditions at point i
+-- the conditions at position i
 abbrev pub holds : Case → ℕ → Condition → Bool
 holds c i Candidates = has_candidates c i
 holds c i Row = has_rows c i
@@ -113,7 +113,7 @@ holds c i Chosen = each_ended (is_chosen c) c i
 holds c i Route = each_ended (has_route c) c i
 holds c i TraceIds = true
 
--- the order in which they are tried at a point
+-- the order in which they are tried at a position
 abbrev pub order : List Condition
 order =
     Candidates ∷ Row ∷ Break ∷ FirstCost ∷ Relaxed ∷ Tight ∷ Pointer ∷ Chosen ∷ Route ∷ []
@@ -130,7 +130,7 @@ abbrev pub or_else : Verdict → Verdict → Verdict
 or_else Proved v = v
 or_else (Refused x number place) v = Refused x number place
 
--- the verdict on the first n points
+-- the verdict on the first n positions
 abbrev pub verdict_before : ℕ → Case → ℕ → Verdict
 verdict_before number c zero = Proved
 verdict_before number c (suc i) = or_else (verdict_before number c i) (refused_at number i (first_failing (holds c i) order))

@@ -3,7 +3,7 @@ use Rattle.std.specs.Prelude.{ℕ, ◌+◌, ◌==◌, if◌then◌else◌, List,
 use Rattle.cost_model.specs.declared.params.Params.{Params}
 use Rattle.road_network.specs.Net.{Net}
 use Rattle.trace_reader.specs.declared.trace.Trace.{Trace}
-use Rattle.bounded_search.specs.Table.{TableRow}
+use Rattle.bounded_table.specs.Table.{TableRow}
 use Rattle.potential_certificate.specs.declared.proof.Certificate.{Certificate}
 use Rattle.potential_certificate.specs.declared.proof.TraceProof.{TraceProof}
 use Rattle.cert_checker.specs.declared.verdict.Condition.{Condition}

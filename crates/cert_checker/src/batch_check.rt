@@ -2,7 +2,7 @@
 //! `first_refused`.
 ghost use Rattle.std.specs.Prelude.{◌≡◌, ◌≤◌, ◌+◌, List as ListOf, IfOk, drop, length, take};
 ghost use Rattle.std.specs.List.{AllZip, flat_map};
-ghost use Rattle.cert_checker.specs.Batches.{batch_verdict, first_refused};
+ghost use Rattle.cert_checker.specs.inside.Batches.{batch_verdict, first_refused};
 ghost use Rattle.cert_checker.specs.declared.verdict.Verdict.{Verdict as AVerdict};
 
 use crate::batch::Batch;
@@ -12,7 +12,7 @@ use crate::trace_case::TraceCase;
 use crate::trace_check::trace_verdict;
 use crate::verdict::Verdict;
 use matching::Layer;
-use polyline_geometry::List;
+use plain_list::List;
 use rayon::prelude::*;
 use std::alloc::{AllocError, Global};
 use std::thread::Threads;

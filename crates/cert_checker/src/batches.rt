@@ -1,15 +1,15 @@
 //! Traces cut into batches. Serves `check_all`; decided by `AreBatches`.
 ghost use Rattle.std.specs.Prelude.{◌≡◌, ◌<◌, ◌≤◌, ◌+◌, All, IfOk, length};
 ghost use Rattle.trace_reader.specs.Trace.{IsLawfulTrace};
-ghost use Rattle.cert_checker.specs.Batches.{AreBatchesOf};
+ghost use Rattle.cert_checker.specs.inside.Batches.{AreBatchesOf};
 
 use crate::batch::{BATCH_TRACES, Batch};
-use polyline_geometry::List;
+use plain_list::List;
 use potential_certificate::TraceProof;
 use std::alloc::{AllocError, Global};
 use trace_reader::Trace;
 
-/// A batch is full from this many points on.
+/// A batch is full from this many positions on. Speed only: any value is right.
 const BATCH_POINTS: usize = 5_000;
 
 /// Where the batch that begins with a trace ends.
@@ -30,7 +30,7 @@ fn batch_end(traces: &[Trace], first: usize) -> usize
     most
 }
 
-/// The traces with their proofs in batches of whole traces with some 5,000 points.
+/// The traces with their proofs in batches of whole traces with some 5,000 positions.
 pub fn batches<'a>(
     alloc: Global,
     traces: &'a [Trace],

@@ -1,9 +1,9 @@
-//! The pieces at a point: where they begin and end, and the conditions on the piece that ends there.
-//! Serves `check_trace`; decided by `has_breaks` and `each_ended`.
+//! The pieces at a position: where they begin and end, and the conditions on the piece that ends there. Serves
+//! `check_trace`; decided by `has_breaks` and `each_ended`.
 ghost use Rattle.std.specs.Prelude.{◌≡◌, ◌&&◌, ◌∷◌, [], IfOk};
 ghost use Rattle.cert_checker.specs.Case.{has_way, is_looked_at};
-ghost use Rattle.cert_checker.specs.CaseSeen.{case_seen};
-ghost use Rattle.cert_checker.specs.Checked.{IsAtEnd, IsNext};
+ghost use Rattle.cert_checker.specs.inside.CaseSeen.{case_seen};
+ghost use Rattle.cert_checker.specs.inside.Checked.{IsAtEnd, IsNext};
 ghost use Rattle.cert_checker.specs.Verdicts.{breaks_right, first_failing, has_breaks, holds};
 
 use crate::chosen::is_chosen;
@@ -14,7 +14,7 @@ use crate::verdict::Condition;
 use match_text::Routed;
 use std::alloc::{AllocError, Global};
 
-/// Whether the point begins a piece, continues one or is in none, as its transitions require.
+/// Whether the position begins a piece, continues one or is in none, as its transitions require.
 fn breaks_right(case: &TraceCase, left: &[Routed], i: usize, is_reached: bool) -> bool
     requires point { IsNext (case_seen case.now) i left.now }
     requires reached { is_reached
@@ -31,8 +31,8 @@ fn breaks_right(case: &TraceCase, left: &[Routed], i: usize, is_reached: bool) -
     }
 }
 
-/// Whether the pieces at a point are as its transitions require. `left` are the pieces that end at the
-/// point or later, and `is_reached` says whether some live cell of the previous point has a route to it.
+/// Whether the pieces at a position are as its transitions require. `left` are the pieces that end at the position
+/// or later, and `is_reached` says whether some live cell of the previous position has a route to it.
 pub fn has_breaks(case: &TraceCase, left: &[Routed], i: usize, is_reached: bool) -> bool
     requires point { IsNext (case_seen case.now) i left.now }
     requires reached { is_reached
@@ -42,7 +42,7 @@ pub fn has_breaks(case: &TraceCase, left: &[Routed], i: usize, is_reached: bool)
     breaks_right(case, left, i, is_reached) && (i + 1 != case.layers.len() || !ends_after(left, i))
 }
 
-/// The first failing condition of the piece that ends with a point.
+/// The first failing condition of the piece that ends with a position.
 pub fn failing_end(
     alloc: Global,
     case: &TraceCase,

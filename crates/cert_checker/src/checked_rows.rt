@@ -1,12 +1,12 @@
 //! The rows of a certificate, checked in parallel. Serves `check_all`; decided by `first_bad_row`.
 ghost use Rattle.std.specs.Prelude.{◌≡◌, ◌≤◌, IfOk, map};
-ghost use Rattle.cert_checker.specs.RowParts.{bad_in_part, first_place};
-ghost use Rattle.bounded_search.specs.RightRow.{is_right_row};
+ghost use Rattle.cert_checker.specs.inside.RowParts.{bad_in_part, first_place};
+ghost use Rattle.bounded_table.specs.RightRow.{is_right_row};
 ghost use Rattle.cert_checker.specs.Rows.{first_bad_row, is_next_row};
 
 use crate::row_part::RowPart;
 use crate::row_parts::row_parts;
-use bounded_search::{Row, RowChecker};
+use bounded_table::{Row, RowChecker};
 use rayon::prelude::*;
 use road_network::Network;
 use std::alloc::{AllocError, Global};

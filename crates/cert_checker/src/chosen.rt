@@ -2,7 +2,7 @@
 ghost use Rattle.std.specs.Prelude.{◌≡◌};
 ghost use Rattle.std.specs.List.{list_any};
 ghost use Rattle.cert_checker.specs.Case.{rank, table};
-ghost use Rattle.cert_checker.specs.CaseSeen.{case_seen};
+ghost use Rattle.cert_checker.specs.inside.CaseSeen.{case_seen};
 ghost use Rattle.cert_checker.specs.Cells.{is_below, is_cost, is_least_rank, pointer_of};
 ghost use Rattle.cert_checker.specs.Verdicts.{follows_pointers, is_chosen};
 
@@ -43,7 +43,7 @@ fn is_least_rank(cells: &[Cell], rank: Option<u32>, cost: u64) -> bool
         && !costs_same(&cells[..rank as usize], cost)
 }
 
-/// The pointer of the chosen cell of a point.
+/// The pointer of the chosen cell of a position.
 fn pointer(case: &TraceCase, i: usize) -> Option<u32>
     ensures { result ≡ pointer_of (table (case_seen case.now) i) (rank (case_seen case.now) i) }
 {
@@ -54,8 +54,7 @@ fn pointer(case: &TraceCase, i: usize) -> Option<u32>
     }
 }
 
-/// Whether at each point of a piece except the last the chosen rank is the pointer of the next chosen
-/// cell.
+/// Whether at each position of a piece except the last the chosen rank is the pointer of the next chosen cell.
 fn follows_pointers(case: &TraceCase, piece: &Routed) -> bool
     ensures { result ≡ follows_pointers (case_seen case.now) piece.now }
 {

@@ -1,9 +1,9 @@
-//! The pieces of a proof, in the order of the points. Serves `check_trace`; decided by
-//! `rise_from`, `begins` and `goes_on`.
+//! The pieces of a proof, in the order of the positions. Serves `check_trace`; decided by `rise_from`, `begins` and
+//! `goes_on`.
 ghost use Rattle.std.specs.Prelude.{◌≡◌, ◌+◌, nat_lt, List as ListOf, option_copied};
 ghost use Rattle.std.specs.List.{list_any};
 ghost use Rattle.match_text.specs.declared.matched.Routed.{Routed};
-ghost use Rattle.cert_checker.specs.InHand.{AreLeft, TellsEnding};
+ghost use Rattle.cert_checker.specs.inside.InHand.{AreLeft, TellsEnding};
 ghost use Rattle.cert_checker.specs.Pieces.{begins, goes_on, is_in_any, rise_from};
 
 use match_text::Routed;
@@ -22,7 +22,7 @@ pub fn pieces_rise(pieces: &[Routed]) -> bool
     true
 }
 
-/// Whether one of the pieces that end at point i or later contains the point.
+/// Whether one of the pieces that end at position i or later contains the position.
 pub fn is_in_any(left: &[Routed], i: usize) -> bool
     ensures { (pieces : ListOf Routed) → AreLeft pieces left.now i → result ≡ is_in_any pieces i }
 {
@@ -32,7 +32,7 @@ pub fn is_in_any(left: &[Routed], i: usize) -> bool
     }
 }
 
-/// Whether one of the pieces that end at point i or later begins with the point.
+/// Whether one of the pieces that end at position i or later begins with the position.
 pub fn begins(left: &[Routed], i: usize) -> bool
     ensures { (pieces : ListOf Routed) → AreLeft pieces left.now i → result ≡ begins pieces i }
 {
@@ -42,7 +42,7 @@ pub fn begins(left: &[Routed], i: usize) -> bool
     }
 }
 
-/// Whether the point is a later point of one of the pieces that end at point i or later.
+/// Whether the position is a later position of one of the pieces that end at position i or later.
 pub fn goes_on(left: &[Routed], i: usize) -> bool
     ensures { (pieces : ListOf Routed) → AreLeft pieces left.now i → result ≡ goes_on pieces i }
 {
@@ -52,7 +52,7 @@ pub fn goes_on(left: &[Routed], i: usize) -> bool
     }
 }
 
-/// The piece that ends with point i, where these end at i or later.
+/// The piece that ends with position i, where these end at i or later.
 pub fn ending(left: &[Routed], i: usize) -> Option<&Routed>
     ensures { (pieces : ListOf Routed) → AreLeft pieces left.now i
         → TellsEnding pieces i (option_copied result) }
@@ -63,7 +63,7 @@ pub fn ending(left: &[Routed], i: usize) -> Option<&Routed>
     }
 }
 
-/// The pieces that end after point i, where these end at i or later.
+/// The pieces that end after position i, where these end at i or later.
 pub fn left_after(left: &[Routed], i: usize) -> &[Routed]
     ensures { (pieces : ListOf Routed) → AreLeft pieces left.now i
         → AreLeft pieces result.now (i + 1) }
@@ -74,7 +74,7 @@ pub fn left_after(left: &[Routed], i: usize) -> &[Routed]
     }
 }
 
-/// Whether one of these pieces ends after point i.
+/// Whether one of these pieces ends after position i.
 pub fn ends_after(left: &[Routed], i: usize) -> bool
     ensures { result ≡ list_any (λ q. nat_lt i q.last) left.now }
 {

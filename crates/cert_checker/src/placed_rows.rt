@@ -1,10 +1,10 @@
 //! The rows of a certificate with an index by node. Serves `way` and `ways_by_step`; decided by
 //! `FindsRow`.
 ghost use Rattle.std.specs.Prelude.{◌≡◌, ◌<◌, IfOk, length, slice_index_or};
-ghost use Rattle.bounded_search.specs.Table.{TableRow};
-ghost use Rattle.cert_checker.specs.RowPlaces.{AreRightRows, FindsRow};
+ghost use Rattle.bounded_table.specs.Table.{TableRow};
+ghost use Rattle.cert_checker.specs.inside.RowPlaces.{AreRightRows, FindsRow};
 
-use bounded_search::Row;
+use bounded_table::Row;
 use road_network::{Network, NodeId};
 use std::alloc::{AllocError, Global};
 use std::marker::Model;
@@ -19,11 +19,11 @@ pub struct PlacedRows<'a> {
 
 impl<'a> Model for PlacedRows<'a> {
     ghost use Rattle.std.specs.Prelude.{List};
-    ghost use Rattle.bounded_search.specs.Table.{TableRow};
+    ghost use Rattle.bounded_table.specs.Table.{TableRow};
 
     ghost Value = { List TableRow };
 
-    ghost use Rattle.cert_checker.specs.PlacedInside.{rows_placed, ArePlaced};
+    ghost use Rattle.cert_checker.specs.inside.PlacedInside.{rows_placed, ArePlaced};
 
     ghost view = { rows_placed };
 

@@ -1,9 +1,9 @@
-//! What the ways to the candidates of a point show about its cells. Serves `check_trace`; decided by
+//! What the ways to the candidates of a position show about its cells. Serves `check_trace`; decided by
 //! `AreWaysOf`.
 ghost use Rattle.std.specs.Prelude.{◌≡◌, ◌-◌, IfOk, length};
 ghost use Rattle.cert_checker.specs.Case.{width};
-ghost use Rattle.cert_checker.specs.CaseSeen.{IsReady, case_seen};
-ghost use Rattle.cert_checker.specs.Columns.{AreWaysOf, with_column};
+ghost use Rattle.cert_checker.specs.inside.CaseSeen.{IsReady, case_seen};
+ghost use Rattle.cert_checker.specs.inside.Columns.{AreWaysOf, with_column};
 ghost use Rattle.trellis.specs.Pairs.{pairs_of};
 
 use crate::cell_tests::{has_way, is_first_pointer, is_relaxed, is_tight};
@@ -14,10 +14,10 @@ use matching::Cell;
 use std::alloc::{AllocError, Global};
 use trellis::PairMemory;
 
-/// What the ways to the candidates of a point show about its cells.
+/// What the ways to the candidates of a position show about its cells.
 #[derive(Clone, Copy)]
 pub struct PointWays {
-    /// Some live cell of the previous point has a route to some candidate.
+    /// Some live cell of the previous position has a route to some candidate.
     pub any: bool,
     /// No cell costs more than a way to it.
     pub relaxed: bool,
@@ -59,8 +59,7 @@ fn ways_by_columns(case: &TraceCase, i: usize, column: &mut [Option<u128>]) -> P
     found
 }
 
-/// What the ways to the candidates of a point show about its cells. Remembers lookups of pairs of
-/// nodes.
+/// What the ways to the candidates of a position show about its cells. Remembers lookups of pairs of nodes.
 pub fn point_ways(
     alloc: Global,
     case: &TraceCase,

@@ -1,9 +1,9 @@
-//! The conditions of a point that need no way: its table and its rank, the rows that its transitions
-//! rely on, and the costs of the first cells of a piece.
+//! The conditions of a position that need no way: its table and its rank, the rows that its transitions rely on,
+//! and the costs of the first cells of a piece.
 ghost use Rattle.std.specs.Prelude.{◌≡◌, ◌<◌, ◌-◌, length, true};
 ghost use Rattle.cert_checker.specs.Case.{width};
-ghost use Rattle.cert_checker.specs.CaseSeen.{IsCheckable, case_seen};
-ghost use Rattle.cert_checker.specs.Columns.{are_first_cells, has_row_of, is_first_at};
+ghost use Rattle.cert_checker.specs.inside.CaseSeen.{IsCheckable, case_seen};
+ghost use Rattle.cert_checker.specs.inside.Columns.{are_first_cells, has_row_of, is_first_at};
 ghost use Rattle.cert_checker.specs.Verdicts.{has_candidates, has_rows, is_rank_of};
 
 use crate::cell_tests::is_first_cell;
@@ -20,8 +20,8 @@ fn is_rank_of(width: usize, rank: Option<u32>) -> bool
     }
 }
 
-/// Whether a point has a table of the size of its candidates and a rank of them, with nothing after
-/// the last point.
+/// Whether a position has a table of the size of its candidates and a rank of them, with nothing after the last
+/// position.
 pub fn has_candidates(case: &TraceCase, i: usize) -> bool
     requires { i < length case.now.layers.now }
     ensures { result ≡ has_candidates (case_seen case.now) i }
@@ -34,7 +34,7 @@ pub fn has_candidates(case: &TraceCase, i: usize) -> bool
         && (i + 1 != case.layers.len() || (ranks <= i + 1 && tables <= i + 1))
 }
 
-/// Whether cell a of the point before is not live, or the certificate has its row.
+/// Whether cell a of the position before is not live, or the certificate has its row.
 fn has_row_of(case: &TraceCase, i: usize, a: usize) -> bool
     requires checkable { IsCheckable (case_seen case.now) }
     requires point { (0 < i) × (i < length case.now.layers.now) }
@@ -51,8 +51,8 @@ fn has_row_of(case: &TraceCase, i: usize, a: usize) -> bool
     }
 }
 
-/// Whether the certificate has the row of each live cell of the previous point, if transitions from
-/// there are checked.
+/// Whether the certificate has the row of each live cell of the previous position, if transitions from there are
+/// checked.
 pub fn has_rows(case: &TraceCase, i: usize) -> bool
     requires checkable { IsCheckable (case_seen case.now) }
     requires point { i < length case.now.layers.now }
@@ -69,7 +69,7 @@ pub fn has_rows(case: &TraceCase, i: usize) -> bool
     true
 }
 
-/// Whether cell j of a point has the cost of its candidate, without a pointer.
+/// Whether cell j of a position has the cost of its candidate, without a pointer.
 fn is_first_at(case: &TraceCase, i: usize, j: usize) -> bool
     requires checkable { IsCheckable (case_seen case.now) }
     requires point { i < length case.now.layers.now }
@@ -81,7 +81,7 @@ fn is_first_at(case: &TraceCase, i: usize, j: usize) -> bool
     is_first_cell(own, case.table(i)[j])
 }
 
-/// Whether the cells of a point are those of the first point of a piece.
+/// Whether the cells of a position are those of the first position of a piece.
 pub fn are_first_cells(case: &TraceCase, i: usize) -> bool
     requires checkable { IsCheckable (case_seen case.now) }
     requires point { i < length case.now.layers.now }

@@ -3,8 +3,8 @@ ghost use Rattle.std.specs.Prelude.{◌≡◌, ◌+◌, ◌∷◌, [], All, IfOk
 ghost use Rattle.road_network.specs.Net.{HasEdge};
 ghost use Rattle.route_rebuild.specs.Chosen.{IsChosenPoint};
 ghost use Rattle.route_rebuild.specs.Numbers.{numbers};
-ghost use Rattle.cert_checker.specs.CaseSeen.{case_seen};
-ghost use Rattle.cert_checker.specs.Legs.{IsLeftAfter, IsLeg, IsRoutable, chosen_in, leg};
+ghost use Rattle.cert_checker.specs.inside.CaseSeen.{case_seen};
+ghost use Rattle.cert_checker.specs.inside.Legs.{IsLeftAfter, IsLeg, IsRoutable, chosen_in, leg};
 ghost use Rattle.cert_checker.specs.Verdicts.{has_route};
 
 use crate::trace_case::TraceCase;
@@ -36,7 +36,7 @@ fn after_edges<'a>(net: &Network, names: &'a [u32], edges: &[EdgeId]) -> Option<
     Some(left)
 }
 
-/// The chosen candidate of a point.
+/// The chosen candidate of a position.
 fn chosen(case: &TraceCase, i: usize) -> Candidate
     requires { IsChosenPoint case.now.layers.now case.now.proof.now.ranks i }
     ensures { result ≡ chosen_in (case_seen case.now) i }
@@ -45,7 +45,7 @@ fn chosen(case: &TraceCase, i: usize) -> Candidate
     case.layers[i].candidates.as_slice()[rank]
 }
 
-/// The ids of a route after the leg from a point to the next.
+/// The ids of a route after the leg from a position to the next.
 fn after_leg<'a>(
     alloc: Global,
     case: &TraceCase,

@@ -1,7 +1,7 @@
 //! Consecutive rows of a certificate, checked by one thread. Serves `check_all`; decided by `bad_in_part`.
 ghost use Rattle.std.specs.Prelude.{◌<◌, ◌+◌, ◌^◌, length};
 
-use bounded_search::Row;
+use bounded_table::Row;
 
 /// Consecutive rows; `first` is the index of the first.
 #[derive(Clone, Copy)]

@@ -1,18 +1,18 @@
 //! The rows of a certificate, partitioned. Serves `check_all`; decided by `bad_in_part`.
 ghost use Rattle.std.specs.Prelude.{◌≡◌, ℕ, IfOk, map};
 ghost use Rattle.road_network.specs.Net.{Net};
-ghost use Rattle.cert_checker.specs.RowParts.{bad_in_part, first_place};
+ghost use Rattle.cert_checker.specs.inside.RowParts.{bad_in_part, first_place};
 ghost use Rattle.cert_checker.specs.Rows.{first_bad_row};
 
 use crate::row_part::RowPart;
-use bounded_search::Row;
-use polyline_geometry::List;
+use bounded_table::Row;
+use plain_list::List;
 use std::alloc::{AllocError, Global};
 
-/// About how many parts many rows are divided into.
+/// About how many parts many rows are divided into. Speed only: any value is right.
 const PARTS: usize = 16;
 
-/// The least number of rows of a part, except the last.
+/// The least number of rows of a part, except the last. Speed only: any value is right.
 const PART_ROWS: usize = 256;
 
 /// The rows in parts, so that the first bad row of a part is the first bad row of all.

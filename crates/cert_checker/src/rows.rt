@@ -1,9 +1,9 @@
 //! The rows of a certificate. Decided by `first_bad_row`.
 ghost use Rattle.std.specs.Prelude.{◌≡◌};
-ghost use Rattle.bounded_search.specs.RightRow.{is_right_row};
+ghost use Rattle.bounded_table.specs.RightRow.{is_right_row};
 ghost use Rattle.cert_checker.specs.Rows.{first_bad_row, is_next_row};
 
-use bounded_search::{Row, check_row};
+use bounded_table::{Row, check_row};
 use road_network::Network;
 
 /// Whether a row is the row of its origin.

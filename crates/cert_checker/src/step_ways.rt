@@ -1,11 +1,11 @@
-//! The ways to the cells of a point, if these are the cells of a step from the previous point. Serves
+//! The ways to the cells of a position, if these are the cells of a step from the previous position. Serves
 //! `point_ways`; decided by `AreWaysOf`.
 ghost use Rattle.std.specs.Prelude.{◌≡◌, ◌-◌, ◌^◌, None, IfSome, is_some};
 ghost use Rattle.std.specs.Bool.{OnTrue};
 ghost use Rattle.std.specs.List.{list_any};
 ghost use Rattle.cert_checker.specs.Case.{width};
-ghost use Rattle.cert_checker.specs.CaseSeen.{IsReady, case_seen};
-ghost use Rattle.cert_checker.specs.Columns.{AreWaysOf};
+ghost use Rattle.cert_checker.specs.inside.CaseSeen.{IsReady, case_seen};
+ghost use Rattle.cert_checker.specs.inside.Columns.{AreWaysOf};
 ghost use Rattle.cert_checker.specs.Rows.{first_bad_row};
 ghost use Rattle.matching.specs.Growth.{CostAtMost};
 ghost use Rattle.trellis.specs.Pairs.{pairs_of};
@@ -19,7 +19,7 @@ use polyline_geometry::straight;
 use std::alloc::Global;
 use trellis::{PairMemory, Potentials, Step, add_emissions, empty_cells, offer_by_row};
 
-/// The greatest cost to which the costs of one point are added without a test: 2^64 - 2^43.
+/// The greatest cost to which the costs of one position are added without a test: 2^64 - 2^43.
 const SMALL: u64 = 18_446_735_277_616_529_408;
 
 /// Whether no cost is too great for a step.
@@ -48,8 +48,8 @@ fn are_same(cells: &[Cell], others: &[Cell]) -> bool
     cells == others
 }
 
-/// The cells of a point, by a step from the previous point, with the rows of a certificate. `None` if a
-/// row is missing, or when out of memory.
+/// The cells of a position, by a step from the previous position, with the rows of a certificate. `None` if a row
+/// is missing, or when out of memory.
 fn cells_by_rows(
     alloc: Global,
     rows: &PlacedRows,
@@ -75,8 +75,8 @@ fn cells_by_rows(
     Some(add_emissions(step, cells))
 }
 
-/// What the ways show, if each cell of the point has the least way, as in a lawful certificate: then a
-/// step finds the same cells. `None` if it does not, or when out of memory.
+/// What the ways show, if each cell of the position has the least way, as in a lawful certificate: then a step
+/// finds the same cells. `None` if it does not, or when out of memory.
 pub fn ways_by_step(
     alloc: Global,
     case: &TraceCase,

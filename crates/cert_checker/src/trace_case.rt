@@ -21,9 +21,9 @@ impl<'a> TraceCase<'a> {
     ghost use Rattle.std.specs.Prelude.{◌≡◌, ◌<◌, length};
     ghost use Rattle.matching.specs.Layers.{candidate_of_rank};
     ghost use Rattle.cert_checker.specs.Case.{is_looked_at, layer, rank, table, width};
-    ghost use Rattle.cert_checker.specs.CaseSeen.{case_seen};
+    ghost use Rattle.cert_checker.specs.inside.CaseSeen.{case_seen};
 
-    /// A point with its candidates.
+    /// A position with its candidates.
     pub fn layer(&self, i: usize) -> &Layer
         requires { i < length self.now.layers.now }
         ensures { result.now ≡ layer (case_seen self.now) i }
@@ -31,7 +31,7 @@ impl<'a> TraceCase<'a> {
         &self.layers[i]
     }
 
-    /// The candidate of a point with this rank.
+    /// The candidate of a position with this rank.
     pub fn candidate(&self, i: usize, j: usize) -> Candidate
         requires point { i < length self.now.layers.now }
         requires rank { j < width (case_seen self.now) i }
@@ -40,7 +40,7 @@ impl<'a> TraceCase<'a> {
         self.layer(i).candidates.as_slice()[j]
     }
 
-    /// How many candidates a point has.
+    /// How many candidates a position has.
     pub fn width(&self, i: usize) -> usize
         ensures { result ≡ width (case_seen self.now) i }
     {
@@ -50,7 +50,7 @@ impl<'a> TraceCase<'a> {
         }
     }
 
-    /// The cells that the proof gives for a point; none if it has no table.
+    /// The cells that the proof gives for a position; none if it has no table.
     pub fn table(&self, i: usize) -> &[Cell]
         ensures { result.now ≡ table (case_seen self.now) i }
     {
@@ -60,7 +60,7 @@ impl<'a> TraceCase<'a> {
         }
     }
 
-    /// The chosen rank that the proof gives for a point.
+    /// The chosen rank that the proof gives for a position.
     pub fn rank(&self, i: usize) -> Option<u32>
         ensures { result ≡ rank (case_seen self.now) i }
     {
@@ -70,7 +70,7 @@ impl<'a> TraceCase<'a> {
         }
     }
 
-    /// Whether transitions from the previous point to this one are checked.
+    /// Whether transitions from the previous position to this one are checked.
     pub fn is_looked_at(&self, i: usize) -> bool
         requires { i < length self.now.layers.now }
         ensures { result ≡ is_looked_at (case_seen self.now) i }

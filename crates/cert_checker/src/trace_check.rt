@@ -3,8 +3,8 @@ ghost use Rattle.std.specs.Prelude.{◌≡◌, ◌<◌, ◌∷◌, [], IfOk, Non
 ghost use Rattle.cost_model.specs.Options.{IsAccepted};
 ghost use Rattle.trace_reader.specs.Trace.{IsLawfulTrace};
 ghost use Rattle.trellis.specs.Pairs.{pairs_of};
-ghost use Rattle.cert_checker.specs.CaseSeen.{IsCheckable, case_seen};
-ghost use Rattle.cert_checker.specs.Checked.{IsMet, IsNext, TellsWays, of_cells};
+ghost use Rattle.cert_checker.specs.inside.CaseSeen.{IsCheckable, case_seen};
+ghost use Rattle.cert_checker.specs.inside.Checked.{IsMet, IsNext, TellsWays, of_cells};
 ghost use Rattle.cert_checker.specs.Pieces.{rise_from};
 ghost use Rattle.cert_checker.specs.Rows.{first_bad_row};
 ghost use Rattle.cert_checker.specs.Verdicts.{case_of, first_failing, has_candidates, holds, order, trace_verdict};
@@ -19,7 +19,7 @@ use match_text::Routed;
 use std::alloc::{AllocError, Global};
 use trellis::PairMemory;
 
-/// What the ways show about the cells of a point; nothing against them if no transition is checked.
+/// What the ways show about the cells of a position; nothing against them if no transition is checked.
 fn ways_to(
     alloc: Global,
     case: &TraceCase,
@@ -43,7 +43,7 @@ fn ways_to(
     })
 }
 
-/// The first failing condition of the pieces and the cells at a point.
+/// The first failing condition of the pieces and the cells at a position.
 fn failing_cells(case: &TraceCase, left: &[Routed], i: usize, ways: PointWays) -> Option<Condition>
     requires point { IsNext (case_seen case.now) i left.now }
     requires candidates { has_candidates (case_seen case.now) i ≡ true }
@@ -71,7 +71,7 @@ fn failing_cells(case: &TraceCase, left: &[Routed], i: usize, ways: PointWays) -
     None
 }
 
-/// The first failing condition at a point.
+/// The first failing condition at a position.
 fn failing(
     alloc: Global,
     case: &TraceCase,
@@ -116,7 +116,7 @@ fn verdict_without_order(case: &TraceCase, number: u64) -> Verdict
     }
 }
 
-/// The verdict on a trace with its proof: the first failing condition, point by point.
+/// The verdict on a trace with its proof: the first failing condition, position by position.
 pub fn trace_verdict(alloc: Global, case: &TraceCase, number: u64) -> Result<Verdict, AllocError>
     requires checkable { IsCheckable (case_seen case.now) }
     requires some { 0 < length case.now.layers.now }

@@ -3,9 +3,9 @@
 /// The conditions of a certificate. The numbers are those of the definition.
 #[derive(Clone, Copy, Debug, PartialEq, Eq)]
 pub enum Condition {
-    /// A rank and a table for each point, of the size of its candidates.
+    /// A rank and a table for each position, of the size of its candidates.
     Candidates = 1,
-    /// The cells of the first point of a piece.
+    /// The cells of the first position of a piece.
     FirstCost = 2,
     /// No cell costs more than a way to it.
     Relaxed = 3,
@@ -29,8 +29,8 @@ pub enum Condition {
 #[derive(Clone, Copy, Debug, PartialEq, Eq)]
 pub enum Verdict {
     Proved,
-    /// The first failing condition, the number of its trace, and the index of the point, row or trace
-    /// where it fails.
+    /// The first failing condition, the number of its trace, and the index of the position, row or trace where it
+    /// fails.
     Refused {
         condition: Condition,
         trace: u64,

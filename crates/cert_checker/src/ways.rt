@@ -1,19 +1,18 @@
-//! The cost of reaching a candidate through a cell of the previous point. Serves `plain_ways`;
-//! decided by `way`.
+//! The cost of reaching a candidate through a cell of the previous position. Serves `plain_ways`; decided by `way`.
 ghost use Rattle.std.specs.Prelude.{◌≡◌, ◌<◌, ◌-◌, length};
 ghost use Rattle.cert_checker.specs.Case.{layer, way, ways, width};
-ghost use Rattle.cert_checker.specs.CaseSeen.{IsReady, case_seen};
-ghost use Rattle.bounded_search.specs.Table.{IsRow};
+ghost use Rattle.cert_checker.specs.inside.CaseSeen.{IsReady, case_seen};
+ghost use Rattle.bounded_table.specs.Table.{IsRow};
 ghost use Rattle.matching.specs.Layers.{end_of, trellis};
 
 use crate::trace_case::TraceCase;
-use bounded_search::Row;
+use bounded_table::Row;
 use cost_model::{emission, transition};
 use polyline_geometry::straight;
 use trellis::link;
 
-/// The cost of the transition from candidate a of the previous point to candidate j of point i, by the
-/// row of the node where the edge of a ends. `None` if there is no route.
+/// The cost of the transition from candidate a of the previous position to candidate j of position i, by the row of
+/// the node where the edge of a ends. `None` if there is no route.
 fn transition_by_row(case: &TraceCase, i: usize, a: usize, j: usize, row: &Row) -> Option<u64>
     requires ready { IsReady (case_seen case.now) i }
     requires a { a < width (case_seen case.now) (i - 1) }
@@ -30,8 +29,8 @@ fn transition_by_row(case: &TraceCase, i: usize, a: usize, j: usize, row: &Row) 
     Some(transition(case.params, route.length, apart))
 }
 
-/// The cost of reaching candidate j of point i through cell a of the previous point, if that is
-/// live and has a route to j. It may not fit 64 bits.
+/// The cost of reaching candidate j of position i through cell a of the previous position, if that is live and has
+/// a route to j. It may not fit 64 bits.
 pub fn way(case: &TraceCase, i: usize, a: usize, j: usize) -> Option<u128>
     requires ready { IsReady (case_seen case.now) i }
     requires a { a < width (case_seen case.now) (i - 1) }
@@ -47,7 +46,7 @@ pub fn way(case: &TraceCase, i: usize, a: usize, j: usize) -> Option<u128>
     Some(u128::from(cost) + u128::from(moved) + u128::from(own))
 }
 
-/// Fills a column with the ways to candidate j of point i.
+/// Fills a column with the ways to candidate j of position i.
 pub fn fill_column(case: &TraceCase, i: usize, j: usize, column: &mut [Option<u128>])
     requires ready { IsReady (case_seen case.now) i }
     requires count { length column.old ≡ width (case_seen case.now) (i - 1) }

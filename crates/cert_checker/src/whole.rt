@@ -16,7 +16,7 @@ use crate::subject::Subject;
 use crate::trace_case::TraceCase;
 use crate::trace_check::trace_verdict;
 use crate::verdict::{Condition, Finding, Verdict};
-use bounded_search::Row;
+use bounded_table::Row;
 use candidate_search::EdgeScan;
 use cost_model::Params;
 use potential_certificate::{Certificate, TraceProof};
@@ -26,12 +26,12 @@ use std::thread;
 use std::thread::Threads;
 use trace_reader::Trace;
 
-/// Whether a proof proves the match of a trace: the first failing condition, point by point. Ids are
-/// not compared. `number` is the trace's number in the verdict.
+/// Whether a proof proves the match of a trace: the first failing condition, position by position. Ids are not
+/// compared. `number` is the trace's number in the verdict.
 ///
-/// The rows are right: [`check_rows`](crate::check_rows) returns `None` for them, with the bound of `p`.
-/// The call costs a plain search for the candidates of the trace, and at each point one lookup in the
-/// rows for each pair of candidates of neighbouring points.
+/// The rows are right: [`check_rows`](crate::check_rows) returns `None` for them, with the bound of `p`. The call
+/// costs a plain search for the candidates of the trace, and at each position one lookup in the rows for each pair
+/// of candidates of neighbouring positions.
 pub fn check_trace(
     alloc: Global,
     net: &Network,

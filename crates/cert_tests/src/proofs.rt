@@ -1,10 +1,10 @@
 //! Proofs of one trace that no text of a certificate has.
 use crate::texts::WHOLE;
-use bounded_search::Row;
+use bounded_table::Row;
 use cert_checker::{Condition, Verdict, check_rows, check_trace};
 use cost_model::Params;
 use match_text::Routed;
-use polyline_geometry::List;
+use plain_list::List;
 use potential_certificate::{Certificate, TraceProof, read_certificate};
 use road_network::{Network, read_network};
 use row_tests::lawful_traces::is_lawful;
@@ -19,11 +19,11 @@ enum Change {
     Id,
     /// One more rank.
     Rank,
-    /// One more piece, without a route, from one point to another.
+    /// One more piece, without a route, from one position to another.
     Piece(u32, u32),
 }
 
-/// A change, and the condition that then fails with its point.
+/// A change, and the condition that then fails with its position.
 #[derive(Clone, Copy)]
 struct Case {
     shows: &'static str,

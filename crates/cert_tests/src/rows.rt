@@ -1,7 +1,7 @@
 //! Rows that are right, and rows that are not.
-use bounded_search::Row;
+use bounded_table::Row;
 use cert_checker::check_rows;
-use polyline_geometry::List;
+use plain_list::List;
 use road_network::read_network;
 use row_tests::small::TWO_EDGES;
 use row_text::read_row;

@@ -2,7 +2,7 @@
 ghost use Rattle.std.specs.Prelude.{◌<◌};
 
 use cost_model::Params;
-use polyline_geometry::List;
+use plain_list::List;
 use potential_certificate::{
     CertFault, Certificate, CertificateReader, read_certificate, write_certificate,
 };

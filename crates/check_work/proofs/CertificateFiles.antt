@@ -9,7 +9,7 @@ use Rattle.edge_io.specs.declared.shelf.Taken.TheVariants.{End, Got}
 use Rattle.potential_certificate.specs.CertificateText.{text_limit}
 use Rattle.program_frame.specs.Read.{IsReadSoFar, IsReadWhole}
 use Rattle.program_frame.proofs.Streaming.{read_end, read_full, read_more}
-use Rattle.check_work.specs.CertificateFiles.{IsRead, ReadsBlock}
+use Rattle.check_work.specs.inside.CertificateFiles.{IsRead, ReadsBlock}
 use Rattle.check_work.specs.declared.certificate_file.Block.{Block}
 
 abbrev Told : Type 0

@@ -22,7 +22,7 @@ use Rattle.potential_certificate.proofs.Certificates.{certificates_have_one_text
 use Rattle.road_network.specs.Net.{Net}
 use Rattle.trace_reader.specs.declared.trace.Trace.{Trace}
 use Rattle.check_work.specs.Check.{pieces_in, pieces_proved, proofs_said, verdict_said}
-use Rattle.check_work.specs.CheckDone.{finding_said}
+use Rattle.check_work.specs.inside.CheckDone.{finding_said}
 
 -- ---- how many pieces
 

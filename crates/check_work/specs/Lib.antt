@@ -1,3 +1,2 @@
-pub mod CertificateFiles
 pub mod Check
-pub mod CheckDone
+pub mod inside

@@ -2,7 +2,7 @@
 ghost use Rattle.std.specs.Prelude.{◌≡◌, ◌+◌, ◌≤◌, ◌<◌, ◌^◌, ◌++◌, IfErr, IfOk, length};
 ghost use Rattle.potential_certificate.specs.CertificateText.{text_limit};
 ghost use Rattle.program_frame.specs.Read.{FailsToRead, ReadsWhole};
-ghost use Rattle.check_work.specs.CertificateFiles.{IsOfSize, IsToBeRead, ReadsBlock};
+ghost use Rattle.check_work.specs.inside.CertificateFiles.{IsOfSize, IsToBeRead, ReadsBlock};
 
 use edge_io::{Shelf, Taken};
 use potential_certificate::{CertificateReader, TEXT_LIMIT};

@@ -5,16 +5,16 @@ ghost use Rattle.program_frame.specs.Loads.{Accepts};
 ghost use Rattle.program_frame.specs.Performs.{Performs};
 ghost use Rattle.trace_reader.specs.Trace.{IsLawfulTrace};
 ghost use Rattle.check_work.specs.Check.{certificate_in, check_plan, check_said, pieces_in, pieces_proved, proofs_said, proved_line};
-ghost use Rattle.check_work.specs.CheckDone.{LoadsCertificate, setting};
+ghost use Rattle.check_work.specs.inside.CheckDone.{LoadsCertificate, setting};
 
 use crate::certificate_file::read_certificate_file;
 use crate::verdicts::{CertificateFault, accept_finding};
-use bounded_search::Row;
+use bounded_table::Row;
 use cert_checker::{Subject, check_certificate};
 use cost_model::Params;
 use decimal_text::write_unsigned;
 use edge_io::{Shelf, Sink};
-use polyline_geometry::List;
+use plain_list::List;
 use potential_certificate::{Certificate, CertificateReader, TraceProof};
 use program_frame::{
     NetworkFile, Refusal, Stop, load_network, load_traces, put_text, refuse_fault,
@@ -25,8 +25,8 @@ use std::thread;
 use std::thread::Threads;
 use trace_reader::Trace;
 
-// The bytes of a certificate that are read at once: enough to keep several threads busy, few enough to be
-// read soon.
+// The bytes of a certificate that are read at once: enough to keep several threads busy, few enough to be read
+// soon. Speed only: any value is right.
 const BLOCK: u64 = 16_777_216;
 
 // The certificate of a text.

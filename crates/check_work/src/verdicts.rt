@@ -2,11 +2,11 @@
 ghost use Rattle.std.specs.Prelude.{◌≡◌, ◌≢◌, ◌++◌, OnOk};
 ghost use Rattle.program_frame.specs.Loads.{Accepts};
 ghost use Rattle.check_work.specs.Check.{certificate_fault_line, condition_name, named, refused_point_line, refused_trace_line, refused_whole_line};
-ghost use Rattle.check_work.specs.CheckDone.{finding_said};
+ghost use Rattle.check_work.specs.inside.CheckDone.{finding_said};
 
 use cert_checker::{Condition, Finding, Verdict};
 use decimal_text::write_unsigned;
-use polyline_geometry::List;
+use plain_list::List;
 use potential_certificate::CertFault;
 use program_frame::{FaultLine, Refusal, Stop, refuse_fault};
 use std::alloc::{AllocError, Global};
@@ -119,7 +119,7 @@ pub enum CertificateFault {
 }
 
 impl FaultLine for CertificateFault {
-    ghost use Rattle.check_work.specs.CheckDone.{fault_line, has_fault_line};
+    ghost use Rattle.check_work.specs.inside.CheckDone.{fault_line, has_fault_line};
 
     ghost has_line = { λ fault. has_fault_line fault };
 

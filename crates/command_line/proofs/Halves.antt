@@ -2,7 +2,7 @@
 use Rattle.std.proofs.Common.{◌≡◌, ℕ, List, Option, refl, sym}
 use Rattle.std.specs.Prelude.{Result, Ok, Err}
 use Rattle.cost_model.specs.Options.{default_options}
-use Rattle.command_line.specs.Halves.{limits_of, model_of}
+use Rattle.command_line.specs.inside.Halves.{limits_of, model_of}
 use Rattle.command_line.specs.Options.{and_then, option_of, options_of}
 use Rattle.command_line.specs.declared.value.ValueName.TheVariants.{K, Radius, Sigma, Beta}
 

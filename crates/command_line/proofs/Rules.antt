@@ -4,7 +4,7 @@ use Rattle.std.proofs.lemmas.List.{map-append}
 use Rattle.std.proofs.Math.Seq.{take-suc}
 use Rattle.clap.specs.Words.{App, Rule, Shape, Text, with_rule, with_subcommand}
 use Rattle.clap.specs.Simple.{new_shape, on_top}
-use Rattle.command_line.specs.Building.{rule_of_word, with_commands, with_rules}
+use Rattle.command_line.specs.inside.Building.{rule_of_word, with_commands, with_rules}
 use Rattle.command_line.specs.declared.syntax.WordRole.{WordRole}
 
 module _ {X Y : Type 0} (f : X → Y) where

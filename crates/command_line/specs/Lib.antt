@@ -1,10 +1,8 @@
-pub mod Building
 pub mod FaultLine
-pub mod Given
-pub mod Halves
 pub mod Options
 pub mod Syntax
 pub mod Values
 pub mod Words
 pub mod Work
 pub mod works
+pub mod inside

@@ -33,8 +33,8 @@ abbrev pub if_taken : Kinds → Result PlainCommand WordsFault → Result PlainC
 if_taken [] command = command
 if_taken (kind ∷ kinds) command = Err Usage
 
--- the command that the words ask for. Words are refused as `Usage` where `clap` has a fault for
--- them, of whichever kind, and only then are the values read
+-- the command that the words ask for. Words are refused as `Usage` where `clap` has a fault for them, of any kind,
+-- and only then are the values read
 unfoldable pub command_of : List (List ℕ) → Result PlainCommand WordsFault
 command_of words = if_taken (fault_of program words) (entered_of (subcommand_of program words))
 

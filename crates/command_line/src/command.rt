@@ -3,7 +3,7 @@ ghost use Rattle.std.specs.Prelude.{◌≡◌, ◌≢◌, ◌⊎◌, map, string
 ghost use Rattle.std.specs.Result.{result_map_both};
 ghost use Rattle.clap.specs.Words.{kind_of, subcommand_rows_of};
 ghost use Rattle.cost_model.specs.Options.{IsAccepted};
-ghost use Rattle.command_line.specs.Given.{given_for};
+ghost use Rattle.command_line.specs.inside.Given.{given_for};
 ghost use Rattle.command_line.specs.Syntax.{all_kinds};
 ghost use Rattle.command_line.specs.Work.{AreNumbersWithin, plain, plain_work};
 ghost use Rattle.command_line.specs.Words.{command_named, command_of, entered_of, work_of};

@@ -1,9 +1,9 @@
 //! The value of a name on the command line. Serves `read_command`; decided by `options_of`.
 ghost use Rattle.std.specs.Prelude.{◌≡◌, IfOk, option_map};
 ghost use Rattle.cost_model.specs.Options.{IsAccepted, IsWithin};
-ghost use Rattle.command_line.specs.Given.{given_for};
+ghost use Rattle.command_line.specs.inside.Given.{given_for};
 ghost use Rattle.command_line.specs.Options.{option_of, options_of};
-ghost use Rattle.command_line.specs.Halves.{limits_of, model_of};
+ghost use Rattle.command_line.specs.inside.Halves.{limits_of, model_of};
 ghost use Rattle.command_line.specs.Values.{name_of, range_of, value_of};
 
 use crate::fault::WordsFault;
@@ -30,7 +30,7 @@ pub fn read_options(found: &ArgMatches) -> Result<Params, WordsFault>
 }
 
 // The options that decide which roads and costs a point has, and defaults for the others.
-#[tactic(auto, unfolding(crate::specs::Halves::model_of))]
+#[tactic(auto, unfolding(crate::specs::inside::Halves::model_of))]
 fn read_model(found: &ArgMatches) -> Result<Params, WordsFault>
     ensures value { result ≡ model_of (given_for found.now) }
     ensures accepted { IfOk result IsAccepted }
@@ -46,7 +46,7 @@ fn read_model(found: &ArgMatches) -> Result<Params, WordsFault>
 }
 
 // The options that limit walks, workers and pieces, and defaults for the others.
-#[tactic(auto, unfolding(crate::specs::Halves::limits_of))]
+#[tactic(auto, unfolding(crate::specs::inside::Halves::limits_of))]
 fn read_limits(found: &ArgMatches, model: Params) -> Result<Params, WordsFault>
     requires { IsAccepted model }
     ensures value { result ≡ limits_of (given_for found.now) model }

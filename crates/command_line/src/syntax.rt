@@ -3,7 +3,7 @@ ghost use Rattle.std.specs.Prelude.{◌≡◌, map, false, IfOk};
 ghost use Rattle.clap.specs.Words.{app_of, rule_of, shape_of, with_subcommand};
 ghost use Rattle.clap.specs.declared.builder.command.Command.TheViews.{out-Command};
 ghost use Rattle.command_line.specs.Options.{all_options};
-ghost use Rattle.command_line.specs.Building.{bare_program, form_shape, rule_of_word, with_rules};
+ghost use Rattle.command_line.specs.inside.Building.{bare_program, form_shape, rule_of_word, with_rules};
 ghost use Rattle.command_line.specs.Syntax.{option_rule, program};
 ghost use Rattle.command_line.specs.Values.{name_of};
 

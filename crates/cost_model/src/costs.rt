@@ -5,8 +5,8 @@ ghost use Rattle.cost_model.specs.Costs.{emission, transition, PointCostIsBounde
 
 use crate::params::Params;
 
-/// The scaled cost of a candidate whose squared distance from its point is `d2` cm²: the greatest
-/// whole number of at most `1000·d2 / (2·sigma²)`.
+/// The scaled cost of a candidate whose squared distance from its position is `d2` cm²: the greatest whole number
+/// of at most `1000·d2 / (2·sigma²)`.
 #[tactic(auto, using(crate::proofs::Bounds::emission_small))]
 pub fn emission(p: &Params, d2: u64) -> u64
     requires options { IsAccepted p.now }
@@ -23,8 +23,8 @@ pub fn emission(p: &Params, d2: u64) -> u64
     }
 }
 
-/// The scaled cost of a route of this length in cm between two points at this straight distance in
-/// cm: the greatest whole number of at most `1000·|route - straight| / beta`.
+/// The scaled cost of a route of this length in cm between two positions at this straight distance in cm: the
+/// greatest whole number of at most `1000·|route - straight| / beta`.
 #[tactic(auto, using(crate::proofs::Bounds::transition_small))]
 pub fn transition(p: &Params, route: u32, straight: u32) -> u64
     requires options { IsAccepted p.now }
@@ -40,9 +40,8 @@ pub fn transition(p: &Params, route: u32, straight: u32) -> u64
     }
 }
 
-/// A law, with nothing to run: one point adds at most 7,900,000,000,000 to the cost of a sequence, if its
-/// candidate is within the radius, its route at most 210,000,000 and its straight distance at most
-/// 2,828,427,124.
+/// A law, with nothing to run: one position adds at most 7,900,000,000,000 to the cost of a sequence, if its
+/// candidate is within the radius, its route at most 210,000,000 and its straight distance at most 2,828,427,124.
 pub fn point_cost_is_bounded()
     ensures { PointCostIsBounded }
 {}

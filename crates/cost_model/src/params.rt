@@ -6,11 +6,11 @@ ghost use Rattle.cost_model.specs.Options.{IsAccepted};
 /// The options of a match. [`Params::check`] tests their ranges.
 #[derive(Clone, Copy, PartialEq, Eq, Debug)]
 pub struct Params {
-    /// The most candidates of one point.
+    /// The most candidates of one position.
     pub k: u32,
-    /// How far a candidate may lie from its point, in cm.
+    /// How far a candidate may lie from its position, in cm.
     pub radius: u32,
-    /// The standard deviation of a point's distance from its road, in cm.
+    /// The standard deviation of a position's distance from its road, in cm.
     pub sigma: u32,
     /// The scale of the difference between a route and the straight distance, in cm.
     pub beta: u32,
@@ -20,7 +20,7 @@ pub struct Params {
     pub workers: u32,
     /// The greatest move back along one edge that counts as a direct route of length 0, in cm.
     pub back: u32,
-    /// The greatest difference of the times of two points of one piece, in seconds.
+    /// The greatest difference of the times of two positions of one piece, in seconds.
     pub gap: u32,
 }
 

@@ -13,7 +13,7 @@ use Rattle.std.proofs.lemmas.Nat.{and_block, and_mask, xor_lt}
 use Rattle.std.proofs.Math.Arith.{digits_div, digits_mod, mod-mul}
 use Rattle.std.proofs.Math.Nat.{mul-mod_left, pow-zero, zero-mod}
 use Rattle.decimal_text.proofs.WordBytes.{tried, same_tests, fits_each, no_flag, first_flag, below_ten_are}
-use Rattle.decimal_text.specs.Words.{IsEight, less_zero, flag_from_ten}
+use Rattle.decimal_text.specs.inside.Words.{IsEight, less_zero, flag_from_ten}
 
 -- the mask keeps bytes 0 and 4
 masked : (x : ℕ) → bit_and x 0x0000_00ff_0000_00ff ≡ x / 2 ^ 32 % 256 * 2 ^ 32 + x % 2 ^ 32 % 256

@@ -6,7 +6,7 @@ use Rattle.std.specs.Int.Digits.{AllBelowBase}
 use Rattle.std.specs.List.{prefix_len}
 use Rattle.std.specs.Simd.Lanes.{number_l}
 use Rattle.std.proofs.lemmas.Nat.{and_block, or_block, xor_block, and_le_r, or_lt}
-use Rattle.decimal_text.specs.Words.{IsEight, less_zero, flag_from_ten}
+use Rattle.decimal_text.specs.inside.Words.{IsEight, less_zero, flag_from_ten}
 
 -- ---- facts of one byte, by trying each
 

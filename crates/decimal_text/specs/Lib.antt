@@ -2,4 +2,4 @@ pub mod AtFront
 pub mod Blank
 pub mod Number
 pub mod Spellings
-pub mod Words
+pub mod inside

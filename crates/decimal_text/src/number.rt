@@ -6,7 +6,7 @@ ghost use Rattle.std.specs.Str.Parse.{digits_value, starts_with_minus};
 ghost use Rattle.decimal_text.specs.Number.{has_leading_zero, is_unsigned, unsigned_within, signed_within, decimal, signed_decimal};
 
 use itoa::Buffer;
-use polyline_geometry::List;
+use plain_list::List;
 use std::alloc::AllocError;
 use thiserror::Error;
 

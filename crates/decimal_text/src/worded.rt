@@ -4,7 +4,7 @@ ghost use Rattle.std.specs.Prelude.{◌≡◌, ◌+◌, ◌≤◌, ◌++◌, len
 ghost use Rattle.decimal_text.specs.Number.{decimal};
 
 use itoa::write_digits;
-use polyline_geometry::List;
+use plain_list::List;
 use std::alloc::AllocError;
 
 // Room for a word of 20 bytes and a number of 20 digits.

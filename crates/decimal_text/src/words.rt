@@ -5,7 +5,7 @@ ghost use Rattle.std.specs.Char.{is_ascii_digit};
 ghost use Rattle.std.specs.Str.Parse.{digits_value};
 ghost use Rattle.std.specs.Int.Digits.{number_from_digits};
 ghost use Rattle.std.specs.Simd.Lanes.{number_l};
-ghost use Rattle.decimal_text.specs.Words.{IsEight, flag_from_ten};
+ghost use Rattle.decimal_text.specs.inside.Words.{IsEight, flag_from_ten};
 
 /// The number that the digits at the front of these bytes spell, and how many digits there are.
 pub fn digits_of_eight(bytes: &[u8; 8]) -> (u32, usize)

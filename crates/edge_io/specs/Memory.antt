@@ -16,7 +16,7 @@ pub record Script : Type 0 where
   pub fail : List ℕ
   pub calls : ℕ
 
--- the count of calls stands still at its last value
+-- the count of calls stays at its last value
 abbrev pub next : Script → Script
 next script = record script { calls = min (script.calls + 1) (2 ^ 64 - 1) }
 
@@ -24,7 +24,7 @@ next script = record script { calls = min (script.calls + 1) (2 ^ 64 - 1) }
 abbrev pub fails_next : Script → Bool
 fails_next script = list_any (λ n. n == (next script).calls) script.fail
 
--- a shelf of these files, of which a call gives at most so many bytes
+-- a shelf of these files, of which a call gives at most this many bytes
 pub record FilesInMemory : Type 0 where
   pub files : List (List ℕ × List ℕ)
   pub failed : List (List ℕ)
@@ -38,7 +38,7 @@ abbrev pub new_files : List (List ℕ × List ℕ) → List ℕ → ℕ → File
 new_files files fail most =
     record { files = files; failed = []; script = record { fail = fail; calls = 0 }; most = most }
 
--- a file gives what it has from the place on, at most so many bytes
+-- a file gives what it has from the place on, at most as many bytes as asked for
 abbrev pub ServesFile : List ℕ → ℕ → ℕ → Taken → Type 0
 ServesFile file at most taken =
     (taken ≡ NoMemory)

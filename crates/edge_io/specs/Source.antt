@@ -20,7 +20,7 @@ pub record IsReadOn (left left' : Option (List ℕ)) (old new : List ℕ) (most 
   pub consumed : Consumes left left' bytes
   pub end : n ≡ 0 → 1 ≤ most → IsAtEnd left'
 
--- n bytes at a place of the file of this name were appended, at most so many, and none only at its end
+-- n bytes at a place of the file of this name were appended, at most as many as asked for, and none only at its end
 pub record IsBrought (told : Option (List ℕ → Option (List ℕ))) (name : List ℕ) (at : ℕ)
     (old new : List ℕ) (most n : ℕ) : Type 0 where
   pub within : n ≤ most

@@ -9,7 +9,7 @@ ghost use Rattle.edge_io.specs.State.{new_shelf};
 
 use crate::noting::fail_read;
 use crate::{FileSource, Shelf, Taken};
-use polyline_geometry::List;
+use plain_list::List;
 use std::alloc::{AllocError, Global};
 use std::io;
 use std::io::{ErrorKind, Read};

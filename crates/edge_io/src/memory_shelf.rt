@@ -7,7 +7,7 @@ ghost use Rattle.edge_io.specs.Shelf.{Grows, Reads, ReadsFile};
 use crate::named_files::find;
 use crate::noting::fail_read;
 use crate::{Shelf, Taken};
-use polyline_geometry::List;
+use plain_list::List;
 use std::alloc::Global;
 use std::marker::Model;
 

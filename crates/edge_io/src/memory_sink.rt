@@ -4,7 +4,7 @@ ghost use Rattle.edge_io.specs.Memory.{BytesInMemory, Takes, fails_next, new_byt
 ghost use Rattle.edge_io.specs.Sink.{Puts};
 
 use crate::{Put, Sink};
-use polyline_geometry::List;
+use plain_list::List;
 use std::alloc::Global;
 use std::marker::Model;
 

@@ -3,7 +3,7 @@ ghost use Rattle.std.specs.Prelude.{◌≡◌, Some, drop, option_copied};
 ghost use Rattle.edge_io.specs.Files.{lookup};
 
 use crate::FileSource;
-use polyline_geometry::List;
+use plain_list::List;
 use std::io;
 use std::io::ErrorKind;
 

@@ -3,7 +3,7 @@ ghost use Rattle.std.specs.Prelude.{◌≡◌, ◌++◌, ◌∷◌, [], None, On
 ghost use Rattle.edge_io.specs.Shelf.{IsNotRead, shelf_after};
 
 use crate::Taken;
-use polyline_geometry::List;
+use plain_list::List;
 use std::alloc::{AllocError, Global};
 
 // Appends the name to the names of the failed reads.

@@ -1,20 +1,20 @@
 -- A job of `follow`, before its first trace and after more.
 use Rattle.std.proofs.Common.{◌≡◌, ℕ, false, true, List, [], ◌++◌, length, ◌∙◌, ap, subst, inl, inr, ⊎_elim, arith}
-use Rattle.bounded_search.specs.Known.{IsKnownList}
-use Rattle.bounded_search.specs.Rows.{AreRowsOf, RowsState, no_rows}
-use Rattle.bounded_search.proofs.Counting.{count_listed}
+use Rattle.bounded_table.specs.Known.{IsKnownList}
+use Rattle.bounded_table.specs.Rows.{AreRowsOf, RowsState, no_rows}
+use Rattle.bounded_table.proofs.Counting.{count_listed}
 use Rattle.program_frame.specs.Jobs.{points_of}
 use Rattle.program_frame.specs.Total.{Adds, total_line}
 use Rattle.program_frame.specs.declared.total.Tally.{Tally}
 use Rattle.trace_reader.specs.declared.trace.Trace.{Trace}
-use Rattle.trace_match.specs.Asked.{AsksTraces, LearnsAsked}
+use Rattle.trace_match.specs.inside.Asked.{AsksTraces, LearnsAsked}
 use Rattle.program_frame.specs.Counts.{ArePieces}
 use Rattle.trace_match.specs.Setting.{Setting}
 use Rattle.program_frame.specs.Counts.{total_of}
 use Rattle.trace_match.specs.Totals.{is_asked_by, pieces_of, rows_of}
 use Rattle.trace_match.proofs.Asking.{asked_parts}
 use Rattle.program_frame.proofs.Counting.{counts_more}
-use Rattle.follow_work.specs.FollowDone.{HasFollowed, KnowsAsked}
+use Rattle.follow_work.specs.inside.FollowDone.{HasFollowed, KnowsAsked}
 use Rattle.trace_match.proofs.Traces.{pieces-append}
 
 -- what more traces make known, behind those that made known what is

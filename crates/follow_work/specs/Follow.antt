@@ -1,4 +1,4 @@
--- `follow NET TRACES`: what the bytes of a trace file give, followed on a network point by point.
+-- `follow NET TRACES`: what the bytes of a trace file give, followed on a network position by position.
 use Rattle.std.specs.Prelude.{ℕ, List}
 use Rattle.std.specs.List.{flat_map}
 use Rattle.std.proofs.Common.{refl}

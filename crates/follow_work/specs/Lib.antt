@@ -1,3 +1,6 @@
 pub mod Alone
 pub mod Follow
-pub mod FollowDone
+pub mod StreamTexts
+pub mod Streams
+pub mod FollowedIds
+pub mod inside

@@ -10,7 +10,7 @@ use edge_io::{Shelf, Sink};
 use program_frame::{NetworkFile, Stop, load_network, work_traces};
 use std::alloc::Global;
 
-/// Reads the network, and then the traces, which it follows point by point.
+/// Reads the network, and then the traces, which it follows position by position.
 pub fn follow_traces<S: Shelf, K: Sink>(
     alloc: Global,
     network: NetworkFile<'_>,

@@ -1,22 +1,23 @@
 //! The job of `follow`. Serves the programs that follow traces; decided by `follow_job`.
 ghost use Rattle.std.specs.Prelude.{◌≡◌, ◌++◌, [], false, true, IfOk, OnErr, OnOk};
-ghost use Rattle.bounded_search.specs.Rows.{AreRowsOf, AsksFor};
+ghost use Rattle.bounded_table.specs.Rows.{AreRowsOf, AsksFor};
 ghost use Rattle.cost_model.specs.Options.{IsAccepted};
-ghost use Rattle.trace_match.specs.Asked.{AsksTraces};
+ghost use Rattle.trace_match.specs.inside.Asked.{AsksTraces};
 ghost use Rattle.program_frame.specs.Counts.{ArePieces};
 ghost use Rattle.program_frame.specs.Jobs.{IsBounded};
 ghost use Rattle.trace_match.specs.Match.{asks};
 ghost use Rattle.trace_reader.specs.Trace.{IsLawfulTrace};
 ghost use Rattle.trace_sessions.specs.Following.{IsFollowed};
 ghost use Rattle.follow_work.specs.Follow.{follow_job, followed_of};
-ghost use Rattle.follow_work.specs.FollowDone.{HasFollowed};
+ghost use Rattle.follow_work.specs.inside.FollowDone.{HasFollowed};
 ghost use Rattle.trace_match.specs.Totals.{pieces_of};
 
-use bounded_search::NearRows;
+use crate::rows::open_rows;
 use cost_model::Params;
-use polyline_geometry::List;
+use plain_list::List;
 use program_frame::{Job, Stop, Tally};
 use road_network::Network;
+use row_search::NearRows;
 use std::alloc::{AllocError, Global};
 use trace_match::Matcher;
 use trace_reader::Trace;
@@ -96,7 +97,7 @@ impl<'n> FollowJob<'n> {
         ensures begun { IfOk result (λ job. ⟦<FollowJob<'n> as Job>⟧.has job []) }
     {
         let matcher = Matcher::open(alloc, roads, options)?;
-        let rows = matcher.rows(alloc)?;
+        let rows = open_rows(alloc, &matcher)?;
         Ok(FollowJob {
             matcher,
             rows,

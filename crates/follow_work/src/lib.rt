@@ -1,13 +1,21 @@
-//! The work of `follow`, for all programs that do it: follows traces point by point with rows of their
-//! own, one after the other, and then writes the total line.
+//! The work of `follow` and `streams`, for all programs that do it: positions are followed one by one, with rows
+//! that are searched near each vehicle; then the total line is written.
 //!
-//! [`FollowJob`] does the work for traces that come batch by batch, or one by one. Its text is
-//! `follow_job` in `specs/Follow.antt`; `follow_plan` there defines the output for the files, which
-//! [`follow_traces`] reads and writes.
+//! - `follow`: [`FollowJob`] follows traces that come batch by batch, or one by one, one trace after the other. Its
+//!   text is `follow_job` in `specs/Follow.antt`; `follow_plan` there defines the output for the files, which
+//!   [`follow_traces`] reads and writes.
+//! - `streams`: the traces of a file are fragments of ids. Sessions with rows of their own take their positions in
+//!   order, and at the end all ids are closed. [`stream_traces`] does it for two files. Its text is `streams_job` in
+//!   `specs/Streams.antt`; `streams_plan` there defines the output for the files.
 #![tactic(auto)]
 
 mod follow;
 mod job;
+mod laws;
+mod rows;
+mod streams;
 
 pub use follow::follow_traces;
 pub use job::FollowJob;
+pub use laws::streams_follow_each_id;
+pub use streams::stream_traces;

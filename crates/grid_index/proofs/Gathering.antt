@@ -16,7 +16,7 @@ use Rattle.grid_index.specs.declared.runs.Run.{Run}
 use Rattle.grid_index.specs.Cells.{HasCell, cell}
 use Rattle.grid_index.specs.Runs.{HasSegment, IsNearRun, IsRun, IsTwin, edges_of_run, twin_of_run}
 use Rattle.grid_index.specs.GridOf.{AreHits, GridOf, IsGrid, runs_at}
-use Rattle.grid_index.specs.Table.{Appends, AppendsOne, Gathers}
+use Rattle.grid_index.specs.inside.Table.{Appends, AppendsOne, Gathers}
 use Rattle.grid_index.proofs.RunBoxes.{box_within}
 
 -- a run that is not near

@@ -14,9 +14,9 @@ use Rattle.grid_index.specs.declared.runs.Run.{Run}
 use Rattle.grid_index.specs.Cells.{cell, slot}
 use Rattle.grid_index.specs.Runs.{IsRun}
 use Rattle.grid_index.specs.GridOf.{IsGrid}
-use Rattle.grid_index.specs.Entries.{HasAll}
-use Rattle.grid_index.specs.Starts.{AreStarts}
-use Rattle.grid_index.specs.Table.{HasSlots, members_at, rows_of}
+use Rattle.grid_index.specs.inside.Entries.{HasAll}
+use Rattle.grid_index.specs.inside.Starts.{AreStarts}
+use Rattle.grid_index.specs.inside.Table.{HasSlots, members_at, rows_of}
 use Rattle.grid_index.proofs.Parts.{runs_are}
 use Rattle.grid_index.proofs.Slots.{slot_within}
 

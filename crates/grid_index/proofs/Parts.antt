@@ -7,7 +7,7 @@ use Rattle.std.proofs.lemmas.List.FromFn.{get_or-map-range_with_len, length-map-
 use Rattle.grid_index.specs.declared.runs.Run.{Run}
 use Rattle.grid_index.specs.Cells.{slot}
 use Rattle.grid_index.specs.GridOf.{repeated_at}
-use Rattle.grid_index.specs.Table.{HasSlots, members_at, rows_of}
+use Rattle.grid_index.specs.inside.Table.{HasSlots, members_at, rows_of}
 
 -- what is read at a slot and behind it
 pub record IsPart (starts : List ℕ) (members : List Run) (s low high : ℕ) : Type 0 where

@@ -4,7 +4,7 @@ use Rattle.std.specs.List.Sorted.{IsNonDecreasingBy}
 use Rattle.std.proofs.lemmas.Bool.{cases_lt}
 use Rattle.std.proofs.lemmas.List.{get_or_append_left, get_or_default, get_or_push}
 use Rattle.grid_index.specs.declared.entries.Entry.{Entry}
-use Rattle.grid_index.specs.Starts.{AreBefore, AreStarts, IsStart}
+use Rattle.grid_index.specs.inside.Starts.{AreBefore, AreStarts, IsStart}
 
 -- the first entry that is not before parts the entries
 pub start_at : (entries : List Entry) (slot place : ℕ) (e : Entry) → IsNonDecreasingBy (λ e. e.slot) entries → place < length entries

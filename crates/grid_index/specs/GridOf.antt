@@ -26,13 +26,13 @@ repeated_at lists place = slice_index_or lists (place % length lists) []
 abbrev pub runs_at : GridOf → ℕ → ℕ → List Run
 runs_at g column row = repeated_at (repeated_at g.rows row) column
 
--- the run is among the wide ones, or stands at the cell of each place of its box
+-- the run is among the wide ones, or is entered at the cell of each place of its box
 abbrev pub Stands : GridOf → Run → Type 0
 Stands g r =
     Contains g.wide r
     ⊎ ((q : Point) → InBox r.low r.high q → Contains (runs_at g (cell g.side q.x) (cell g.side q.y)) r)
 
--- a run with segment i of edge e stands in the grid
+-- a run with segment i of edge e is in the grid
 pub record StandsFor (g : GridOf) (e i : ℕ) : Type 0 where
   pub run : Run
   pub is_run : IsRun g.net run

@@ -1,10 +1,7 @@
 pub mod Cells
 pub mod Runs
 pub mod NearestCell
-pub mod Entries
-pub mod Starts
 pub mod GridOf
-pub mod Table
-pub mod Inside
 pub mod Rising
 pub mod Extent
+pub mod inside

@@ -80,7 +80,7 @@ pub record HasSegment (net : Net) (r : Run) (e i : ℕ) : Type 0 where
 abbrev pub HasRunFor : Net → List Run → ℕ → ℕ → Type 0
 HasRunFor net runs e i = (r : Run) × Contains runs r × HasSegment net r e i
 
--- the edges for which the run stands
+-- the edges of the run: its own, and its twin if there is one
 abbrev pub edges_of_run : Run → List EdgeId
 edges_of_run r = r.edge ∷ option_to_list (twin_of_run r)
 

@@ -19,7 +19,8 @@ use crate::nearest_cell::{cell_distance2, distance2_in_cell};
 use crate::runs::Run;
 use crate::size::{room_for, runs_expected, width_bits_for};
 use crate::table::{Disc, Table};
-use polyline_geometry::{List, Point};
+use plain_list::List;
+use polyline_geometry::Point;
 use road_network::{EdgeId, Network};
 use std::alloc::{AllocError, Global};
 use std::marker::Model;
@@ -49,7 +50,7 @@ impl<'n> Model for Grid<'n> {
 
     ghost Value = { GridOf };
 
-    ghost use Rattle.grid_index.specs.Inside.{shown, IsKept};
+    ghost use Rattle.grid_index.specs.inside.Inside.{shown, IsKept};
 
     ghost view = { shown };
 

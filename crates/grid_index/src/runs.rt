@@ -8,10 +8,10 @@ ghost use Rattle.grid_index.specs.Runs.{HasCorners, IsBelow, IsBoxDistance, IsNu
 use polyline_geometry::{Point, distance2, nearest_in_box};
 use road_network::EdgeId;
 
-/// The most segments of a run.
+/// The most segments of a run. Speed only: any value is right.
 const MOST_SEGMENTS: usize = 16;
 
-/// How wide and how high the box of a run of several segments may be, in cm.
+/// How wide and how high the box of a run of several segments may be, in cm. Speed only: any value is right.
 const WIDEST: u32 = 20_000;
 
 /// Consecutive segments of an edge's line, `first..end`, with two opposite corners of a box around

@@ -4,7 +4,7 @@ ghost use Rattle.std.specs.Prelude.{◌≤◌};
 
 use road_network::{EdgeId, Network};
 
-/// A map of more runs has room for entries of runs that meet many cells.
+/// A map of more runs has room for entries of runs that meet many cells. Speed only: any value is right.
 const LARGE: u64 = 1_000_000;
 
 /// About how many runs the lines of a network have: one for each edge, and one for each 16 points.

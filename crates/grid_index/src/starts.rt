@@ -2,7 +2,7 @@
 //! `AreStarts`.
 ghost use Rattle.std.specs.Prelude.{◌≡◌, ℕ, ◌+◌, ◌≤◌, ◌<◌, length, slice_index, IfOk};
 ghost use Rattle.std.specs.List.Sorted.{IsNonDecreasingBy};
-ghost use Rattle.grid_index.specs.Starts.{AreBefore, AreStarts, IsStart};
+ghost use Rattle.grid_index.specs.inside.Starts.{AreBefore, AreStarts, IsStart};
 
 use crate::entries::Entry;
 use std::alloc::{AllocError, Global};

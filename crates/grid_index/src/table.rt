@@ -5,7 +5,7 @@ ghost use Rattle.polyline_geometry.specs.Plane.{InRange};
 ghost use Rattle.road_network.specs.Net.{Net};
 ghost use Rattle.grid_index.specs.GridOf.{runs_at};
 ghost use Rattle.grid_index.specs.Runs.{HasCorners};
-ghost use Rattle.grid_index.specs.Table.{Appends, AppendsOne, Gathers, HasParts, IsTableOf, grid_of};
+ghost use Rattle.grid_index.specs.inside.Table.{Appends, AppendsOne, Gathers, HasParts, IsTableOf, grid_of};
 
 use crate::cells::Cells;
 use crate::entries::{Entries, Entry, Layout};
@@ -15,7 +15,7 @@ use polyline_geometry::Point;
 use road_network::Network;
 use std::alloc::{AllocError, Global};
 
-/// After so many entries, the memory of those that were read is returned.
+/// After this many entries, the memory of those that were read is returned. Speed only: any value is right.
 const BLOCK: usize = 512;
 
 /// The places within a distance of a point.

@@ -2,13 +2,13 @@
 //! by `IsReverse`.
 ghost use Rattle.std.specs.Prelude.{◌≡◌, ℕ, ◌≤◌, ◌⊎◌, ◌↔◌, Some, IsTrue, length};
 ghost use Rattle.road_network.specs.Net.{HasEdge};
-ghost use Rattle.grid_index.specs.Entries.{IsMarked};
+ghost use Rattle.grid_index.specs.inside.Entries.{IsMarked};
 ghost use Rattle.grid_index.specs.Runs.{IsNumberedAbove, IsReverse, IsTurned, IsTwin};
 
 use polyline_geometry::Point;
 use road_network::{EdgeId, Network};
 
-/// The most arcs out of a node that are searched for a twin.
+/// The most arcs out of a node that are searched for a twin. Speed only: any value is right.
 const MOST_ARCS: usize = 16;
 
 /// Whether one line is the reverse of another.

@@ -6,10 +6,10 @@ use Rattle.program_frame.specs.Jobs.{JobText}
 use Rattle.program_frame.specs.declared.stop.Stop.{Stop}
 use Rattle.program_frame.proofs.BatchEnds.{Has}
 use Rattle.trace_reader.specs.declared.trace.Trace.{Trace}
-use Rattle.trace_relay.specs.Order.{Parts}
-use Rattle.trace_relay.specs.Pieces.{IsWhole, whole_of}
-use Rattle.trace_relay.specs.declared.part.Part.{Part}
-use Rattle.trace_relay.specs.declared.part.Part.TheVariants as parts
+use Rattle.live_pipeline.specs.Order.{Parts}
+use Rattle.live_pipeline.specs.Pieces.{IsWhole, whole_of}
+use Rattle.live_pipeline.specs.declared.part.Part.{Part}
+use Rattle.live_pipeline.specs.declared.part.Part.TheVariants as parts
 use Rattle.live_pipeline.specs.Matching.{HasMatched, MayEnd}
 use Rattle.live_pipeline.specs.Reading.{Brings, HasRead}
 use Rattle.live_pipeline.proofs.Wholes.{same_whole}

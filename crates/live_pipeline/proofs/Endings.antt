@@ -27,8 +27,8 @@ use Rattle.trace_reader.specs.declared.trace.Trace.{Trace}
 use Rattle.trace_reader.specs.declared.fault.TraceFault.{TraceFault}
 use Rattle.trace_reader.specs.declared.fault.TraceFault.TheVariants as faults
 use Rattle.trace_reader.proofs.Laws.{closed-none, file_fault_known, file_traces_known}
-use Rattle.trace_relay.specs.declared.part.Part.{Part}
-use Rattle.trace_relay.specs.declared.part.Part.TheVariants as parts
+use Rattle.live_pipeline.specs.declared.part.Part.{Part}
+use Rattle.live_pipeline.specs.declared.part.Part.TheVariants as parts
 use Rattle.live_pipeline.specs.Living.{LivePerforms}
 use Rattle.live_pipeline.specs.Matching.{EndsWithPart, NeverRefuses}
 use Rattle.live_pipeline.specs.Reading.{Brings, IsFrontOf}

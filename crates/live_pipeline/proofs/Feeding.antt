@@ -8,10 +8,10 @@ use Rattle.trace_reader.specs.Reader.{Feeds, Finishes}
 use Rattle.trace_reader.specs.declared.reader.TraceReader.{TraceReader}
 use Rattle.trace_reader.specs.declared.trace.Trace.{Trace}
 use Rattle.trace_reader.specs.declared.fault.TraceFault.{TraceFault}
-use Rattle.trace_relay.specs.Order.{AreBounded}
-use Rattle.trace_relay.specs.Pieces.{parts_of}
-use Rattle.trace_relay.specs.declared.part.Part.{Part}
-use Rattle.live_pipeline.specs.Feeding.{HasFed, PutsChunk, PutsFile}
+use Rattle.live_pipeline.specs.Order.{AreBounded}
+use Rattle.live_pipeline.specs.Pieces.{parts_of}
+use Rattle.live_pipeline.specs.declared.part.Part.{Part}
+use Rattle.live_pipeline.specs.inside.Feeding.{HasFed, PutsChunk, PutsFile}
 use Rattle.live_pipeline.proofs.Puts.{bounded_parts, put_more}
 
 -- the list has the first of what a chunk closes

@@ -9,3 +9,5 @@ pub mod Wholes
 pub mod Writing
 pub mod Asked
 pub mod Lines
+pub mod Bounded
+pub mod Moves

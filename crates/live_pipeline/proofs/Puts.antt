@@ -2,10 +2,10 @@
 use Rattle.std.proofs.Common.{◌≡◌, List, [], ◌∷◌, ◌++◌, sym, ap, subst, ◌∙◌, append_assoc}
 use Rattle.program_frame.specs.Jobs.{IsBounded}
 use Rattle.trace_reader.specs.declared.trace.Trace.{Trace}
-use Rattle.trace_relay.specs.Order.{AreBounded}
-use Rattle.trace_relay.specs.Pieces.{part_of, parts_of, traces_in}
-use Rattle.trace_relay.specs.declared.part.Part.{Part}
-use Rattle.trace_relay.proofs.Bounded.{bounded_taken, traces_in-parts_of}
+use Rattle.live_pipeline.specs.Order.{AreBounded}
+use Rattle.live_pipeline.specs.Pieces.{part_of, parts_of, traces_in}
+use Rattle.live_pipeline.specs.declared.part.Part.{Part}
+use Rattle.live_pipeline.proofs.Bounded.{bounded_taken, traces_in-parts_of}
 use Rattle.live_pipeline.proofs.Wholes.{parts_of-append}
 
 -- the next trace of a list may be put behind those before

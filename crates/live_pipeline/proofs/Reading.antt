@@ -14,11 +14,11 @@ use Rattle.trace_reader.specs.declared.trace.Trace.{Trace}
 use Rattle.trace_reader.specs.declared.fault.TraceFault.{TraceFault}
 use Rattle.trace_reader.specs.declared.fault.TraceFault.TheVariants as faults
 use Rattle.trace_reader.proofs.Laws.{fault_in-StandsFor}
-use Rattle.trace_relay.specs.Order.{MayFollow, Parts}
-use Rattle.trace_relay.specs.Pieces.{IsLast, parts_of}
-use Rattle.trace_relay.specs.declared.part.Part.{Part}
-use Rattle.trace_relay.specs.declared.part.Part.TheVariants as parts
-use Rattle.live_pipeline.specs.Feeding.{HasFed, IsFaultPart, PutsChunk, PutsFile}
+use Rattle.live_pipeline.specs.Order.{MayFollow, Parts}
+use Rattle.live_pipeline.specs.Pieces.{IsLast, parts_of}
+use Rattle.live_pipeline.specs.declared.part.Part.{Part}
+use Rattle.live_pipeline.specs.declared.part.Part.TheVariants as parts
+use Rattle.live_pipeline.specs.inside.Feeding.{HasFed, IsFaultPart, PutsChunk, PutsFile}
 use Rattle.live_pipeline.specs.Reading.{Brings, EndsAt, EndsRead, HasPut, HasRead, IsFedWhole}
 
 -- between two reads: the bytes so far were fed, and what they close was put

@@ -8,10 +8,10 @@ use Rattle.program_frame.specs.Jobs.{IsBounded, JobText}
 use Rattle.program_frame.specs.declared.stop.Stop.{Stop}
 use Rattle.program_frame.proofs.BatchEnds.{Has, all_taken}
 use Rattle.trace_reader.specs.declared.trace.Trace.{Trace}
-use Rattle.trace_relay.specs.Order.{AreBounded}
-use Rattle.trace_relay.specs.Pieces.{IsLast, part_of, parts_of, traces_in}
-use Rattle.trace_relay.specs.declared.part.Part.{Part}
-use Rattle.trace_relay.proofs.Bounded.{bounded_none, traces_in-parts_of}
+use Rattle.live_pipeline.specs.Order.{AreBounded}
+use Rattle.live_pipeline.specs.Pieces.{IsLast, part_of, parts_of, traces_in}
+use Rattle.live_pipeline.specs.declared.part.Part.{Part}
+use Rattle.live_pipeline.proofs.Bounded.{bounded_none, traces_in-parts_of}
 use Rattle.live_pipeline.specs.Matching.{HasMatched, MayTake}
 use Rattle.live_pipeline.proofs.Wholes.{parts_of-append}
 

@@ -1,9 +1,9 @@
 -- Traces and a last part as a list of parts: what was taken is what was put.
 use Rattle.std.proofs.Common.{◌≡◌, List, [], ◌∷◌, ◌++◌, refl, sym, ap, subst, ◌∙◌, ◌⊎◌, inl, inr, rules}
 use Rattle.trace_reader.specs.declared.trace.Trace.{Trace}
-use Rattle.trace_relay.specs.Pieces.{IsLast, IsWhole, part_of, parts_of, whole_of}
-use Rattle.trace_relay.specs.declared.part.Part.{Part}
-use Rattle.trace_relay.specs.declared.part.Part.TheVariants as parts
+use Rattle.live_pipeline.specs.Pieces.{IsLast, IsWhole, part_of, parts_of, whole_of}
+use Rattle.live_pipeline.specs.declared.part.Part.{Part}
+use Rattle.live_pipeline.specs.declared.part.Part.TheVariants as parts
 
 pub parts_of-append : (front back : List Trace) → parts_of (front ++ back) ≡ parts_of front ++ parts_of back
 parts_of-append [] back = refl

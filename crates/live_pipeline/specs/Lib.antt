@@ -1,6 +1,8 @@
 pub mod Ending
-pub mod Feeding
 pub mod Living
 pub mod Matching
 pub mod Reading
 pub mod Words
+pub mod Order
+pub mod Pieces
+pub mod inside

@@ -10,10 +10,10 @@ use Rattle.program_frame.specs.declared.stop.Stop.{Stop}
 use Rattle.program_frame.specs.declared.stop.Stop.TheVariants.{NoMemory, Unread}
 use Rattle.trace_reader.specs.declared.trace.Trace.{Trace as ATrace}
 use Rattle.trace_reader.specs.declared.fault.TraceFault.TheVariants as faults
-use Rattle.trace_relay.specs.Order.{Parts}
-use Rattle.trace_relay.specs.Pieces.{IsLast, whole_of}
-use Rattle.trace_relay.specs.declared.part.Part.{Part}
-use Rattle.trace_relay.specs.declared.part.Part.TheVariants as parts
+use Rattle.live_pipeline.specs.Order.{Parts}
+use Rattle.live_pipeline.specs.Pieces.{IsLast, whole_of}
+use Rattle.live_pipeline.specs.declared.part.Part.{Part}
+use Rattle.live_pipeline.specs.declared.part.Part.TheVariants as parts
 
 -- a job that refuses no traces
 abbrev pub NeverRefuses : JobText → Type 0
@@ -33,7 +33,7 @@ MayTake has (Err stop) traces = Unit {0}
 abbrev pub StaysStopped : (out out' : SinkState) → (ended result : Result (Unit {0}) Stop) → Type 0
 StaysStopped out out' ended result = IfErr ended (λ stop. (result ≡ Err stop) × (out' ≡ out))
 
--- a trace is written behind those before it, whichever they are, unless the work had stopped or stops
+-- a trace is written after any traces before it, unless the work had stopped or stops
 abbrev pub WritesNext : JobText → (has has' : List ATrace → Type 0) → (out out' : SinkState) → ATrace
     → (ended result : Result (Unit {0}) Stop) → Type 0
 WritesNext job has has' out out' trace ended result =
@@ -65,7 +65,7 @@ MatchesBeside text has job job' out out' take take' None =
 MatchesBeside text has job job' out out' take take' (Some matched) =
     HasTakenAll (text job) (text job') (has job') out out' take take' matched.0 matched.1
 
--- a last part behind which a run may end
+-- a last part after which a run may end
 abbrev pub MayEnd : (List ATrace → Type 0) → Part → Result (Unit {0}) Stop → Type 0
 MayEnd has (parts.Trace trace) ended = ⊥
 MayEnd has parts.End (Ok done) = HasTaken has
@@ -74,7 +74,7 @@ MayEnd has (parts.Fault fault) ended = fault ≢ faults.Memory
 MayEnd has parts.ReadFailed ended = Unit {0}
 MayEnd has parts.NoMemory ended = Unit {0}
 
--- how the work ends with a last part: with the text behind all traces where the file has ended well
+-- how the work ends with a last part: with the text after all traces if the file has ended well
 abbrev pub EndsWithPart : JobText → (List ATrace → Type 0) → SinkState → SinkState → Part
     → Result (Unit {0}) Stop → Type 0
 EndsWithPart job has out out' (parts.Trace trace) ended = ⊥

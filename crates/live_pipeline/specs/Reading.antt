@@ -11,11 +11,11 @@ use Rattle.trace_reader.specs.declared.reader.TraceReader.{TraceReader}
 use Rattle.trace_reader.specs.declared.trace.Trace.{Trace as ATrace}
 use Rattle.trace_reader.specs.declared.fault.TraceFault.{TraceFault}
 use Rattle.trace_reader.specs.declared.fault.TraceFault.TheVariants as faults
-use Rattle.trace_relay.specs.Order.{Parts}
-use Rattle.trace_relay.specs.Pieces.{IsLast, parts_of, whole_of}
-use Rattle.trace_relay.specs.declared.part.Part.{Part}
-use Rattle.trace_relay.specs.declared.part.Part.TheVariants as parts
-use Rattle.live_pipeline.specs.Feeding.{HasFed}
+use Rattle.live_pipeline.specs.Order.{Parts}
+use Rattle.live_pipeline.specs.Pieces.{IsLast, parts_of, whole_of}
+use Rattle.live_pipeline.specs.declared.part.Part.{Part}
+use Rattle.live_pipeline.specs.declared.part.Part.TheVariants as parts
+use Rattle.live_pipeline.specs.inside.Feeding.{HasFed}
 use Rattle.live_pipeline.specs.declared.read_done.ReadDone.{ReadDone}
 use Rattle.live_pipeline.specs.declared.read_done.ReadDone.TheVariants.{Read, Unread}
 
@@ -88,7 +88,7 @@ Brings name shelf shelf' traces parts.ReadFailed =
 Brings name shelf shelf' traces parts.NoMemory =
     (IsCutWithin name shelf traces ⊎ IsCutAtEnd name shelf traces) × (shelf' ≡ shelf)
 
--- traces of a file were put, and this last part is to come behind them
+-- traces of a file were put, and this last part is to follow
 pub record HasPut (name : List ℕ) (shelf shelf' : ShelfState) (put : List Part) (last : Part)
     : Type 0 where
   pub traces : List ATrace

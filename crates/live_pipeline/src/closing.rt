@@ -1,8 +1,8 @@
 //! The end of a relay. Serves `live_traces`; decided by the rule of the relay.
 ghost use Rattle.std.specs.Prelude.{◌≡◌, ◌⊎◌, []};
-ghost use Rattle.trace_relay.specs.Pieces.{IsWhole};
+ghost use Rattle.live_pipeline.specs.Pieces.{IsWhole};
 
-use trace_relay::{PutPass, Relay, TakePass};
+use crate::relay::{PutPass, Relay, TakePass};
 
 /// Closes a relay from which a last part was taken. Then what was taken is what was put, in order and
 /// each part once.

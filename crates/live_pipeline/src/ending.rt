@@ -3,11 +3,11 @@ ghost use Rattle.std.specs.Prelude.{Ok};
 ghost use Rattle.live_pipeline.specs.Ending.{EndsTraces};
 ghost use Rattle.live_pipeline.specs.Matching.{EndsWithPart, MayEnd, NeverRefuses, StaysStopped};
 
+use crate::part::Part;
 use edge_io::Sink;
-use polyline_geometry::List;
+use plain_list::List;
 use program_frame::{File, Job, Refusal, Stop, put_text, refuse_fault};
 use std::alloc::Global;
-use trace_relay::Part;
 
 // The end for a last part, if nothing else has stopped the work.
 fn end_with<J: Job, K: Sink>(

@@ -1,14 +1,15 @@
 //! Puts traces as they close. Serves `read_traces`; decided by `Feeds` and `Finishes` of the
 //! trace reader.
 ghost use Rattle.std.specs.Prelude.{◌≡◌, ◌++◌, ◌<◌, ◌^◌, ℕ, List as ListOf, length};
-ghost use Rattle.trace_relay.specs.Order.{AreBounded};
-ghost use Rattle.trace_relay.specs.Pieces.{parts_of};
-ghost use Rattle.live_pipeline.specs.Feeding.{HasFed, IsFaultPart, IsFed, PutsChunk, PutsFile};
+ghost use Rattle.live_pipeline.specs.Order.{AreBounded};
+ghost use Rattle.live_pipeline.specs.Pieces.{parts_of};
+ghost use Rattle.live_pipeline.specs.inside.Feeding.{HasFed, IsFaultPart, IsFed, PutsChunk, PutsFile};
 
-use polyline_geometry::List;
+use crate::part::Part;
+use crate::relay::{PutPass, Relay};
+use plain_list::List;
 use std::sync::Wait;
 use trace_reader::{Trace, TraceFault, TraceReader};
-use trace_relay::{Part, PutPass, Relay};
 
 // Puts the traces of a list, in order.
 fn put_traces<R: Wait>(rt: &R, relay: &Relay, pass: &mut PutPass, traces: List<Trace>)

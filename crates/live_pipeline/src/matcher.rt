@@ -4,13 +4,14 @@ ghost use Rattle.program_frame.specs.Batches.{WritesWaiting};
 ghost use Rattle.program_frame.specs.Jobs.{CanTake};
 ghost use Rattle.live_pipeline.specs.Matching.{HasTakenAll, IsFresh, MayTake, NeverRefuses, StaysStopped, WritesNext};
 
+use crate::part::Part;
+use crate::relay::{Relay, TakePass};
 use edge_io::Sink;
-use polyline_geometry::List;
+use plain_list::List;
 use program_frame::{Job, Stop, put_text};
 use std::alloc::Global;
 use std::sync::Wait;
 use trace_reader::Trace;
-use trace_relay::{Part, Relay, TakePass};
 
 // Passes a trace to the job, and writes its text.
 fn write_trace<J: Job, K: Sink>(

@@ -1,7 +1,7 @@
 //! Reader and matcher, in two threads or in turn. Serves the programs; decided by `works_traces`.
 ghost use Rattle.std.specs.Prelude.{◌≡◌, Ok, string_bytes};
 ghost use Rattle.program_frame.specs.Stream.{works_traces};
-ghost use Rattle.trace_relay.specs.Order.{no_parts};
+ghost use Rattle.live_pipeline.specs.Order.{no_parts};
 ghost use Rattle.live_pipeline.specs.Living.{LivePerforms};
 ghost use Rattle.live_pipeline.specs.Matching.{IsFresh, MatchesBeside};
 ghost use Rattle.live_pipeline.specs.Reading.{Keeps};
@@ -9,8 +9,10 @@ ghost use Rattle.live_pipeline.specs.Reading.{Keeps};
 use crate::closing::close_whole;
 use crate::ending::end_traces;
 use crate::matcher::match_parts;
+use crate::part::Part;
 use crate::read_done::{ReadDone, ReadPromise};
 use crate::reader::read_traces;
+use crate::relay::{PutPass, Relay, TakePass};
 use edge_io::{Shelf, Sink};
 use program_frame::{Job, Stop, work_traces};
 use std::alloc::Global;
@@ -19,9 +21,8 @@ use std::sync::Wait;
 use std::sync::atomic::{AtomicBool, Ordering};
 use std::thread;
 use std::thread::Threads;
-use trace_relay::{Part, PutPass, Relay, TakePass};
 
-// The most parts that wait between reader and matcher.
+// The most messages that wait between reader and matcher. Speed only: any value is right.
 const CAPACITY: u32 = 64;
 
 // Starts the reader in a second thread if one is available, and joins it.

@@ -1,9 +1,9 @@
 //! What the reader's thread returns, and what it promises of it. Serves `live_traces`; decided by
 //! `Keeps`.
+use crate::relay::PutPass;
 use edge_io::Shelf;
 use std::snapshot::Snapshot;
 use std::thread::Promise;
-use trace_relay::PutPass;
 
 /// The shelf and the pass of a reader, after it has read, or if it has not begun.
 #[derive(Drop)]

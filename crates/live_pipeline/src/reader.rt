@@ -2,15 +2,16 @@
 //! by `HasRead`.
 ghost use Rattle.std.specs.Prelude.{◌≡◌, []};
 ghost use Rattle.program_frame.specs.Chunks.{MayReadOn};
-ghost use Rattle.live_pipeline.specs.Feeding.{HasFed};
+ghost use Rattle.live_pipeline.specs.inside.Feeding.{HasFed};
 ghost use Rattle.live_pipeline.specs.Reading.{EndsAt, HasPut, HasRead, PutsChunks, ReadsNext};
 
 use crate::feeder::{part_of_fault, put_chunk, put_end};
+use crate::part::Part;
+use crate::relay::{PutPass, Relay};
 use edge_io::Shelf;
 use program_frame::{Chunks, Stop};
 use std::sync::Wait;
 use trace_reader::TraceReader;
-use trace_relay::{Part, PutPass, Relay};
 
 // The last part for a chunk that was not read.
 fn part_of_stop(stop: Stop) -> Part

@@ -44,8 +44,8 @@ IsStepCost n p f a g b cost =
     (r : Route) × IsTheRoute n p.bound p.back a b r
     × (cost ≡ transition p (route_length n a b r) (straight (place f) (place g)))
 
--- chosen candidates cost so much: the sum of their emissions and steps. They have no cost where two neighbours
--- are not joined. Here positions and candidates stand from the last back to the first
+-- chosen candidates cost so much: the sum of their emissions and steps. They have no cost where two neighbours are
+-- not joined. Here positions and candidates go from the last back to the first
 abbrev pub IsCost : Net → Params → List Fix → List Candidate → ℕ → Type 0
 IsCost n p [] [] cost = cost ≡ 0
 IsCost n p (f ∷ []) (a ∷ []) cost = cost ≡ emission p a.d2
@@ -54,8 +54,8 @@ IsCost n p (g ∷ f ∷ fixes) (b ∷ a ∷ chosen) cost =
     × (cost ≡ before + step + emission p b.d2)
 IsCost n p fixes chosen cost = ⊥
 
--- a sequence: a candidate of each position, each two neighbours joined; positions and ranks stand from the
--- last back to the first
+-- a sequence: a candidate of each position, each two neighbours joined; positions and ranks go from the last back
+-- to the first
 pub record IsSequence (n : Net) (p : Params) (fixes : List Fix) (ranks : List ℕ) (cost : ℕ) : Type 0 where
   pub chosen : List Candidate
   pub are : AreChosen n p fixes ranks chosen
@@ -86,7 +86,7 @@ pub record CanBePiece (n : Net) (p : Params) (fixes : List Fix) : Type 0 where
   pub cost : ℕ
   pub sequence : IsSequence n p (reverse fixes) ranks cost
 
--- the piece that begins at the first of these positions has so many: no more of them can be one piece
+-- the number of positions of the piece that begins at the first of these: no more of them can be one piece
 pub record IsLongest (n : Net) (p : Params) (fixes : List Fix) (count : ℕ) : Type 0 where
   pub within : count ≤ length fixes
   pub can : CanBePiece n p (take count fixes)

@@ -4,7 +4,7 @@ use Rattle.std.specs.Prelude.{slice_index_or}
 use Rattle.std.proofs.lemmas.Bool.{cases_eq}
 use Rattle.std.proofs.lemmas.List.{map-append}
 use Rattle.match_pool.specs.declared.turn.Turn.{Turn}
-use Rattle.match_pool.specs.Tables.{AddsRow, AreColumnsOf}
+use Rattle.match_pool.specs.inside.Tables.{AddsRow, AreColumnsOf}
 
 -- the first turns of the row are added
 pub record Adding (row : List Turn) (before : List (List Turn)) (place : ℕ) (after : List (List Turn)) : Type 0 where

@@ -2,13 +2,13 @@
 use Rattle.std.proofs.Common.{◌≡◌, ◌≢◌, inl, inr, ℕ, zero, suc, ◌+◌, ◌<◌, ◌≤◌, true, List, [], ◌∷◌, length, length-set, set, get_or-set_other, get_or-set_same, Option, None, Some, is_some, true≢false, refl, sym, ap, ◌∙◌, subst, ⊎_elim, arith}
 use Rattle.std.specs.Prelude.{slice_get, slice_index_or}
 use Rattle.std.proofs.lemmas.Bool.{cases_eq, cases_lt}
-use Rattle.bounded_search.specs.Table.{TableRow}
+use Rattle.bounded_table.specs.Table.{TableRow}
 use Rattle.row_store.specs.Store.{Reading, knows}
 use Rattle.match_pool.specs.declared.worker_set.Worker.{Worker}
 use Rattle.match_pool.specs.declared.turn.Partition.{Partition}
 use Rattle.match_pool.specs.declared.turn.Turn.{Turn}
-use Rattle.match_pool.specs.WorkerSet.{CanDrawFrom, DrewAll, DrewFrom}
-use Rattle.match_pool.specs.Turns.{IsTaken}
+use Rattle.match_pool.specs.inside.WorkerSet.{CanDrawFrom, DrewAll, DrewFrom}
+use Rattle.match_pool.specs.inside.Turns.{IsTaken}
 use Rattle.match_pool.specs.Working.{IsReaderFor, Job, ReadsWithin, StaysReader}
 
 stays_none : (r : Reading) → StaysReader r r

@@ -1,8 +1,8 @@
 -- What was found is the match of the trace, and the rows that became known are those that it asks for.
 use Rattle.std.proofs.Common.{◌≡◌, ℕ, ◌≤◌, true, List, sym, ap, ◌∙◌, subst, length, ⊎_elim}
 use Rattle.std.specs.Prelude.{Result}
-use Rattle.bounded_search.specs.Rows.{RowsState, AsksAll, AsksFor, AsksOnly}
-use Rattle.bounded_search.proofs.Asking.{asks_by, only_by, only_then}
+use Rattle.bounded_table.specs.Rows.{RowsState, AsksAll, AsksFor, AsksOnly}
+use Rattle.bounded_table.proofs.Asking.{asks_by, only_by, only_then}
 use Rattle.cost_model.specs.declared.params.Params.{Params}
 use Rattle.match_text.specs.MatchText.{IsLawful}
 use Rattle.match_text.specs.declared.matched.MatchedTrace.{MatchedTrace}

@@ -1,7 +1,7 @@
 -- Facts about each of consecutive items, from those about the first one and about the others.
 use Rattle.std.proofs.Common.{◌≡◌, ℕ, zero, suc, ◌+◌, List, ◌∷◌, sym, subst, arith}
 use Rattle.std.specs.Prelude.{slice_index_or}
-use Rattle.match_pool.specs.Running.{EachFrom, EachFromTo}
+use Rattle.match_pool.specs.inside.Running.{EachFrom, EachFromTo}
 
 pub each_first : {X : Type 0} (P : ℕ → X → Type 0) (first : ℕ) (xs : List X) (x : X) (rest : List X) → xs ≡ x ∷ rest → EachFrom P first xs → P first x
 each_first P first xs x rest is each =

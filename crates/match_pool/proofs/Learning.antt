@@ -11,13 +11,13 @@ use Rattle.match_text.specs.declared.matched.MatchedTrace.{MatchedTrace}
 use Rattle.row_store.specs.Store.{is_known_to_any, knows}
 use Rattle.trace_match.specs.Match.{asks, match_of}
 use Rattle.trace_reader.specs.declared.trace.Trace.{Trace}
-use Rattle.match_pool.specs.WorkerSet.{Ran, DrewAll, reader_of, turns_of}
-use Rattle.match_pool.specs.Dealing.{HasClaims}
+use Rattle.match_pool.specs.inside.WorkerSet.{Ran, DrewAll, reader_of, turns_of}
+use Rattle.match_pool.specs.inside.Dealing.{HasClaims}
 use Rattle.match_pool.specs.Drawing.{number_at}
-use Rattle.match_pool.specs.Gathering.{AllDrawn, CoverTraces, AreTurnsOver}
+use Rattle.match_pool.specs.inside.Gathering.{AllDrawn, CoverTraces, AreTurnsOver}
 use Rattle.match_pool.specs.Learning.{LearnAsked}
-use Rattle.match_pool.specs.Tables.{AreColumnsOf}
-use Rattle.match_pool.specs.Turns.{IsOver, IsPartitionOf}
+use Rattle.match_pool.specs.inside.Tables.{AreColumnsOf}
+use Rattle.match_pool.specs.inside.Turns.{IsOver, IsPartitionOf}
 use Rattle.match_pool.specs.Working.{Job, ReadsWithin, asked_by, asks_at, matched_at, no_trace}
 use Rattle.match_pool.specs.declared.worker_set.Worker.{Worker}
 use Rattle.match_pool.specs.declared.turn.Partition.{Partition}

@@ -5,8 +5,8 @@ use Rattle.std.proofs.lemmas.Bool.{cases_lt}
 use Rattle.std.proofs.lemmas.Nat.{le-div}
 use Rattle.std.proofs.lemmas.List.Elements.{All-cons, All-nil}
 use Rattle.std.proofs.lemmas.Option.{slice_get_past}
-use Rattle.bounded_search.specs.Rows.{AsksAll, RowsState}
-use Rattle.bounded_search.proofs.Asking.{asks_known}
+use Rattle.bounded_table.specs.Rows.{AsksAll, RowsState}
+use Rattle.bounded_table.proofs.Asking.{asks_known}
 use Rattle.cost_model.specs.declared.params.Params.{Params}
 use Rattle.cost_model.specs.Costs.{emission}
 use Rattle.cost_model.specs.Options.{IsAccepted}
@@ -34,8 +34,8 @@ use Rattle.trace_match.specs.Match.{asks, layer_of, match_of, matched_of, soluti
 use Rattle.trace_reader.specs.declared.trace.Fix.{Fix}
 use Rattle.trace_reader.specs.declared.trace.Trace.{Trace}
 use Rattle.trace_reader.specs.Trace.{IsLawfulTrace, point_of_fix}
-use Rattle.match_pool.specs.OneFix.{nearest_edge, on_edge}
-use Rattle.match_pool.specs.Unmatched.{LiesFar, unmatched}
+use Rattle.match_pool.specs.inside.OneFix.{nearest_edge, on_edge}
+use Rattle.match_pool.specs.inside.Unmatched.{LiesFar, unmatched}
 use Rattle.match_pool.proofs.Unmatched.{unmatched_is}
 
 -- a lesser distance costs no more

@@ -6,14 +6,14 @@ use Rattle.std.proofs.lemmas.Bool.{cases_eq}
 use Rattle.std.proofs.lemmas.List.Elements.{All-contains, All-map, All-nil, All-push, All-weaker, Contains-append_left, Contains-push, Contains-push_cases}
 use Rattle.std.proofs.lemmas.List.Sums.{sum_by-cons}
 use Rattle.match_text.specs.declared.matched.MatchedTrace.{MatchedTrace}
-use Rattle.bounded_search.proofs.KnownNodes.{get_set, get_set_else}
+use Rattle.bounded_table.proofs.KnownNodes.{get_set, get_set_else}
 use Rattle.tickets.specs.Tickets.{Drawn, times}
 use Rattle.match_pool.specs.declared.turn.Partition.{Partition}
 use Rattle.match_pool.specs.declared.turn.Turn.{Turn}
 use Rattle.match_pool.specs.declared.worker.Done.{Done}
 use Rattle.match_pool.specs.Drawing.{number_at}
-use Rattle.match_pool.specs.Gathering.{Fills}
-use Rattle.match_pool.specs.Turns.{AnswersFor}
+use Rattle.match_pool.specs.inside.Gathering.{Fills}
+use Rattle.match_pool.specs.inside.Turns.{AnswersFor}
 use Rattle.match_pool.specs.Working.{Job, done_by, matched_at}
 use Rattle.match_pool.proofs.Lists.{default_same}
 use Rattle.match_pool.proofs.Yields.{last_by}

@@ -11,7 +11,7 @@ use Rattle.std.proofs.lemmas.List.Quantifiers.{Any-push, any-set}
 use Rattle.std.proofs.lemmas.List.Sorted.{All-permutation, Contains-permutation, length_permutation}
 use Rattle.std.proofs.lemmas.List.Sums.{sum_by-cons, sum_by-set}
 use Rattle.match_pool.specs.declared.partitions.Spot.{Spot}
-use Rattle.match_pool.specs.Partitions.{AreSpotsOf, ArePartitionsOf}
+use Rattle.match_pool.specs.inside.Partitions.{AreSpotsOf, ArePartitionsOf}
 use Rattle.match_pool.proofs.Lists.{default_same}
 
 any_left : {X : Type 0} (P : X → Type 0) (xs ys : List X) → Any P xs → Any P (xs ++ ys)

@@ -6,12 +6,12 @@ use Rattle.std.proofs.lemmas.List.{length-map}
 use Rattle.std.proofs.lemmas.List.Elements.{All-cons, All-contains, All-nil}
 use Rattle.row_store.specs.Store.{Reading}
 use Rattle.tickets.specs.Tickets.{Drawn, fresh_ticket}
-use Rattle.match_pool.specs.WorkerSet.{CanDrawFrom, reader_of}
-use Rattle.match_pool.specs.Dealing.{AreDealt, AreFreshTurns, numbers_of, ticket_of}
-use Rattle.match_pool.specs.Gathering.{CoverTraces}
-use Rattle.match_pool.specs.Partitions.{ArePartitionsOf}
-use Rattle.match_pool.specs.Tables.{AreColumnsOf}
-use Rattle.match_pool.specs.Turns.{IsPartitionOf}
+use Rattle.match_pool.specs.inside.WorkerSet.{CanDrawFrom, reader_of}
+use Rattle.match_pool.specs.inside.Dealing.{AreDealt, AreFreshTurns, numbers_of, ticket_of}
+use Rattle.match_pool.specs.inside.Gathering.{CoverTraces}
+use Rattle.match_pool.specs.inside.Partitions.{ArePartitionsOf}
+use Rattle.match_pool.specs.inside.Tables.{AreColumnsOf}
+use Rattle.match_pool.specs.inside.Turns.{IsPartitionOf}
 use Rattle.match_pool.specs.Working.{IsReaderFor, Job}
 use Rattle.match_pool.specs.declared.worker_set.Worker.{Worker}
 use Rattle.match_pool.specs.declared.turn.Partition.{Partition}

@@ -9,7 +9,7 @@ use Rattle.match_pool.specs.declared.turn.Partition.{Partition}
 use Rattle.match_pool.specs.declared.turn.Turn.{Turn}
 use Rattle.match_pool.specs.declared.worker.Done.{Done}
 use Rattle.match_pool.specs.Drawing.{WorksOn, number_at}
-use Rattle.match_pool.specs.Turns.{IsOver, IsPartitionOf, Learns}
+use Rattle.match_pool.specs.inside.Turns.{IsOver, IsPartitionOf, Learns}
 use Rattle.match_pool.specs.Working.{Job, asks_at}
 use Rattle.match_pool.proofs.Lists.{default_same}
 

@@ -7,10 +7,10 @@ use Rattle.std.proofs.lemmas.List.Elements.{All-head, All-nil, All-push, All-tai
 use Rattle.std.proofs.lemmas.List.FromFn.{get_or-range_with_len, length-range_with_len}
 use Rattle.std.proofs.lemmas.List.Folds.{list_any-append, list_any_at}
 use Rattle.std.specs.List.{list_any, range_with_len}
-use Rattle.bounded_search.specs.Known.{known_nodes}
-use Rattle.bounded_search.specs.Rows.{AsksAll, AsksOnly}
-use Rattle.bounded_search.specs.Table.{TableRow}
-use Rattle.bounded_search.proofs.KnownNodes.{known_inside, knows_by}
+use Rattle.bounded_table.specs.Known.{known_nodes}
+use Rattle.bounded_table.specs.Rows.{AsksAll, AsksOnly}
+use Rattle.bounded_table.specs.Table.{TableRow}
+use Rattle.bounded_table.proofs.KnownNodes.{known_inside, knows_by}
 use Rattle.match_text.specs.declared.matched.MatchedTrace.{MatchedTrace}
 use Rattle.row_store.specs.Store.{NearSlots, Reading, Stored, knows, near_source, rows_state, source_of}
 use Rattle.tickets.specs.Tickets.{Drawn}

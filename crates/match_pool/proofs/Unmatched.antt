@@ -2,8 +2,8 @@
 use Rattle.std.proofs.Common.{◌≡◌, ℕ, true, List, [], ◌∷◌, map, length, replicate, All, Some, None, refl, sym, ap, ◌∙◌, arith}
 use Rattle.std.proofs.lemmas.List.{get_or-replicate, length-map, length-replicate}
 use Rattle.std.proofs.lemmas.List.Elements.{All-map, All-nil}
-use Rattle.bounded_search.specs.Rows.{AsksAll, RowsState}
-use Rattle.bounded_search.proofs.Asking.{asks_known}
+use Rattle.bounded_table.specs.Rows.{AsksAll, RowsState}
+use Rattle.bounded_table.proofs.Asking.{asks_known}
 use Rattle.cost_model.specs.declared.params.Params.{Params}
 use Rattle.cost_model.specs.Options.{IsAccepted}
 use Rattle.match_text.specs.declared.matched.Label.{Label}
@@ -21,7 +21,7 @@ use Rattle.trace_reader.specs.declared.trace.Fix.{Fix}
 use Rattle.trace_reader.specs.declared.trace.Trace.{Trace}
 use Rattle.trace_reader.specs.Trace.{IsLawfulTrace}
 use Rattle.trellis.specs.declared.parts.Solved.{Solved}
-use Rattle.match_pool.specs.Unmatched.{LiesFar, unmatched}
+use Rattle.match_pool.specs.inside.Unmatched.{LiesFar, unmatched}
 use Rattle.match_pool.proofs.Found.{answered, asked_by_pieces}
 
 -- no rank, no piece and no cell

@@ -1,13 +1,5 @@
 pub mod Answers
-pub mod Dealing
 pub mod Drawing
-pub mod Gathering
 pub mod Learning
-pub mod OneFix
-pub mod Partitions
-pub mod Running
-pub mod Tables
-pub mod Turns
-pub mod Unmatched
-pub mod WorkerSet
 pub mod Working
+pub mod inside

@@ -1,7 +1,7 @@
 -- What a worker answers, and what its reader has learned.
 use Rattle.std.specs.Prelude.{◌≡◌, ◌+◌, ◌<◌, ◌≤◌, ◌^◌, ◌↔◌, ◌⊎◌, ℕ, Bool, true, List, [], ◌∷◌, ◌++◌, map, length, slice_index_or, All}
 use Rattle.std.specs.List.{list_any}
-use Rattle.bounded_search.specs.Known.{Extends}
+use Rattle.bounded_table.specs.Known.{Extends}
 use Rattle.cost_model.specs.declared.params.Params.{Params}
 use Rattle.grid_index.specs.GridOf.{GridOf}
 use Rattle.match_text.specs.declared.matched.MatchedTrace.{MatchedTrace}
@@ -14,7 +14,7 @@ use Rattle.trace_reader.specs.declared.trace.Trace.{Trace}
 use Rattle.trace_reader.specs.Trace.{IsLawfulTrace}
 use Rattle.match_pool.specs.declared.worker.Done.{Done}
 
--- what is matched: these traces, the first of which stands at this place of the file
+-- what is matched: these traces, the first of which has this place in the file
 pub record Job : Type 0 where
   pub network : Net
   pub params : Params
@@ -24,13 +24,13 @@ pub record Job : Type 0 where
 abbrev pub job : Net → Params → ℕ → List Trace → Job
 job n p first traces = record { network = n; params = p; first = first; traces = traces }
 
--- as many traces as a job may have, and where the first may stand
+-- as many traces as a job may have, and the places that the first may have
 pub record AreJobTraces (first : ℕ) (traces : List Trace) : Type 0 where
   pub first_place : first ≤ 2 ^ 63
   pub few : length traces ≤ 2 ^ 32
   pub lawful : All IsLawfulTrace traces
 
--- the ticket is one of these claims on the numbers of so many traces, and has not ended
+-- the ticket is one of these claims, on a number for each trace, and has not ended
 pub record CanDraw (count : ℕ) (claims : Opened) (ticket : Drawn) : Type 0 where
   pub all : claims.count ≡ count
   pub own : ticket.claims ≡ claims.name
@@ -70,7 +70,7 @@ pub record CanMatch (n : Net) (p : Params) (grid : GridOf) (first : ℕ) (batch 
   pub ground : IsGridFor n p grid
   pub traces : AreJobTraces first batch
 
--- what stands for a trace past the end
+-- the value for a trace past the end
 abbrev pub no_trace : Trace
 no_trace = record { id = 0; fixes = [] }
 

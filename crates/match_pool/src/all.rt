@@ -15,7 +15,7 @@ use crate::worker_set::WorkerSet;
 use cost_model::Params;
 use grid_index::Grid;
 use match_text::MatchedTrace;
-use polyline_geometry::List;
+use plain_list::List;
 use road_network::Network;
 use row_store::Reader;
 use std::alloc::{AllocError, Global};

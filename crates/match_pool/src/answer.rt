@@ -1,6 +1,6 @@
 //! The match of one trace. Serves `match_one`; decided by `match_of`.
 ghost use Rattle.std.specs.Prelude.{◌≡◌, true, IfOk};
-ghost use Rattle.bounded_search.specs.Rows.{AreRowsOf, AsksFor, AsksOnly};
+ghost use Rattle.bounded_table.specs.Rows.{AreRowsOf, AsksFor, AsksOnly};
 ghost use Rattle.matching.specs.PieceSteps.{AsksTrace};
 ghost use Rattle.route_rebuild.specs.Chosen.{IsSolved};
 ghost use Rattle.trace_match.specs.Ground.{IsGridFor};
@@ -9,12 +9,12 @@ ghost use Rattle.trace_reader.specs.Trace.{IsLawfulTrace};
 ghost use Rattle.match_pool.specs.Answers.{IsAnswerTo};
 
 use crate::routes::{Found, pieces};
-use bounded_search::Rows;
+use bounded_table::Rows;
 use cost_model::Params;
 use grid_index::Grid;
 use match_text::MatchedTrace;
 use matching::Layer;
-use polyline_geometry::List;
+use plain_list::List;
 use road_network::Network;
 use std::alloc::{AllocError, Global};
 use trace_match::{labels, layers};

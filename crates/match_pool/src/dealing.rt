@@ -1,10 +1,10 @@
 //! The partitions' claims, and the turns of those who are to draw. Serves `match_all`; decided by `AreDealt`.
 ghost use Rattle.std.specs.Prelude.{◌≡◌, ◌≤◌, ◌^◌, All, IfOk, length, map};
-ghost use Rattle.match_pool.specs.Dealing.{AreDealt, ticket_of};
+ghost use Rattle.match_pool.specs.inside.Dealing.{AreDealt, ticket_of};
 
 use crate::tables::columns_of;
 use crate::turn::{Partition, Turn};
-use polyline_geometry::List;
+use plain_list::List;
 use std::alloc::{AllocError, Global};
 use tickets::{Claims, Ticket};
 

@@ -7,7 +7,7 @@ use crate::batch::Batch;
 use crate::finding::find_match;
 use crate::gate::Gate;
 use crate::worker::Done;
-use polyline_geometry::List;
+use plain_list::List;
 use row_store::Reader;
 use std::alloc::AllocError;
 use tickets::{Claims, Ticket};

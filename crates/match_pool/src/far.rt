@@ -3,12 +3,12 @@
 ghost use Rattle.std.specs.Prelude.{◌≡◌, All, IfOk, IsTrue};
 ghost use Rattle.polyline_geometry.specs.Plane.{InRange};
 ghost use Rattle.trace_reader.specs.Trace.{IsLawfulTrace, point_of_fix};
-ghost use Rattle.match_pool.specs.Unmatched.{LiesFar, unmatched};
+ghost use Rattle.match_pool.specs.inside.Unmatched.{LiesFar, unmatched};
 
 use crate::batch::Batch;
 use candidate_search::candidates;
 use match_text::{Label, MatchedTrace};
-use polyline_geometry::List;
+use plain_list::List;
 use std::alloc::{AllocError, Global};
 use trace_reader::{Fix, Trace};
 

@@ -1,7 +1,7 @@
 //! The match of a trace by a reader, for some traces without their layers. Serves `work_on`; decided by
 //! `match_of`.
 ghost use Rattle.std.specs.Prelude.{◌≡◌, true, IfOk};
-ghost use Rattle.bounded_search.specs.Rows.{AsksFor};
+ghost use Rattle.bounded_table.specs.Rows.{AsksFor};
 ghost use Rattle.row_store.specs.Store.{rows_state};
 ghost use Rattle.trace_match.specs.Match.{asks, match_of};
 ghost use Rattle.trace_reader.specs.Trace.{IsLawfulTrace};

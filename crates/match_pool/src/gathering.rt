@@ -3,14 +3,14 @@ ghost use Rattle.std.specs.Prelude.{◌≡◌, ◌<◌, ◌≤◌, ◌+◌, All,
 ghost use Rattle.std.specs.List.{AllZip};
 ghost use Rattle.trace_match.specs.Match.{match_of};
 ghost use Rattle.match_pool.specs.Drawing.{job_of};
-ghost use Rattle.match_pool.specs.Gathering.{AllDrawn, CoverTraces, Fills, AreTurnsOver, PlacesAnswers};
+ghost use Rattle.match_pool.specs.inside.Gathering.{AllDrawn, CoverTraces, Fills, AreTurnsOver, PlacesAnswers};
 ghost use Rattle.match_pool.specs.Working.{matched_at};
 
 use crate::batch::Batch;
 use crate::turn::{Partition, Turn};
 use crate::worker::Done;
 use match_text::MatchedTrace;
-use polyline_geometry::List;
+use plain_list::List;
 use std::alloc::{AllocError, Global};
 
 /// This many empty slots.

@@ -1,6 +1,6 @@
 //! The match of one trace, and of many traces by several workers.
 //!
-//! - [`match_one`] matches one trace by the rows of any [`bounded_search::Rows`]: the candidates of its
+//! - [`match_one`] matches one trace by the rows of any [`bounded_table::Rows`]: the candidates of its
 //!   positions, their ranks and pieces, and the routes.
 //! - [`match_all`] matches many: it divides them into partitions by area, one for each worker, each with
 //!   a counter from which its traces are drawn. A worker has a [`row_store::Reader`] of one shared store. It

@@ -4,14 +4,14 @@ ghost use Rattle.polyline_geometry.specs.Plane.{InRange};
 ghost use Rattle.road_network.specs.Net.{HasEdge};
 ghost use Rattle.trace_match.specs.Match.{match_of};
 ghost use Rattle.trace_reader.specs.Trace.{IsLawfulTrace, point_of_fix};
-ghost use Rattle.match_pool.specs.OneFix.{nearest_edge, on_edge};
+ghost use Rattle.match_pool.specs.inside.OneFix.{nearest_edge, on_edge};
 
 use crate::batch::Batch;
 use crate::far::unmatched;
 use candidate_search::candidates;
 use cost_model::{Params, emission};
 use match_text::{MatchedTrace, Routed};
-use polyline_geometry::List;
+use plain_list::List;
 use road_network::Candidate;
 use std::alloc::{AllocError, Global};
 use trace_match::label_on;

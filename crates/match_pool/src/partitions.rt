@@ -1,10 +1,12 @@
 //! The traces of a batch, divided into partitions by area. Serves `match_all`; decided by `ArePartitionsOf`.
+//! Columns from west to east have equally many traces, and each is cut from south to north. Speed only: any
+//! division is right in which each number is once.
 ghost use Rattle.std.specs.Prelude.{◌≡◌, ◌≤◌, [], ◌∷◌, IfOk, length};
 ghost use Rattle.std.specs.List.{range_with_len};
-ghost use Rattle.match_pool.specs.Partitions.{AreSpotsOf, ArePartitionsOf};
+ghost use Rattle.match_pool.specs.inside.Partitions.{AreSpotsOf, ArePartitionsOf};
 
 use crate::tables::empty_lists;
-use polyline_geometry::List;
+use plain_list::List;
 use std::alloc::{AllocError, Global};
 use trace_reader::Trace;
 

@@ -1,15 +1,15 @@
 //! The pieces of a trace with their routes. Serves `match_one`; decided by `routed_of`.
 ghost use Rattle.std.specs.Prelude.{◌≡◌, IfOk, map};
-ghost use Rattle.bounded_search.specs.Rows.{AreRowsOf, AsksOnly};
+ghost use Rattle.bounded_table.specs.Rows.{AreRowsOf, AsksOnly};
 ghost use Rattle.matching.specs.PieceSteps.{AsksTrace};
 ghost use Rattle.route_rebuild.specs.Chosen.{IsSolved};
 ghost use Rattle.trace_match.specs.Match.{routed_of};
 
-use bounded_search::Rows;
+use bounded_table::Rows;
 use cost_model::Params;
 use match_text::Routed;
 use matching::Layer;
-use polyline_geometry::List;
+use plain_list::List;
 use road_network::Network;
 use route_rebuild::route;
 use std::alloc::{AllocError, Global};

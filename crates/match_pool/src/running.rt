@@ -2,7 +2,7 @@
 ghost use Rattle.std.specs.Prelude.{◌≡◌, ◌+◌, ◌<◌, ◌^◌, length};
 ghost use Rattle.std.specs.Fork.{AcceptsAt, AcceptsEach, ChangesAt, ChangesEach};
 ghost use Rattle.std.specs.Thread.{IsSend, IsSync};
-ghost use Rattle.match_pool.specs.Running.{EachFrom, EachFromTo};
+ghost use Rattle.match_pool.specs.inside.Running.{EachFrom, EachFromTo};
 
 use std::thread::{Threads, join_mut};
 

@@ -1,9 +1,9 @@
 //! Tables of turns, by workers and by partitions. Serves `match_all`; decided by `AreColumnsOf`.
 ghost use Rattle.std.specs.Prelude.{◌≡◌, [], All, IfOk, OnOk, length, replicate};
-ghost use Rattle.match_pool.specs.Tables.{AddsRow, AreColumnsOf};
+ghost use Rattle.match_pool.specs.inside.Tables.{AddsRow, AreColumnsOf};
 
 use crate::turn::Turn;
-use polyline_geometry::List;
+use plain_list::List;
 use std::alloc::{AllocError, Global};
 
 /// So many empty lists.

@@ -2,14 +2,14 @@
 ghost use Rattle.std.specs.Prelude.{◌≡◌, OnOk};
 ghost use Rattle.tickets.specs.Tickets.{fresh_ticket};
 ghost use Rattle.match_pool.specs.Drawing.{job_of};
-ghost use Rattle.match_pool.specs.Turns.{IsPartitionOf, IsTaken};
+ghost use Rattle.match_pool.specs.inside.Turns.{IsPartitionOf, IsTaken};
 ghost use Rattle.match_pool.specs.Working.{IsReaderFor, ReadsWithin};
 
 use crate::batch::Batch;
 use crate::drawing::work_on;
 use crate::gate::Gate;
 use crate::worker::Done;
-use polyline_geometry::List;
+use plain_list::List;
 use row_store::Reader;
 use std::alloc::AllocError;
 use tickets::{Claims, Ticket};

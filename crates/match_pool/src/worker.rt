@@ -9,7 +9,7 @@ use crate::partitions::numbers_below;
 use cost_model::Params;
 use grid_index::Grid;
 use match_text::MatchedTrace;
-use polyline_geometry::List;
+use plain_list::List;
 use road_network::Network;
 use row_store::Reader;
 use std::alloc::{AllocError, Global};

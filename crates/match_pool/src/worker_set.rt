@@ -2,14 +2,14 @@
 ghost use Rattle.std.specs.Prelude.{◌≡◌, ◌<◌, ◌≤◌, ◌+◌, ℕ, All, IfOk, IsOk, OnErr, OnOk, length, map, slice_index_or, vec_capacity};
 ghost use Rattle.std.specs.List.{AllZip};
 ghost use Rattle.match_pool.specs.Drawing.{job_of};
-ghost use Rattle.match_pool.specs.WorkerSet.{CanDrawFrom, HasRoom, IsWorkerSet, KeepsRoom, Ran, DrewAll, DrewFrom, reader_of, turns_of};
+ghost use Rattle.match_pool.specs.inside.WorkerSet.{CanDrawFrom, HasRoom, IsWorkerSet, KeepsRoom, Ran, DrewAll, DrewFrom, reader_of, turns_of};
 ghost use Rattle.match_pool.specs.Working.{ReadsWithin};
 
 use crate::batch::Batch;
 use crate::gate::Gate;
 use crate::running::run_each;
 use crate::turn::{Partition, Turn};
-use polyline_geometry::List;
+use plain_list::List;
 use row_store::Reader;
 use std::alloc::{AllocError, Global};
 use std::mem;

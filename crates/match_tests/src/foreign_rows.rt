@@ -4,9 +4,9 @@ ghost use Rattle.match_pool.specs.Learning.{AreReadersFor};
 ghost use Rattle.road_network.specs.Net.{HasNode};
 
 use crate::workers::{DEFAULTS, knows_no_foreign_row, matched_with, trace_at};
-use bounded_search::{Entry, Row};
+use bounded_table::{Entry, Row};
 use match_text::{Label, MatchedTrace, Routed};
-use polyline_geometry::List;
+use plain_list::List;
 use road_network::{Network, NodeId, read_network};
 use row_store::{Reader, RowStore};
 use row_tests::small::{TWO_EDGES, offered, wrong};

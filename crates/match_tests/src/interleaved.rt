@@ -1,11 +1,11 @@
-//! Two traces whose points are interleaved, worked out by hand.
+//! Two traces whose positions are interleaved, worked out by hand.
 use crate::sessions::{Told, append_told};
-use bounded_search::RefusingRows;
 use cost_model::Params;
 use grid_index::Grid;
 use online_commit::Item;
-use polyline_geometry::List;
+use plain_list::List;
 use road_network::read_network;
+use row_search::RefusingRows;
 use row_tests::small::TWO_EDGES;
 use std::alloc::{AllocError, Global};
 use trace_reader::Fix;
@@ -16,7 +16,7 @@ const NEAR: Params = Params {
     ..Params::DEFAULT
 };
 
-/// A point at this x for an id, or its end, over rows of its own, which refuse this call.
+/// A position at this x for an id, or its end, over rows of its own, which refuse this call.
 fn call(
     alloc: Global,
     sessions: &mut Sessions,
@@ -71,14 +71,14 @@ fn is_refused(
     call(alloc, sessions, id, x, refused).err() == Some(fault)
 }
 
-/// Whether the ids 1 and 2 have sessions, with two points and one.
+/// Whether the ids 1 and 2 have sessions, with two positions and one.
 fn has_both(sessions: &Sessions) -> bool {
     let ids = (sessions.id_at(0), sessions.id_at(1), sessions.id_at(2));
     let lengths = (sessions.length(1), sessions.length(2), sessions.length(3));
     sessions.count() == 2 && ids == (Some(1), Some(2), None) && lengths == (Some(2), Some(1), None)
 }
 
-/// Whether both ids get their labels, and the first its second point again after it was refused.
+/// Whether both ids get their labels, and the first its second position again after it was refused.
 fn are_fed(alloc: Global, sessions: &mut Sessions) -> Option<bool> {
     let calls = [(1, Some(1_000)), (2, Some(9_000))];
     let first = hands_out(

@@ -5,10 +5,10 @@ ghost use Rattle.road_network.specs.Net.{HasNode};
 
 use crate::foreign_rows::{ALONG, is_along_first};
 use crate::workers::{DEFAULTS, trace_at};
-use bounded_search::Entry;
+use bounded_table::Entry;
 use grid_index::Grid;
 use match_pool::{Done, OpenGate, work};
-use polyline_geometry::List;
+use plain_list::List;
 use road_network::{Network, NodeId, read_network};
 use row_store::{Reader, RowStore, Sight, agree};
 use row_tests::lawful_traces::are_lawful;

@@ -1,13 +1,13 @@
 //! Matches over rows that refuse a call.
 ghost use Rattle.std.specs.Prelude.{◌≡◌, IfOk};
-ghost use Rattle.bounded_search.specs.Rows.{no_rows};
+ghost use Rattle.bounded_table.specs.Rows.{no_rows};
 
 use crate::workers::{DEFAULTS, trace_at};
-use bounded_search::RefusingRows;
 use grid_index::Grid;
 use match_pool::match_one;
-use polyline_geometry::List;
+use plain_list::List;
 use road_network::{Network, read_network};
+use row_search::RefusingRows;
 use row_tests::lawful_traces::is_lawful;
 use row_tests::small::TWO_EDGES;
 use std::alloc::{AllocError, Global};

@@ -1,6 +1,6 @@
 //! A relay that is full.
+use live_pipeline::{Part, Relay};
 use std::test::Fail;
-use trace_relay::{Part, Relay};
 
 // A relay with room for one part.
 #[test]

@@ -1,14 +1,15 @@
-//! Rows of points with what is handed out after each of them, worked out by hand. Each call for a row is
-//! refused once, and the same point is fed again.
+//! Rows of positions with what is handed out after each of them, worked out by hand. Each call for a row is refused
+//! once, and the same position is fed again.
 ghost use Rattle.std.specs.Prelude.{◌≡◌, IfOk};
-ghost use Rattle.bounded_search.specs.Rows.{no_rows};
+ghost use Rattle.bounded_table.specs.Rows.{no_rows};
 
-use bounded_search::RefusingRows;
 use cost_model::Params;
 use matching::is_layer;
 use online_commit::{Item, Online};
-use polyline_geometry::{List, Point};
+use plain_list::List;
+use polyline_geometry::Point;
 use road_network::{Candidate, EdgeId, Network, read_network};
+use row_search::RefusingRows;
 use row_tests::small::{TWO_EDGES, TWO_ROADS};
 use std::alloc::{AllocError, Global};
 use trellis::Layer;
@@ -21,24 +22,23 @@ const OPTIONS: Params = Params {
 const JOINED: &[u8] =
     b"edge,from,to,line\n1,1,3,0 0;10000 0\n2,2,3,0 400;10000 400\n3,3,4,10000 200;20000 200\n";
 
-/// A point: x, y, its time, and its candidates as (edge, d2, offset).
+/// A position: x, y, its time, and its candidates as (edge, d2, offset).
 type Seen = (i32, i32, u32, &'static [(u32, u64, u32)]);
 
-/// An item in numbers: a label as (0, index, edge, offset), a point without candidates as
-/// (1, index, 0, 0), and a piece as (2, first, last, cost) with its route behind it, each edge as
-/// (3, edge, 0, 0).
+/// An item in numbers: a label as (0, index, edge, offset), a position without candidates as (1, index, 0, 0), and
+/// a piece as (2, first, last, cost) with its route behind it, each edge as (3, edge, 0, 0).
 pub type Told = (u32, u32, u32, u64);
 
 const NEXT: Told = (4, 0, 0, 0);
 
-/// More calls than a point asks for rows.
+/// More calls than a position asks for rows.
 const MOST_CALLS: u64 = 10;
 
 struct Case {
     shows: &'static str,
     network: &'static [u8],
     points: &'static [Seen],
-    /// What is handed out, with `NEXT` behind the items of each point.
+    /// What is handed out, with `NEXT` behind the items of each position.
     told: &'static [Told],
 }
 
@@ -198,8 +198,7 @@ fn rows_refusing<'n>(
     RefusingRows::open(alloc, session.network(), bound, refuse)
 }
 
-/// The items of the next point, over rows that refuse this call. None where it is no point of the
-/// network.
+/// The items of the next position, over rows that refuse this call. None where it is no position of the network.
 fn fed(
     alloc: Global,
     session: &mut Online,
@@ -214,8 +213,8 @@ fn fed(
     Ok(Some(session.feed(layer, &mut rows)?))
 }
 
-/// The items of the next point, which is fed again over rows that refuse a later call for as long as
-/// one is refused. The refused calls are counted.
+/// The items of the next position, which is fed again over rows that refuse a later call for as long as one is
+/// refused. The refused calls are counted.
 fn fed_at_last(
     alloc: Global,
     session: &mut Online,
@@ -256,7 +255,7 @@ pub fn append_told(items: &List<Item>, told: &mut Vec<Told>) -> Result<(), Alloc
     Ok(())
 }
 
-/// What a session hands out for these points, in numbers.
+/// What a session hands out for these positions, in numbers.
 fn told_of(alloc: Global, net: &Network, points: &[Seen], refused: &mut u32) -> Option<Vec<Told>> {
     let mut session = Online::open(alloc, net, &OPTIONS);
     let mut told = Vec::new(alloc);

@@ -6,7 +6,7 @@ use cost_model::Params;
 use grid_index::Grid;
 use match_pool::{OpenGate, match_all};
 use match_text::MatchedTrace;
-use polyline_geometry::List;
+use plain_list::List;
 use road_network::{Network, NodeId, read_network};
 use row_store::{Reader, RowStore, Sight};
 use row_tests::lawful_traces::are_lawful;

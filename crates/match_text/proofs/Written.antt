@@ -6,7 +6,7 @@ use Rattle.decimal_text.specs.Number.{decimal}
 use Rattle.match_text.specs.declared.matched.Routed.{Routed}
 use Rattle.match_text.specs.declared.matched.MatchedTrace.{MatchedTrace}
 use Rattle.match_text.specs.MatchText.{words_after, piece_line, trace_line, end_line, point_lines, text_of}
-use Rattle.match_text.specs.Parts.{piece_head, numbers_text}
+use Rattle.match_text.specs.inside.Parts.{piece_head, numbers_text}
 
 pub concat-append : (xs ys : List (List ℕ)) → concat (xs ++ ys) ≡ concat xs ++ concat ys
 concat-append [] ys = refl

@@ -12,7 +12,7 @@ use Rattle.match_text.specs.declared.place.Line.TheVariants.{Point, Piece, End}
 use Rattle.match_text.specs.declared.place.Place.{Place}
 use Rattle.match_text.specs.MatchText.{words_after, LabelFits, PieceFits, label_line, piece_line, end_line}
 
--- the first point of a trace comes next
+-- the first position of a trace comes next
 abbrev pub start : ℕ → Place
 start id = record { id = id; next = 0; waiting = None }
 
@@ -24,7 +24,7 @@ place_after place (Point (On edge offset d2)) = record
 place_after place (Piece piece) = record { id = place.id; next = place.next; waiting = None }
 place_after place End = place
 
--- a piece line may come: it has all waiting points, and a route
+-- a piece line may come: it has all waiting positions, and a route
 pub record EndsPiece (place : Place) (piece : Routed) : Type 0 where
   pub first : place.waiting ≡ Some piece.first
   pub last : piece.last + 1 ≡ place.next

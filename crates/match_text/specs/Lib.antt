@@ -1,6 +1,6 @@
 pub mod Lines
 pub mod MatchText
-pub mod Parts
 pub mod Reading
 pub mod Grammar
 pub mod PieceHead
+pub mod inside

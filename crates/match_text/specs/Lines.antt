@@ -21,7 +21,7 @@ line word words = word ++ words_after words
 abbrev pub trace_line : ℕ → List ℕ
 trace_line id = line (codes "trace") (decimal id ∷ [])
 
--- the line of the point number i
+-- the line of the position number i
 abbrev pub label_line : ℕ → Label → List ℕ
 label_line i Missing = line (codes "none") (decimal i ∷ [])
 label_line i (On edge offset d2) = line (codes "at")
@@ -38,13 +38,13 @@ end_line id = line (codes "end") (decimal id ∷ [])
 
 -- ---- the text
 
--- after the line of the point i: the line of the next piece if i is its last point, and the rest
+-- after the line of the position i: the line of the next piece if i is its last position, and the rest
 abbrev pub piece_after : ℕ → List Routed → (List Routed → List (List ℕ)) → List (List ℕ)
 piece_after i [] rest = rest []
 piece_after i (piece ∷ pieces) rest =
     if piece.last == i then piece_line piece ∷ rest pieces else rest (piece ∷ pieces)
 
--- the lines of the points from i on, the line of a piece directly after that of its last point
+-- the lines of the positions from i on, the line of a piece directly after that of its last position
 abbrev pub point_lines : ℕ → List Label → List Routed → List (List ℕ)
 point_lines i [] pieces = []
 point_lines i (label ∷ labels) pieces =

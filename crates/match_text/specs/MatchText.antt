@@ -13,18 +13,18 @@ abbrev pub IsOn : Label → Type 0
 IsOn Missing = ⊥
 IsOn (On edge offset d2) = Unit {0}
 
--- the point i is there and has a candidate
+-- the position i is there and has a candidate
 abbrev pub IsMatched : List Label → ℕ → Type 0
 IsMatched [] i = ⊥
 IsMatched (label ∷ labels) zero = IsOn label
 IsMatched (label ∷ labels) (suc i) = IsMatched labels i
 
--- the point i lies in one of the pieces
+-- the position i lies in one of the pieces
 abbrev pub IsCovered : List Routed → ℕ → Type 0
 IsCovered [] i = ⊥
 IsCovered (piece ∷ pieces) i = ((piece.first ≤ i) × (i ≤ piece.last)) ⊎ IsCovered pieces i
 
--- none begins before the point i, and each begins after the one before it ends
+-- none begins before the position i, and each begins after the one before it ends
 abbrev pub IsRising : ℕ → List Routed → Type 0
 IsRising i [] = Unit {0}
 IsRising i (piece ∷ pieces) =
@@ -32,7 +32,7 @@ IsRising i (piece ∷ pieces) =
 
 pub record IsLawful (m : MatchedTrace) : Type 0 where
   pub rising : IsRising 0 m.pieces
-  -- the pieces cover exactly the points that are not Missing
+  -- the pieces cover exactly the positions that are not Missing
   pub covers : (i : ℕ) → IsMatched m.labels i ↔ IsCovered m.pieces i
   pub routes : AllByRecursion (λ piece. piece.route ≢ []) m.pieces
   pub few : length m.labels ≤ 100000

@@ -3,7 +3,7 @@ use Rattle.std.specs.Prelude.{ℕ, ◌-◌, ◌^◌, List, Option, Some, codes}
 use Rattle.match_text.specs.declared.scan.Head.{Head as LentHead}
 use Rattle.match_text.specs.Reading.{◌>>=◌, after_bytes, number_after, most32}
 
--- the first and the last point of a piece, its cost, and what stands after the word `route`
+-- the first and the last position of a piece, its cost, and what comes after the word `route`
 pub record Head : Type 0 where
   pub first : ℕ
   pub last : ℕ

@@ -1,4 +1,4 @@
--- Reading from left to right: what stands at the front of a text, and the rest.
+-- Reading from left to right: what is at the front of a text, and the rest.
 use Rattle.std.specs.Prelude.{ℕ, ◌-◌, ◌^◌, List, [], ◌∷◌, take, drop, Option, Some, None, ◌||◌, not, is_some, ◌==◌, if◌then◌else◌, codes}
 use Rattle.std.specs.Borrow.{Bor}
 use Rattle.std.specs.Option.{option_map}
@@ -20,7 +20,7 @@ None >>= f = None
 abbrev pub seen : {A : Type 0} → Option (A × Bor (List ℕ)) → Option (A × List ℕ)
 seen read = option_map (λ x. (x.0, x.1.now)) read
 
--- what stands after these bytes
+-- what comes after these bytes
 abbrev pub after_bytes : List ℕ → List ℕ → Option (List ℕ)
 after_bytes [] text = Some text
 after_bytes (c ∷ cs) [] = None
@@ -41,7 +41,7 @@ number_at most text =
 unfoldable pub number_after : List ℕ → ℕ → List ℕ → Option (ℕ × List ℕ)
 number_after bytes most text = after_bytes bytes text >>= number_at most
 
--- ---- lines: what they say, and what stands after them
+-- ---- lines: what they say, and what comes after them
 
 abbrev pub most32 : ℕ
 most32 = 2 ^ 32 - 1
@@ -52,27 +52,27 @@ trace_at text = do
   rest ← after_bytes (10 ∷ []) id.1
   Some (id.0, rest)
 
--- the end line of the trace, where no point waits
+-- the end line of the trace, where no position waits
 unfoldable pub end_at : Place → List ℕ → Option (Line × List ℕ)
 end_at place text = do
   id ← number_after (codes "end ") most32 text
   if not (id.0 == place.id) || is_some place.waiting then None
       else (after_bytes (10 ∷ []) id.1 >>= λ rest. Some (End, rest))
 
--- the number of the next point after these bytes
+-- the number of the next position after these bytes
 unfoldable pub numbered_at : List ℕ → ℕ → List ℕ → Option (List ℕ)
 numbered_at bytes next text = do
   point ← number_after bytes 99999 text
   if point.0 == next then Some point.1 else None
 
--- the line of the next point without candidates, where no point waits
+-- the line of the next position without candidates, where no position waits
 unfoldable pub none_at : Place → List ℕ → Option (Line × List ℕ)
 none_at place text = do
   point ← numbered_at (codes "none ") place.next text
   if is_some place.waiting then None
       else (after_bytes (10 ∷ []) point >>= λ rest. Some (Point Missing, rest))
 
--- the line of the next point with candidates
+-- the line of the next position with candidates
 unfoldable pub label_at : Place → List ℕ → Option (Line × List ℕ)
 label_at place text = do
   point ← numbered_at (codes "at ") place.next text

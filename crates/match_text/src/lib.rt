@@ -1,9 +1,9 @@
 //! The match text of one trace, written and read.
 //!
-//! A [`MatchedTrace`] has the id of a trace, a [`Label`] for each of its points and the
-//! [`Routed`] pieces, with the ids of roads. Its text is one line `trace ID`, one line for each point
-//! (`at I edge E offset O d2 D` or `none I`), the line `piece F L cost C route E1 E2 ..` directly
-//! after the line of the piece's last point, and one line `end ID`.
+//! A [`MatchedTrace`] has the id of a trace, a [`Label`] for each of its positions and the [`Routed`] pieces, with
+//! the ids of roads. Its text is one line `trace ID`, one line for each position (`at I edge E offset O d2 D` or
+//! `none I`), the line `piece F L cost C route E1 E2 ..` directly after the line of the piece's last position, and
+//! one line `end ID`.
 //!
 //! [`write_match`] appends the text. [`read_match`] accepts exactly the texts of lawful matched
 //! traces and names the first line that is not allowed at its place. Texts that share lines with it

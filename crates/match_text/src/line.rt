@@ -3,11 +3,11 @@
 ghost use Rattle.std.specs.Prelude.{◌≡◌, ◌+◌, ◌≤◌, ◌++◌, ◌∷◌, [], length, take, drop, OnOk, OnErr};
 ghost use Rattle.decimal_text.specs.Number.{decimal};
 ghost use Rattle.match_text.specs.MatchText.{trace_line, label_line, piece_line, end_line};
-ghost use Rattle.match_text.specs.Parts.{piece_head, numbers_text};
+ghost use Rattle.match_text.specs.inside.Parts.{piece_head, numbers_text};
 
 use crate::matched::{Label, Routed};
 use decimal_text::{put_worded, write_worded};
-use polyline_geometry::List;
+use plain_list::List;
 use std::alloc::AllocError;
 
 // Room for the longest line with a fixed number of words, `at`: four numbers of at most 20 digits.
@@ -29,8 +29,8 @@ pub fn write_end(id: u32, into: &mut List<u8>) -> Result<(), AllocError>
     write_line(b"end ", u64::from(id), into)
 }
 
-/// Appends the line of the point with this number: `at I edge E offset O d2 D` or `none I`.
-/// On `Err`, `into` is unchanged.
+/// Appends the line of the position with this number: `at I edge E offset O d2 D` or `none I`. On `Err`, `into` is
+/// unchanged.
 pub fn write_label(point: u64, label: Label, into: &mut List<u8>) -> Result<(), AllocError>
     ensures ok { OnOk result (into.new ≡ into.old ++ label_line point label) }
     ensures err { OnErr result (into.new ≡ into.old) }

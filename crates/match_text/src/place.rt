@@ -18,9 +18,9 @@ pub enum Line {
 pub struct Place {
     /// The id of the trace.
     pub id: u32,
-    /// The number of the next point.
+    /// The number of the next position.
     pub next: u32,
-    /// The first point with candidates whose piece line has not come yet.
+    /// The first position with candidates whose piece line has not come yet.
     pub waiting: Option<u32>,
 }
 

@@ -9,7 +9,7 @@ use crate::fault::TextFault;
 use crate::matched::{Label, MatchedTrace, Routed};
 use crate::place::{Line, Place, place_after};
 use crate::scan::{next_line, read_trace};
-use polyline_geometry::List;
+use plain_list::List;
 use std::alloc::Global;
 
 /// The matched trace whose match text this is.

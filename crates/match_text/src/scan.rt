@@ -8,10 +8,10 @@ ghost use Rattle.match_text.specs.Grammar.{ReadsLine, ReadsPiece, ReadsRoute};
 use crate::front::{after, number_after, short_number_after};
 use crate::matched::{Label, Routed};
 use crate::place::{Line, Place};
-use polyline_geometry::List;
+use plain_list::List;
 use std::alloc::{AllocError, Global};
 
-/// The greatest number of a point.
+/// The greatest number of a position.
 const LAST_POINT: u64 = 99_999;
 
 /// The id in the line `trace ID` at the front, and the text after the line.
@@ -38,7 +38,7 @@ fn end_line(place: Place, text: &[u8]) -> Option<(Line, &[u8])>
     Some((Line::End, rest))
 }
 
-// The text after these bytes and the number of the next point.
+// The text after these bytes and the number of the next position.
 #[tactic(auto, unfolding(crate::specs::Reading::numbered_at))]
 fn numbered<'a>(text: &'a [u8], bytes: &[u8], next: u32) -> Option<&'a [u8]>
     ensures { option_copied result ≡ numbered_at bytes.now next text.now }
@@ -50,7 +50,7 @@ fn numbered<'a>(text: &'a [u8], bytes: &[u8], next: u32) -> Option<&'a [u8]>
     Some(rest)
 }
 
-// The line of the next point, which has no candidate, and the text after it.
+// The line of the next position, which has no candidate, and the text after it.
 #[tactic(auto, unfolding(crate::specs::Reading::none_at))]
 fn none_line(place: Place, text: &[u8]) -> Option<(Line, &[u8])>
     ensures { seen result ≡ none_at place text.now }
@@ -63,7 +63,7 @@ fn none_line(place: Place, text: &[u8]) -> Option<(Line, &[u8])>
     Some((Line::Point(Label::Missing), rest))
 }
 
-// The line of the next point, which has candidates, and the text after it.
+// The line of the next position, which has candidates, and the text after it.
 #[tactic(auto, unfolding(crate::specs::Reading::label_at))]
 fn label_line(place: Place, text: &[u8]) -> Option<(Line, &[u8])>
     ensures { seen result ≡ label_at place text.now }
@@ -119,8 +119,8 @@ fn route(alloc: Global, text: &[u8]) -> Result<Option<(List<u32>, &[u8])>, Alloc
 
 /// The piece whose line is at the front, if it is allowed at this place, and the text after it.
 ///
-/// A piece line is allowed where points wait: its first and last points are those that wait, and its
-/// route has at least one edge.
+/// A piece line is allowed where positions wait: its first and last positions are those that wait, and its route
+/// has at least one edge.
 pub fn read_piece(
     alloc: Global,
     place: Place,
@@ -149,7 +149,7 @@ pub fn read_piece(
     Ok(Some((piece, rest)))
 }
 
-// Whether the points from `first` to `last` are those that wait for a piece line.
+// Whether the positions from `first` to `last` are those that wait for a piece line.
 fn is_open(place: Place, first: u32, last: u32) -> bool
     ensures { IsTrue result ↔ ((place.waiting ≡ Some first) × (last + 1 ≡ place.next)) }
 {

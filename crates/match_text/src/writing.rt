@@ -5,7 +5,7 @@ ghost use Rattle.match_text.specs.MatchText.{text_of, point_lines, IsLawful};
 
 use crate::line::{write_end, write_label, write_piece, write_trace};
 use crate::matched::{Label, MatchedTrace, Routed};
-use polyline_geometry::List;
+use plain_list::List;
 use std::alloc::{AllocError, Global};
 
 /// Appends the match text of the trace. On `Err`, `into` is unchanged.
@@ -32,7 +32,7 @@ fn append_match(m: &MatchedTrace, into: &mut List<u8>) -> Result<(), AllocError>
     write_end(m.id, into)
 }
 
-// Appends the lines of the points and of the pieces. On `Err`, some may remain at the end.
+// Appends the lines of the positions and of the pieces. On `Err`, some may remain at the end.
 fn append_points(labels: &[Label], pieces: &[Routed], into: &mut List<u8>) -> Result<(), AllocError>
     ensures ok { OnOk result (into.new ≡ into.old ++ concat (point_lines 0 labels.now pieces.now)) }
     ensures err { OnErr result (take (length into.old) into.new ≡ into.old) }

@@ -5,7 +5,7 @@ use Rattle.match_pool.specs.Learning.{LearnAsked}
 use Rattle.row_store.specs.Store.{Reading}
 use Rattle.trace_reader.specs.declared.trace.Trace.{Trace}
 use Rattle.trace_match.specs.Setting.{Setting}
-use Rattle.match_work.specs.MatchesDone.{KnowAsked}
+use Rattle.match_work.specs.inside.MatchesDone.{KnowAsked}
 
 -- what more traces make known, behind those that made known what is
 pub asked_more : (on : Setting) (matched more : List Trace) (before after : List Reading) → KnowAsked on matched before → LearnAsked on.network on.params more before after → KnowAsked on (matched ++ more) after

@@ -18,7 +18,7 @@ use Rattle.program_frame.specs.Counts.{total_of}
 use Rattle.trace_match.specs.Totals.{pieces_of, rows_of}
 use Rattle.match_work.specs.Matches.{match_text, texts_of}
 use Rattle.program_frame.specs.Counts.{ArePieces}
-use Rattle.match_work.specs.MatchesDone.{HasMatched, KnowAsked}
+use Rattle.match_work.specs.inside.MatchesDone.{HasMatched, KnowAsked}
 use Rattle.match_work.proofs.Asking.{asked_more}
 use Rattle.program_frame.proofs.Counting.{counts_more}
 use Rattle.match_work.proofs.Sharing.{know_nothing, rows_counted, share_on}

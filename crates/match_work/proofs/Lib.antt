@@ -2,3 +2,4 @@ pub mod Asking
 pub mod Jobs
 pub mod Sharing
 pub mod TraceMatches
+pub mod TownTexts

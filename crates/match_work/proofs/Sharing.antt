@@ -5,7 +5,7 @@ use Rattle.std.specs.Prelude.{slice_index_or}
 use Rattle.std.specs.declared.alloc.AllocError.{AllocError}
 use Rattle.std.proofs.lemmas.List.Elements.{All-cons, All-head, All-replicate, All-tail}
 use Rattle.std.proofs.lemmas.Slice.Zip.{AllZip-long}
-use Rattle.bounded_search.specs.Table.{TableRow}
+use Rattle.bounded_table.specs.Table.{TableRow}
 use Rattle.cost_model.specs.Options.{IsAccepted}
 use Rattle.cost_model.specs.declared.params.Params.{Params}
 use Rattle.match_pool.specs.Learning.{LearnAsked}
@@ -19,7 +19,7 @@ use Rattle.trace_reader.specs.declared.trace.Trace.{Trace}
 use Rattle.trace_match.specs.Setting.{Setting}
 use Rattle.match_work.specs.Sharing.{IsStoreFor, MatchesBatch, ShareStore, fresh_readers}
 use Rattle.trace_match.specs.Totals.{is_asked_by, rows_of}
-use Rattle.match_work.specs.MatchesDone.{KnowAsked}
+use Rattle.match_work.specs.inside.MatchesDone.{KnowAsked}
 use Rattle.match_work.proofs.TraceMatches.{matches_found, matches_of}
 
 abbrev no_row : Option TableRow

@@ -1,5 +1,6 @@
 pub mod Matched
 pub mod Matches
-pub mod MatchesDone
 pub mod Sharing
 pub mod TableMatch
+pub mod Towns
+pub mod inside

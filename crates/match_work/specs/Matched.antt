@@ -15,7 +15,7 @@ text_of_matches matches = flat_map text_of matches
 abbrev pub pieces_in : List MatchedTrace → ℕ
 pieces_in matches = sum_by (λ matched. length matched.pieces) matches
 
--- the matches of these traces, which can be written and have no more pieces than the traces have points
+-- the matches of these traces, which can be written and have no more pieces than the traces have positions
 pub record AreMatchesOf (on : Setting) (traces : List Trace) (matches : List MatchedTrace) : Type 0 where
   pub are : matches ≡ map (match_of on.network on.params) traces
   pub lawful : All IsLawful matches

@@ -8,7 +8,7 @@ ghost use Rattle.match_work.specs.Sharing.{IsStoreFor, MatchesBatch, ShareStore,
 
 use match_pool::{Gate, match_all};
 use match_text::MatchedTrace;
-use polyline_geometry::List;
+use plain_list::List;
 use row_store::{Reader, RowStore};
 use std::alloc::{AllocError, Global};
 use std::thread::Threads;

@@ -9,7 +9,7 @@ ghost use Rattle.program_frame.specs.Stream.{works_traces};
 ghost use Rattle.match_work.specs.Matched.{pieces_in, text_of_matches};
 ghost use Rattle.match_work.specs.Sharing.{IsStoreFor, MatchesBatch, MatchesBatches, WritesMatches};
 ghost use Rattle.match_work.specs.Matches.{match_plan, match_text};
-ghost use Rattle.match_work.specs.MatchesDone.{HasMatched};
+ghost use Rattle.match_work.specs.inside.MatchesDone.{HasMatched};
 
 use crate::batches::{match_batch, open_near_store, open_readers};
 use crate::texts::write_in_threads;
@@ -17,7 +17,7 @@ use cost_model::Params;
 use edge_io::{Shelf, Sink};
 use match_pool::Gate;
 use match_text::MatchedTrace;
-use polyline_geometry::List;
+use plain_list::List;
 use program_frame::{Job, NetworkFile, Stop, Tally, load_network, work_traces};
 use row_store::{Reader, RowStore, known_count};
 use std::alloc::{AllocError, Global};

@@ -5,11 +5,12 @@ ghost use Rattle.match_text.specs.MatchText.{IsLawful};
 ghost use Rattle.match_work.specs.Matched.{pieces_in, text_of_matches};
 
 use match_text::{MatchedTrace, write_match};
-use polyline_geometry::List;
+use plain_list::List;
 use std::alloc::{AllocError, Global};
 use std::thread::{Threads, join_mut};
 
-// The number of lines below which a text is written sooner than a thread is started.
+// The number of lines below which a text is written sooner than a thread is started. Speed only: any value is
+// right.
 const FEW_LINES: usize = 4096;
 
 // The text of some matches, and the number of their pieces.

@@ -22,9 +22,9 @@ use Rattle.matching.proofs.Splits.{Splits, ranks_of, split_open}
 use Rattle.online_commit.specs.declared.items.Item.{Item}
 use Rattle.online_commit.specs.declared.items.Item.TheVariants.{Missing}
 use Rattle.online_commit.specs.Items.{closed_at, handed}
-use Rattle.online_commit.specs.Pieces.{IsBegun, MayGrow, Piece, empty_piece, session_with}
+use Rattle.online_commit.specs.inside.Pieces.{IsBegun, MayGrow, Piece, empty_piece, session_with}
 use Rattle.online_commit.specs.Session.{IsFed, IsFedLayer, StandsFor, points_of}
-use Rattle.online_commit.specs.Steps.{IsClosing, IsSession, KeptSession, last_cells, last_layer, seen}
+use Rattle.online_commit.specs.inside.Steps.{IsClosing, IsSession, KeptSession, last_cells, last_layer, seen}
 use Rattle.online_commit.proofs.Beginning.{ended, ended-handed, missing-items, new_items, opened, opened-handed}
 use Rattle.online_commit.proofs.ClosedSession.{closing-best, closing-items}
 use Rattle.online_commit.proofs.Ending.{IsOver, no-length, split_missing}

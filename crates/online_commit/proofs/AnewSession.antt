@@ -17,10 +17,10 @@ use Rattle.matching.proofs.Fronts.{front-none}
 use Rattle.matching.proofs.Lists.{all-cons}
 use Rattle.matching.proofs.PieceSoFar.{IsGround, IsPieceSoFar, so_far_first}
 use Rattle.online_commit.specs.declared.items.Item.{Item}
-use Rattle.online_commit.specs.Masks.{HasFewRanks}
-use Rattle.online_commit.specs.Pieces.{IsBegun, IsExtended, Piece, empty_piece, session_with}
+use Rattle.online_commit.specs.inside.Masks.{HasFewRanks}
+use Rattle.online_commit.specs.inside.Pieces.{IsBegun, IsExtended, Piece, empty_piece, session_with}
 use Rattle.online_commit.specs.Session.{IsFedLayer, points_of}
-use Rattle.online_commit.specs.Steps.{IsSession, KeptSession, last_cells, last_layer, seen}
+use Rattle.online_commit.specs.inside.Steps.{IsSession, KeptSession, last_cells, last_layer, seen}
 use Rattle.online_commit.proofs.Fresh.{IsFresh, fresh-committed}
 use Rattle.online_commit.proofs.Passing.{IsTabled}
 use Rattle.online_commit.proofs.Ranks.{first-ranks}

@@ -16,7 +16,7 @@ use Rattle.route_rebuild.specs.Routes.{no_layer}
 use Rattle.online_commit.specs.declared.items.Item.{Item}
 use Rattle.online_commit.specs.declared.items.Item.TheVariants.{Missing}
 use Rattle.online_commit.specs.Items.{closed_at, handed, label_at, label_item, points_from}
-use Rattle.online_commit.specs.Steps.{as_ranks, closing_of, piece_from, rank_in, ranked_items}
+use Rattle.online_commit.specs.inside.Steps.{as_ranks, closing_of, piece_from, rank_in, ranked_items}
 use Rattle.online_commit.proofs.Composed.{composed}
 use Rattle.online_commit.proofs.Ending.{IsOver, handed-before, over-points}
 use Rattle.online_commit.proofs.Handed.{EndAfter, base, end_none, handed-form, items-with, labels_between, same-more}

@@ -6,7 +6,7 @@ use Rattle.std.proofs.Math.Nat.{mod-eq_of_lt}
 use Rattle.std.proofs.Math.Pow.{pow-lt}
 use Rattle.std.proofs.lemmas.Bool.{cases_lt}
 use Rattle.std.proofs.lemmas.Nat.Bits.{bit_at-lt, bit_at-pow_other, bit_at-pow_same, bit_at-trailing_zeros, bit_at-zero, bit_at_set_other, bit_at_set_same, same_from_bits_below}
-use Rattle.online_commit.specs.Masks.{HasBit, IsNotOne, IsOnly}
+use Rattle.online_commit.specs.inside.Masks.{HasBit, IsNotOne, IsOnly}
 
 pub same-or-not : (a b : ℕ) → (a ≡ b) ⊎ (a ≢ b)
 same-or-not a b =

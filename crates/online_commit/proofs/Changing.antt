@@ -6,7 +6,7 @@ use Rattle.std.proofs.lemmas.Bool.Decides.{nat_tests}
 use Rattle.std.proofs.lemmas.List.{get_or_append_left, length_push}
 use Rattle.std.proofs.Math.Seq.{get_or-append_seam}
 use Rattle.matching.specs.declared.parts.Cell.{Cell}
-use Rattle.online_commit.specs.Masks.{AreMasks, IsBehind, IsLiveMask, mask_after, mask_at}
+use Rattle.online_commit.specs.inside.Masks.{AreMasks, IsBehind, IsLiveMask, mask_after, mask_at}
 
 -- k masks before the last point were looked at, and `behind` comes next; `old` is the number of points before
 pub record IsChanging (tables : List (List Cell)) (cells : List Cell) (changed : List ℕ) (k behind : ℕ) : Type 0 where

@@ -1,7 +1,7 @@
 -- The items of a piece that is closed, as they are made.
 use Rattle.std.proofs.Common.{◌≡◌, ℕ, ◌-◌, ◌<◌, List, [], ◌∷◌, ◌++◌, Option, refl, sym, ap, ◌∙◌, subst, arith, length, get_or, reverse, unwrap_or}
-use Rattle.bounded_search.specs.Rows.{RowsState, AsksOnly}
-use Rattle.bounded_search.proofs.Asking.{only_by}
+use Rattle.bounded_table.specs.Rows.{RowsState, AsksOnly}
+use Rattle.bounded_table.proofs.Asking.{only_by}
 use Rattle.road_network.specs.Net.{IsLawful}
 use Rattle.matching.specs.declared.parts.Layer.{Layer}
 use Rattle.matching.specs.Local.{IsLeastCell, by_pointers}
@@ -15,7 +15,7 @@ use Rattle.route_rebuild.proofs.RouteValue.{route_of-is}
 use Rattle.online_commit.specs.declared.items.Item.{Item}
 use Rattle.online_commit.specs.declared.items.Item.TheVariants.{Closed}
 use Rattle.online_commit.specs.Items.{edge_ids}
-use Rattle.online_commit.specs.Steps.{IsClosing, IsSession, KeptSession, as_ranks, piece_from, rank_in, ranked_items, whole_piece}
+use Rattle.online_commit.specs.inside.Steps.{IsClosing, IsSession, KeptSession, as_ranks, piece_from, rank_in, ranked_items, whole_piece}
 use Rattle.online_commit.proofs.OwnRun.{IsEndRead, own-asked, own-ranks, own-run}
 
 -- what was read at the last point

@@ -10,7 +10,7 @@ use Rattle.matching.proofs.Splits.{Splits}
 use Rattle.online_commit.specs.declared.items.Item.{Item}
 use Rattle.online_commit.specs.Items.{handed, items_of}
 use Rattle.online_commit.specs.Session.{IsFinished, Session, StandsFor, no_points_of}
-use Rattle.online_commit.specs.Steps.{IsClosing, IsSession, KeptSession, closing_of, seen}
+use Rattle.online_commit.specs.inside.Steps.{IsClosing, IsSession, KeptSession, closing_of, seen}
 use Rattle.online_commit.proofs.Ending.{finished-items, finished-none}
 use Rattle.online_commit.proofs.Extending.{tabled-of}
 use Rattle.online_commit.proofs.Labels.{IsBestOf, IsSplitAt, split-of}

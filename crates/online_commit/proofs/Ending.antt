@@ -19,7 +19,7 @@ use Rattle.matching.proofs.Splits.{from_point, from_joins, from_skips, Splits}
 use Rattle.route_rebuild.specs.Routes.{chosen_at, no_layer, route_of}
 use Rattle.online_commit.specs.declared.items.Item.TheVariants.{Closed}
 use Rattle.online_commit.specs.Items.{closed_at, closed_item, edge_ids, handed, items_of, items_with, label_at, points_from}
-use Rattle.online_commit.specs.Steps.{as_ranks, closing_of, piece_from, rank_in, ranked_item, ranked_items, whole_piece}
+use Rattle.online_commit.specs.inside.Steps.{as_ranks, closing_of, piece_from, rank_in, ranked_item, ranked_items, whole_piece}
 use Rattle.online_commit.proofs.Composed.{after, closed-before}
 use Rattle.online_commit.proofs.Handed.{EndAfter, base, closed-here, closed-later, handed-form, items-with, label-later, labels_between, layer-later, solution-now}
 use Rattle.online_commit.proofs.Labels.{IsBestOf, best-is, best-length, open-labels, tail-rank}

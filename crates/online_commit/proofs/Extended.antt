@@ -7,10 +7,10 @@ use Rattle.matching.specs.declared.parts.Cell.{Cell}
 use Rattle.matching.specs.declared.parts.Layer.{Layer}
 use Rattle.std.specs.Prelude.{None, Some}
 use Rattle.online_commit.specs.declared.items.Item.{Item}
-use Rattle.online_commit.specs.Masks.{AreMasks, IsBehind, IsLiveMask, IsNotOne, IsOnly, mask_after, mask_at}
-use Rattle.online_commit.specs.Pieces.{IsAppended, IsExtended, MayGrow, Piece, session_with}
+use Rattle.online_commit.specs.inside.Masks.{AreMasks, IsBehind, IsLiveMask, IsNotOne, IsOnly, mask_after, mask_at}
+use Rattle.online_commit.specs.inside.Pieces.{IsAppended, IsExtended, MayGrow, Piece, session_with}
 use Rattle.online_commit.specs.Session.{IsFed, IsFedLayer, Session, points_of}
-use Rattle.online_commit.specs.Steps.{AreSettled, EndsBefore, IsSession, KeptSession, TakesAnew, TellsCells, seen}
+use Rattle.online_commit.specs.inside.Steps.{AreSettled, EndsBefore, IsSession, KeptSession, TakesAnew, TellsCells, seen}
 use Rattle.online_commit.proofs.AnewSession.{BeginsAnew}
 use Rattle.online_commit.proofs.Extending.{GoesOnTo, grown-fed, grown-session, piece_part}
 

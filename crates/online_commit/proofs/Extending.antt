@@ -24,10 +24,10 @@ use Rattle.matching.proofs.Splits.{OneOrNone}
 use Rattle.route_rebuild.specs.Routes.{no_layer}
 use Rattle.online_commit.specs.declared.items.Item.{Item}
 use Rattle.online_commit.specs.Items.{handed}
-use Rattle.online_commit.specs.Masks.{AreMasks, HasFewRanks, mask_at}
-use Rattle.online_commit.specs.Pieces.{IsExtended, MayGrow, Piece, session_with}
+use Rattle.online_commit.specs.inside.Masks.{AreMasks, HasFewRanks, mask_at}
+use Rattle.online_commit.specs.inside.Pieces.{IsExtended, MayGrow, Piece, session_with}
 use Rattle.online_commit.specs.Session.{IsFed, IsFedLayer, StandsFor, points_of}
-use Rattle.online_commit.specs.Steps.{IsSession, KeptSession, last_cells, last_layer, seen}
+use Rattle.online_commit.specs.inside.Steps.{IsSession, KeptSession, last_cells, last_layer, seen}
 use Rattle.online_commit.proofs.Growing.{fed-stays, grown, grown-handed}
 use Rattle.online_commit.proofs.Handed.{labels_between}
 use Rattle.online_commit.proofs.Labels.{split-of, stands-by}

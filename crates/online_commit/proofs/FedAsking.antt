@@ -1,8 +1,8 @@
 -- What feeding a point leaves of the rows.
 use Rattle.std.proofs.Common.{◌≡◌, ℕ, ◌<◌, ◌⊎◌, inl, inr, ⊎_elim, List, [], ◌∷◌, ◌++◌, Result, Ok, Err, OnOk, IsErr, sym, ap, ◌∙◌, subst, arith, length, drop}
 use Rattle.std.specs.Prelude.{Contains}
-use Rattle.bounded_search.specs.Rows.{RowsState, AsksAll, AsksOnly}
-use Rattle.bounded_search.proofs.Asking.{keeps_then, only_by, only_then}
+use Rattle.bounded_table.specs.Rows.{RowsState, AsksAll, AsksOnly}
+use Rattle.bounded_table.proofs.Asking.{keeps_then, only_by, only_then}
 use Rattle.matching.specs.declared.parts.Layer.{Layer}
 use Rattle.matching.specs.Layers.{trellis}
 use Rattle.matching.specs.PieceSteps.{AsksIn}
@@ -11,7 +11,7 @@ use Rattle.matching.proofs.CommittedValues.{whole}
 use Rattle.matching.proofs.Runs.{EndsWith}
 use Rattle.matching.proofs.Splits.{Splits}
 use Rattle.online_commit.specs.Session.{AsksFed, AsksFinished, AsksPoints, StandsFor}
-use Rattle.online_commit.specs.Steps.{AsksStep, IsSession, KeptSession, last_cells, last_layer, seen}
+use Rattle.online_commit.specs.inside.Steps.{AsksStep, IsSession, KeptSession, last_cells, last_layer, seen}
 use Rattle.online_commit.proofs.Asking.{IsLastPoint, asks-more, asks-open, asks-split, asks-step}
 use Rattle.online_commit.proofs.Extending.{last-ends}
 use Rattle.online_commit.proofs.Labels.{IsSplitAt, split-of}

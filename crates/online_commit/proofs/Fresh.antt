@@ -12,8 +12,8 @@ use Rattle.matching.proofs.CommittedValues.{front}
 use Rattle.matching.proofs.SolutionMatches.{best_of-is}
 use Rattle.matching.proofs.Splits.{Splits}
 use Rattle.online_commit.specs.declared.items.Item.{Item}
-use Rattle.online_commit.specs.Masks.{AreMasks, IsOnly, mask_at}
-use Rattle.online_commit.specs.Steps.{AreSettled, KeptSession, rank_in, ranked_items}
+use Rattle.online_commit.specs.inside.Masks.{AreMasks, IsOnly, mask_at}
+use Rattle.online_commit.specs.inside.Steps.{AreSettled, KeptSession, rank_in, ranked_items}
 use Rattle.online_commit.proofs.Handed.{labels_between}
 use Rattle.online_commit.proofs.Labels.{IsBestOf, open-labels, tail-rank}
 use Rattle.online_commit.proofs.Passing.{IsBoundary, IsTabled, chosen-single, committed-boundary, last_of}

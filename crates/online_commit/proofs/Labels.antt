@@ -21,7 +21,7 @@ use Rattle.matching.proofs.Unique.{best-unique}
 use Rattle.route_rebuild.specs.Routes.{no_layer}
 use Rattle.online_commit.specs.Items.{label_at, label_item}
 use Rattle.online_commit.specs.Session.{Session, StandsFor, points_of}
-use Rattle.online_commit.specs.Steps.{ranked_item, ranked_items}
+use Rattle.online_commit.specs.inside.Steps.{ranked_item, ranked_items}
 use Rattle.online_commit.proofs.Handed.{label-later, labels_between, solution-now}
 use Rattle.online_commit.proofs.Points.{labels-same, labels-shift}
 

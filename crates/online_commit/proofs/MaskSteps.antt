@@ -5,7 +5,7 @@ use Rattle.std.proofs.lemmas.List.{get_or_past}
 use Rattle.matching.specs.declared.parts.Cell.{Cell}
 use Rattle.matching.specs.Cells.{cell_at, empty_cell, IsLive}
 use Rattle.matching.proofs.Chosen.{live_below}
-use Rattle.online_commit.specs.Masks.{HasBit, IsBehind, IsLiveMask}
+use Rattle.online_commit.specs.inside.Masks.{HasBit, IsBehind, IsLiveMask}
 use Rattle.online_commit.proofs.Bits.{no-bit}
 
 abbrev LiveBelow : List Cell → ℕ → ℕ → Type 0

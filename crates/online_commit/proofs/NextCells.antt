@@ -2,8 +2,8 @@
 use Rattle.std.proofs.Common.{◌≡◌, inr, ℕ, ◌-◌, ◌<◌, IsTrue, List, [], Some, Result, sym, ap, ◌∙◌, subst, arith, length, get_or}
 use Rattle.std.proofs.lemmas.List.{get_or_default}
 use Rattle.road_network.specs.Net.{IsLawful}
-use Rattle.bounded_search.specs.Rows.{RowsState, AsksFor}
-use Rattle.bounded_search.proofs.Asking.{asks_by}
+use Rattle.bounded_table.specs.Rows.{RowsState, AsksFor}
+use Rattle.bounded_table.proofs.Asking.{asks_by}
 use Rattle.matching.specs.declared.parts.Cell.{Cell}
 use Rattle.matching.specs.declared.parts.Layer.{Layer}
 use Rattle.matching.specs.Cells.{cell_at}
@@ -15,7 +15,7 @@ use Rattle.matching.proofs.PieceSoFar.{so_far_count, so_far_small}
 use Rattle.route_rebuild.specs.Routes.{no_layer}
 use Rattle.trellis.specs.Offers.{AreCosts}
 use Rattle.online_commit.specs.Session.{IsFedLayer}
-use Rattle.online_commit.specs.Steps.{AsksStep, IsSession, KeptSession, last_cells, last_layer}
+use Rattle.online_commit.specs.inside.Steps.{AsksStep, IsSession, KeptSession, last_cells, last_layer}
 use Rattle.online_commit.proofs.Extending.{last-ends, session-ground}
 
 pub read-at : {X : Type 0} (xs : List X) (i : ℕ) (x d : X) → i < length xs → x ≡ get_or xs i x → x ≡ get_or xs i d

@@ -22,7 +22,7 @@ use Rattle.route_rebuild.specs.Chosen.{IsChosenRun, IsSolved}
 use Rattle.route_rebuild.specs.Routes.{IsWalkStart}
 use Rattle.route_rebuild.proofs.ChosenEnds.{chosen_asked}
 use Rattle.route_rebuild.proofs.ChosenRun.{chosen_run}
-use Rattle.online_commit.specs.Steps.{IsSession, KeptSession, as_ranks, whole_piece}
+use Rattle.online_commit.specs.inside.Steps.{IsSession, KeptSession, as_ranks, whole_piece}
 use Rattle.online_commit.proofs.Extending.{session-ground, tabled-of}
 
 -- what is read at the end of the open piece

@@ -18,7 +18,7 @@ use Rattle.matching.proofs.Fronts.{ends-in, front-grows}
 use Rattle.matching.proofs.Lists.{at-get_or, reverse-take}
 use Rattle.matching.proofs.Meeting.{Passes, passes_back, passes_itself, meet, apart}
 use Rattle.matching.proofs.Splits.{OneOrNone}
-use Rattle.online_commit.specs.Masks.{AreMasks, HasBit, IsBehind, IsNotOne, IsOnly}
+use Rattle.online_commit.specs.inside.Masks.{AreMasks, HasBit, IsBehind, IsNotOne, IsOnly}
 
 -- an open piece with its tables
 pub record IsTabled {L : Type 0} (t : Trellis L) (xs : List L) (tables : List (List Cell)) : Type 0 where

@@ -6,7 +6,7 @@ use Rattle.matching.specs.declared.parts.Cell.{Cell}
 use Rattle.matching.specs.Sequences.{Trellis}
 use Rattle.matching.specs.Cells.{cell_at, empty_cell}
 use Rattle.matching.specs.Local.{AreFirst, AreNext, IsLeastPointer, IsTightCost, by_way_of}
-use Rattle.online_commit.specs.Masks.{HasFewRanks}
+use Rattle.online_commit.specs.inside.Masks.{HasFewRanks}
 
 pointer-low : (ways : ℕ → Option ℕ) (n : ℕ) (x y : Option ℕ) (a : ℕ) → IsTightCost ways n x y → IsLeastPointer ways x y → y ≡ Some a → a < n
 pointer-low ways n None y a tight pointer e = absurd (cc)

@@ -5,8 +5,8 @@ use Rattle.std.proofs.lemmas.List.{length_push}
 use Rattle.std.proofs.lemmas.List.FromFn.{map-range_with_len_more}
 use Rattle.matching.specs.declared.parts.Layer.{Layer}
 use Rattle.online_commit.specs.declared.items.Item.{Item}
-use Rattle.online_commit.specs.Masks.{IsNotOne, IsOnly}
-use Rattle.online_commit.specs.Steps.{AreSettled, ranked_item, ranked_items}
+use Rattle.online_commit.specs.inside.Masks.{IsNotOne, IsOnly}
+use Rattle.online_commit.specs.inside.Steps.{AreSettled, ranked_item, ranked_items}
 
 pub ranked-more : (first : ℕ) (layers : List Layer) (rank : ℕ → ℕ) (start point : ℕ) → start ≤ point
     → ranked_items first layers rank start (point + 1 - start) ≡ ranked_items first layers rank start (point - start) ++ ranked_item first layers rank point ∷ []

@@ -2,10 +2,10 @@
 use Rattle.std.proofs.Common.{◌≡◌, ◌≢◌, ℕ, zero, suc, ◌+◌, ◌-◌, ◌<◌, ◌≤◌, true, false, ltb, List, [], ◌∷◌, ◌++◌, refl, sym, ap, ◌∙◌, subst, arith, length, get_or, set, ⊎_elim, get_or-set_same, get_or-set_other, if◌then◌else◌}
 use Rattle.std.proofs.lemmas.Bool.Decides.{nat_tests}
 use Rattle.std.proofs.lemmas.List.{length_push}
-use Rattle.online_commit.specs.Masks.{mask_after, mask_at, mask_written}
+use Rattle.online_commit.specs.inside.Masks.{mask_after, mask_at, mask_written}
 use Rattle.matching.specs.declared.parts.Cell.{Cell}
 use Rattle.matching.specs.declared.parts.Layer.{Layer}
-use Rattle.online_commit.specs.Pieces.{IsAppended, Piece}
+use Rattle.online_commit.specs.inside.Pieces.{IsAppended, Piece}
 use Rattle.online_commit.proofs.Bits.{same-or-not}
 
 -- the first k were written

@@ -1,6 +1,3 @@
 pub mod Items
 pub mod Session
-pub mod Masks
-pub mod Steps
-pub mod Pieces
-pub mod SessionInside
+pub mod inside

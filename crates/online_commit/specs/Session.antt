@@ -1,8 +1,8 @@
--- What a session stands for: the points that were fed to it.
+-- What a session represents: the positions that were fed to it.
 use Rattle.std.specs.Prelude.{◌≡◌, ◌⊎◌, ℕ, ◌+◌, ◌<◌, ◌≤◌, List, [], ◌∷◌, ◌++◌, Result, OnOk, Contains, length, drop}
 use Rattle.cost_model.specs.declared.params.Params.{Params}
 use Rattle.road_network.specs.Net.{Net}
-use Rattle.bounded_search.specs.Rows.{RowsState, AsksOnly, Keeps}
+use Rattle.bounded_table.specs.Rows.{RowsState, AsksOnly, Keeps}
 use Rattle.matching.specs.declared.parts.Layer.{Layer}
 use Rattle.matching.specs.Layers.{IsLayer, trellis}
 use Rattle.matching.specs.PieceSteps.{AsksTrace}
@@ -11,7 +11,7 @@ use Rattle.matching.specs.CommittedValue.{committed_of, open_first}
 use Rattle.online_commit.specs.declared.items.Item.{Item}
 use Rattle.online_commit.specs.Items.{handed, items_of}
 
--- a session: where the open piece begins, how many of its points were handed out, and its points
+-- a session: where the open piece begins, how many of its positions were handed out, and its positions
 pub record Session : Type 0 where
   pub network : Net
   pub params : Params
@@ -19,31 +19,31 @@ pub record Session : Type 0 where
   pub told : ℕ
   pub layers : List Layer
 
--- how many points were fed
+-- how many positions were fed
 abbrev pub points_of : Session → ℕ
 points_of s = s.first + length s.layers
 
--- it stands for these points: it keeps those of their open piece, and has handed out what is committed
+-- it represents these positions: it keeps those of their open piece, and has handed out what is committed
 pub record StandsFor (s : Session) (fed : List Layer) : Type 0 where
   pub count : points_of s ≡ length fed
   pub layers_are : s.layers ≡ drop s.first fed
   pub first_is : open_first (solution (trellis s.network s.params) fed).pieces (length fed) ≡ s.first
   pub told_is : committed_of (trellis s.network s.params) fed ≡ s.first + s.told
 
--- a session with no points
+-- a session with no positions
 abbrev pub no_points_of : Net → Params → Session
 no_points_of n p = record { network = n; params = p; first = 0; told = 0; layers = [] }
 
--- a point of the plane with at most 32 candidates of this network
+-- a position of the plane with at most 32 candidates of this network
 pub record IsFedLayer (n : Net) (p : Params) (l : Layer) : Type 0 where
   pub layer : IsLayer n p l
   pub few : length l.candidates ≤ 32
 
--- a point of its network that the session has room for
+-- a position of its network that the session has room for
 abbrev pub CanFeed : Session → Layer → Type 0
 CanFeed s l = IsFedLayer s.network s.params l × (points_of s < 100_000)
 
--- the match of these points asks for the row of node v
+-- the match of these positions asks for the row of node v
 abbrev pub AsksPoints : Net → Params → List Layer → ℕ → Type 0
 AsksPoints n p layers v = AsksTrace n p layers (solution (trellis n p) layers).pieces v
 
@@ -51,8 +51,8 @@ AsksPoints n p layers v = AsksTrace n p layers (solution (trellis n p) layers).p
 abbrev pub BeginsWith : List Item → List Item → Type 0
 BeginsWith all front = (rest : List Item) × (all ≡ front ++ rest)
 
--- a session of the same network and options that stands for one point more, where these items were
--- handed out: all items so far stay, whatever points follow
+-- a session of the same network and options that represents one position more, where these items were handed out:
+-- all items so far stay, whatever positions follow
 pub record IsFed (old : Session) (l : Layer) (new : Session) (items : List Item) : Type 0 where
   pub network : new.network ≡ old.network
   pub params : new.params ≡ old.params
@@ -69,8 +69,8 @@ pub record IsFinished (old new : Session) (items : List Item) : Type 0 where
   pub rest : (fed : List Layer) → StandsFor old fed
       → items_of old.network old.params fed ≡ handed old.network old.params fed ++ items
 
--- what feeding a point leaves of the rows: nothing became known but what the points with the new one
--- ask for, and after Ok all that they ask for is known and the points before did not
+-- what feeding a position leaves of the rows: nothing became known but what the positions with the new one ask for,
+-- and after Ok all that they ask for is known and the positions before did not
 pub record AsksFed {A E : Type 0} (old : Session) (l : Layer) (rows : RowsState) (result : Result A E)
     (new : RowsState) : Type 0 where
   pub keeps : Keeps rows new
@@ -80,19 +80,19 @@ pub record AsksFed {A E : Type 0} (old : Session) (l : Layer) (rows : RowsState)
       → AsksPoints old.network old.params (fed ++ l ∷ []) v
       → AsksPoints old.network old.params fed v ⊎ Contains new.known v)
 
--- nothing became known but what the points ask for
+-- nothing became known but what the positions ask for
 pub record AsksFinished (old : Session) (rows new : RowsState) : Type 0 where
   pub keeps : Keeps rows new
   pub only : (fed : List Layer) → StandsFor old fed
       → AsksOnly rows new (AsksPoints old.network old.params fed)
 
--- what is handed out stays, whatever points follow
+-- what is handed out stays, whatever positions follow
 abbrev pub HandedStays : Type 0
 HandedStays =
     (n : Net) (p : Params) (layers more : List Layer)
     → BeginsWith (items_of n p (layers ++ more)) (handed n p layers)
 
--- and more points hand out no less
+-- and more positions hand out no less
 abbrev pub HandedGrows : Type 0
 HandedGrows =
     (n : Net) (p : Params) (layers more : List Layer)

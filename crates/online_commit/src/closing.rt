@@ -1,23 +1,23 @@
 //! The end of a piece. Serves `feed` and `finish`; decided by `IsClosing`.
 ghost use Rattle.std.specs.Prelude.{◌≡◌, Some, ◌+◌, ◌-◌, ◌<◌, ◌≤◌, ◌^◌, [], IfOk, length, map};
-ghost use Rattle.bounded_search.specs.Rows.{AreRowsOf, AsksOnly};
+ghost use Rattle.bounded_table.specs.Rows.{AreRowsOf, AsksOnly};
 ghost use Rattle.matching.specs.PieceSteps.{AsksIn};
-ghost use Rattle.online_commit.specs.Pieces.{session_of};
-ghost use Rattle.online_commit.specs.Steps.{IsClosing, IsSession, rank_in, ranked_items};
+ghost use Rattle.online_commit.specs.inside.Pieces.{session_of};
+ghost use Rattle.online_commit.specs.inside.Steps.{IsClosing, IsSession, rank_in, ranked_items};
 
 use crate::feeding::OpenPiece;
 use crate::items::Item;
 use crate::settled::candidate;
-use bounded_search::Rows;
+use bounded_table::Rows;
 use cost_model::Params;
-use polyline_geometry::List;
+use plain_list::List;
 use road_network::Network;
 use route_rebuild::route_over;
 use std::alloc::{AllocError, Global};
 use trellis::{Layer, Piece, least_cell};
 use viterbi::follow;
 
-/// The items of the points from `start` on, with these ranks.
+/// The items of the positions from `start` on, with these ranks.
 fn labelled(
     alloc: Global,
     first: u32,
@@ -41,7 +41,7 @@ fn labelled(
     Ok(items)
 }
 
-/// The ranks of points that all have one.
+/// The ranks of positions that all have one.
 fn as_some(alloc: Global, ranks: &[u32]) -> Result<Vec<Option<u32>>, AllocError>
     ensures { IfOk result (λ some. some.items ≡ map (λ r. Some r) ranks.now) }
 {
@@ -52,7 +52,7 @@ fn as_some(alloc: Global, ranks: &[u32]) -> Result<Vec<Option<u32>>, AllocError>
     Ok(some)
 }
 
-/// The remaining items of the open piece, if there is one: those of its points, and the piece.
+/// The remaining items of the open piece, if there is one: those of its positions, and the piece.
 pub fn closing_items<R: Rows>(
     net: &Network,
     p: &Params,

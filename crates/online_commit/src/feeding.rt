@@ -1,27 +1,26 @@
-//! The open piece, and how a new point continues it. Serves `feed`; decided by `AreMasks` and
-//! `AreSettled`.
+//! The open piece, and how a new position continues it. Serves `feed`; decided by `AreMasks` and `AreSettled`.
 ghost use Rattle.std.specs.Prelude.{◌≡◌, ◌+◌, ◌<◌, ◌≤◌, ◌^◌, ◌∷◌, [], ◌++◌, ℕ, IsOk, IfOk, OnErr, OnOk, length, slice_index_or, vec_len, vec_capacity};
 ghost use Rattle.std.specs.List.{All};
-ghost use Rattle.bounded_search.specs.Rows.{AreRowsOf, AsksFor};
+ghost use Rattle.bounded_table.specs.Rows.{AreRowsOf, AsksFor};
 ghost use Rattle.cost_model.specs.Options.{IsAccepted};
 ghost use Rattle.road_network.specs.Net.{Net};
-ghost use Rattle.online_commit.specs.Masks.{AreMasks, HasFewRanks, mask_at, mask_written};
+ghost use Rattle.online_commit.specs.inside.Masks.{AreMasks, HasFewRanks, mask_at, mask_written};
 ghost use Rattle.online_commit.specs.Session.{IsFedLayer};
-ghost use Rattle.online_commit.specs.Steps.{AsksStep, IsSession, TellsCells};
-ghost use Rattle.online_commit.specs.Pieces.{HasRoom, IsAppended, IsBegun, IsExtended, MayGrow, Settles, session_of, piece_of};
+ghost use Rattle.online_commit.specs.inside.Steps.{AsksStep, IsSession, TellsCells};
+ghost use Rattle.online_commit.specs.inside.Pieces.{HasRoom, IsAppended, IsBegun, IsExtended, MayGrow, Settles, session_of, piece_of};
 
 use crate::items::Item;
 use crate::masks::changed_masks;
 use crate::settled::{Growing, settled_items};
-use bounded_search::Rows;
+use bounded_table::Rows;
 use cost_model::Params;
-use polyline_geometry::List;
+use plain_list::List;
 use road_network::Network;
 use std::alloc::{AllocError, Global};
 use trellis::{Cell, Layer, Potentials, first_layer, is_near, least_cell, next_layer};
 
-/// The open piece, or the place where the next one may begin: its first point, how many of its points
-/// were returned, and for each point the layer, the cells and the ranks that are still possible.
+/// The open piece, or the place where the next one may begin: its first position, how many of its positions were
+/// returned, and for each position the layer, the cells and the ranks that are still possible.
 pub struct OpenPiece {
     pub alloc: Global,
     pub first: u32,
@@ -45,7 +44,7 @@ impl Drop for OpenPiece {
     }
 }
 
-/// A piece without points. Allocates nothing.
+/// A piece without positions. Allocates nothing.
 pub fn no_piece(alloc: Global, first: u32) -> OpenPiece
     ensures { piece_of result ≡ record { first = first; told = 0; layers = []; tables = []; masks = [] } }
 {
@@ -92,7 +91,7 @@ pub fn next_cells<R: Rows>(
     Ok(Some(cells))
 }
 
-/// Writes the masks of the last points, from the last one back.
+/// Writes the masks of the last positions, from the last one back.
 fn write_masks(masks: &mut [u32], changed: &[u32])
     requires { length changed.now ≤ length masks.old }
     ensures { (i : ℕ) → i < length masks.old
@@ -104,7 +103,7 @@ fn write_masks(masks: &mut [u32], changed: &[u32])
     }
 }
 
-/// Appends the point; there is room for it.
+/// Appends the position; there is room for it.
 fn append_point(
     piece: &mut OpenPiece,
     layer: Layer,
@@ -124,7 +123,7 @@ fn append_point(
     Ok(())
 }
 
-/// Reserves room for one more point.
+/// Reserves room for one more position.
 fn make_room(piece: &mut OpenPiece) -> Result<(), AllocError>
     ensures same { piece_of piece.new ≡ piece_of piece.old }
     ensures room { OnOk result (HasRoom piece.new) }
@@ -135,8 +134,8 @@ fn make_room(piece: &mut OpenPiece) -> Result<(), AllocError>
     Ok(())
 }
 
-/// The masks that change if a point with these cells follows the piece, and the items of the
-/// points that it commits.
+/// The masks that change if a position with these cells follows the piece, and the items of the positions that it
+/// commits.
 fn settle(
     piece: &OpenPiece,
     layer: &Layer,
@@ -157,8 +156,7 @@ fn settle(
     Ok((changed, items))
 }
 
-/// Appends a point with its cells to the open piece, and returns the items of the points that it
-/// commits.
+/// Appends a position with its cells to the open piece, and returns the items of the positions that it commits.
 pub fn extend(
     piece: &mut OpenPiece,
     layer: Layer,
@@ -175,8 +173,8 @@ pub fn extend(
     Ok(items)
 }
 
-/// The piece that begins with this point (or none, if it has no candidate), and the item of the point
-/// if it is committed.
+/// The piece that begins with this position (or none, if it has no candidate), and the item of the position if it
+/// is committed.
 pub fn begin(
     alloc: Global,
     p: &Params,

@@ -1,15 +1,15 @@
-//! A session of one trace that takes its points one by one. It returns the label of each point as
-//! soon as all best sequences agree on it, and each piece as soon as it is closed.
+//! A session of one trace that takes its positions one by one. It returns the label of each position as soon as all
+//! best sequences agree on it, and each piece as soon as it is closed.
 //!
-//! [`Online::feed`] takes a point and [`Online::finish`] ends the trace. `handed` and `items_of` in
-//! `specs/Items.antt` define what they return: the committed labels in the order of the points, and
-//! each closed piece after its last point. [`what_is_handed_out_stays`] says that whatever points
-//! follow, everything returned so far is the beginning of what the whole trace has.
+//! [`Online::feed`] takes a position and [`Online::finish`] ends the trace. `handed` and `items_of` in
+//! `specs/Items.antt` define what they return: the committed labels in the order of the positions, and each closed
+//! piece after its last position. [`what_is_handed_out_stays`] says that whatever positions follow, everything
+//! returned so far is the beginning of what the whole trace has.
 //!
-//! A session keeps the points of the open piece, and for each of them a set of ranks: those that
-//! the best sequences to the live ranks of the last point have there. A point is committed when
-//! that set has one rank. A new point changes the sets from the last one back to the first one that
-//! stays the same. No clause bounds how many sets change.
+//! A session keeps the positions of the open piece, and for each of them a set of ranks: those that the best
+//! sequences to the live ranks of the last position have there. A position is committed when that set has one rank.
+//! A new position changes the sets from the last one back to the first one that stays the same. No clause bounds
+//! how many sets change.
 //!
 //! Read first: `handed` in `specs/Items.antt`, `StandsFor` and `IsFed` in `specs/Session.antt`.
 #![tactic(auto)]

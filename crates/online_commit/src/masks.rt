@@ -3,7 +3,7 @@
 ghost use Rattle.std.specs.Prelude.{◌≡◌, ◌↔◌, ◌⊎◌, ◌+◌, ◌-◌, ◌<◌, ◌≤◌, ℕ, List as ListOf, [], ◌∷◌, ◌++◌, IsTrue, IfOk, MatchOption, length, slice_index_or};
 ghost use Rattle.std.specs.List.{All};
 ghost use Rattle.matching.specs.Cells.{IsLive};
-ghost use Rattle.online_commit.specs.Masks.{AreMasks, HasBit, HasFewRanks, IsBehind, IsLiveMask, IsNotOne, IsOnly, mask_after, mask_at};
+ghost use Rattle.online_commit.specs.inside.Masks.{AreMasks, HasBit, HasFewRanks, IsBehind, IsLiveMask, IsNotOne, IsOnly, mask_after, mask_at};
 
 use std::alloc::{AllocError, Global};
 use trellis::{Cell, Potentials};
@@ -33,7 +33,7 @@ fn with_live(mask: u32, rank: u32, cell: Cell) -> u32
     }
 }
 
-/// The live ranks of a point.
+/// The live ranks of a position.
 pub fn live_ranks(cells: &[Cell]) -> u32
     requires { HasFewRanks cells.now }
     ensures { IsLiveMask cells.now result }
@@ -80,7 +80,7 @@ pub fn only_rank(mask: u32) -> Option<u32>
     if mask == 1 << rank { Some(rank) } else { None }
 }
 
-/// The mask of a point, after those of the last points changed.
+/// The mask of a position, after those of the last positions changed.
 pub fn mask_after(masks: &[u32], changed: &[u32], point: usize) -> u32
     requires point { point ≤ length masks.now }
     requires some { 0 < length changed.now }
@@ -94,8 +94,8 @@ pub fn mask_after(masks: &[u32], changed: &[u32], point: usize) -> u32
     }
 }
 
-/// The masks that change if a point with these cells follows the points of these tables: from
-/// the new point back to the last one that changes.
+/// The masks that change if a position with these cells follows the positions of these tables: from the new
+/// position back to the last one that changes.
 pub fn changed_masks(
     alloc: Global,
     tables: &[Potentials],

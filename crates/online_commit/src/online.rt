@@ -1,25 +1,25 @@
 //! The session. Serves those who follow a trace; decided by `IsFed` and `IsFinished`.
 ghost use Rattle.std.specs.Prelude.{◌≡◌, ◌<◌, [], ◌++◌, IfOk, OnErr, OnOk};
-ghost use Rattle.bounded_search.specs.Rows.{AreRowsOf, AsksOnly};
+ghost use Rattle.bounded_table.specs.Rows.{AreRowsOf, AsksOnly};
 ghost use Rattle.cost_model.specs.Options.{IsAccepted};
 ghost use Rattle.matching.specs.PieceSteps.{AsksIn};
 ghost use Rattle.online_commit.specs.Session.{AsksFed, AsksFinished, CanFeed, IsFed, IsFinished, StandsFor, no_points_of, points_of};
-ghost use Rattle.online_commit.specs.Steps.{EndsBefore, TakesAnew};
-ghost use Rattle.online_commit.specs.Pieces.{piece_of, session_of};
+ghost use Rattle.online_commit.specs.inside.Steps.{EndsBefore, TakesAnew};
+ghost use Rattle.online_commit.specs.inside.Pieces.{piece_of, session_of};
 
 use crate::closing::closing_items;
 use crate::feeding::{OpenPiece, begin, extend, next_cells, no_piece};
 use crate::items::Item;
-use bounded_search::Rows;
+use bounded_table::Rows;
 use cost_model::Params;
-use polyline_geometry::List;
+use plain_list::List;
 use road_network::Network;
 use std::alloc::{AllocError, Global};
 use std::marker::Model;
 use trellis::Layer;
 
-/// A session of one trace. A contract sees the network, the options, and the points of the open piece;
-/// `StandsFor` says which points the session represents.
+/// A session of one trace. A contract sees the network, the options, and the positions of the open piece;
+/// `StandsFor` says which positions the session represents.
 pub struct Online<'n> {
     net: &'n Network,
     params: Params,
@@ -39,7 +39,7 @@ impl<'n> Drop for Online<'n> {
 
 impl<'n> Model for Online<'n> {
     ghost use Rattle.online_commit.specs.Session.{Session};
-    ghost use Rattle.online_commit.specs.SessionInside.{shown_session, IsKept};
+    ghost use Rattle.online_commit.specs.inside.SessionInside.{shown_session, IsKept};
 
     ghost Value = { Session };
 
@@ -58,8 +58,8 @@ fn append_items(items: &mut List<Item>, more: List<Item>) -> Result<(), AllocErr
     Ok(())
 }
 
-/// Closes the open piece, if there is one, before a point that does not continue it, and begins anew
-/// with the point.
+/// Closes the open piece, if there is one, before a position that does not continue it, and begins anew with the
+/// position.
 fn begin_anew<R: Rows>(
     net: &Network,
     p: &Params,
@@ -84,7 +84,7 @@ fn begin_anew<R: Rows>(
 }
 
 impl<'n> Online<'n> {
-    /// A session of no points, with accepted options. Allocates nothing.
+    /// A session of no positions, with accepted options. Allocates nothing.
     pub fn open(alloc: Global, net: &'n Network, p: &Params) -> Online<'n>
         requires { IsAccepted p.now }
         ensures opened { result ≡ no_points_of net.now p.now }
@@ -111,18 +111,18 @@ impl<'n> Online<'n> {
         &self.params
     }
 
-    /// The number of points taken since the session was opened or finished.
+    /// The number of positions taken since the session was opened or finished.
     pub fn count(&self) -> u32
         ensures { result ≡ points_of self.now }
     {
         self.piece.first + self.piece.layers.len() as u32
     }
 
-    /// Takes the next point, and returns the items that it commits, in the order of the points.
-    /// `Err` means out of memory; then the point was not taken.
+    /// Takes the next position, and returns the items that it commits, in the order of the positions. `Err` means
+    /// out of memory; then the position was not taken.
     ///
-    /// Only rows that the points with this one ask for become known, even on `Err`. On `Ok`, all of them
-    /// are known that the points without this one do not ask for.
+    /// Only rows that the positions with this one ask for become known, even on `Err`. On `Ok`, all of them are
+    /// known that the positions without this one do not ask for.
     pub fn feed<R: Rows>(&mut self, layer: Layer, rows: &mut R) -> Result<List<Item>, AllocError>
         requires rows { AreRowsOf (R.state rows.old) self.old.network self.old.params.bound }
         requires layer { CanFeed self.old layer }
@@ -138,9 +138,8 @@ impl<'n> Online<'n> {
         }
     }
 
-    /// Ends the trace, and returns the remaining items. Then the session is as newly opened. `Err` means
-    /// out of memory; then the session is unchanged. Only rows that the points ask for become known, even
-    /// on `Err`.
+    /// Ends the trace, and returns the remaining items. Then the session is as newly opened. `Err` means out of
+    /// memory; then the session is unchanged. Only rows that the positions ask for become known, even on `Err`.
     pub fn finish<R: Rows>(&mut self, rows: &mut R) -> Result<List<Item>, AllocError>
         requires rows { AreRowsOf (R.state rows.old) self.old.network self.old.params.bound }
         ensures finished { IfOk result (IsFinished self.old self.new) }

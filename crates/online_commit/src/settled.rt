@@ -1,13 +1,13 @@
-//! The points of an open piece that are committed. Serves `feed`; decided by `AreSettled`.
+//! The positions of an open piece that are committed. Serves `feed`; decided by `AreSettled`.
 ghost use Rattle.std.specs.Prelude.{◌≡◌, ◌+◌, ◌<◌, ◌≤◌, ◌∷◌, [], ◌++◌, ◌^◌, ℕ, IfOk, length, slice_index_or};
 ghost use Rattle.matching.specs.Layers.{candidate_of_rank};
-ghost use Rattle.online_commit.specs.Masks.{mask_after};
-ghost use Rattle.online_commit.specs.Steps.{AreSettled, ranked_items};
+ghost use Rattle.online_commit.specs.inside.Masks.{mask_after};
+ghost use Rattle.online_commit.specs.inside.Steps.{AreSettled, ranked_items};
 ghost use Rattle.route_rebuild.specs.Routes.{no_layer};
 
 use crate::items::Item;
 use crate::masks::{mask_after, only_rank};
-use polyline_geometry::List;
+use plain_list::List;
 use road_network::{Candidate, EdgeId};
 use std::alloc::{AllocError, Global};
 use trellis::Layer;
@@ -26,8 +26,8 @@ pub fn candidate(layer: &Layer, rank: u32) -> Candidate
     }
 }
 
-/// A piece that begins with point `first`: the layers of its points, and a new layer after them, with
-/// the masks before and those that changed.
+/// A piece that begins with position `first`: the layers of its positions, and a new layer after them, with the
+/// masks before and those that changed.
 #[derive(Drop)]
 pub struct Growing<'a> {
     pub first: u32,
@@ -37,7 +37,7 @@ pub struct Growing<'a> {
     pub changed: &'a [u32],
 }
 
-/// The candidate of this rank of a point.
+/// The candidate of this rank of a position.
 fn candidate_at(piece: &Growing, point: usize, rank: u32) -> Candidate
     requires { point ≤ length piece.now.layers.now }
     ensures { result ≡ candidate_of_rank
@@ -50,7 +50,7 @@ fn candidate_at(piece: &Growing, point: usize, rank: u32) -> Candidate
     }
 }
 
-/// The items of the points from `start` on that the new layer commits.
+/// The items of the positions from `start` on that the new layer commits.
 pub fn settled_items(alloc: Global, piece: &Growing, start: usize) -> Result<List<Item>, AllocError>
     requires few { piece.now.first + length piece.now.layers.now < 2 ^ 32 }
     requires masks { length piece.now.masks.now ≡ length piece.now.layers.now }

@@ -6,7 +6,7 @@ use Rattle.std.specs.Int.{int_div_euclid}
 use Rattle.std.specs.Int.RustNames.{unsigned_abs}
 use Rattle.polyline_geometry.specs.declared.plane.Point.{Point}
 use Rattle.polyline_geometry.specs.Plane.{InRange, along, brought_into, distance2, dot, share, snap_segment, snapped}
-use Rattle.polyline_geometry.specs.Parts.{IsPartOf, IsShare}
+use Rattle.polyline_geometry.specs.inside.Parts.{IsPartOf, IsShare}
 use Rattle.polyline_geometry.specs.Boxes.{BoxMeetsSquare, InBox, IsBetween}
 use Rattle.polyline_geometry.proofs.Distances.{differ_apart, distance2-le}
 use Rattle.polyline_geometry.proofs.Parts.{part_between}

@@ -4,7 +4,7 @@ use Rattle.std.proofs.Math.Nat.{div-le_of_le-mul, div-lt_iff_lt-mul, le-div_iff_
 use Rattle.std.proofs.lemmas.Int.{ints}
 use Rattle.std.specs.Int.{int_div_euclid}
 use Rattle.std.specs.Int.RustNames.{unsigned_abs}
-use Rattle.polyline_geometry.specs.Parts.{IsPartOf}
+use Rattle.polyline_geometry.specs.inside.Parts.{IsPartOf}
 
 pub div_le : (k t n : ℕ) → t ≤ n → k * t / n ≤ k
 div_le k t n le =

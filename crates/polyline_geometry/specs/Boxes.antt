@@ -4,7 +4,7 @@ use Rattle.std.specs.Int.RustNames.{unsigned_abs}
 use Rattle.polyline_geometry.specs.declared.plane.Point.{Point}
 use Rattle.polyline_geometry.specs.Plane.{point_at}
 
--- z lies between a and b, whichever is the greater
+-- z is between a and b, in either order
 abbrev pub IsBetween : ℤ → ℤ → ℤ → Type 0
 IsBetween a b z = ((a ≤ℤ z) × (z ≤ℤ b)) ⊎ ((b ≤ℤ z) × (z ≤ℤ a))
 

@@ -1,4 +1,4 @@
-//! The plane in whole centimetres, and the list type that all crates use.
+//! The plane in whole centimetres.
 //!
 //! - [`Point`] is a position; [`straight`] is the straight distance of two points, rounded down.
 //! - A line is a slice of points; [`line_length`] adds up its segments, and [`extend_offsets`] records
@@ -11,15 +11,13 @@
 //! - [`nearest_segments`] returns the first and the last of the nearest segments, for callers that also
 //!   need the nearest segment of the reversed line.
 //! - [`nearest_in_box`] is the point of a box that is nearest to a point.
-//! - [`List`] is a vector that contracts see as the plain list of its items.
 //!
-//! No arithmetic wraps, and only [`List`] allocates. The definitions are in `specs/Plane.antt`; read
+//! No arithmetic wraps, and only [`extend_offsets`] allocates. The definitions are in `specs/Plane.antt`; read
 //! the clause of [`snap_line`] first.
 #![tactic(auto)]
 
 mod laws;
 mod line;
-mod list;
 mod nearest_place;
 mod offsets;
 mod plane;
@@ -32,7 +30,6 @@ pub use line::{
     NearSegment, NearSegments, line_length, nearest_segment, nearest_segments, offset_on,
     snap_line, snap_on,
 };
-pub use list::List;
 pub use nearest_place::nearest_in_box;
 pub use offsets::extend_offsets;
 pub use plane::{Point, Snap, distance2, straight};

@@ -5,8 +5,8 @@ ghost use Rattle.polyline_geometry.specs.declared.plane.Point.{Point as PointOf}
 ghost use Rattle.polyline_geometry.specs.Plane.{InRange, line_length};
 ghost use Rattle.polyline_geometry.specs.Offsets.{length_within, line_offsets};
 
-use crate::list::List;
 use crate::plane::{Point, straight};
+use plain_list::List;
 use std::alloc::AllocError;
 
 /// The straight distance from the previous point of a line; 0 for the first point.

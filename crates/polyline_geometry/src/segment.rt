@@ -4,7 +4,7 @@ ghost use Rattle.std.specs.Prelude.{◌≡◌, ℕ, ◌*◌, ◌/◌, ◌-◌, �
 ghost use Rattle.std.specs.Int.{int_div_euclid};
 ghost use Rattle.std.specs.Int.RustNames.{unsigned_abs};
 ghost use Rattle.polyline_geometry.specs.Plane.{AreEnds, InRange, along, distance2, dot, share, snap_segment, snapped, straight};
-ghost use Rattle.polyline_geometry.specs.Parts.{IsPartOf, IsShare};
+ghost use Rattle.polyline_geometry.specs.inside.Parts.{IsPartOf, IsShare};
 
 use crate::plane::{Point, Snap, distance2, straight};
 use crate::quotient::quotient;

@@ -3,7 +3,7 @@ use Rattle.std.proofs.Common.{◌≡◌, All, Bor, ℕ, zero, suc, ◌+◌, ◌<
 use Rattle.std.specs.Prelude.{slice_index_or}
 use Rattle.std.specs.List.{AllZip}
 use Rattle.std.proofs.lemmas.List.Elements.{All-head, All-tail}
-use Rattle.potential_certificate.specs.Gathering.{AreEachReadOf, IsPlacedIn, IsReadOf, put_at_places}
+use Rattle.potential_certificate.specs.inside.Gathering.{AreEachReadOf, IsPlacedIn, IsReadOf, put_at_places}
 use Rattle.potential_certificate.specs.declared.drawing.PlacedRead.{PlacedRead}
 use Rattle.potential_certificate.specs.declared.parts.PartRead.{PartRead}
 

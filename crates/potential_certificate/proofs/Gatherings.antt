@@ -4,11 +4,11 @@ use Rattle.std.specs.Prelude.{IfOk, OnOk, if◌then◌else◌, is_ok, min, slice
 use Rattle.std.specs.List.{AllByRecursion, AllZip, flat_map}
 use Rattle.std.proofs.lemmas.Grind.{flat_map-append}
 use Rattle.std.proofs.lemmas.List.{append-nil}
-use Rattle.bounded_search.specs.Table.{TableRow}
+use Rattle.bounded_table.specs.Table.{TableRow}
 use Rattle.cost_model.specs.declared.params.Params.{Params}
 use Rattle.row_text.specs.RowLine.{row_line}
 use Rattle.potential_certificate.specs.CertificateText.{certificate_text, first_line, last_line, proof_text, text_limit}
-use Rattle.potential_certificate.specs.Gathering.{AreLines, AreReadsOf, GoesOn, Grows, IsGathered, IsPartRead, IsReadOf, gathered_text, least_after, lines_text, rises_from}
+use Rattle.potential_certificate.specs.inside.Gathering.{AreLines, AreReadsOf, GoesOn, Grows, IsGathered, IsPartRead, IsReadOf, gathered_text, least_after, lines_text, rises_from}
 use Rattle.potential_certificate.specs.HasText.{AreRowsFrom, IsProof}
 use Rattle.potential_certificate.specs.Reading.{all_rows_at, certificate_of, proofs_at}
 use Rattle.potential_certificate.specs.declared.fault.CertFault.{CertFault}

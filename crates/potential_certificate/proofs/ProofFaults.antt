@@ -3,7 +3,7 @@ use Rattle.std.proofs.Common.{◌≡◌, ℕ, zero, suc, ◌+◌, ◌-◌, ◌^�
 use Rattle.std.specs.List.{AllByRecursion, flat_map}
 use Rattle.std.specs.Option.{IfSome, unwrap_or}
 use Rattle.std.proofs.lemmas.Option.{none-some, some_pair_parts}
-use Rattle.bounded_search.specs.Table.{TableRow}
+use Rattle.bounded_table.specs.Table.{TableRow}
 use Rattle.match_text.specs.Grammar.{Continues, EndsPiece, IsAllowed, IsEnd, place_after}
 use Rattle.match_text.specs.MatchText.{end_line}
 use Rattle.match_text.specs.declared.matched.Routed.{Routed}

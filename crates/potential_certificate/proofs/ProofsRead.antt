@@ -7,7 +7,7 @@ use Rattle.match_text.specs.MatchText.{end_line}
 use Rattle.match_text.specs.declared.matched.Routed.{Routed}
 use Rattle.match_text.specs.declared.place.Place.{Place}
 use Rattle.matching.specs.declared.parts.Cell.{Cell}
-use Rattle.potential_certificate.specs.AddedPoint.{with_last_point}
+use Rattle.potential_certificate.specs.inside.AddedPoint.{with_last_point}
 use Rattle.potential_certificate.specs.Reading.{ProofRead, adding, fault_at, in_match, line_and_more, line_at, lines_at, lines_behind, no_points, proof_at, with_line}
 use Rattle.potential_certificate.specs.declared.proof.TraceProof.{TraceProof}
 use Rattle.potential_certificate.specs.declared.proof_line.ProofLine.{ProofLine}

@@ -1,7 +1,7 @@
 -- The fault of the rows and of the last line of a certificate.
 use Rattle.std.proofs.Common.{◌≡◌, ℕ, zero, suc, ◌+◌, ◌^◌, ◌<◌, ◌≤◌, cond, List, [], ◌∷◌, ◌++◌, length, map, Option, Some, None, Result, Err, refl, sym, ap, subst, ◌∙◌, arith, length-append}
 use Rattle.std.proofs.lemmas.Option.{none-some, some_pair_parts}
-use Rattle.bounded_search.specs.Table.{TableRow}
+use Rattle.bounded_table.specs.Table.{TableRow}
 use Rattle.match_text.specs.Reading.{after_bytes, number_after}
 use Rattle.match_text.proofs.Fields.{after_again, after_takes}
 use Rattle.row_text.specs.LineFaults.{line_count}

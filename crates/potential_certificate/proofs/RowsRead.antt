@@ -4,7 +4,7 @@ use Rattle.std.specs.Prelude.{nat_le}
 use Rattle.std.specs.List.{flat_map}
 use Rattle.std.proofs.lemmas.List.{append-nil}
 use Rattle.std.proofs.lemmas.Option.{some_pair_parts}
-use Rattle.bounded_search.specs.Table.{TableRow}
+use Rattle.bounded_table.specs.Table.{TableRow}
 use Rattle.match_text.proofs.Fields.{bind_found, bind_some, test_passed}
 use Rattle.row_text.specs.Laws.{IsRowValue}
 use Rattle.row_text.specs.Reading.{row_at}

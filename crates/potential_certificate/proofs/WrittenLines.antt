@@ -8,7 +8,7 @@ use Rattle.match_text.specs.MatchText.{words_after}
 use Rattle.match_text.specs.declared.matched.Routed.{Routed}
 use Rattle.matching.specs.declared.parts.Cell.{Cell}
 use Rattle.potential_certificate.specs.CertificateText.{back_words, cell_word, first_line, form, gap_words, layer_line, option_words, point_lines}
-use Rattle.potential_certificate.specs.Words.{cells_text, words_text}
+use Rattle.potential_certificate.specs.inside.Words.{cells_text, words_text}
 
 abbrev lf : List ℕ
 lf = 10 ∷ []

@@ -47,12 +47,12 @@ last_line traces rows = line (codes "certified")
 
 -- ---- the lines of a proof
 
--- the rank of the point before
+-- the rank of the position before
 abbrev pub pointer_word : Option ℕ → List ℕ
 pointer_word None = []
 pointer_word (Some rank) = codes "<" ++ decimal rank
 
--- `-`, or the cost `C`, or the cost and the rank of the point before `C<P`
+-- `-`, or the cost `C`, or the cost and the rank of the position before `C<P`
 abbrev pub cost_word : Option ℕ → Option ℕ → List ℕ
 cost_word None pointer = codes "-"
 cost_word (Some cost) pointer = decimal cost ++ pointer_word pointer
@@ -65,12 +65,12 @@ abbrev pub layer_line : ℕ → ℕ → List Cell → List ℕ
 layer_line i rank cells = line (codes "layer")
     (decimal i ∷ codes "rank" ∷ decimal rank ∷ codes "cells" ∷ map cell_word cells)
 
--- the line of the point number i: `none I` where it has no rank
+-- the line of the position number i: `none I` where it has no rank
 abbrev pub point_line : ℕ → Option ℕ → List Cell → List ℕ
 point_line i None cells = label_line i Missing
 point_line i (Some rank) cells = layer_line i rank cells
 
--- the lines of the points from i on, the line of a piece directly after that of its last point
+-- the lines of the positions from i on, the line of a piece directly after that of its last position
 abbrev pub point_lines : ℕ → List (Option ℕ) → List (List Cell) → List Routed → List (List ℕ)
 point_lines i [] tables pieces = []
 point_lines i (rank ∷ ranks) [] pieces = []

@@ -1,7 +1,7 @@
 -- Which certificates have a text.
 use Rattle.std.specs.Prelude.{ℕ, ◌≡◌, ◌^◌, ◌+◌, ◌<◌, ◌≤◌, List, [], ◌∷◌, length, map, Option, Some, None, IfSome}
 use Rattle.std.specs.List.{AllByRecursion}
-use Rattle.bounded_search.specs.Table.{TableRow}
+use Rattle.bounded_table.specs.Table.{TableRow}
 use Rattle.match_text.specs.MatchText.{IsLawful, PieceFits}
 use Rattle.match_text.specs.declared.matched.Label.{Label}
 use Rattle.match_text.specs.declared.matched.Label.TheVariants.{Missing, On}
@@ -11,7 +11,7 @@ use Rattle.row_text.specs.Laws.{IsRowValue}
 use Rattle.potential_certificate.specs.declared.proof.Certificate.{Certificate}
 use Rattle.potential_certificate.specs.declared.proof.TraceProof.{TraceProof}
 
--- ---- points
+-- ---- positions
 
 -- no pointer without a cost
 abbrev pub IsCellWord : Option ℕ → Option ℕ → Type 0
@@ -22,13 +22,13 @@ IsCellWord (Some cost) pointer = (cost < 2 ^ 64) × IfSome pointer (λ rank. ran
 abbrev pub IsCell : Cell → Type 0
 IsCell cell = IsCellWord cell.cost cell.«from»
 
--- a point without a rank has no cells; another has 1 to 32, and its rank is one of them
+-- a position without a rank has no cells; another has 1 to 32, and its rank is one of them
 abbrev pub IsPoint : Option ℕ → List Cell → Type 0
 IsPoint None cells = cells ≡ []
 IsPoint (Some rank) cells =
     (rank < length cells) × (length cells ≤ 32) × AllByRecursion IsCell cells
 
--- as many ranks as tables, which are points
+-- as many ranks as tables, which are positions
 abbrev pub ArePoints : List (Option ℕ) → List (List Cell) → Type 0
 ArePoints [] [] = Unit {0}
 ArePoints [] (cells ∷ tables) = ⊥
@@ -37,17 +37,17 @@ ArePoints (rank ∷ ranks) (cells ∷ tables) = IsPoint rank cells × ArePoints 
 
 -- ---- proofs
 
--- a point with a rank lies on a road; which place it is, does not count here
+-- a position with a rank lies on a road; which place it is, does not count here
 abbrev pub label_of : Option ℕ → Label
 label_of None = Missing
 label_of (Some rank) = On 0 0 0
 
--- a match whose points lie on roads where those of the proof have a rank, with the same pieces
+-- a match whose positions lie on roads where those of the proof have a rank, with the same pieces
 abbrev pub match_of : TraceProof → MatchedTrace
 match_of proof =
     record { id = proof.id; labels = map label_of proof.ranks; pieces = proof.pieces }
 
--- the pieces lie over the points with a rank as those of a match text
+-- the pieces lie over the positions with a rank as those of a match text
 pub record IsProof (proof : TraceProof) : Type 0 where
   pub points : ArePoints proof.ranks proof.tables
   pub pieces : IsLawful (match_of proof)

@@ -1,9 +1,6 @@
 pub mod CertificateText
-pub mod Words
 pub mod HasText
 pub mod Reading
-pub mod Gathering
-pub mod ReaderInside
 pub mod Laws
 pub mod Faults
-pub mod AddedPoint
+pub mod inside

@@ -3,7 +3,7 @@ use Rattle.std.specs.Prelude.{ℕ, zero, suc, ◌-◌, ◌+◌, ◌^◌, ◌==�
 use Rattle.std.specs.Prelude.{Option, Some, None, Result, Ok, Err}
 use Rattle.std.specs.List.{list_any}
 use Rattle.std.specs.Option.{option_map, option_or}
-use Rattle.bounded_search.specs.Table.{TableRow}
+use Rattle.bounded_table.specs.Table.{TableRow}
 use Rattle.cost_model.specs.declared.params.Params.{Params}
 use Rattle.match_text.specs.Grammar.{place_after, start}
 use Rattle.match_text.specs.PieceHead.{Head, head_at}
@@ -38,7 +38,7 @@ fault_at whole left =
 
 -- ---- the cells of a layer
 
--- the rank of the point before, where `<` stands
+-- the rank of the position before, if there is a `<`
 abbrev pub pointer_behind : List ℕ → Option (List ℕ) → Option (Option ℕ × List ℕ)
 pointer_behind text None = Some (None, text)
 pointer_behind text (Some rest) = option_map (λ rank. (Some rank.0, rank.1)) (number_at most32 rest)
@@ -62,7 +62,7 @@ cell_at text = empty_or_cost text (after_bytes (codes " -") text)
 
 -- ---- words up to the end of a line
 
--- where a word was read, it and those behind it, and else the end of the line
+-- if a word was read, it and those after it; else the end of the line
 abbrev pub words_behind : {A : Type 0} → (List ℕ → Option (List A × List ℕ)) → List ℕ
     → Option (A × List ℕ) → Option (List A × List ℕ)
 words_behind more text None = option_map (λ rest. ([], rest)) (after_bytes (10 ∷ []) text)
@@ -87,7 +87,7 @@ is_layer rank cells = nat_lt rank (length cells) && nat_le (length cells) 32
 abbrev pub layer_with : ℕ → List Cell × List ℕ → Option (ProofLine × List ℕ)
 layer_with rank read = if is_layer rank read.0 then Some (Layer rank read.0, read.1) else None
 
--- the rank of the next point, and what stands behind the word `cells`
+-- the rank of the next position, and what comes after the word `cells`
 unfoldable pub ranked_at : Place → List ℕ → Option (ℕ × List ℕ)
 ranked_at place text = do
   point ← numbered_at (codes "layer ") place.next text
@@ -105,7 +105,7 @@ abbrev pub is_first : Option ℕ → ℕ → Bool
 is_first None first = false
 is_first (Some i) first = i == first
 
--- all waiting points are of the piece
+-- all waiting positions are of the piece
 abbrev pub is_open : Place → Head → Bool
 is_open place head = is_first place.waiting head.first && (head.last + 1 == place.next)
 
@@ -123,7 +123,8 @@ piece_at place text = do
   route ← all_words_at (number_after (codes " ") most32) head.rest
   piece_with place head route
 
--- the line of a proof at the front that may stand at this place; `none`, `piece` and `end` are those of a match text
+-- the line of a proof at the front that is allowed at this place; `none`, `piece` and `end` are those of a match
+-- text
 unfoldable pub line_at : Place → List ℕ → Option (ProofLine × List ℕ)
 line_at place text =
     option_or (option_map (λ read. (Missing, read.1)) (none_at place text))
@@ -131,7 +132,7 @@ line_at place text =
     (option_or (option_map (λ read. (Piece read.0, read.1)) (piece_at place text))
     (option_map (λ read. (End, read.1)) (end_at place text))))
 
--- the line of a match text with the same place behind it
+-- the line of a match text with the same place after it
 abbrev pub in_match : ProofLine → Line
 in_match Missing = Point NoRoad
 in_match (Layer rank cells) = Point (On 0 0 0)
@@ -144,7 +145,7 @@ abbrev pub with_point : Option ℕ → List Cell → TraceProof → TraceProof
 with_point rank cells proof = record
     { id = proof.id; ranks = rank ∷ proof.ranks; tables = cells ∷ proof.tables; pieces = proof.pieces }
 
--- what the lines behind this one say, and this one
+-- what this line says, and those after it
 abbrev pub with_line : ProofLine → TraceProof → TraceProof
 with_line Missing proof = with_point None [] proof
 with_line (Layer rank cells) proof = with_point (Some rank) cells proof
@@ -155,7 +156,7 @@ with_line End proof = proof
 abbrev pub no_points : ℕ → TraceProof
 no_points id = record { id = id; ranks = []; tables = []; pieces = [] }
 
--- a proof and what stands behind it, or the fault
+-- a proof and what comes after it, or the fault
 abbrev pub ProofRead : Type 0
 ProofRead = Result (TraceProof × List ℕ) CertFault
 
@@ -183,7 +184,7 @@ lines_at whole zero place text = Err Cut
 lines_at whole (suc fuel) place text =
     lines_behind (lines_at whole fuel) whole place text (line_at place text)
 
--- the proof of the trace with this id, from the line behind its first one on
+-- the proof of the trace with this id, from the line after its first one on
 abbrev pub proof_at : (whole : List ℕ) → ℕ → List ℕ → ProofRead
 proof_at whole id text = lines_at whole (length text + 1) (start id) text
 
@@ -205,7 +206,7 @@ abbrev pub proofs_behind : (List ℕ → ProofsRead) → (whole : List ℕ) → 
 proofs_behind more whole text None = Ok ([], text)
 proofs_behind more whole text (Some trace) = proof_and_more more (proof_at whole trace.0 trace.1)
 
--- the proofs at the front, and what stands behind them
+-- the proofs at the front, and what comes after them
 abbrev pub proofs_at : (whole : List ℕ) → (fuel : ℕ) → List ℕ → ProofsRead
 proofs_at whole zero text = Err Cut
 proofs_at whole (suc fuel) text = proofs_behind (proofs_at whole fuel) whole text (trace_at text)
@@ -223,7 +224,7 @@ rows_behind more text None = ([], text)
 rows_behind more text (Some read) =
     let others = more (read.0.origin + 1) read.1 in (read.0 ∷ others.0, others.1)
 
--- the rows at the front whose origins rise from `least` on, and what stands behind them
+-- the rows at the front whose origins rise from `least` on, and what comes after them
 abbrev pub rows_at : (fuel least : ℕ) → List ℕ → List TableRow × List ℕ
 rows_at zero least text = ([], text)
 rows_at (suc fuel) least text = rows_behind (rows_at fuel) text (row_from least text)
@@ -233,7 +234,7 @@ all_rows_at text = rows_at (length text + 1) 0 text
 
 -- ---- the certificate
 
--- nothing may stand behind the last line
+-- nothing may come after the last line
 abbrev pub ended : (whole : List ℕ) → Certificate → List ℕ → Option (List ℕ) → Result Certificate CertFault
 ended whole c left None = Err (fault_at whole left)
 ended whole c left (Some []) = Ok c

@@ -3,7 +3,7 @@ ghost use Rattle.std.specs.Prelude.{◌≡◌, IfOk};
 
 use crate::proof::TraceProof;
 use match_text::Routed;
-use polyline_geometry::List;
+use plain_list::List;
 use std::alloc::{AllocError, Global};
 use trellis::{Potentials, Solved};
 

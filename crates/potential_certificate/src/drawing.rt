@@ -1,10 +1,10 @@
 //! The parts of a text, read in parallel by workers that draw them. Serves the reader of blocks; decided by `AreReadsOf`.
 ghost use Rattle.std.specs.Prelude.{◌≡◌, ◌<◌, ◌≤◌, All, IfOk, length};
 ghost use Rattle.tickets.specs.Tickets.{IsOpenTicket};
-ghost use Rattle.potential_certificate.specs.Gathering.{AreEachReadOf, AreReadsOf, IsPlacedIn, put_at_places};
+ghost use Rattle.potential_certificate.specs.inside.Gathering.{AreEachReadOf, AreReadsOf, IsPlacedIn, put_at_places};
 
 use crate::parts::{PartRead, cut, read_part, unread};
-use polyline_geometry::List;
+use plain_list::List;
 use rayon::current_num_threads;
 use std::alloc::{AllocError, Global};
 use std::thread;

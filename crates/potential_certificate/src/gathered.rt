@@ -1,7 +1,7 @@
 //! A text stored as the proofs and rows read from it. Serves the reader of blocks; decided by `gathered_text`.
 ghost use Rattle.std.specs.Prelude.{◌≡◌, ◌<◌, ◌++◌, [], IfOk, IsErrOf, IsTrue, OnOk, length};
 ghost use Rattle.potential_certificate.specs.CertificateText.{certificate_text, text_limit};
-ghost use Rattle.potential_certificate.specs.Gathering.{GoesOn, Grows, IsGathered, IsPartRead, gathered_text, least_after, lines_text, rises_from};
+ghost use Rattle.potential_certificate.specs.inside.Gathering.{GoesOn, Grows, IsGathered, IsPartRead, gathered_text, least_after, lines_text, rises_from};
 
 use crate::drawing::read_parts;
 use crate::fault::WriteFault;
@@ -9,9 +9,9 @@ use crate::lines::{append_first, append_last};
 use crate::parts::{PartRead, last_item, next_item, read_part};
 use crate::proof::{Certificate, TraceProof};
 use crate::writing::{append_proofs, append_rows};
-use bounded_search::Row;
+use bounded_table::Row;
 use cost_model::Params;
-use polyline_geometry::List;
+use plain_list::List;
 use std::alloc::{AllocError, Global};
 use std::mem;
 use std::thread::Threads;

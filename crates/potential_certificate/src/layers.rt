@@ -1,4 +1,4 @@
-//! The line of a point with candidates, read. Serves `next_line`; decided by `layer_at`.
+//! The line of a position with candidates, read. Serves `next_line`; decided by `layer_at`.
 ghost use Rattle.std.specs.Prelude.{◌≡◌, ◌^◌, ◌-◌, IfOk, length};
 ghost use Rattle.std.specs.Option.{option_copied};
 ghost use Rattle.match_text.specs.Reading.{most32, number_after, numbered_at, seen};
@@ -7,17 +7,17 @@ ghost use Rattle.potential_certificate.specs.Reading.{all_words_at, cell_at, cos
 use crate::proof_line::ProofLine;
 use match_text::Place;
 use match_text::front::{after, number, number_after, short_number_after};
-use polyline_geometry::List;
+use plain_list::List;
 use std::alloc::{AllocError, Global};
 use trellis::{Cell, Potentials};
 
-/// The greatest number of a point.
+/// The greatest number of a position.
 const LAST_POINT: u64 = 99_999;
 
-/// The most cells of a point.
+/// The most cells of a position.
 const MOST_CELLS: usize = 32;
 
-/// The text after these bytes and the number of the next point.
+/// The text after these bytes and the number of the next position.
 #[tactic(auto, unfolding(match_text::specs::Reading::numbered_at))]
 pub fn numbered<'a>(text: &'a [u8], bytes: &[u8], next: u32) -> Option<&'a [u8]>
     ensures { option_copied result ≡ numbered_at bytes.now next text.now }
@@ -29,7 +29,7 @@ pub fn numbered<'a>(text: &'a [u8], bytes: &[u8], next: u32) -> Option<&'a [u8]>
     Some(rest)
 }
 
-/// The line of the next point with its rank and its cells, and the text after it.
+/// The line of the next position with its rank and its cells, and the text after it.
 #[tactic(auto, unfolding(crate::specs::Reading::layer_at))]
 pub fn layer_line(
     alloc: Global,
@@ -51,7 +51,7 @@ pub fn layer_line(
     Ok(Some((ProofLine::Layer { rank, cells }, rest)))
 }
 
-// The rank of the next point, and the text after the word `cells`.
+// The rank of the next position, and the text after the word `cells`.
 #[tactic(auto, unfolding(crate::specs::Reading::ranked_at))]
 fn ranked(place: Place, text: &[u8]) -> Option<(u32, &[u8])>
     ensures { seen result ≡ ranked_at place text.now }

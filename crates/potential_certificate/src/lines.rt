@@ -2,11 +2,11 @@
 //! `first_line` and `last_line`.
 ghost use Rattle.std.specs.Prelude.{◌≡◌, ◌++◌, length, take, OnErr, OnOk};
 ghost use Rattle.potential_certificate.specs.CertificateText.{back_words, first_line, form, gap_words, last_line, option_words};
-ghost use Rattle.potential_certificate.specs.Words.{words_text};
+ghost use Rattle.potential_certificate.specs.inside.Words.{words_text};
 
 use cost_model::Params;
 use decimal_text::write_worded;
-use polyline_geometry::List;
+use plain_list::List;
 use std::alloc::AllocError;
 
 /// Appends the first line. On `Err`, a part of it may remain at the end.

@@ -1,20 +1,20 @@
 //! Parts of a certificate's text: where they begin, and reading one. Serves the reader of blocks; decided by `IsPartRead`.
 ghost use Rattle.std.specs.Prelude.{◌≡◌, ◌<◌, ◌≤◌, IfOk, length};
 ghost use Rattle.std.specs.List.{flat_map};
-ghost use Rattle.potential_certificate.specs.Gathering.{IsReadOf};
+ghost use Rattle.potential_certificate.specs.inside.Gathering.{IsReadOf};
 
 use crate::fault::CertFault;
 use crate::proof::TraceProof;
 use crate::reading::read_proofs;
 use crate::rows::read_rows;
-use bounded_search::Row;
-use polyline_geometry::List;
+use bounded_table::Row;
+use plain_list::List;
 use std::alloc::{AllocError, Global};
 
-/// About how many parts a block is divided into.
+/// About how many parts a block is divided into. Speed only: any value is right.
 const PARTS: usize = 32;
 
-/// The least number of bytes of a part, except the last.
+/// The least number of bytes of a part, except the last. Speed only: any value is right.
 const PART_BYTES: usize = 65_536;
 
 /// A part of a text: the proofs and rows at its front, and the text after them.

@@ -1,10 +1,10 @@
 //! The parts of a certificate.
 ghost use Rattle.std.specs.Prelude.{◌≡◌, ◌⊎◌, MatchResult};
-ghost use Rattle.potential_certificate.specs.AddedPoint.{with_last_point, with_last_rank};
+ghost use Rattle.potential_certificate.specs.inside.AddedPoint.{with_last_point, with_last_rank};
 
-use bounded_search::Row;
+use bounded_table::Row;
 use match_text::Routed;
-use polyline_geometry::List;
+use plain_list::List;
 use std::alloc::AllocError;
 use trellis::Potentials;
 
@@ -12,9 +12,9 @@ use trellis::Potentials;
 pub struct TraceProof {
     /// The id of the trace.
     pub id: u32,
-    /// The chosen rank of each point; `None` if the point has no candidate.
+    /// The chosen rank of each position; `None` if the position has no candidate.
     pub ranks: List<Option<u32>>,
-    /// The cells of each point within its piece; empty if the point has no candidate.
+    /// The cells of each position within its piece; empty if the position has no candidate.
     pub tables: List<Potentials>,
     /// The pieces in order, with the ids of their edges.
     pub pieces: List<Routed>,
@@ -33,7 +33,7 @@ impl Drop for TraceProof {
 }
 
 impl TraceProof {
-    /// Adds a point with its rank and its cells. On `Err`, its rank alone may have been added.
+    /// Adds a position with its rank and its cells. On `Err`, its rank alone may have been added.
     pub(crate) fn add_point(
         &mut self,
         rank: Option<u32>,

@@ -8,16 +8,16 @@ ghost use Rattle.potential_certificate.specs.Reading.{in_match, line_at};
 use crate::layers::{layer_line, numbered};
 use match_text::front::{after, short_number_after};
 use match_text::{Place, Routed, read_piece};
-use polyline_geometry::List;
+use plain_list::List;
 use std::alloc::{AllocError, Global};
 use trellis::Potentials;
 
 /// A line of a proof after its first one.
 #[derive(Drop)]
 pub enum ProofLine {
-    /// The point has no candidate.
+    /// The position has no candidate.
     Missing,
-    /// The chosen rank of the point and its cells.
+    /// The chosen rank of the position and its cells.
     Layer { rank: u32, cells: Potentials },
     Piece(Routed),
     End,
@@ -69,7 +69,7 @@ pub fn next_line(
     Ok(Some((ProofLine::End, rest)))
 }
 
-// The text after the line of the next point, which has no candidate.
+// The text after the line of the next position, which has no candidate.
 #[tactic(auto, unfolding(match_text::specs::Reading::none_at))]
 fn none_line<'a>(place: Place, text: &'a [u8]) -> Option<&'a [u8]>
     ensures { option_copied result ≡ option_map (λ read. read.1) (none_at place text.now) }
@@ -81,7 +81,7 @@ fn none_line<'a>(place: Place, text: &'a [u8]) -> Option<&'a [u8]>
     after(rest, b"\n")
 }
 
-// The text after the end line of the trace, if no point waits.
+// The text after the end line of the trace, if no position waits.
 #[tactic(auto, unfolding(match_text::specs::Reading::end_at))]
 fn end_line<'a>(place: Place, text: &'a [u8]) -> Option<&'a [u8]>
     ensures { option_copied result ≡ option_map (λ read. read.1) (end_at place text.now) }

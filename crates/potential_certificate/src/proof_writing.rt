@@ -2,12 +2,12 @@
 ghost use Rattle.std.specs.Prelude.{◌≡◌, ◌++◌, length, take, OnErr, OnOk};
 ghost use Rattle.std.specs.List.{concat, flat_map};
 ghost use Rattle.potential_certificate.specs.CertificateText.{cell_word, layer_line, point_line, point_lines, pointer_word, proof_text};
-ghost use Rattle.potential_certificate.specs.Words.{cells_text};
+ghost use Rattle.potential_certificate.specs.inside.Words.{cells_text};
 
 use crate::proof::TraceProof;
 use decimal_text::{write_unsigned, write_worded};
 use match_text::{Label, Routed, write_end, write_label, write_piece, write_trace};
-use polyline_geometry::List;
+use plain_list::List;
 use std::alloc::AllocError;
 use trellis::{Cell, Potentials};
 
@@ -26,7 +26,7 @@ pub fn append_proof(proof: &TraceProof, into: &mut List<u8>) -> Result<(), Alloc
     write_end(proof.id, into)
 }
 
-// Appends the lines of the points and of the pieces. On `Err`, some may remain at the end.
+// Appends the lines of the positions and of the pieces. On `Err`, some may remain at the end.
 fn append_points(
     ranks: &[Option<u32>],
     tables: &[Potentials],
@@ -53,7 +53,7 @@ fn append_points(
     Ok(())
 }
 
-// Appends the line of a point. On `Err`, a part of it may remain at the end.
+// Appends the line of a position. On `Err`, a part of it may remain at the end.
 fn append_point(
     point: u64,
     rank: Option<u32>,
@@ -69,7 +69,7 @@ fn append_point(
     }
 }
 
-// Appends the line of a point with candidates. On `Err`, a part of it may remain at the end.
+// Appends the line of a position with candidates. On `Err`, a part of it may remain at the end.
 fn append_layer(
     point: u64,
     rank: u32,
@@ -110,7 +110,7 @@ fn append_cell(cell: Cell, into: &mut List<u8>) -> Result<(), AllocError>
     append_pointer(cell.from, into)
 }
 
-// Appends `<` and the rank at the previous point, or nothing.
+// Appends `<` and the rank at the previous position, or nothing.
 fn append_pointer(pointer: Option<u32>, into: &mut List<u8>) -> Result<(), AllocError>
     ensures ok { OnOk result (into.new ≡ into.old ++ pointer_word pointer) }
     ensures err { OnErr result (into.new ≡ into.old) }

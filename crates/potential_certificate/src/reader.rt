@@ -1,4 +1,6 @@
-//! Reads a certificate whose text comes in blocks. Serves readers of files; decided by `certificate_of`.
+//! Reads a certificate whose text comes in blocks. Serves readers of files; decided by `certificate_of`. A block is
+//! cut into parts before lines that may begin a proof or a row, which several threads read. Speed only: any cut is
+//! right.
 ghost use Rattle.std.specs.Prelude.{◌≡◌, ◌⊎◌, ◌++◌, ℕ, [], IfErr, IfOk, IsErrOf, Ok, Err};
 ghost use Rattle.row_text.specs.LineFaults.{IsCutOf, IsFirstBadLineOf};
 ghost use Rattle.potential_certificate.specs.Faults.{IsCertificate};
@@ -30,7 +32,7 @@ impl Model for CertificateReader {
 
     ghost Value = { List ℕ };
 
-    ghost use Rattle.potential_certificate.specs.ReaderInside.{CountsBytes, text_so_far};
+    ghost use Rattle.potential_certificate.specs.inside.ReaderInside.{CountsBytes, text_so_far};
 
     ghost view = { text_so_far };
 

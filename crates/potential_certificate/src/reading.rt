@@ -16,7 +16,7 @@ use crate::rows::read_rows;
 use cost_model::Params;
 use match_text::front::after;
 use match_text::{Place, read_trace};
-use polyline_geometry::List;
+use plain_list::List;
 use std::alloc::Global;
 use trellis::Potentials;
 

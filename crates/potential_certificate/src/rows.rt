@@ -3,8 +3,8 @@ ghost use Rattle.std.specs.Prelude.{◌≡◌, ◌+◌, ◌++◌, IfOk, length};
 ghost use Rattle.match_text.specs.Reading.{seen};
 ghost use Rattle.potential_certificate.specs.Reading.{all_rows_at, row_from, rows_at};
 
-use bounded_search::Row;
-use polyline_geometry::List;
+use bounded_table::Row;
+use plain_list::List;
 use row_text::read_row;
 use std::alloc::{AllocError, Global};
 

@@ -9,17 +9,17 @@ use crate::fault::WriteFault;
 use crate::lines::{append_first, append_last};
 use crate::proof::{Certificate, TraceProof};
 use crate::proof_writing::append_proof;
-use bounded_search::Row;
+use bounded_table::Row;
 use cost_model::Params;
-use polyline_geometry::List;
+use plain_list::List;
 use row_text::write_row;
 use std::alloc::{AllocError, Global};
 
 /// Appends the text of the certificate for these options. On `Err`, `into` is unchanged.
 ///
-/// That text can be read again if the certificate has a text (`HasText`): as many ranks as
-/// tables, at most 100,000, a rank below the number of 1 to 32 cells or neither, no pointer without
-/// a cost, pieces over exactly the points with a rank, each with a route, and ascending origins.
+/// That text can be read again if the certificate has a text (`HasText`): as many ranks as tables, at most 100,000,
+/// a rank below the number of 1 to 32 cells or neither, no pointer without a cost, pieces over exactly the
+/// positions with a rank, each with a route, and ascending origins.
 pub fn write_certificate(
     alloc: Global,
     p: &Params,

@@ -29,7 +29,7 @@ pub record Holds (job : JobText) (has : List Trace → Type 0) (base out : SinkS
   pub bounded : IsBounded traces
   pub few : IsBatch waiting
 
--- between two chunks: the bytes so far stand in the reader, and fewer traces wait than make a batch
+-- between two chunks: the reader represents the bytes so far, and fewer traces wait than make a batch
 pub record IsBetween (job : JobText) (has : List Trace → Type 0) (base out : SinkState)
     (fed : List ℕ) (reader : TraceReader) (waiting : List Trace) : Type 0 where
   pub stands : StandsFor reader fed
@@ -42,13 +42,13 @@ IsHeld text has batches out =
     (base : SinkState) × (traces : List Trace)
     × Holds (text batches.job) (has batches.job) base out traces batches.waiting
 
--- the work stands between two chunks
+-- the work is between two chunks
 abbrev pub IsReady : {J : Type 0} → (J → JobText) → (J → List Trace → Type 0) → Batches J → SinkState → Type 0
 IsReady text has batches out =
     (base : SinkState) × (fed : List ℕ)
     × IsBetween (text batches.job) (has batches.job) base out fed batches.reader batches.waiting
 
--- what may still come behind these traces
+-- what may still come after these traces
 pub record Later : Type 0 where
   pub more : List Trace
   pub fault : Option TraceFault
@@ -56,7 +56,7 @@ pub record Later : Type 0 where
 abbrev pub with_later : JobText → List Trace → Later → Outcome
 with_later job traces later = traces_give job (traces ++ later.more) later.fault
 
--- where the job refused, its text stands before the refusal
+-- if the job refused, its text comes before the refusal
 abbrev pub PutsBefore : SinkState → SinkState → List ℕ → Stop → Stop → Type 0
 PutsBefore out out' text (Refused refusal line) stop =
     ((stop ≡ Refused refusal line)
@@ -75,7 +75,7 @@ WritesBatch job has base out traces waiting (Ok done) =
 WritesBatch job has base out traces waiting (Err stop) =
     StopsAs Later (with_later job traces) base out stop
 
--- so many bytes of a chunk were taken, or the work stops
+-- this many bytes of a chunk were taken, or the work stops
 abbrev pub TakesSome : JobText → (List Trace → Type 0) → SinkState → SinkState
     → List ℕ → List ℕ → TraceReader → List Trace → Result ℕ Stop → Type 0
 TakesSome job has base out fed chunk reader waiting (Ok taken) =
@@ -91,7 +91,7 @@ TakesChunk job has base out fed reader waiting (Ok done) =
 TakesChunk job has base out fed reader waiting (Err stop) =
     StopsAt (bytes_give job) base out fed stop
 
--- the file has this fault behind these traces, or memory ran out
+-- the file has this fault after these traces, or memory ran out
 pub record RefusesAt (job : JobText) (base out out' : SinkState) (traces : List Trace)
     (fault : TraceFault) (stop : Stop) : Type 0 where
   pub memory : fault ≡ Memory → (stop ≡ NoMemory) × (out' ≡ out)
@@ -146,13 +146,13 @@ WritesRead text has old new out out' result =
     → IsBetween (text old.job) (has old.job) base out fed old.reader old.waiting
     → TakesChunk (text old.job) (has new.job) base out' fed new.reader new.waiting result
 
--- what stands behind the text of all traces is put, whichever traces were taken
+-- what comes after the text of all traces is put, for any traces that were taken
 abbrev pub PutsEnding : JobText → (List Trace → Type 0) → (out out' : SinkState)
     → Result (Unit {0}) Stop → Type 0
 PutsEnding job has out out' result =
     (taken : List Trace) → has taken → PutsText out out' (job.ending taken) result
 
--- the file is at its end, and all that stands behind the traces so far is written
+-- the file is at its end, and all that comes after the traces so far is written
 abbrev pub Finishes : {J : Type 0} → (J → JobText) → (J → List Trace → Type 0) → (old : Batches J)
     → (out out' : SinkState) → Result (Unit {0}) Stop → Type 0
 Finishes text has old out out' result =

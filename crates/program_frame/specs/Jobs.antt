@@ -12,8 +12,8 @@ use Rattle.program_frame.specs.declared.stop.Refusal.TheVariants.{Traces}
 use Rattle.program_frame.specs.declared.stop.Stop.{Stop}
 use Rattle.program_frame.specs.declared.stop.Stop.TheVariants.{Refused, NoMemory, Unread, Unwritten}
 
--- the text of a job: that of traces, the line where the job refuses them, and what stands behind
--- the text of all traces of a file
+-- the text of a job: that of traces, the line if the job refuses them, and what comes after the text of all traces
+-- of a file
 pub record JobText : Type 0 where
   pub texts : List Trace → List ℕ
   pub refusal : List Trace → Option (List ℕ)
@@ -24,7 +24,7 @@ pub record JobText : Type 0 where
   -- the text of more traces begins with the text of fewer
   pub begins : (front back : List Trace)
       → (more : List ℕ) × (texts (front ++ back) ≡ texts front ++ more)
-  -- a refusal stays, and has no text behind it
+  -- a refusal stays, and has no text after it
   pub stays : (front back : List Trace) (line : List ℕ)
       → refusal front ≡ Some line
       → (refusal (front ++ back) ≡ Some line) × (texts (front ++ back) ≡ texts front)
@@ -32,13 +32,13 @@ pub record JobText : Type 0 where
 abbrev pub refused_behind : List ℕ → List ℕ → Outcome
 refused_behind text line = record { out = text; err = line; status = 6 }
 
--- the job's refusal stands before the fault of the file
+-- the job's refusal comes before the fault of the file
 abbrev pub given_by : Option (List ℕ) → Option TraceFault → List ℕ → List ℕ → Outcome
 given_by (Some line) fault texts ending = refused_behind texts line
 given_by None (Some fault) texts ending = refused_behind texts (fault_line fault)
 given_by None None texts ending = done_with (texts ++ ending)
 
--- what these traces give, with this fault behind them or none
+-- what these traces give, with this fault after them or none
 abbrev pub traces_give : JobText → List Trace → Option TraceFault → Outcome
 traces_give job traces fault =
     given_by (job.refusal traces) fault (job.texts traces) (job.ending traces)
@@ -70,13 +70,13 @@ abbrev pub CanTake : (List Trace → Type 0) → List Trace → Type 0
 CanTake has more =
     (before : List Trace) × has before × IsBounded (before ++ more) × IsBatch more
 
--- a list grew by the text of these traces behind those before
+-- a list grew by the text of these traces after those before
 pub record Grows (job : JobText) (before more : List Trace) (old new : List ℕ) : Type 0 where
   pub text : List ℕ
   pub grown : new ≡ old ++ text
   pub is : job.texts (before ++ more) ≡ job.texts before ++ text
 
--- more traces were taken behind those before, or the job refuses them, or memory ran out
+-- more traces were taken after those before, or the job refuses them, or memory ran out
 abbrev pub TakesTraces : JobText → (List Trace → Type 0) → List Trace → List Trace
     → List ℕ → List ℕ → Result (Unit {0}) Stop → Type 0
 TakesTraces job has before more old new (Ok done) =

@@ -10,7 +10,7 @@ pub record AreUnused (holds : Option (List ℕ → Option (List ℕ))) (written 
   pub files : shelf ≡ new_shelf holds
   pub output : out ≡ new_sink written
 
--- argument number i of these, or none behind the last
+-- argument number i of these, or none after the last
 abbrev pub IsArgument : List (List ℕ) → ℕ → Option (List ℕ) → Type 0
 IsArgument given i None = length given ≤ i
 IsArgument given i (Some bytes) = (i < length given) × (bytes ≡ get_or given i [])

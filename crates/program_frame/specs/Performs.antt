@@ -82,8 +82,7 @@ Leaves asked shelf shelf' out out' (Err (Unread file)) =
     IsUnread asked shelf shelf' out out' file
 Leaves asked shelf shelf' out out' (Err Unwritten) = IsUnwritten shelf shelf' out out'
 
--- what stands after the work of these words: out has gained a prefix of the outcome's text, and
--- what the ending says
+-- what the work of these words leaves: out has gained a prefix of the outcome's text, and what the ending says
 pub record Performs (asked : Result Plan (List ℕ)) (shelf shelf' : ShelfState)
     (out out' : SinkState) (ended : Result (Unit {0}) Stop) : Type 0 where
   pub partial : IsPartial (plan_of asked) shelf.holds out out'

@@ -15,7 +15,7 @@ use Rattle.program_frame.specs.declared.stop.File.TheVariants.{Traces}
 abbrev pub works_traces : List ℕ → JobText → Plan
 works_traces name job = streams Traces name trace_limit (bytes_give job)
 
--- between two reads: the bytes so far stand in the batches
+-- between two reads: the batches represent the bytes so far
 pub record IsReading (job : JobText) (has : List Trace → Type 0) (name : List ℕ)
     (shelf : ShelfState) (base out : SinkState) (at : ℕ)
     (reader : TraceReader) (waiting : List Trace) : Type 0 where

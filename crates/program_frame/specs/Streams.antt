@@ -18,8 +18,7 @@ use Rattle.program_frame.specs.declared.stop.Stop.TheVariants.{Refused, NoMemory
 abbrev pub streams : File → List ℕ → ℕ → (List ℕ → Outcome) → Plan
 streams file name limit expected = reads file name limit (λ bytes. ends (expected bytes))
 
--- so much of the file was read, and of its text so much was written: whatever comes behind, out has
--- a prefix of it
+-- a part of the file was read, and a part of its text was written: whatever comes after, out has a prefix of it
 pub record IsStreaming (name : List ℕ) (limit : ℕ) (expected : List ℕ → Outcome)
     (shelf shelf' : ShelfState) (out out' : SinkState) (fed : List ℕ) : Type 0 where
   pub shelf_is : shelf' ≡ shelf

@@ -5,7 +5,7 @@ use Rattle.trace_reader.specs.declared.trace.Trace.{Trace}
 use Rattle.program_frame.specs.Jobs.{points_of}
 use Rattle.program_frame.specs.declared.total.Tally.{Tally}
 
--- a word and a number behind it
+-- a word and a number after it
 abbrev pub worded : List ℕ → ℕ → List ℕ
 worded word n = word ++ decimal n
 
@@ -23,7 +23,7 @@ pub record Fits (traces : List Trace) (pieces : ℕ) (tally : Tally) : Type 0 wh
   pub few_points : tally.points + points_of traces < 2 ^ 63
   pub few_pieces : tally.pieces + pieces < 2 ^ 63
 
--- the counts with those of some traces of so many pieces
+-- the counts with those of some traces of this many pieces
 pub record Adds (traces : List Trace) (pieces : ℕ) (old new : Tally) : Type 0 where
   pub more : new.traces ≡ old.traces + length traces
   pub more_points : new.points ≡ old.points + points_of traces

@@ -24,7 +24,7 @@ traces_or_line traces (Some fault) = Err (fault_line fault)
 abbrev pub traces_said : List ℕ → Result (List Trace) (List ℕ)
 traces_said bytes = traces_or_line (file_traces bytes) (file_fault bytes)
 
--- between two reads: the bytes so far stand in the reader, and the traces that they close are held
+-- between two reads: the reader represents the bytes so far, and the traces that they close are held
 pub record IsHolding (name : List ℕ) (shelf : ShelfState) (at : ℕ) (reader : TraceReader)
     (traces : List Trace) : Type 0 where
   pub fed : List ℕ
@@ -33,7 +33,7 @@ pub record IsHolding (name : List ℕ) (shelf : ShelfState) (at : ℕ) (reader :
   pub stands : StandsFor reader fed
   pub are : traces ≡ closed fed
 
--- the file was read whole, and its bytes stand in the reader
+-- the file was read whole, and the reader represents its bytes
 pub record IsFed (name : List ℕ) (shelf shelf' : ShelfState) (reader : TraceReader)
     (traces : List Trace) : Type 0 where
   pub bytes : List ℕ

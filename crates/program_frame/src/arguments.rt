@@ -2,7 +2,7 @@
 ghost use Rattle.std.specs.Prelude.{ℕ, List as ListOf, Option, None, Some, IfOk, IfSome, map, option_map, string_bytes, vec_items};
 ghost use Rattle.program_frame.specs.Outside.{AreWordsOf, IsArgument};
 
-use polyline_geometry::List;
+use plain_list::List;
 use std::alloc::{AllocError, Global};
 use std::env::{Env, FillError};
 

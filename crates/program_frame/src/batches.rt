@@ -10,11 +10,11 @@ use crate::jobs::Job;
 use crate::stop::{Refusal, Stop};
 use crate::texts::put_text;
 use edge_io::Sink;
-use polyline_geometry::List;
+use plain_list::List;
 use std::alloc::Global;
 use trace_reader::{Trace, TraceFault, TraceReader};
 
-// The number of traces in a batch.
+// The number of traces in a batch. Speed only: any value is right.
 const BATCH: usize = 256;
 
 /// The traces of a file that is read in chunks: the closed traces that the job has not taken yet.

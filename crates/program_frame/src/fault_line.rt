@@ -4,7 +4,7 @@ ghost use Rattle.program_frame.specs.Stops.{RefusesFault};
 
 use crate::stop::{Refusal, Stop};
 use command_line::WordsFault;
-use polyline_geometry::List;
+use plain_list::List;
 use road_network::NetworkFault;
 use std::alloc::{AllocError, Global};
 use trace_reader::TraceFault;

@@ -4,7 +4,7 @@ ghost use Rattle.trace_reader.specs.declared.trace.Trace.{Trace};
 ghost use Rattle.program_frame.specs.Jobs.{CanTake, HasTaken, JobText, TakesMore};
 
 use crate::stop::Stop;
-use polyline_geometry::List;
+use plain_list::List;
 use std::alloc::{AllocError, Global};
 use trace_reader::Trace;
 

@@ -4,7 +4,7 @@ ghost use Rattle.edge_io.specs.Sink.{Puts};
 ghost use Rattle.program_frame.specs.Stops.{IsRefusalOr, IsStarved, Reports, line_of, refusal_status, status_after, stop_line, stop_status, stop_status_after};
 
 use edge_io::{Put, Sink};
-use polyline_geometry::List;
+use plain_list::List;
 use std::alloc::{AllocError, Global};
 
 /// A file that a command reads.

@@ -3,11 +3,11 @@ ghost use Rattle.std.specs.Prelude.{◌≡◌, ◌+◌, ◌++◌, ◌<◌, ◌^�
 ghost use Rattle.program_frame.specs.Jobs.{points_of};
 
 use decimal_text::write_worded;
-use polyline_geometry::List;
+use plain_list::List;
 use std::alloc::AllocError;
 use trace_reader::Trace;
 
-/// The numbers of traces, points and pieces so far.
+/// The numbers of traces, positions and pieces so far.
 #[derive(Clone, Copy)]
 pub struct Tally {
     pub traces: u64,
@@ -15,7 +15,7 @@ pub struct Tally {
     pub pieces: u64,
 }
 
-// How many points the traces have.
+// How many positions the traces have.
 fn count_points(traces: &[Trace]) -> u64
     requires { points_of traces.now < 2 ^ 63 }
     ensures { result ≡ points_of traces.now }

@@ -10,7 +10,7 @@ use crate::chunks::Chunks;
 use crate::fault_line::refuse_fault;
 use crate::stop::{Refusal, Stop};
 use edge_io::Shelf;
-use polyline_geometry::List;
+use plain_list::List;
 use std::alloc::Global;
 use trace_reader::{Trace, TraceReader};
 

@@ -11,7 +11,7 @@ use Rattle.program_frame.specs.declared.stop.Stop.{Stop}
 use Rattle.program_frame.proofs.Asked.{asked_is}
 use Rattle.road_network.specs.declared.limits.NetworkLimits.{NetworkLimits}
 use Rattle.program_run.specs.Words.{asked_within, command_plan, every_work, work_plan}
-use Rattle.town_work.specs.Towns.{town_plan}
+use Rattle.match_work.specs.Towns.{town_plan}
 
 pub asked_command : (limits : NetworkLimits) (words : List (List ℕ)) (command : PlainCommand) (shelf shelf' : ShelfState) (out out' : SinkState) (ended : Result (Unit {0}) Stop) → command_of words ≡ Ok command → Performs (Ok (command_plan limits command)) shelf shelf' out out' ended → Performs (asked_within limits words) shelf shelf' out out' ended
 asked_command limits words command shelf shelf' out out' ended known performs =

@@ -22,7 +22,7 @@ use Rattle.trace_reader.specs.Reading.{file_fault, file_traces}
 use Rattle.trace_reader.specs.declared.fault.TraceFault.{TraceFault}
 use Rattle.trace_reader.specs.declared.trace.Trace.{Trace}
 use Rattle.trace_sessions.specs.StreamText.{full_id, points_in}
-use Rattle.table_file.specs.TableText.{text_limit}
+use Rattle.table_work.specs.TableText.{text_limit}
 use Rattle.potential_certificate.specs.CertificateText.{text_limit as certificate_limit}
 use Rattle.program_run.specs.RunLines.{run_lines}
 use Rattle.trace_match.specs.Setting.{Setting}
@@ -32,7 +32,7 @@ use Rattle.check_work.specs.Check.{check_said}
 use Rattle.match_work.specs.Matches.{match_plan, match_text}
 use Rattle.table_work.specs.Preload.{preloads, table_file_said}
 use Rattle.prove_work.specs.Prove.{certificate_too_long, prove_said, text_of_proofs}
-use Rattle.stream_work.specs.Streams.{streams_job, too_long_line}
+use Rattle.follow_work.specs.Streams.{streams_job, too_long_line}
 use Rattle.match_work.specs.TableMatch.{table_match_plan}
 use Rattle.table_work.specs.Table.{table_said, table_too_long, text_of_network}
 

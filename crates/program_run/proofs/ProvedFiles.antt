@@ -11,7 +11,7 @@ use Rattle.trace_reader.specs.Reading.{file_fault, file_traces}
 use Rattle.program_frame.proofs.TakenTraces.{taken_lawful, traces_taken}
 use Rattle.program_run.specs.ProvedFiles.{ProvedFilesAreAccepted}
 use Rattle.program_run.proofs.ProvedTexts.{proved_texts_are_accepted}
-use Rattle.stream_work.proofs.ReadIds.{read_ids}
+use Rattle.follow_work.proofs.ReadIds.{read_ids}
 use Rattle.program_run.proofs.ReadNetworks.{read_lawful, read_names}
 
 network_read : (read : Result Net NetworkFault) (n : Net) → said read ≡ Ok n → read ≡ Ok n

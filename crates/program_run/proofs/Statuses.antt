@@ -9,7 +9,7 @@ use Rattle.follow_work.specs.Follow.{follow_job}
 use Rattle.match_work.specs.Matches.{match_text}
 use Rattle.check_work.specs.Check.{check_said}
 use Rattle.prove_work.specs.Prove.{prove_said}
-use Rattle.stream_work.specs.Streams.{streams_job}
+use Rattle.follow_work.specs.Streams.{streams_job}
 use Rattle.table_work.specs.Preload.{preloads, table_file_said}
 use Rattle.table_work.specs.Table.{table_said}
 use Rattle.program_frame.specs.Asked.{asked_of}

@@ -7,7 +7,7 @@ use Rattle.program_frame.specs.Stream.{works_traces}
 use Rattle.road_network.specs.Limits.{file_limit}
 use Rattle.road_network.specs.Net.{Net}
 use Rattle.road_network.specs.declared.limits.NetworkLimits.{NetworkLimits}
-use Rattle.table_file.specs.TableText.{text_limit}
+use Rattle.table_work.specs.TableText.{text_limit}
 use Rattle.program_run.specs.TableFiles.{TableFilesChangeNothing}
 use Rattle.match_work.specs.Matches.{match_text}
 use Rattle.table_work.specs.Preload.{preloads, table_file_said}

@@ -10,7 +10,7 @@ use Rattle.trace_match.specs.Setting.{Setting}
 use Rattle.check_work.specs.Check.{check_said}
 use Rattle.table_work.specs.Preload.{table_file_said}
 use Rattle.prove_work.specs.Prove.{certificate_too_long}
-use Rattle.stream_work.specs.Streams.{too_long_line}
+use Rattle.follow_work.specs.Streams.{too_long_line}
 use Rattle.table_work.specs.Table.{table_too_long}
 use Rattle.program_run.specs.Words.{asked_plan_within}
 

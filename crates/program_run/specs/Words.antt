@@ -12,10 +12,10 @@ use Rattle.follow_work.specs.Follow.{follow_plan}
 use Rattle.check_work.specs.Check.{check_plan}
 use Rattle.match_work.specs.Matches.{match_plan}
 use Rattle.prove_work.specs.Prove.{prove_plan}
-use Rattle.stream_work.specs.Streams.{streams_plan}
+use Rattle.follow_work.specs.Streams.{streams_plan}
 use Rattle.match_work.specs.TableMatch.{table_match_plan}
 use Rattle.table_work.specs.Table.{table_plan}
-use Rattle.town_work.specs.Towns.{town_plan}
+use Rattle.match_work.specs.Towns.{town_plan}
 
 -- `match` with a table file, or without one
 abbrev pub match_files_plan : NetworkLimits → (network traces : List ℕ) → Option (List ℕ) → Params

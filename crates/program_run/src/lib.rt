@@ -6,7 +6,7 @@
 //! limits of the network; the crate `large_program` calls it with the large ones.
 //!
 //! - The crate `command_line` reads the words, and `run` calls the crate of their command: `match_work`,
-//!   `follow_work`, `stream_work`, `table_work`, `prove_work`, `check_work`, `town_work`.
+//!   `follow_work`, `table_work`, `prove_work`, `check_work`.
 //! - The crate `program_frame` has what all commands share: the files and their refusals, the
 //!   traces in batches, the error line, and the promises of a run.
 //! - [`laws`] has what holds of the outcomes of several commands.

@@ -6,7 +6,7 @@ ghost use Rattle.program_run.specs.Words.{asked_plan};
 use crate::top::run;
 use edge_io::{FileShelf, FileSource, NamedFiles, StreamSink};
 use match_pool::OpenGate;
-use polyline_geometry::List;
+use plain_list::List;
 use std::alloc::Global;
 use std::io::Write;
 use std::thread::Threads;

@@ -12,17 +12,15 @@ use check_work::check_traces;
 use command_line::{Command, Work, read_command};
 use cost_model::Params;
 use edge_io::{Shelf, Sink};
-use follow_work::follow_traces;
+use follow_work::{follow_traces, stream_traces};
 use match_pool::Gate;
-use match_work::{match_traces, match_with_table};
+use match_work::{match_town, match_traces, match_with_table};
 use program_frame::{NetworkFile, Refusal, Stop, refuse_fault, report};
 use prove_work::prove_traces;
 use road_network::NetworkLimits;
 use std::alloc::Global;
 use std::thread::Threads;
-use stream_work::stream_traces;
 use table_work::write_table;
-use town_work::match_town;
 
 // The work of `match`, with a table file or without one.
 fn match_files<R: Threads + Sync, G: Gate, S: Shelf, K: Sink>(

@@ -2,7 +2,7 @@
 use crate::texts::list;
 use edge_io::{MemoryShelf, MemorySink, Shelf};
 use match_pool::Gate;
-use polyline_geometry::List;
+use plain_list::List;
 use program_run::run;
 use std::alloc::{AllocError, Global};
 use std::thread::Threads;

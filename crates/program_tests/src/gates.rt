@@ -5,9 +5,9 @@ ghost use Rattle.std.specs.Prelude.{◌≡◌, IfOk, IfSome};
 use crate::commands::{ONE_TRACE, TABLE};
 use crate::ended::{Ended, run_to_end, shelf};
 use crate::texts::{many_texts, many_traces};
-use bounded_search::Row;
+use bounded_table::Row;
 use match_pool::{Gate, OpenGate};
-use polyline_geometry::List;
+use plain_list::List;
 use road_network::NodeId;
 use row_store::{RowStore, Sight};
 use row_tests::small::{TWO_EDGES, entry};
@@ -36,7 +36,7 @@ fn gives<R: Threads + Sync, G: Gate>(
     }
 }
 
-// The same for so many traces of one point, with their total line.
+// The same for so many traces of one position, with their total line.
 fn gives_many<R: Threads + Sync, G: Gate>(
     rt: &R,
     alloc: Global,

@@ -11,6 +11,8 @@ mod ended;
 #[cfg(test)]
 mod gates;
 #[cfg(test)]
+mod growth;
+#[cfg(test)]
 mod live_runs;
 #[cfg(test)]
 mod reads;

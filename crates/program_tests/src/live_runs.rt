@@ -3,7 +3,7 @@ use crate::ended::{self, sink, words};
 use crate::texts::many_traces;
 use edge_io::{MemoryShelf, MemorySink, Put, Shelf, Sink, Taken};
 use live_pipeline::live;
-use polyline_geometry::List;
+use plain_list::List;
 use row_tests::small::TWO_EDGES;
 use std::alloc::{AllocError, Global};
 use std::sync::Wait;

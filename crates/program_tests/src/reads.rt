@@ -6,7 +6,7 @@ use decimal_text::write_unsigned;
 use edge_io::{MemoryShelf, Shelf, Taken};
 use live_pipeline::live;
 use match_pool::OpenGate;
-use polyline_geometry::List;
+use plain_list::List;
 use row_tests::small::TWO_EDGES;
 use std::alloc::{AllocError, Global};
 use std::sync::Wait;

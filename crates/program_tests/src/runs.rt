@@ -1,7 +1,7 @@
 //! Runs of `run` with failing reads and puts, and the text that they then give.
 use crate::commands::{FAULTY, MATCH, NONE, Run, TWO_TRACES, Trouble, end};
 use crate::texts::{list, many_texts, many_traces};
-use polyline_geometry::List;
+use plain_list::List;
 use std::alloc::{AllocError, Global};
 use std::thread::Threads;
 

@@ -1,13 +1,13 @@
 //! What no clause says of the slots of the store: workers find rows in them and put rows into them, in the near slot
-//! for a step between near positions, and in the table's slot for a step between far ones. Each gate shows it through
-//! `run`, within a bound at which the near row of a node is not its row.
+//! for a step between near positions, and in the table's slot for a step between far ones. A near row that leaves nothing
+//! out is put into both. Each gate shows it through `run`, within a bound at which the near row of a node is not its row.
 ghost use Rattle.std.specs.Prelude.{◌≡◌, IfOk, IfSome, IsSome};
 ghost use Rattle.road_network.specs.Net.{HasNode};
 
 use crate::ended::{run_to_end, shelf};
-use bounded_search::{Entry, Row};
+use bounded_table::{Entry, Row};
 use match_pool::Gate;
-use polyline_geometry::List;
+use plain_list::List;
 use road_network::NodeId;
 use row_store::RowStore;
 use row_tests::small::{TWO_EDGES, entry, offered};
@@ -177,15 +177,16 @@ impl Planter {
     }
 
     // Whether the rows of node 1 had so many entries after the trace, and a worker had found the row of node 2, which
-    // has one entry, in the slot for such steps.
+    // has one entry, in the slot for such steps. No edge leaves node 2, so its near row is put into both slots.
     fn has_found(&self, drive: Drive, near: u64, table: u64) -> bool {
-        let second = match drive {
-            Drive::Near => self.second.near.load(SeqCst),
-            Drive::Far => self.second.table.load(SeqCst),
+        let near_found = match drive {
+            Drive::Near => self.second.near.load(SeqCst) == 1,
+            Drive::Far => true,
         };
         self.first.near.load(SeqCst) == near
             && self.first.table.load(SeqCst) == table
-            && second == 1
+            && near_found
+            && self.second.table.load(SeqCst) == 1
     }
 }
 

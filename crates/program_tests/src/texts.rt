@@ -1,6 +1,6 @@
 //! Lists, and long files with their texts.
 use decimal_text::write_unsigned;
-use polyline_geometry::List;
+use plain_list::List;
 use std::alloc::{AllocError, Global};
 
 pub fn list<T: Copy>(alloc: Global, items: &[T]) -> Result<List<T>, AllocError> {
@@ -9,7 +9,7 @@ pub fn list<T: Copy>(alloc: Global, items: &[T]) -> Result<List<T>, AllocError> 
     Ok(list)
 }
 
-/// A file of so many traces of one point.
+/// A file of so many traces of one position.
 pub fn many_traces(alloc: Global, count: u64) -> Result<List<u8>, AllocError> {
     let mut text = list(alloc, b"trace,x,y\n")?;
     for id in 0..count {

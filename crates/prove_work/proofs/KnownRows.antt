@@ -2,12 +2,12 @@
 use Rattle.std.proofs.Common.{◌≡◌, ◌↔◌, inl, inr, ℕ, zero, suc, ◌+◌, ◌<◌, ◌≤◌, Bool, false, true, cond, List, [], ◌∷◌, map, length, Contains, refl, sym, ap, ◌∙◌, subst, ⊎_elim, arith}
 use Rattle.std.proofs.lemmas.Bool.{cases_eq, false_from_ne_true}
 use Rattle.std.specs.List.{filter, range_with_len}
-use Rattle.bounded_search.specs.Known.{IsKnownList, Rises}
-use Rattle.bounded_search.specs.RowValue.{row_of, rows_where}
-use Rattle.bounded_search.specs.Rows.{RowsState, no_rows}
-use Rattle.bounded_search.proofs.Counting.{rising_from}
-use Rattle.bounded_search.proofs.KnownNodes.{head_or_tail, in_head, in_tail}
-use Rattle.trace_match.specs.Asked.{AsksTraces}
+use Rattle.bounded_table.specs.Known.{IsKnownList, Rises}
+use Rattle.bounded_table.specs.RowValue.{row_of, rows_where}
+use Rattle.bounded_table.specs.Rows.{RowsState, no_rows}
+use Rattle.bounded_table.proofs.Counting.{rising_from}
+use Rattle.bounded_table.proofs.KnownNodes.{head_or_tail, in_head, in_tail}
+use Rattle.trace_match.specs.inside.Asked.{AsksTraces}
 use Rattle.trace_match.specs.Setting.{Setting}
 use Rattle.trace_match.specs.Totals.{is_asked_by}
 use Rattle.road_network.specs.Net.{Net}

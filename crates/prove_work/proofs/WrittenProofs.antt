@@ -11,7 +11,7 @@ use Rattle.road_network.specs.Net.{Net}
 use Rattle.trace_reader.specs.declared.trace.Trace.{Trace}
 use Rattle.trace_match.specs.Setting.{Setting}
 use Rattle.prove_work.specs.Prove.{text_of_proofs}
-use Rattle.prove_work.specs.ProveDone.{WritesProofs}
+use Rattle.prove_work.specs.inside.ProveDone.{WritesProofs}
 
 -- the certificate was made by the network and the options of the setting
 pub record IsMadeBy (on : Setting) (n : Net) (p : Params) (traces : List Trace) (c : Certificate) : Type 0 where

@@ -1,7 +1,7 @@
 -- The certificate of the matches of traces.
 use Rattle.std.specs.Prelude.{List, map}
-use Rattle.bounded_search.specs.RowValue.{rows_where}
-use Rattle.bounded_search.specs.Table.{TableRow}
+use Rattle.bounded_table.specs.RowValue.{rows_where}
+use Rattle.bounded_table.specs.Table.{TableRow}
 use Rattle.cost_model.specs.declared.params.Params.{Params}
 use Rattle.trace_match.specs.Setting.{Setting}
 use Rattle.trace_match.specs.Totals.{is_asked_by}

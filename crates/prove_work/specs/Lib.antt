@@ -1,3 +1,3 @@
 pub mod Certificates
 pub mod Prove
-pub mod ProveDone
+pub mod inside

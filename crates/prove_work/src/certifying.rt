@@ -1,19 +1,19 @@
 //! The proofs of traces. Serves `prove`; decided by `certificate_of`.
 ghost use Rattle.std.specs.Prelude.{◌≡◌, All, IfOk, OnOk, map, true};
-ghost use Rattle.bounded_search.specs.Rows.{AreRowsOf, AsksFor};
-ghost use Rattle.trace_match.specs.Asked.{AsksTraces};
+ghost use Rattle.bounded_table.specs.Rows.{AreRowsOf, AsksFor};
+ghost use Rattle.trace_match.specs.inside.Asked.{AsksTraces};
 ghost use Rattle.trace_match.specs.Ground.{IsGridFor};
 ghost use Rattle.trace_match.specs.Match.{asks};
 ghost use Rattle.trace_reader.specs.Trace.{IsLawfulTrace};
 ghost use Rattle.prove_work.specs.Certificates.{certificate_of, proof_of};
 
-use bounded_search::OwnRows;
 use cost_model::Params;
 use grid_index::Grid;
 use match_pool::match_one;
-use polyline_geometry::List;
+use plain_list::List;
 use potential_certificate::{Certificate, TraceProof, certify};
 use road_network::Network;
+use row_search::OwnRows;
 use std::alloc::{AllocError, Global};
 use trace_reader::Trace;
 

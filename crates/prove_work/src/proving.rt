@@ -5,12 +5,12 @@ ghost use Rattle.program_frame.specs.Loads.{Accepts};
 ghost use Rattle.program_frame.specs.Performs.{Performs};
 ghost use Rattle.trace_reader.specs.Trace.{IsLawfulTrace};
 ghost use Rattle.prove_work.specs.Prove.{prove_plan, prove_said};
-ghost use Rattle.prove_work.specs.ProveDone.{WritesProofs};
+ghost use Rattle.prove_work.specs.inside.ProveDone.{WritesProofs};
 
 use crate::certifying::certify_traces;
 use cost_model::Params;
 use edge_io::{Shelf, Sink};
-use polyline_geometry::List;
+use plain_list::List;
 use potential_certificate::{WriteFault, write_certificate};
 use program_frame::{NetworkFile, Refusal, Stop, load_network, load_traces, put_text, refuse};
 use std::alloc::Global;

@@ -10,7 +10,7 @@ use Rattle.std.specs.List.{list_any}
 use Rattle.std.specs.Prelude.{Option, None, Some}
 use Rattle.std.specs.HashSet.{HashSet}
 use Rattle.indexmap.specs.IndexSet.{insert_key}
-use Rattle.road_network.specs.EdgeNames.{AreNames, HasNames, is_next, last_of}
+use Rattle.road_network.specs.inside.EdgeNames.{AreNames, HasNames, is_next, last_of}
 
 next-above : (names : List ℕ) (name k d : ℕ) → All (λ n. n ≤ last_of names) names → is_next names name ≡ true → k < length names → get_or names k d < name
 next-above [] name k d h next lt = absurd (omega (arith, lt))

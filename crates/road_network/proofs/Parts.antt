@@ -6,7 +6,7 @@ use Rattle.polyline_geometry.specs.Offsets.{line_offsets}
 use Rattle.road_network.specs.declared.Network.TheInside.{Inside}
 use Rattle.road_network.specs.declared.StoredEdge.{StoredEdge}
 use Rattle.road_network.specs.Net.{Edge, Net, HasEdge, HasNode, arc_of, edge_line, leaving, no_edge}
-use Rattle.road_network.specs.Stored.{IsKept, IsStored, edge_of, shown}
+use Rattle.road_network.specs.inside.Stored.{IsKept, IsStored, edge_of, shown}
 
 -- where the list of node v begins and ends, as read from the starts
 abbrev pub AreEnds : Inside → ℕ → ℕ → ℕ → Type 0

@@ -20,7 +20,7 @@ use Rattle.decimal_text.proofs.Trimmed.{and_both, and_of, digit-solid, solid, tr
 use Rattle.polyline_geometry.specs.declared.plane.Point.{Point}
 use Rattle.polyline_geometry.specs.Plane.{InRange}
 use Rattle.road_network.specs.NetworkFile.{both, line_of, make_point, point_of, points_of}
-use Rattle.road_network.specs.Rows.{is_within_part, onto_end, with_point}
+use Rattle.road_network.specs.inside.Rows.{is_within_part, onto_end, with_point}
 use Rattle.road_network.proofs.Readings.{abs-signed, point-within}
 
 -- ---- parts

@@ -13,7 +13,7 @@ use Rattle.csv.specs.Reading.{Reached, ReadRecord, is_flexible, records, strip_b
 use Rattle.csv.proofs.ReadFacts.{rows-end, rows-more}
 use Rattle.road_network.specs.declared.text.Text.{Text}
 use Rattle.std.specs.Prelude.{unwrap_or}
-use Rattle.road_network.specs.Between.{IsBetween, IsNext, TextReader, records_after, records_left, text_in, text_known, text_left}
+use Rattle.road_network.specs.inside.Between.{IsBetween, IsNext, TextReader, records_after, records_left, text_in, text_known, text_left}
 
 abbrev cfg : Config
 cfg = default_config

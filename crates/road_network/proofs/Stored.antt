@@ -12,11 +12,11 @@ use Rattle.polyline_geometry.specs.Offsets.{line_offsets}
 use Rattle.polyline_geometry.proofs.OffsetLists.{length-line_offsets}
 use Rattle.road_network.specs.declared.StoredEdge.{StoredEdge}
 use Rattle.road_network.specs.declared.limits.NetworkLimits.{NetworkLimits}
-use Rattle.road_network.specs.EdgeNames.{names_of}
-use Rattle.road_network.specs.Drafted.{BelongTogether}
+use Rattle.road_network.specs.inside.EdgeNames.{names_of}
+use Rattle.road_network.specs.inside.Drafted.{BelongTogether}
 use Rattle.road_network.specs.Net.{Edge, Net, IsLawful, point_count}
 use Rattle.road_network.specs.NetworkFile.{Row, edge_with, has_name, limit_faults, nodes_with, place_of, with_row}
-use Rattle.road_network.specs.Stored.{AreOffsets, IsStored, edge_of, net_of}
+use Rattle.road_network.specs.inside.Stored.{AreOffsets, IsStored, edge_of, net_of}
 use Rattle.road_network.proofs.Growing.{IsFaultless, lawful-more, limits_with}
 
 -- a part of a list stays when the list grows

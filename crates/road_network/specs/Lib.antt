@@ -2,14 +2,8 @@ pub mod Limits
 pub mod Net
 pub mod Walk
 pub mod Near
-pub mod Stored
-pub mod Places
 pub mod NetworkFile
 pub mod FaultLine
-pub mod Rows
-pub mod Adjacent
-pub mod Between
-pub mod Drafted
-pub mod EdgeNames
 pub mod NearLaws
 pub mod LimitLaws
+pub mod inside

@@ -12,8 +12,8 @@ pub record IsWithin (n : Net) (radius : ℕ) (p : Point) (c : Candidate) : Type 
   pub snap : c ≡ candidate_at n p c.edge.0
   pub near : c.d2 ≤ radius * radius
 
--- the list rises by distance and then by edge number, all that it has are within the radius, and an
--- edge within the radius that it does not have stands behind k others
+-- the list rises by distance and then by edge number, all that it has are within the radius, and an edge within the
+-- radius that it does not have comes after k others
 pub record AreNearest (n : Net) (k radius : ℕ) (p : Point) (list : List Candidate) : Type 0 where
   pub few : length list ≤ k
   pub rises : AllPairs (λ c d. is_before c d ≡ true) list

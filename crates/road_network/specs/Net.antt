@@ -27,7 +27,7 @@ HasNode n v = v < length n.nodes
 abbrev pub HasEdge : Net → ℕ → Type 0
 HasEdge n e = e < length n.edges
 
--- what stands for an edge that the network does not have
+-- the value for an edge that the network does not have
 abbrev pub no_edge : Edge
 no_edge = record { name = 0; «from» = 0; to = 0; line = [] }
 

@@ -19,7 +19,7 @@ use Rattle.road_network.specs.Net.{Edge, Net, point_count}
 
 -- The fields of a record
 
--- two readings together; a misspelling of either stands before a value out of range of the other
+-- two readings together; a misspelling of either comes before a value out of range of the other
 abbrev pub both : {A B C : Type 0} → (A → B → C) → Result A NumberFault → Result B NumberFault
     → Result C NumberFault
 both f (Ok a) (Ok b) = Ok (f a b)
@@ -44,7 +44,7 @@ abbrev pub points_of : List (List ℕ) → Result (List Point) NumberFault
 points_of [] = Ok []
 points_of (part ∷ parts) = both (λ p line. p ∷ line) (point_of part) (points_of parts)
 
--- a line: its parts stand between semicolons
+-- a line: its parts are separated by semicolons
 unfoldable pub line_of : List ℕ → Result (List Point) NumberFault
 line_of field = points_of (slice_split (λ c. c == 59) field)
 
@@ -75,8 +75,7 @@ is_fault OutOfRange (Some OutOfRange) = true
 abbrev pub field_with : NumberFault → List (Option NumberFault) → Option ℕ
 field_with kind readings = option_map (λ i. i + 1) (position (is_fault kind) readings)
 
--- the faults of the fields of record number rec: every misspelling stands before every value
--- out of range
+-- the faults of the fields of record number rec: every misspelling comes before every value out of range
 abbrev pub field_faults : ℕ → List (Option NumberFault) → List (Option NetworkFault)
 field_faults rec readings =
     option_map (λ i. fault.BadNumber rec i) (field_with Misspelt readings)
@@ -144,8 +143,7 @@ with_row n r = record {
 abbrev pub is_same : Point → Point → Bool
 is_same a b = int_eq a.x b.x && int_eq a.y b.y
 
--- the place, from 1, of the first of these points that equals the one before it, where a stands
--- before them at place i
+-- the place, from 1, of the first of these points that equals the one before it, if a is before them at place i
 abbrev pub repeated_after : ℕ → Point → List Point → Option ℕ
 repeated_after i a [] = None
 repeated_after i a (b ∷ line) = if is_same b a then Some (i + 1) else repeated_after (i + 1) b line
@@ -163,8 +161,8 @@ line_faults rec line =
     ∷ when (nat_lt length_limit (line_length line)) (fault.EdgeTooLong rec)
     ∷ []
 
--- the limits that a network of so many edges, nodes and points of all lines has passed with
--- record number rec, whose line has the last number of points
+-- the limits that a network with these numbers of edges, nodes and points of all lines has passed with record
+-- number rec, whose line has the last number of points
 abbrev pub limit_faults : NetworkLimits → ℕ → ℕ → ℕ → ℕ → ℕ → List (Option NetworkFault)
 limit_faults limits rec edges nodes points line =
     when (nat_lt (edge_limit limits) edges) (fault.TooManyEdges rec)
@@ -177,7 +175,7 @@ limit_faults limits rec edges nodes points line =
 abbrev pub has_name : Net → ℕ → Bool
 has_name n name = list_any (λ e. name == e.name) n.edges
 
--- the faults that a network shows with one more row, which stands in record number rec
+-- the faults that a network shows with one more row, which is record number rec
 abbrev pub row_faults : NetworkLimits → Net → ℕ → Row → List (Option NetworkFault)
 row_faults limits n rec r =
     when (has_name n r.name) (fault.DuplicateEdge rec)
@@ -185,7 +183,7 @@ row_faults limits n rec r =
     ++ limit_faults limits rec (length (with_row n r).edges) (length (with_row n r).nodes)
     (point_count (with_row n r).edges) (length r.line)
 
--- the network with one more row, which stands in the next record; records are numbered from 1
+-- the network with one more row, which is the next record; records are numbered from 1
 unfoldable pub add_row : NetworkLimits → Net → Row → Result Net NetworkFault
 add_row limits n r =
     unless (first_fault (row_faults limits n (length n.edges + 1) r)) (with_row n r)

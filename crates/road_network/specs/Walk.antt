@@ -21,7 +21,7 @@ ReadsBefore [] y = Unit {0}
 ReadsBefore (a ∷ x) [] = ⊥
 ReadsBefore (a ∷ x) (b ∷ y) = (a < b) ⊎ ((a ≡ b) × ReadsBefore x y)
 
--- x is shorter than y, or as long and not behind it
+-- x is shorter than y, or as long and not after it
 abbrev pub IsAtMost : Net → List ℕ → List ℕ → Type 0
 IsAtMost n x y =
     (walk_length n x < walk_length n y) ⊎ ((walk_length n x ≡ walk_length n y) × ReadsBefore x y)

@@ -3,8 +3,8 @@ ghost use Rattle.std.specs.Prelude.{◌≡◌, ◌≢◌, ◌+◌, ◌≤◌, No
 ghost use Rattle.std.specs.List.{All};
 ghost use Rattle.polyline_geometry.specs.Plane.{InRange};
 ghost use Rattle.road_network.specs.NetworkFile.{add_row, first_fault, limit_faults, line_faults, no_net, place_of, repeated_point, with_node};
-ghost use Rattle.road_network.specs.Drafted.{drafted, AddsRow, IsDraft, IsLineTaken};
-ghost use Rattle.road_network.specs.Rows.{row_with};
+ghost use Rattle.road_network.specs.inside.Drafted.{drafted, AddsRow, IsDraft, IsLineTaken};
+ghost use Rattle.road_network.specs.inside.Rows.{row_with};
 
 use crate::counting::adjacency_of;
 use crate::edge_names::note_name;
@@ -12,7 +12,8 @@ use crate::fault::NetworkFault;
 use crate::limits::{LENGTH_LIMIT, LINE_POINT_LIMIT, NetworkLimits};
 use crate::{EdgeId, Network, NodeId, StoredEdge};
 use indexmap::IndexSet;
-use polyline_geometry::{List, Point, extend_offsets};
+use plain_list::List;
+use polyline_geometry::{Point, extend_offsets};
 use std::alloc::Global;
 
 /// The first three fields of a record: the id of an edge and the ids of its two nodes.

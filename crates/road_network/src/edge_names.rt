@@ -1,7 +1,7 @@
 //! Which edge ids are new. Serves `Draft::add`; decided by `AreNames`.
 ghost use Rattle.std.specs.Prelude.{◌≡◌, ◌∷◌, ◌++◌, [], IfErr, IfOk, OnOk, nat_eq, not};
 ghost use Rattle.std.specs.List.{list_any};
-ghost use Rattle.road_network.specs.EdgeNames.{AreNames, HasNames, is_next, names_of};
+ghost use Rattle.road_network.specs.inside.EdgeNames.{AreNames, HasNames, is_next, names_of};
 
 use crate::StoredEdge;
 use crate::fault::NetworkFault;

@@ -4,7 +4,7 @@ ghost use Rattle.decimal_text.specs.Number.{decimal};
 ghost use Rattle.road_network.specs.FaultLine.{fault_line, fault_text, record_line};
 
 use decimal_text::write_unsigned;
-use polyline_geometry::List;
+use plain_list::List;
 use std::alloc::{AllocError, AllocFailed, Global};
 use thiserror::Error;
 

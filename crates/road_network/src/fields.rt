@@ -5,7 +5,7 @@ ghost use Rattle.decimal_text.specs.Blank.{is_blank};
 ghost use Rattle.csv.specs.Records.{field_at, fields_of};
 ghost use Rattle.polyline_geometry.specs.Plane.{InRange};
 ghost use Rattle.road_network.specs.NetworkFile.{both, field_faults, field_with, first_fault, is_fault, line_of, make_point, point_of, row_of, row_from, unless};
-ghost use Rattle.road_network.specs.Rows.{field_texts, is_within_part, onto_end, row_with, with_point, worse};
+ghost use Rattle.road_network.specs.inside.Rows.{field_texts, is_within_part, onto_end, row_with, with_point, worse};
 ghost use Rattle.decimal_text.specs.Number.{unsigned_within};
 
 use crate::draft::RowHead;
@@ -13,7 +13,8 @@ use crate::fault::NetworkFault;
 use crate::limits::COORDINATE_LIMIT;
 use csv::ByteRecord;
 use decimal_text::{NumberFault, is_blank, parse_signed, parse_unsigned, signed_at_front, trim};
-use polyline_geometry::{List, Point};
+use plain_list::List;
+use polyline_geometry::Point;
 use std::alloc::AllocError;
 
 /// The fault of two readings: a misspelling takes precedence over a value out of range.

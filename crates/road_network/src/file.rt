@@ -1,8 +1,8 @@
 //! Reads a network file, record by record.
 ghost use Rattle.std.specs.Prelude.{◌≡◌, ◌≢◌, ◌<◌, ◌≤◌, [], true, false, IfOk, IfErr, OnOk, length};
 ghost use Rattle.csv.specs.Records.{fields_of};
-ghost use Rattle.road_network.specs.Between.{IsBetween, IsNext, records_left};
-ghost use Rattle.road_network.specs.Drafted.{drafted, IsDraft};
+ghost use Rattle.road_network.specs.inside.Between.{IsBetween, IsNext, records_left};
+ghost use Rattle.road_network.specs.inside.Drafted.{drafted, IsDraft};
 ghost use Rattle.road_network.specs.Limits.{file_limit};
 ghost use Rattle.road_network.specs.NetworkFile.{add_record, add_records, is_header, network_of, network_of_records, no_net};
 
@@ -13,7 +13,8 @@ use crate::fields::{field_at, read_row};
 use crate::limits::NetworkLimits;
 use crate::text::Text;
 use csv::{ByteRecord, Reader, ReaderBuilder};
-use polyline_geometry::{List, Point};
+use plain_list::List;
+use polyline_geometry::Point;
 use std::alloc::Global;
 
 /// Reads the next record into `row`; false at the end of the file.

@@ -102,7 +102,7 @@ impl Model for Network {
 
     ghost Value = { Net };
 
-    ghost use Rattle.road_network.specs.Stored.{shown, IsKept};
+    ghost use Rattle.road_network.specs.inside.Stored.{shown, IsKept};
 
     ghost view = { shown };
 

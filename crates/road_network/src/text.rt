@@ -1,11 +1,12 @@
 //! The text of a file, whose memory is returned while it is read. Serves `read_network_text`; decided by
 //! `text_in`.
 ghost use Rattle.std.specs.Prelude.{◌≡◌, Some, take};
-ghost use Rattle.road_network.specs.Between.{text_in};
+ghost use Rattle.road_network.specs.inside.Between.{text_in};
 
 use std::io::{Read, Result};
 
-/// So many bytes that were read are returned at once, since each return costs a call of the system.
+/// The bytes that are returned at once, since each return costs a call of the system. Speed only: any value is
+/// right.
 const BLOCK: usize = 65_536;
 
 /// A text that is read from its start to its end. Its bytes are stored in reverse order, so that the

@@ -3,8 +3,8 @@ use Rattle.std.proofs.Common.{◌≡◌, ℕ, suc, ◌+◌, ◌-◌, ◌^◌, �
 use native.Mathlib.Decide.{ℕ_discrete}
 use mathlib.Core.Logic.{dite}
 use Rattle.std.proofs.lemmas.List.{append-nil, reverse-reverse}
-use Rattle.bounded_search.specs.Rows.{RowsState, AsksFor}
-use Rattle.bounded_search.proofs.Asking.{asks_by}
+use Rattle.bounded_table.specs.Rows.{RowsState, AsksFor}
+use Rattle.bounded_table.proofs.Asking.{asks_by}
 use Rattle.road_network.specs.declared.Candidate.{Candidate}
 use Rattle.road_network.specs.declared.EdgeId.{EdgeId}
 use Rattle.road_network.specs.Net.{Net, HasEdge, IsLawful, source, target}
@@ -13,7 +13,7 @@ use Rattle.matching.specs.Routes.{Route, Direct, Over, IsRoute, IsTheRoute}
 use Rattle.matching.proofs.Routes.{direct_route, over_route}
 use Rattle.route_rebuild.specs.Numbers.{numbers}
 use Rattle.route_rebuild.specs.Routes.{AreLegs, edges_of}
-use Rattle.route_rebuild.specs.Runs.{HasWalk, IsDirectLeg, IsLegAdded, IsRouteOfRun, IsWalkStartAt, IsWalkStartOf, chosen_in}
+use Rattle.route_rebuild.specs.inside.Runs.{HasWalk, IsDirectLeg, IsLegAdded, IsRouteOfRun, IsWalkStartAt, IsWalkStartOf, chosen_in}
 use Rattle.route_rebuild.specs.declared.run.Run.{Run}
 use Rattle.route_rebuild.proofs.RouteValue.{route_found}
 

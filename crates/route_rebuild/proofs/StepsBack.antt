@@ -7,8 +7,8 @@ use Rattle.std.specs.Option.{IsSome, option_map}
 use Rattle.road_network.specs.Net.{Net, IsLawful, source, span}
 use Rattle.road_network.specs.Walk.{IsLeastWalk, walk_length}
 use Rattle.road_network.specs.declared.EdgeId.{EdgeId}
-use Rattle.bounded_search.specs.declared.table_row.Entry.{Entry}
-use Rattle.bounded_search.specs.Table.{IsRow, IsLabelOf, last_edge, entry_in, label_in, label_of}
+use Rattle.bounded_table.specs.declared.table_row.Entry.{Entry}
+use Rattle.bounded_table.specs.Table.{IsRow, IsLabelOf, last_edge, entry_in, label_in, label_of}
 use Rattle.route_rebuild.specs.Numbers.{numbers}
 use Rattle.road_network.proofs.Least.{same_least, front_least}
 

@@ -16,14 +16,14 @@ pub record IsSolved (n : Net) (p : Params) (layers : List Layer) (solved : Solve
   pub trace : IsMatchable n p layers
   pub matched : IsMatch (trellis n p) layers solved.ranks solved.pieces solved.tables
 
--- point i has a chosen candidate
+-- position i has a chosen candidate
 pub record IsChosenPoint (layers : List Layer) (ranks : List (Option ℕ)) (i : ℕ) : Type 0 where
   pub layer : i < length layers
   pub rank : i < length ranks
   pub among : unwrap_or (slice_index_or ranks i None) 0
       < length (slice_index_or layers i no_layer).candidates
 
--- each point of the piece has one, and no neighbouring pair is without a route
+-- each position of the piece has one, and no neighbouring pair is without a route
 pub record IsChosenRun (n : Net) (p : Params) (layers : List Layer) (ranks : List (Option ℕ))
     (piece : Piece) : Type 0 where
   pub options : IsAccepted p

@@ -21,8 +21,8 @@ abbrev pub move_back : Candidate → Candidate → Route → ℕ
 move_back a b Direct = a.offset - b.offset
 move_back a b (Over w) = 0
 
--- the lengths of the routes from point i over the next k points add up to `lengths`, and their
--- moves back to `moves`
+-- the lengths of the routes from position i over the next k positions add up to `lengths`, and their moves back to
+-- `moves`
 abbrev pub AreTotals : Net → ℕ → ℕ → (ℕ → Candidate) → ℕ → ℕ → ℕ → ℕ → Type 0
 AreTotals n bound back chosen i zero lengths moves = (lengths ≡ 0) × (moves ≡ 0)
 AreTotals n bound back chosen i (suc k) lengths moves =
@@ -31,8 +31,8 @@ AreTotals n bound back chosen i (suc k) lengths moves =
     × (moves ≡ move_back (chosen i) (chosen (i + 1)) r + m)
     × AreTotals n bound back chosen (i + 1) k l m
 
--- the lengths of the routes of a piece add up to those of its edges, less the first offset, less
--- what of the last edge lies behind the last offset, plus the moves back
+-- the lengths of the routes of a piece add up to those of its edges, less the first offset, less the part of the
+-- last edge after the last offset, plus the moves back
 pub record AddsUp (n : Net) (p : Params) (chosen : ℕ → Candidate) (piece : Piece)
     (es : List ℕ) : Type 0 where
   pub lengths : ℕ

@@ -1,5 +1,5 @@
 pub mod Numbers
 pub mod Routes
 pub mod Chosen
-pub mod Runs
 pub mod Laws
+pub mod inside

@@ -16,19 +16,19 @@ abbrev pub edges_of : Candidate → Route → List ℕ
 edges_of b Direct = []
 edges_of b (Over w) = reverse w ++ b.edge.0 ∷ []
 
--- es are the edges of the legs from point i over the next k points: what the route of each
--- neighbouring pair adds
+-- es are the edges of the legs from position i over the next k positions: what the route of each neighbouring pair
+-- adds
 abbrev pub AreLegs : Net → ℕ → ℕ → (ℕ → Candidate) → ℕ → ℕ → List ℕ → Type 0
 AreLegs n bound back chosen i zero es = es ≡ []
 AreLegs n bound back chosen i (suc k) es =
     (r : Route) × (rest : List ℕ) × IsTheRoute n bound back (chosen i) (chosen (i + 1)) r
     × (es ≡ edges_of (chosen (i + 1)) r ++ rest) × AreLegs n bound back chosen (i + 1) k rest
 
--- what stands for a layer past the last one
+-- the value for a layer past the last one
 abbrev pub no_layer : Layer
 no_layer = record { point = record { x = pos 0; y = pos 0 }; candidates = []; time = 0 }
 
--- the chosen candidate of point i
+-- the chosen candidate of position i
 abbrev pub chosen_at : List Layer → List (Option ℕ) → ℕ → Candidate
 chosen_at layers ranks i =
     candidate_of_rank (slice_index_or layers i no_layer) (unwrap_or (slice_index_or ranks i None) 0)
@@ -41,8 +41,8 @@ pub record IsRouteOf (n : Net) (p : Params) (layers : List Layer) (ranks : List 
   pub legs_are : AreLegs n p.bound p.back (chosen_at layers ranks) piece.first
       (piece.last - piece.first) rest
 
--- the same as a value: the edges that the way to candidate b adds, and those over the next k points
--- after point i
+-- the same as a value: the edges that the way to candidate b adds, and those over the next k positions after
+-- position i
 abbrev pub edges_to : Candidate → Option Route → List ℕ
 edges_to b None = []
 edges_to b (Some r) = edges_of b r
@@ -59,8 +59,8 @@ route_of n p layers ranks piece =
     (chosen_at layers ranks piece.first).edge.0
     ∷ legs n p.bound p.back (chosen_at layers ranks) piece.first (piece.last - piece.first)
 
--- v is the end of the edge of a chosen candidate before the piece's last point, from which there is no
--- direct route to the next chosen candidate: the walk of this leg starts at v
+-- v is the end of the edge of a chosen candidate before the piece's last position, from which there is no direct
+-- route to the next chosen candidate: the walk of this leg starts at v
 abbrev pub IsWalkStart : Net → Params → List Layer → List (Option ℕ) → Piece → ℕ → Type 0
 IsWalkStart n p layers ranks piece v =
     (k : ℕ) × (piece.first ≤ k)

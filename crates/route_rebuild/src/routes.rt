@@ -2,26 +2,25 @@
 ghost use Rattle.std.specs.Prelude.{◌≡◌, ◌<◌, ◌≤◌, IfOk, OnOk, length, reverse};
 ghost use Rattle.road_network.specs.Net.{HasNode};
 ghost use Rattle.road_network.specs.Walk.{IsLeastWalk};
-ghost use Rattle.bounded_search.specs.Rows.{AreRowsOf, AsksFor};
+ghost use Rattle.bounded_table.specs.Rows.{AreRowsOf, AsksFor};
 ghost use Rattle.route_rebuild.specs.Chosen.{IsChosenRun, IsSolved};
 ghost use Rattle.route_rebuild.specs.Laws.{IsJoinedRoute};
 ghost use Rattle.route_rebuild.specs.Numbers.{numbers};
 ghost use Rattle.route_rebuild.specs.Routes.{IsRouteOf, IsWalkStart, piece_at};
-ghost use Rattle.route_rebuild.specs.Runs.{AreJoined, AreRowsForRun, IsLegAdded, IsRouteOfRun, IsWalkStartAt, IsWalkStartOf};
+ghost use Rattle.route_rebuild.specs.inside.Runs.{AreJoined, AreRowsForRun, IsLegAdded, IsRouteOfRun, IsWalkStartAt, IsWalkStartOf};
 
 use crate::run::{Run, chosen};
 use crate::walks::walk;
-use bounded_search::Rows;
+use bounded_table::Rows;
 use cost_model::Params;
 use matching::{Layer, Piece};
-use polyline_geometry::List;
+use plain_list::List;
 use road_network::{EdgeId, Network, NodeId};
 use std::alloc::{AllocError, Global};
 use trellis::{Solved, near_reach};
 
-/// The route of a piece, in order of travel: the edge of the first point's chosen candidate,
-/// then for each neighbouring pair nothing if its route is direct, and otherwise its walk and the
-/// next point's edge.
+/// The route of a piece, in order of travel: the edge of the first position's chosen candidate, then for each
+/// neighbouring pair nothing if its route is direct, and otherwise its walk and the next position's edge.
 ///
 /// It asks for the row of the end node of a chosen candidate's edge if the next leg is not direct,
 /// and for no other row: after Ok each of these nodes is known, and even on `Err` no other node became
@@ -48,8 +47,8 @@ pub fn route<R: Rows>(
     route_over(alloc, net, p, rows, layers, solved.ranks.as_slice(), piece)
 }
 
-/// The route over points with chosen candidates, as [`route`] gives it for a matched piece. It
-/// asks for the same rows.
+/// The route over positions with chosen candidates, as [`route`] gives it for a matched piece. It asks for the same
+/// rows.
 pub fn route_over<R: Rows>(
     alloc: Global,
     net: &Network,
@@ -92,8 +91,8 @@ fn follow<R: Rows>(alloc: Global, rows: &mut R, run: &Run) -> Result<List<EdgeId
     Ok(edges)
 }
 
-/// Appends the edges from a point of the run to the next: none if the route is direct, and otherwise the
-/// least walk from the end of one edge to the start of the other, and this edge.
+/// Appends the edges from a position of the run to the next: none if the route is direct, and otherwise the least
+/// walk from the end of one edge to the start of the other, and this edge.
 fn append_leg<R: Rows>(
     alloc: Global,
     rows: &mut R,

@@ -19,7 +19,7 @@ pub struct Run<'a> {
     pub ghost is: { IsChosenRun net.now params.now layers.now ranks.now piece },
 }
 
-/// The chosen candidate of a point.
+/// The chosen candidate of a position.
 pub fn chosen(run: &Run, i: usize) -> Candidate
     requires { IsChosenPoint run.now.layers.now run.now.ranks.now i }
     ensures { result ≡ chosen_at run.now.layers.now run.now.ranks.now i }

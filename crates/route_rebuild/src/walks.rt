@@ -2,11 +2,11 @@
 ghost use Rattle.std.specs.Prelude.{◌≡◌, ◌≤◌, ℕ, length, reverse, IfOk};
 ghost use Rattle.std.specs.Option.{IsSome};
 ghost use Rattle.road_network.specs.Walk.{IsLeastWalk};
-ghost use Rattle.bounded_search.specs.Table.{IsRow, entry_in};
+ghost use Rattle.bounded_table.specs.Table.{IsRow, entry_in};
 ghost use Rattle.route_rebuild.specs.Numbers.{numbers};
 
-use bounded_search::Row;
-use polyline_geometry::List;
+use bounded_table::Row;
+use plain_list::List;
 use road_network::{EdgeId, Network, NodeId};
 use std::alloc::{AllocError, Global};
 

@@ -4,9 +4,9 @@ use Rattle.std.proofs.lemmas.Bool.{leb-true}
 use Rattle.std.specs.Option.{IfSome, option_map}
 use Rattle.std.specs.Prelude.{nat_le, slice_index_or}
 use Rattle.row_store.specs.Store.{NearSlots, Reading, SlotSet, Stored, lender, looks_near, near_bound, near_of, near_slots, table_of, table_slots, takes_near}
-use Rattle.row_store.specs.StoreInside.{AreOfOne, IsStored, near_of_set, stored}
-use Rattle.row_store.specs.ReaderInside.{IsNearOf, IsNearView, near_seen}
-use Rattle.row_store.specs.Views.{IsViewOf, seen_of}
+use Rattle.row_store.specs.inside.StoreInside.{AreOfOne, IsStored, near_of_set, stored}
+use Rattle.row_store.specs.inside.ReaderInside.{IsNearOf, IsNearView, near_seen}
+use Rattle.row_store.specs.inside.Views.{IsViewOf, seen_of}
 use Rattle.row_store.specs.declared.store.RowStore.TheInside.{Inside}
 use Rattle.row_store.specs.declared.place.Place.{Place}
 use Rattle.row_store.specs.declared.view.View.{View}

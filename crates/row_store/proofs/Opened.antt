@@ -3,9 +3,9 @@ use Rattle.std.proofs.Common.{◌≡◌, ℕ, zero, suc, Option, Some, None, Boo
 use Rattle.std.specs.Option.{IfSome}
 use Rattle.std.specs.Prelude.{slice_get, slice_index_or}
 use Rattle.road_network.specs.Net.{HasNode}
-use Rattle.bounded_search.specs.Table.{TableRow}
+use Rattle.bounded_table.specs.Table.{TableRow}
 use Rattle.row_store.specs.Store.{IsSeen, SlotSet, is_seen}
-use Rattle.row_store.specs.Views.{IsOpen, IsViewAt, IsViewOf, StaysView, seen_of, viewing_of}
+use Rattle.row_store.specs.inside.Views.{IsOpen, IsViewAt, IsViewOf, StaysView, seen_of, viewing_of}
 use Rattle.row_store.specs.declared.view.View.{View}
 
 abbrev no_row : Option TableRow

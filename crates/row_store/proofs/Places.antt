@@ -6,14 +6,14 @@ use mathlib.Core.Logic.{dite}
 use Rattle.std.specs.declared.alloc.Global.{Global as Heap}
 use Rattle.once_cell.specs.Once.{cell_name, Agrees}
 use Rattle.road_network.specs.Net.{Net}
-use Rattle.bounded_search.specs.Table.{TableRow, IsRow}
-use Rattle.bounded_search.specs.Known.{Extends, Adds, known_nodes}
-use Rattle.bounded_search.proofs.KnownNodes.{adds, get_set, get_set_else, inside}
+use Rattle.bounded_table.specs.Table.{TableRow, IsRow}
+use Rattle.bounded_table.specs.Known.{Extends, Adds, known_nodes}
+use Rattle.bounded_table.proofs.KnownNodes.{adds, get_set, get_set_else, inside}
 use Rattle.row_store.specs.declared.place.Place.{Place}
 use Rattle.row_store.specs.declared.place.Seen.{Seen}
 use Rattle.row_store.specs.declared.place.Seen.TheVariants.{Nothing, Right, Foreign, Replaced}
-use Rattle.row_store.specs.Places.{Fits, IsCheckedFor, IsReady, KeepsSight, StaysBlind, row_in}
-use Rattle.row_store.specs.Views.{AllFit, viewing}
+use Rattle.row_store.specs.inside.Places.{Fits, IsCheckedFor, IsReady, KeepsSight, StaysBlind, row_in}
+use Rattle.row_store.specs.inside.Views.{AllFit, viewing}
 use Rattle.row_store.specs.Store.{SlotSet, Viewing, IsSeen, Sees, is_seen}
 
 pub set_same : {A : Type 0} (l : List A) (i : ℕ) (a : A) → slice_get l i ≡ Some a → set l i a ≡ l

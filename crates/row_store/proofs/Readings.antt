@@ -1,12 +1,12 @@
 -- What a look at one slot leaves of a reader.
 use Rattle.std.proofs.Common.{◌≡◌, inl, inr, ℕ, zero, suc, List, [], ◌∷◌, ◌++◌, length, length-set, Option, Some, Result, refl, sym, ap, ◌∙◌, subst, ⊎_elim, arith}
 use Rattle.std.proofs.lemmas.List.Elements.{Contains-append_cases, Contains-append_left, Contains-append_right}
-use Rattle.bounded_search.specs.Known.{Adds, Extends, known_nodes}
-use Rattle.bounded_search.specs.Rows.{AsksAll, AsksFor, AsksOnly}
-use Rattle.bounded_search.specs.Table.{TableRow}
-use Rattle.bounded_search.proofs.Asking.{asks_nothing}
+use Rattle.bounded_table.specs.Known.{Adds, Extends, known_nodes}
+use Rattle.bounded_table.specs.Rows.{AsksAll, AsksFor, AsksOnly}
+use Rattle.bounded_table.specs.Table.{TableRow}
+use Rattle.bounded_table.proofs.Asking.{asks_nothing}
 use Rattle.row_store.specs.Store.{NearSlots, Reading, Sees, SeesNear, SeesTable, Stored, Viewing, near_of, rows_state, source_of, table_of}
-use Rattle.row_store.specs.Views.{Fills}
+use Rattle.row_store.specs.inside.Views.{Fills}
 use Rattle.row_store.proofs.Places.{on_ok, sees_adds, sees_extends}
 
 -- what two lists held they hold one behind the other

@@ -12,9 +12,9 @@ use Rattle.atomic_table.proofs.Lists.{at_snoc, exchanged, set_again, set_else, s
 use Rattle.std.specs.Option.{IfSome}
 use Rattle.once_cell.specs.Once.{Agrees}
 use Rattle.once_cell.specs.declared.race.note.Note.{Note}
-use Rattle.bounded_search.specs.Table.{IsRow, TableRow}
+use Rattle.bounded_table.specs.Table.{IsRow, TableRow}
 use Rattle.row_store.specs.Store.{SlotSet}
-use Rattle.row_store.specs.Vouchers.{HasVoucher, IsVoucher, Name, Takes, Vouched}
+use Rattle.row_store.specs.inside.Vouchers.{HasVoucher, IsVoucher, Name, Takes, Vouched}
 use Rattle.std.proofs.Common.{eqb}
 use Rattle.std.proofs.lemmas.List.{length-replicate}
 

@@ -1,6 +1,6 @@
 -- What a sight of a cell says.
 use Rattle.std.specs.Prelude.{}
-use Rattle.bounded_search.specs.Table.{TableRow}
+use Rattle.bounded_table.specs.Table.{TableRow}
 use Rattle.row_store.specs.declared.sight.Sight.{Sight}
 use Rattle.row_store.specs.declared.sight.Sight.TheVariants.{Table, Foreign}
 

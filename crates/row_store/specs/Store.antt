@@ -2,9 +2,9 @@
 use Rattle.std.specs.Prelude.{◌≡◌, ℕ, ◌/◌, Bool, false, ◌||◌, ◌&&◌, if◌then◌else◌, IsSomeAnd, List, [], ◌∷◌, ◌++◌, Option, Some, None, is_some, length, nat_le, not, replicate, slice_get, slice_index_or, slice_set, count_by}
 use Rattle.std.specs.List.{list_any, range_with_len}
 use Rattle.road_network.specs.Net.{Net}
-use Rattle.bounded_search.specs.Known.{known_nodes}
-use Rattle.bounded_search.specs.Rows.{RowsState}
-use Rattle.bounded_search.specs.Table.{TableRow, IsRow}
+use Rattle.bounded_table.specs.Known.{known_nodes}
+use Rattle.bounded_table.specs.Rows.{RowsState}
+use Rattle.bounded_table.specs.Table.{TableRow, IsRow}
 
 -- ---- the slots for one bound, and who looks at them
 

@@ -1,16 +1,18 @@
-//! The rows that a view has accepted, for a search to use. Serves `View::find`; decided by `IsRow`.
+//! The right rows that a search may use. Serves `Judge::row_from`; decided by `IsRow`.
 ghost use Rattle.std.specs.Prelude.{◌≡◌, length};
-ghost use Rattle.row_store.specs.Views.{AllFit};
+ghost use Rattle.row_store.specs.inside.Views.{AllFit};
 
 use crate::place::Place;
-use crate::slots::Slots;
-use bounded_search::{KnownRows, Row};
+use crate::vouchers::VoucherSeat;
+use bounded_table::Row;
 use road_network::NodeId;
+use row_search::KnownRows;
 use std::marker::Model;
 
-/// The right rows among those that a view shows or that were made for it, with a place for each node.
+/// The right rows among those that a view shows or that were made for it, with a place for each node, and the rows in
+/// other slots that somebody vouches for. The view does not show these afterwards either.
 pub struct Accepted<'a, 's> {
-    slots: &'s Slots<'s>,
+    vouchers: &'a VoucherSeat<'s>,
     places: &'a [Place<'s>],
 }
 
@@ -18,7 +20,7 @@ pub struct Accepted<'a, 's> {
 impl<'a, 's> Drop for Accepted<'a, 's> {
     fn drop(self) {
         let Accepted {
-            slots: _,
+            vouchers: _,
             places: _,
         } = self;
     }
@@ -26,25 +28,25 @@ impl<'a, 's> Drop for Accepted<'a, 's> {
 
 impl<'a, 's> Model for Accepted<'a, 's> {
     ghost use Rattle.std.specs.Prelude.{◌≡◌, length};
-    ghost use Rattle.bounded_search.specs.Table.{BoundedTable};
-    ghost use Rattle.row_store.specs.Views.{AllFit};
+    ghost use Rattle.bounded_table.specs.Table.{BoundedTable};
+    ghost use Rattle.row_store.specs.inside.Views.{AllFit};
 
     ghost Value = { BoundedTable };
 
-    ghost view = { λ a. record { network = a.slots.now.network; bound = a.slots.now.bound } };
+    ghost view = { λ a. record { network = a.vouchers.now.network; bound = a.vouchers.now.bound } };
 
-    ghost invariant = { λ a. (length a.places.now ≡ length a.slots.now.network.nodes)
-        × AllFit a.slots.now a.places.now };
+    ghost invariant = { λ a. (length a.places.now ≡ length a.vouchers.now.network.nodes)
+        × AllFit a.vouchers.now a.places.now };
 }
 
 impl<'a, 's> Accepted<'a, 's> {
-    /// The accepted rows among these places.
-    pub fn of(slots: &'s Slots<'s>, places: &'a [Place<'s>]) -> Accepted<'a, 's>
-        requires count { length places.now ≡ length slots.now.network.nodes }
-        requires fit { AllFit slots.now places.now }
-        ensures { result ≡ record { network = slots.now.network; bound = slots.now.bound } }
+    /// The accepted rows among these places, and those with a voucher.
+    pub fn of(vouchers: &'a VoucherSeat<'s>, places: &'a [Place<'s>]) -> Accepted<'a, 's>
+        requires count { length places.now ≡ length vouchers.now.network.nodes }
+        requires fit { AllFit vouchers.now places.now }
+        ensures { result ≡ record { network = vouchers.now.network; bound = vouchers.now.bound } }
     {
-        Accepted { slots, places }
+        Accepted { vouchers, places }
     }
 }
 
@@ -52,6 +54,9 @@ impl<'a, 's> KnownRows for Accepted<'a, 's> {
     ghost table = { λ accepted. accepted };
 
     fn known_row(&self, n: NodeId) -> Option<&Row> {
-        self.places[n.0 as usize].right_row()
+        if let Some(row) = self.places[n.0 as usize].right_row() {
+            return Some(row);
+        }
+        self.vouchers.row(n)
     }
 }

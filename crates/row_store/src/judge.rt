@@ -1,13 +1,17 @@
 //! What one thread finds rows with, and decides whether a row is right. Serves `Place`; decided by `IsRow`.
 ghost use Rattle.std.specs.Prelude.{◌≡◌, ◌↔◌, ◌<◌, IfOk, IsTrue, Some, length, slice_index};
 ghost use Rattle.road_network.specs.Net.{HasNode};
-ghost use Rattle.bounded_search.specs.Table.{IsRow};
+ghost use Rattle.bounded_table.specs.Table.{IsRow};
+ghost use Rattle.row_store.specs.inside.Views.{AllFit};
 
+use crate::accepted::Accepted;
+use crate::place::Place;
 use crate::vouched::VouchedSlots;
 use crate::vouchers::VoucherSeat;
-use bounded_search::{Fans, KnownRows, Row, Searcher};
+use bounded_table::Row;
 use once_cell::race::Note;
 use road_network::NodeId;
+use row_search::{Fans, KnownRows, Searcher};
 use std::alloc::AllocError;
 use std::marker::Model;
 
@@ -29,7 +33,7 @@ impl<'s> Drop for Judge<'s> {
 
 impl<'s> Model for Judge<'s> {
     ghost use Rattle.row_store.specs.Store.{SlotSet};
-    ghost use Rattle.row_store.specs.Places.{IsSearcherOf};
+    ghost use Rattle.row_store.specs.inside.Places.{IsSearcherOf};
 
     ghost Value = { SlotSet };
 
@@ -60,14 +64,16 @@ impl<'s> Judge<'s> {
         self.searcher.row(n)
     }
 
-    /// The row of n, found with the help of known rows.
-    pub fn row_from<K: KnownRows>(&mut self, known: &K, n: NodeId) -> Result<Row, AllocError>
-        requires known { K.table known.now ≡ record { network = self.old.network; bound = self.old.bound } }
+    /// The row of n, found with the help of the right rows among these places, and of those with a voucher.
+    pub fn row_from(&mut self, places: &[Place<'s>], n: NodeId) -> Result<Row, AllocError>
+        requires count { length places.now ≡ length self.old.network.nodes }
+        requires fit { AllFit self.old places.now }
         requires node { HasNode self.old.network n.0 }
         ensures same { self.new ≡ self.old }
         ensures row { IfOk result (IsRow self.old.network self.old.bound n.0) }
     {
-        self.searcher.row_from(known, n)
+        let known = Accepted::of(&self.vouchers, places);
+        self.searcher.row_from(&known, n)
     }
 
     /// Tells other threads that the row in the slot of n, which this note knows, is the row of n.

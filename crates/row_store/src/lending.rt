@@ -3,16 +3,16 @@ ghost use Rattle.std.specs.Prelude.{◌≡◌, ◌≤◌, IfOk, IfSome, IsOk, Is
 ghost use Rattle.std.specs.Borrow.{sem};
 ghost use Rattle.std.specs.Io.BufRead.{Rests};
 ghost use Rattle.road_network.specs.Net.{HasNode};
-ghost use Rattle.bounded_search.specs.Rows.{AsksFor};
-ghost use Rattle.bounded_search.specs.Table.{IsNearRow, IsRow};
+ghost use Rattle.bounded_table.specs.Rows.{AsksFor};
+ghost use Rattle.bounded_table.specs.Table.{IsNearRow, IsRow};
 ghost use Rattle.row_store.specs.Lenders.{reader_type};
-ghost use Rattle.row_store.specs.ReaderInside.{IsNearOf};
+ghost use Rattle.row_store.specs.inside.ReaderInside.{IsNearOf};
 ghost use Rattle.row_store.specs.Store.{SeesRow, lender, looks_near, near_of, rows_state, table_of, takes_near};
 
-use crate::opening::{fill_in, knows_in, lend_from};
+use crate::opening::{fill_both, fill_in, knows_in, lend_from};
 use crate::reader::Reader;
 use crate::vouched::VouchedSlots;
-use bounded_search::{Row, Rows};
+use bounded_table::{Row, Rows};
 use road_network::NodeId;
 use std::alloc::AllocError;
 
@@ -79,7 +79,7 @@ impl<'s> Reader<'s> {
         knows_in(&self.near, slots, n) || !knows_in(&self.table, &store.table, n)
     }
 
-    /// The near row of n, by its slot.
+    /// The near row of n, by its slot. If it leaves nothing out, it is put into the table's slot too.
     fn near_slot_row(&mut self, n: NodeId) -> Result<&Row, AllocError>
         requires { HasNode self.old.store.network n.0 × IsSome self.old.store.near }
         ensures value { IfOk result (λ row. IfSome self.old.store.near (λ near. (near.bound ≤ self.old.store.bound)
@@ -92,7 +92,7 @@ impl<'s> Reader<'s> {
         let Some(slots) = &store.near else {
             unreachable!()
         };
-        fill_in(&mut self.near, slots, &store.fans, n)?;
+        fill_both(&mut self.near, slots, &store.table, &store.fans, n)?;
         Ok(lend_from(&self.near, slots, n))
     }
 }

@@ -1,14 +1,14 @@
 //! What a reader sees and offers in the slots of near rows. Serves gates and tests; decided by `SeesNear`.
 ghost use Rattle.std.specs.Prelude.{◌≡◌, ◌↔◌, IfOk, IfSome, IsOk, IsSome, OnErr, Some, slice_get};
 ghost use Rattle.road_network.specs.Net.{HasNode};
-ghost use Rattle.bounded_search.specs.Table.{IsRow};
+ghost use Rattle.bounded_table.specs.Table.{IsRow};
 ghost use Rattle.row_store.specs.Store.{IsSeen, SeesNear, near_of};
 ghost use Rattle.row_store.specs.Sights.{row_seen, IsTable};
 
 use crate::opening::{agree_in, look_in, offer_in};
 use crate::reader::Reader;
 use crate::sight::Sight;
-use bounded_search::Row;
+use bounded_table::Row;
 use road_network::NodeId;
 use std::alloc::AllocError;
 

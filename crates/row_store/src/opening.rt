@@ -1,16 +1,18 @@
 //! Views that are opened at first need. Serves `Reader`; decided by `IsViewOf`.
 ghost use Rattle.std.specs.Prelude.{◌≡◌, ◌↔◌, ◌<◌, IfOk, IfSome, IsOk, OnErr, OnOk, length};
 ghost use Rattle.road_network.specs.Net.{HasNode};
-ghost use Rattle.bounded_search.specs.Table.{IsRow};
+ghost use Rattle.bounded_table.specs.Table.{IsRow};
 ghost use Rattle.row_store.specs.Sights.{row_seen, IsTable};
 ghost use Rattle.row_store.specs.Store.{IsSeen, Sees, SeesRow, is_seen};
-ghost use Rattle.row_store.specs.Views.{Agreed, CanLook, Fills, HasOpenRow, IsOpen, IsViewOf, seen_of};
+ghost use Rattle.row_store.specs.inside.Views.{Agreed, CanLook, Fills, HasOpenRow, IsOpen, IsViewOf, seen_of};
 
 use crate::sight::Sight;
 use crate::view::View;
 use crate::vouched::VouchedSlots;
-use bounded_search::{Fans, Row};
+use crate::whole_rows::share_whole;
+use bounded_table::Row;
 use road_network::NodeId;
+use row_search::Fans;
 use std::alloc::AllocError;
 
 /// Opens the view of these slots, if it is not open.
@@ -120,6 +122,30 @@ pub fn fill_in<'s>(
     open_view(view, slots, fans)?;
     let Some(view) = view else { unreachable!() };
     view.fill(n)
+}
+
+/// Has the row of n at hand, as `fill_in` does. If it is seen for the first time, and is the row of n within the bound of
+/// the table too, it fills the slot of n there.
+pub fn fill_both<'s>(
+    view: &mut Option<View<'s>>,
+    slots: &'s VouchedSlots<'s>,
+    table: &'s VouchedSlots<'s>,
+    fans: &'s Fans<'s>,
+    n: NodeId,
+) -> Result<(), AllocError>
+    requires look { CanLook slots.now fans.now n.0 view.old }
+    requires table { HasNode table.now.network n.0 }
+    ensures view { IfSome view.new (IsViewOf slots.now) }
+    ensures fills { Fills (seen_of slots.now view.old) n.0 result (seen_of slots.now view.new) }
+    ensures row { OnOk result (HasOpenRow n.0 view.new) }
+    ensures again { SeesRow (seen_of slots.now view.old) n.0 → IsOk result }
+{
+    let known = knows_in(view, slots, n);
+    fill_in(view, slots, fans, n)?;
+    if known {
+        return Ok(());
+    }
+    share_whole(table, n, lend_from(view, slots, n))
 }
 
 /// The row of n, which is at hand.

@@ -2,13 +2,13 @@
 ghost use Rattle.std.specs.Prelude.{◌≡◌, ℕ, ◌<◌, slice_index, ◌⊎◌, ◌↔◌, OnErr, OnOk, IfSome, IsOk, IsTrue, Some, None, IsSome, is_some, length};
 ghost use Rattle.road_network.specs.Net.{Net};
 ghost use Rattle.once_cell.specs.Once.{cell_name, Agrees};
-ghost use Rattle.bounded_search.specs.Table.{IsRow};
-ghost use Rattle.row_store.specs.Places.{Fits, IsCheckedFor, IsPlaceOf, IsReady, KeepsSight, StaysBlind, row_in};
+ghost use Rattle.bounded_table.specs.Table.{IsRow};
+ghost use Rattle.row_store.specs.inside.Places.{Fits, IsCheckedFor, IsPlaceOf, IsReady, KeepsSight, StaysBlind, row_in};
 ghost use Rattle.row_store.specs.declared.place.Seen.TheVariants.{Nothing};
 
 use crate::judge::Judge;
 use crate::slots::Slots;
-use bounded_search::Row;
+use bounded_table::Row;
 use once_cell::race::{Note, OnceBox};
 use road_network::NodeId;
 use std::alloc::AllocError;

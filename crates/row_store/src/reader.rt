@@ -1,7 +1,7 @@
 //! What one thread knows of a store. Serves those who look and offer; decided by `Reading`.
 ghost use Rattle.std.specs.Prelude.{◌≡◌, ◌↔◌, IfOk, IsOk, IsSome, OnErr, Some, slice_get};
 ghost use Rattle.road_network.specs.Net.{HasNode};
-ghost use Rattle.bounded_search.specs.Table.{IsRow};
+ghost use Rattle.bounded_table.specs.Table.{IsRow};
 ghost use Rattle.row_store.specs.Store.{IsSeen, SeesNear, SeesTable, fresh_reading, knows, table_of};
 ghost use Rattle.row_store.specs.Sights.{row_seen, IsTable};
 
@@ -9,7 +9,7 @@ use crate::opening::{agree_in, knows_in, look_in, offer_in, offer_right_in};
 use crate::sight::Sight;
 use crate::store::RowStore;
 use crate::view::View;
-use bounded_search::Row;
+use bounded_table::Row;
 use road_network::NodeId;
 use std::alloc::AllocError;
 use std::marker::Model;
@@ -38,7 +38,7 @@ impl<'s> Model for Reader<'s> {
 
     ghost Value = { Reading };
 
-    ghost use Rattle.row_store.specs.ReaderInside.{reading_of, IsKept};
+    ghost use Rattle.row_store.specs.inside.ReaderInside.{reading_of, IsKept};
 
     ghost view = { reading_of };
 

@@ -1,6 +1,6 @@
 //! What a reader finds in a cell. Serves `Reader::look`.
 
-use bounded_search::Row;
+use bounded_table::Row;
 
 /// The row of a cell, as a reader found it.
 #[derive(Clone, Copy)]

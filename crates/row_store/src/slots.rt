@@ -1,7 +1,7 @@
 //! The slots for the rows within one bound, one for each node. Serves `Slots`; decided by `SlotSet`.
 ghost use Rattle.std.specs.Prelude.{◌≡◌, ◌≤◌, IfOk, length};
 
-use bounded_search::Row;
+use bounded_table::Row;
 use once_cell::race::OnceBox;
 use road_network::Network;
 use std::alloc::{AllocError, Global};

@@ -3,8 +3,8 @@ ghost use Rattle.std.specs.Prelude.{◌≡◌, ◌≤◌, IfOk, None, is_some};
 ghost use Rattle.row_store.specs.Store.{HasNearRows, IsOpened, near_bound};
 
 use crate::vouched::VouchedSlots;
-use bounded_search::Fans;
 use road_network::Network;
+use row_search::Fans;
 use std::alloc::{AllocError, Global};
 use std::marker::Model;
 
@@ -30,7 +30,7 @@ impl<'n> Drop for RowStore<'n> {
 
 impl<'n> Model for RowStore<'n> {
     ghost use Rattle.row_store.specs.Store.{Stored};
-    ghost use Rattle.row_store.specs.StoreInside.{IsStored, stored};
+    ghost use Rattle.row_store.specs.inside.StoreInside.{IsStored, stored};
 
     ghost Value = { Stored };
 

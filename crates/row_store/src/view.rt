@@ -1,19 +1,19 @@
 //! What one thread has seen of the slots for one bound. Serves `Reader`; decided by `Viewing`.
 ghost use Rattle.std.specs.Prelude.{◌≡◌, ◌↔◌, ◌<◌, length, IfOk, IsOk, OnOk, OnErr, slice_get, Some};
 ghost use Rattle.road_network.specs.Net.{HasNode};
-ghost use Rattle.bounded_search.specs.Table.{TableRow, IsRow};
+ghost use Rattle.bounded_table.specs.Table.{TableRow, IsRow};
 ghost use Rattle.row_store.specs.Sights.{row_seen, IsTable};
 ghost use Rattle.row_store.specs.Store.{IsSeen, Sees, SeesRow, fresh_view, is_seen};
-ghost use Rattle.row_store.specs.Views.{Fills, HasRow, IsView, IsViewAt, IsViewOf, StaysView, viewing_of};
+ghost use Rattle.row_store.specs.inside.Views.{Fills, HasRow, IsView, IsViewAt, IsViewOf, StaysView, viewing_of};
 
-use crate::accepted::Accepted;
 use crate::judge::Judge;
 use crate::place::{Place, Seen};
 use crate::sight::Sight;
 use crate::slots::Slots;
 use crate::vouched::VouchedSlots;
-use bounded_search::{Fans, Row};
+use bounded_table::Row;
 use road_network::NodeId;
+use row_search::Fans;
 use std::alloc::AllocError;
 
 /// What one thread has seen of some slots and found out about it: a place for each node, and what finds and judges rows.
@@ -70,14 +70,13 @@ impl<'s> View<'s> {
         self.places[n.0 as usize].is_known()
     }
 
-    /// The row of n, found with the help of the accepted rows.
+    /// The row of n, found with the help of rows that are known to be right.
     fn find(&mut self, n: NodeId) -> Result<Row, AllocError>
         requires { IsViewAt self.old n.0 }
         ensures same { self.new ≡ self.old }
         ensures row { IfOk result (IsRow self.old.slots.now.network self.old.slots.now.bound n.0) }
     {
-        let known = Accepted::of(self.slots, self.places.as_slice());
-        self.judge.row_from(&known, n)
+        self.judge.row_from(self.places.as_slice(), n)
     }
 
     /// Sees the row in the slot of n. An empty slot is filled with the row of n.

@@ -25,7 +25,7 @@ impl<'n> Drop for VouchedSlots<'n> {
 
 impl<'n> Model for VouchedSlots<'n> {
     ghost use Rattle.row_store.specs.Store.{SlotSet};
-    ghost use Rattle.row_store.specs.Vouchers.{IsTableFor};
+    ghost use Rattle.row_store.specs.inside.Vouchers.{IsTableFor};
 
     ghost Value = { SlotSet };
 

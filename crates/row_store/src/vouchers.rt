@@ -1,12 +1,14 @@
-//! Notes of right rows, beside the slots that contain these rows. Serves `Judge`; decided by `Vouched`.
-ghost use Rattle.std.specs.Prelude.{◌≡◌, ◌<◌, ◌∷◌, [], IfOk, IsTrue, Some, length, slice_index};
+//! Notes of right rows, beside the slots that contain these rows. Serves `Judge`; decided by `Vouched`. A reader
+//! takes a note out, compares it with its own and puts it back: two notes of one cell know the same row. No call
+//! waits: while a note is out, the row is checked.
+ghost use Rattle.std.specs.Prelude.{◌≡◌, ◌<◌, ◌∷◌, [], IfOk, IfSome, IsTrue, Some, length, slice_index};
 ghost use Rattle.road_network.specs.Net.{HasNode};
-ghost use Rattle.bounded_search.specs.Table.{IsRow};
-ghost use Rattle.row_store.specs.Vouchers.{IsTableFor, IsVoucher};
+ghost use Rattle.bounded_table.specs.Table.{IsRow};
+ghost use Rattle.row_store.specs.inside.Vouchers.{IsTableFor, IsVoucher};
 
 use crate::slots::Slots;
 use atomic_table::{Badge, Play, Seat, Table, TableRule};
-use bounded_search::Row;
+use bounded_table::Row;
 use once_cell::race::Note;
 use road_network::{Network, NodeId};
 use std::alloc::{AllocError, Global};
@@ -50,7 +52,7 @@ const TAKEN: u64 = 2;
 pub struct Vouching;
 
 impl TableRule<Option<Note<Row>>, SlotsName, SlotsName> for Vouching {
-    ghost use Rattle.row_store.specs.Vouchers.{Vouched};
+    ghost use Rattle.row_store.specs.inside.Vouchers.{Vouched};
 
     ghost holds = { Vouched };
 
@@ -70,7 +72,7 @@ impl Play<Option<Note<Row>>, SlotsName> for Arrive {
 struct Take;
 
 impl Play<Option<Note<Row>>, SlotsName> for Take {
-    ghost use Rattle.row_store.specs.Vouchers.{Takes};
+    ghost use Rattle.row_store.specs.inside.Vouchers.{Takes};
 
     ghost then = { λ step me found new. Takes step.first step.word me found new };
 }
@@ -134,7 +136,7 @@ impl<'s> Drop for VoucherSeat<'s> {
 
 impl<'s> Model for VoucherSeat<'s> {
     ghost use Rattle.row_store.specs.Store.{SlotSet};
-    ghost use Rattle.row_store.specs.Vouchers.{IsSeated};
+    ghost use Rattle.row_store.specs.inside.Vouchers.{IsSeated};
 
     ghost Value = { SlotSet };
 
@@ -199,5 +201,22 @@ impl<'s> VoucherSeat<'s> {
         note.compare(left);
         shared.store::<Give>(&mut self.seat, place, HERE);
         true
+    }
+
+    /// The row in the slot of n, if somebody vouches for it. Allocates nothing.
+    pub fn row(&self, n: NodeId) -> Option<&'s Row>
+        requires { HasNode self.now.network n.0 }
+        ensures { IfSome result (λ row. IsRow self.now.network self.now.bound n.0 row.now) }
+    {
+        let slots = self.slots;
+        let cell = &slots.cells[n.0 as usize];
+        let mut note = cell.note();
+        let row = cell.get_as(&mut note)?;
+        let mut seat = VoucherSeat::open(slots, self.vouchers);
+        if seat.has(n, &mut note, row) {
+            Some(row)
+        } else {
+            None
+        }
     }
 }

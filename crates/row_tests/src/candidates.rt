@@ -9,7 +9,8 @@ use crate::small::{TWO_EDGES, TWO_ROADS};
 use candidate_search::{EdgeScan, candidates, candidates_plain};
 use cost_model::Params;
 use grid_index::Grid;
-use polyline_geometry::{List, Point};
+use plain_list::List;
+use polyline_geometry::Point;
 use road_network::{Candidate, Network, read_network};
 use std::alloc::{AllocError, Global};
 

@@ -3,7 +3,8 @@ ghost use Rattle.std.specs.Prelude.{◌≡◌, IfSome, IsSome};
 ghost use Rattle.road_network.specs.Net.{HasNode};
 
 use crate::small::{TWO_EDGES, entry, offered, wrong};
-use bounded_search::{Entry, Row, Rows};
+use bounded_table::{Entry, Row, Rows};
+use plain_list::List;
 use road_network::{NodeId, read_network};
 use row_store::{Reader, RowStore, Sight, agree, agree_near};
 use std::alloc::{AllocError, Global};
@@ -164,6 +165,51 @@ fn see_offered_near(alloc: Global, second: Option<Entry>) -> Option<bool> {
     }
     let store = RowStore::open_near(alloc, &net, BOUND).ok()?;
     offer_near_and_see(&store, row, second).ok()
+}
+
+/// A row of node n that is not the node's.
+fn strange_row(alloc: Global, n: u32) -> Result<Option<Row>, AllocError> {
+    let mut entries = List::new(alloc);
+    entries.push(entry(0, 5, Some(0)))?;
+    entries.push(entry(n, 0, None))?;
+    Ok(Row::of(NodeId(n), entries))
+}
+
+/// How many entries the table's row of node n has after a reader has found its near row, and another has offered this
+/// row of two entries.
+fn table_entries(store: &RowStore<'_>, n: u32, strange: Row) -> Result<usize, AllocError>
+    requires node { HasNode store.now.network n × IsSome store.now.near }
+    requires bound { store.now.bound ≡ BOUND }
+    requires origin { strange.origin ≡ n }
+{
+    let mut a = store.reader()?;
+    a.near_row(NodeId(n), 5_000)?;
+    let mut b = store.reader()?;
+    Ok(b.offer(NodeId(n), strange)?.entries().len())
+}
+
+/// The same in a store of its own.
+fn table_entries_of(alloc: Global, n: u32) -> Option<usize> {
+    let strange = strange_row(alloc, n).ok()??;
+    let net = read_network(alloc, TWO_EDGES).ok()?;
+    if net.node_count() <= n || strange.origin().0 != n {
+        return None;
+    }
+    let store = RowStore::open_near(alloc, &net, BOUND).ok()?;
+    table_entries(&store, n, strange).ok()
+}
+
+// No edge leaves node 2, and an edge of 10,000 cm leaves node 1.
+#[test]
+fn a_near_row_that_leaves_nothing_out_fills_both_slots(rt: HostRuntime) {
+    assert!(rt;
+        table_entries_of(rt.alloc(), 2) == Some(1),
+        "the row is there before the strange one"
+    );
+    assert!(rt;
+        table_entries_of(rt.alloc(), 1) == Some(2),
+        "the near row is not the row"
+    );
 }
 
 #[test]

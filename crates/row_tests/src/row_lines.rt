@@ -1,5 +1,5 @@
 //! Rows as lines.
-use polyline_geometry::List;
+use plain_list::List;
 use row_text::{read_row, write_row};
 use std::alloc::{AllocError, Global};
 

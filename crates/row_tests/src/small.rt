@@ -1,8 +1,8 @@
 //! Small networks, and rows of them. Other crates of tests use them too.
 ghost use Rattle.std.specs.Prelude.{◌≡◌, IfOk, IfSome};
 
-use bounded_search::{Entry, Row};
-use polyline_geometry::List;
+use bounded_table::{Entry, Row};
+use plain_list::List;
 use road_network::{EdgeId, NodeId};
 use std::alloc::{AllocError, Global};
 

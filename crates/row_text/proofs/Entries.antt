@@ -6,7 +6,7 @@ use Rattle.std.specs.Option.{IfSome, option_map}
 use Rattle.std.proofs.lemmas.Bool.{ne_eqb}
 use Rattle.std.proofs.lemmas.List.{append-nil}
 use Rattle.std.proofs.lemmas.Option.{none-some, some_pair_parts}
-use Rattle.bounded_search.specs.declared.table_row.Entry.{Entry}
+use Rattle.bounded_table.specs.declared.table_row.Entry.{Entry}
 use Rattle.decimal_text.specs.Number.{decimal}
 use Rattle.decimal_text.proofs.Laws.{digit_in-decimal, length-decimal}
 use Rattle.match_text.specs.MatchText.{words_after}

@@ -8,8 +8,8 @@ use Rattle.std.proofs.lemmas.Bool.{eqb-true}
 use Rattle.decimal_text.specs.Number.{decimal}
 use Rattle.decimal_text.proofs.Laws.{all_digits-decimal}
 use Rattle.match_text.specs.MatchText.{line, words_after}
-use Rattle.bounded_search.specs.Table.{TableRow}
-use Rattle.bounded_search.specs.declared.table_row.Entry.{Entry}
+use Rattle.bounded_table.specs.Table.{TableRow}
+use Rattle.bounded_table.specs.declared.table_row.Entry.{Entry}
 use Rattle.road_network.specs.declared.EdgeId.{EdgeId}
 use Rattle.row_text.specs.Laws.{EntryFits, IsRowValue}
 use Rattle.row_text.specs.LineFaults.{line_count}

@@ -2,9 +2,9 @@
 use Rattle.std.proofs.Common.{◌≡◌, ℕ, ◌+◌, Bool, true, false, cond, List, [], ◌∷◌, ◌++◌, length, Option, Some, None, refl, sym, ap, subst, ◌∙◌, append_assoc, arith}
 use Rattle.std.specs.Prelude.{codes}
 use Rattle.std.proofs.lemmas.Option.{some_pair_parts}
-use Rattle.bounded_search.specs.RowRules.{MeetsRowRules}
-use Rattle.bounded_search.specs.Table.{TableRow}
-use Rattle.bounded_search.specs.declared.table_row.Entry.{Entry}
+use Rattle.bounded_table.specs.RowRules.{MeetsRowRules}
+use Rattle.bounded_table.specs.Table.{TableRow}
+use Rattle.bounded_table.specs.declared.table_row.Entry.{Entry}
 use Rattle.decimal_text.specs.Number.{decimal}
 use Rattle.match_text.specs.Reading.{most32, number_after}
 use Rattle.match_text.proofs.Fields.{EndsDigits, bind_found, bind_some, number_after_again, number_after_takes, test_passed}

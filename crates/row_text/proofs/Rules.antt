@@ -5,11 +5,11 @@ use Rattle.std.specs.List.{All, list_all}
 use Rattle.std.specs.Option.{IsSome}
 use Rattle.std.proofs.lemmas.Bool.{eqb-true, false≢true, ne_eqb}
 use Rattle.std.proofs.lemmas.List.Elements.{All-cons, All-head, All-nil, All-tail}
-use Rattle.bounded_search.specs.Closed.{origin_label}
-use Rattle.bounded_search.specs.RowRules.{IsRowEntry, MeetsRowRules}
-use Rattle.bounded_search.specs.Table.{RisesFrom, TableRow, label_in}
-use Rattle.bounded_search.specs.declared.table_row.Entry.{Entry}
-use Rattle.bounded_search.specs.declared.table_row.Label.{Label}
+use Rattle.bounded_table.specs.Closed.{origin_label}
+use Rattle.bounded_table.specs.RowRules.{IsRowEntry, MeetsRowRules}
+use Rattle.bounded_table.specs.Table.{RisesFrom, TableRow, label_in}
+use Rattle.bounded_table.specs.declared.table_row.Entry.{Entry}
+use Rattle.bounded_table.specs.declared.table_row.Label.{Label}
 use Rattle.road_network.specs.declared.EdgeId.{EdgeId}
 use Rattle.row_text.specs.Reading.{is_origin_label, is_row_entry, meets_row_rules, rises_from}
 

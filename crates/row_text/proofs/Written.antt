@@ -1,8 +1,8 @@
 -- A line that is written part by part.
 use Rattle.std.proofs.Common.{◌≡◌, ℕ, List, [], ◌∷◌, ◌++◌, refl, ap, ◌∙◌, append_assoc}
 use Rattle.std.specs.Prelude.{codes}
-use Rattle.bounded_search.specs.Table.{TableRow}
-use Rattle.bounded_search.specs.declared.table_row.Entry.{Entry}
+use Rattle.bounded_table.specs.Table.{TableRow}
+use Rattle.bounded_table.specs.declared.table_row.Entry.{Entry}
 use Rattle.decimal_text.specs.Number.{decimal}
 use Rattle.row_text.specs.RowLine.{entries_text, entry_word, row_line}
 use Rattle.row_text.proofs.Entries.{entries_line}

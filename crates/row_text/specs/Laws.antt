@@ -1,9 +1,9 @@
 -- A row and its line: each gives the other.
 use Rattle.std.specs.Prelude.{ℕ, ◌≡◌, ◌<◌, ◌^◌, List, ◌++◌, Some, IfSome}
 use Rattle.std.specs.List.{AllByRecursion}
-use Rattle.bounded_search.specs.RowRules.{MeetsRowRules}
-use Rattle.bounded_search.specs.Table.{TableRow}
-use Rattle.bounded_search.specs.declared.table_row.Entry.{Entry}
+use Rattle.bounded_table.specs.RowRules.{MeetsRowRules}
+use Rattle.bounded_table.specs.Table.{TableRow}
+use Rattle.bounded_table.specs.declared.table_row.Entry.{Entry}
 use Rattle.row_text.specs.RowLine.{row_line}
 use Rattle.row_text.specs.Reading.{row_at}
 

@@ -2,9 +2,9 @@
 use Rattle.std.specs.Prelude.{ℕ, zero, suc, ◌+◌, ◌==◌, ◌&&◌, ◌||◌, nat_le, Bool, true, false, if◌then◌else◌, List, [], ◌∷◌, length, Option, Some, None, is_none, is_some, codes}
 use Rattle.std.specs.List.{list_all}
 use Rattle.std.specs.Option.{option_map}
-use Rattle.bounded_search.specs.Table.{TableRow, label_in}
-use Rattle.bounded_search.specs.declared.table_row.Entry.{Entry}
-use Rattle.bounded_search.specs.declared.table_row.Label.{Label}
+use Rattle.bounded_table.specs.Table.{TableRow, label_in}
+use Rattle.bounded_table.specs.declared.table_row.Entry.{Entry}
+use Rattle.bounded_table.specs.declared.table_row.Label.{Label}
 use Rattle.match_text.specs.Reading.{◌>>=◌, after_bytes, most32, number_after}
 use Rattle.road_network.specs.declared.EdgeId.{EdgeId}
 
@@ -49,7 +49,7 @@ entry_at text = do
   last ← last_at distance.1
   Some (record { node = record { 0 = node.0 }; distance = distance.0; last = last.0 }, last.1)
 
--- where an entry was read, it and those behind it, and else the end of the line
+-- if an entry was read, it and those after it; else the end of the line
 abbrev pub entries_behind : (List ℕ → Option (List Entry × List ℕ)) → List ℕ
     → Option (Entry × List ℕ) → Option (List Entry × List ℕ)
 entries_behind more text None = option_map (λ rest. ([], rest)) (after_bytes (10 ∷ []) text)
@@ -66,7 +66,7 @@ row_with s read =
     if meets_row_rules (record { origin = s; entries = read.0 })
     then Some (record { origin = s; entries = read.0 }, read.1) else None
 
--- the row whose line is at the front, and what stands behind the line
+-- the row whose line is at the front, and what comes after the line
 unfoldable pub row_at : List ℕ → Option (TableRow × List ℕ)
 row_at text = do
   origin ← number_after (codes "row ") most32 text

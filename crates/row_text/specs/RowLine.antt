@@ -1,8 +1,8 @@
 -- The line of a row of the table.
 use Rattle.std.specs.Prelude.{ℕ, List, ◌∷◌, ◌++◌, Option, Some, None, codes, map}
 use Rattle.std.specs.List.{flat_map}
-use Rattle.bounded_search.specs.Table.{TableRow}
-use Rattle.bounded_search.specs.declared.table_row.Entry.{Entry}
+use Rattle.bounded_table.specs.Table.{TableRow}
+use Rattle.bounded_table.specs.declared.table_row.Entry.{Entry}
 use Rattle.decimal_text.specs.Number.{decimal}
 use Rattle.match_text.specs.MatchText.{line}
 use Rattle.road_network.specs.declared.EdgeId.{EdgeId}

@@ -3,7 +3,7 @@
 ghost use Rattle.std.specs.Prelude.{◌≡◌, ◌+◌, ◌≤◌, ◌∷◌, ◌++◌, drop, length, take};
 ghost use Rattle.row_text.specs.RowLine.{entry_word, last_word};
 
-use bounded_search::Entry;
+use bounded_table::Entry;
 use itoa::write_digits;
 use road_network::EdgeId;
 

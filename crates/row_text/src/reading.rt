@@ -4,13 +4,13 @@ ghost use Rattle.match_text.specs.Reading.{seen};
 ghost use Rattle.row_text.specs.Reading.{entries_at, entry_at, last_at, row_at};
 
 use crate::numbers::number_behind;
-use bounded_search::{Entry, Row};
+use bounded_table::{Entry, Row};
 use match_text::front::{after, short_number_after};
-use polyline_geometry::List;
+use plain_list::List;
 use road_network::{EdgeId, NodeId};
 use std::alloc::{AllocError, Global};
 
-// Room for the entries of a usual row; the rest is given back if there are fewer.
+// Room for the entries of a usual row; the rest is given back if there are fewer. Speed only: any value is right.
 const USUAL_ENTRIES: usize = 256;
 
 // The last edge after a colon, and the text after it.

@@ -3,9 +3,9 @@ ghost use Rattle.std.specs.Prelude.{◌≡◌, [], ◌∷◌, ◌++◌, length, 
 ghost use Rattle.row_text.specs.RowLine.{entries_text, row_line};
 
 use crate::digits::{ENTRY_BYTES, put_entry};
-use bounded_search::{Entry, Row};
+use bounded_table::{Entry, Row};
 use decimal_text::write_unsigned;
-use polyline_geometry::List;
+use plain_list::List;
 use std::alloc::AllocError;
 
 /// Appends the line of the row. On `Err`, `into` is unchanged.

@@ -1,3 +1,9 @@
 pub mod Preloads
 pub mod TableRows
 pub mod TriedRows
+pub mod Drafts
+pub mod FirstLines
+pub mod RowsOfText
+pub mod TableFaults
+pub mod TableFaultLaws
+pub mod Tables

@@ -1,6 +1,6 @@
 -- A table file that is read and accepted, or refused.
 use Rattle.std.proofs.Common.{◌≡◌, ℕ, List, ◌∷◌, length, Result, Ok, sym, ◌∙◌, ap, subst}
-use Rattle.bounded_search.specs.Table.{TableRow}
+use Rattle.bounded_table.specs.Table.{TableRow}
 use Rattle.command_line.specs.Options.{and_then}
 use Rattle.program_frame.specs.Loads.{Refuses}
 use Rattle.program_frame.specs.declared.stop.Refusal.{Refusal}
@@ -8,7 +8,7 @@ use Rattle.program_frame.specs.declared.stop.Refusal.TheVariants.{Table}
 use Rattle.program_frame.specs.declared.stop.Stop.{Stop}
 use Rattle.program_frame.specs.declared.stop.Stop.TheVariants.{Refused, NoMemory, Unread, Unwritten}
 use Rattle.road_network.specs.Net.{Net}
-use Rattle.table_file.specs.Reading.{table_of}
+use Rattle.table_work.specs.Reading.{table_of}
 use Rattle.table_work.specs.Preload.{row_said, rows_said}
 
 -- ---- the text

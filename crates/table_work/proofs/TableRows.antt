@@ -3,17 +3,17 @@ use Rattle.std.proofs.Common.{◌≡◌, ℕ, zero, suc, ◌+◌, ◌-◌, ◌<�
 use Rattle.std.specs.Prelude.{IfOk, IsErrOf, fold}
 use Rattle.std.proofs.lemmas.List.FromFn.{map-range_with_len_more}
 use Rattle.std.proofs.lemmas.List.Sums.{fold-append}
-use Rattle.bounded_search.proofs.RowValues.{row_values}
-use Rattle.bounded_search.specs.RowValue.{row_of}
-use Rattle.bounded_search.specs.Table.{BoundedTable, IsRow, TableRow}
+use Rattle.bounded_table.proofs.RowValues.{row_values}
+use Rattle.bounded_table.specs.RowValue.{row_of}
+use Rattle.bounded_table.specs.Table.{BoundedTable, IsRow, TableRow}
 use Rattle.road_network.specs.Net.{HasNode, IsLawful, Net}
-use Rattle.table_file.proofs.Drafts.{drafts_are_tables}
-use Rattle.table_file.specs.Draft.{Draft, no_rows, with_row}
-use Rattle.table_file.specs.TableText.{end_line, text_limit}
-use Rattle.table_file.specs.declared.fault.TableWriteFault.{TableWriteFault}
-use Rattle.table_file.specs.declared.fault.TableWriteFault.TheVariants.{TooLong, Memory}
+use Rattle.table_work.proofs.Drafts.{drafts_are_tables}
+use Rattle.table_work.specs.Draft.{Draft, no_rows, with_row}
+use Rattle.table_work.specs.TableText.{end_line, text_limit}
+use Rattle.table_work.specs.declared.fault.TableWriteFault.{TableWriteFault}
+use Rattle.table_work.specs.declared.fault.TableWriteFault.TheVariants.{TooLong, Memory}
 use Rattle.table_work.specs.Table.{first_rows, text_of_network}
-use Rattle.table_work.specs.TableDone.{AddsRows, WritesTable, with_rows}
+use Rattle.table_work.specs.inside.TableDone.{AddsRows, WritesTable, with_rows}
 
 -- the row of one more node
 next_row : (table : BoundedTable) (k : ℕ) (draft : Draft) → with_rows table (k + 1) draft ≡ with_row (with_rows table k draft) (row_of table.network table.bound k)

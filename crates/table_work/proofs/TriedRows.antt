@@ -4,15 +4,15 @@ use Rattle.std.specs.Prelude.{IsTrue, option_map}
 use Rattle.std.specs.List.{AllByRecursion}
 use Rattle.std.proofs.lemmas.Bool.Decides.{Decides-eqb}
 use Rattle.std.proofs.lemmas.List.Elements.{All-cons, All-nil}
-use Rattle.bounded_search.proofs.RightRows.{tried_is}
-use Rattle.bounded_search.specs.RightRow.{is_right_row}
-use Rattle.bounded_search.specs.Table.{BoundedTable, IsRow, TableRow, entry_in, label_in, label_of}
-use Rattle.bounded_search.specs.declared.table_row.Entry.{Entry}
-use Rattle.bounded_search.specs.declared.table_row.Label.{Label}
+use Rattle.bounded_table.proofs.RightRows.{tried_is}
+use Rattle.bounded_table.specs.RightRow.{is_right_row}
+use Rattle.bounded_table.specs.Table.{BoundedTable, IsRow, TableRow, entry_in, label_in, label_of}
+use Rattle.bounded_table.specs.declared.table_row.Entry.{Entry}
+use Rattle.bounded_table.specs.declared.table_row.Label.{Label}
 use Rattle.road_network.specs.Net.{HasNode, IsLawful, Net, node_name}
-use Rattle.table_file.proofs.Tables.{tables_have_one_text}
-use Rattle.table_file.specs.Laws.{AreRowsFrom, IsEntryBelow}
-use Rattle.table_file.specs.Reading.{table_of}
+use Rattle.table_work.proofs.Tables.{tables_have_one_text}
+use Rattle.table_work.specs.Laws.{AreRowsFrom, IsEntryBelow}
+use Rattle.table_work.specs.Reading.{table_of}
 use Rattle.program_frame.specs.Loads.{Refuses}
 use Rattle.program_frame.specs.Stops.{RefusesFault}
 use Rattle.program_frame.specs.declared.stop.Refusal.{Refusal}

@@ -1,5 +1,8 @@
 pub mod Preload
-pub mod PreloadDone
 pub mod Table
-pub mod TableDone
-pub mod RecentInside
+pub mod TableText
+pub mod Draft
+pub mod Reading
+pub mod Laws
+pub mod Faults
+pub mod inside

@@ -1,17 +1,17 @@
 -- `--table FILE` of `match`: a table that was computed beforehand, read and tried row by row.
 use Rattle.std.specs.Prelude.{ℕ, List, [], ◌∷◌, ◌++◌, Result, Ok, Err, codes, if◌then◌else◌, length}
 use Rattle.std.specs.Result.{result_map_both}
-use Rattle.bounded_search.specs.RightRow.{is_right_row}
-use Rattle.bounded_search.specs.Table.{TableRow}
+use Rattle.bounded_table.specs.RightRow.{is_right_row}
+use Rattle.bounded_table.specs.Table.{TableRow}
 use Rattle.command_line.specs.Options.{and_then}
 use Rattle.decimal_text.specs.Number.{decimal}
 use Rattle.program_frame.specs.Plan.{Plan, loads}
 use Rattle.program_frame.specs.declared.stop.File.TheVariants.{Table}
 use Rattle.road_network.specs.Net.{Net, node_name}
-use Rattle.table_file.specs.Reading.{table_of}
-use Rattle.table_file.specs.TableText.{text_limit}
-use Rattle.table_file.specs.declared.fault.TableFault.{TableFault}
-use Rattle.table_file.specs.declared.fault.TableFault.TheVariants.{BadLine, Cut, TooLong, Memory}
+use Rattle.table_work.specs.Reading.{table_of}
+use Rattle.table_work.specs.TableText.{text_limit}
+use Rattle.table_work.specs.declared.fault.TableFault.{TableFault}
+use Rattle.table_work.specs.declared.fault.TableFault.TheVariants.{BadLine, Cut, TooLong, Memory}
 
 -- ---- what is said of the bytes of a file
 

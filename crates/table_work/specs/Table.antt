@@ -1,8 +1,8 @@
 -- `table NET`: the table text with the row of every node.
 use Rattle.std.specs.Prelude.{ℕ, List, [], ◌∷◌, ◌++◌, Result, Ok, Err, codes, if◌then◌else◌, length, map, nat_lt}
 use Rattle.std.specs.List.{range_with_len}
-use Rattle.bounded_search.specs.RowValue.{row_of}
-use Rattle.bounded_search.specs.Table.{TableRow}
+use Rattle.bounded_table.specs.RowValue.{row_of}
+use Rattle.bounded_table.specs.Table.{TableRow}
 use Rattle.cost_model.specs.declared.params.Params.{Params}
 use Rattle.program_frame.specs.Outcome.{done_with}
 use Rattle.program_frame.specs.Plan.{Plan, accepts, loads}
@@ -12,12 +12,12 @@ use Rattle.program_frame.specs.declared.stop.File.TheVariants.{Network}
 use Rattle.road_network.specs.Limits.{file_limit}
 use Rattle.road_network.specs.Net.{Net}
 use Rattle.road_network.specs.declared.limits.NetworkLimits.{NetworkLimits}
-use Rattle.table_file.specs.TableText.{table_text, text_limit}
+use Rattle.table_work.specs.TableText.{table_text, text_limit}
 
 abbrev pub table_too_long : List ℕ
 table_too_long = codes "fmm: table too long" ++ 10 ∷ []
 
--- the rows of the first so many nodes
+-- the rows of the first nodes, this many
 abbrev pub first_rows : Net → ℕ → ℕ → List TableRow
 first_rows net bound count = map (row_of net bound) (range_with_len 0 count)
 

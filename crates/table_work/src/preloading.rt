@@ -3,18 +3,20 @@
 ghost use Rattle.std.specs.Prelude.{◌≡◌, ◌≢◌, ◌≤◌, ◌++◌, All, IfOk, OnOk};
 ghost use Rattle.program_frame.specs.Loads.{Accepts, Loads};
 ghost use Rattle.road_network.specs.Net.{HasNode};
-ghost use Rattle.table_file.specs.TableText.{text_limit};
+ghost use Rattle.table_work.specs.TableText.{text_limit};
 ghost use Rattle.table_work.specs.Preload.{row_said, rows_in, rows_said, table_fault_line, table_file_said, wrong_row_line};
 
-use bounded_search::{Row, RowChecker};
+use crate::TEXT_LIMIT;
+use crate::fault::TableFault;
+use crate::reading::read_table;
+use bounded_table::{Row, RowChecker};
 use decimal_text::write_unsigned;
 use edge_io::Shelf;
-use polyline_geometry::List;
+use plain_list::List;
 use program_frame::{FaultLine, File, Refusal, Stop, read_file, refuse_fault};
 use road_network::Network;
 use row_store::{Reader, RowStore};
 use std::alloc::{AllocError, Global};
-use table_file::{TEXT_LIMIT, TableFault, read_table};
 
 // Appends the error line of a fault of the text.
 fn append_fault(fault: TableFault, line: &mut List<u8>) -> Result<(), AllocError>
@@ -52,7 +54,7 @@ enum TableFileFault {
 }
 
 impl FaultLine for TableFileFault {
-    ghost use Rattle.table_work.specs.PreloadDone.{fault_line, has_fault_line};
+    ghost use Rattle.table_work.specs.inside.PreloadDone.{fault_line, has_fault_line};
 
     ghost has_line = { λ fault. has_fault_line fault };
 

@@ -1,13 +1,15 @@
 //! The rows that were found last. Serves `table NET`; decided by `IsRow`.
 ghost use Rattle.std.specs.Prelude.{◌≡◌, OnOk};
-ghost use Rattle.bounded_search.specs.Table.{IsRow};
+ghost use Rattle.bounded_table.specs.Table.{IsRow};
 
-use bounded_search::{KnownRows, Row};
+use bounded_table::Row;
 use road_network::{Network, NodeId};
+use row_search::KnownRows;
 use std::alloc::{AllocError, Global};
 use std::marker::Model;
 
-// Nodes with similar numbers mostly are neighbours, so a few rows help as much as all would.
+// Nodes with similar numbers mostly are neighbours, so a few rows help as much as all would. Speed only: any value
+// is right.
 const PLACES: usize = 256;
 
 /// The last rows of a network within a bound, where they are found by rising node number from 0 on: the row of
@@ -20,11 +22,11 @@ pub struct RecentRows<'n> {
 }
 
 impl<'n> Model for RecentRows<'n> {
-    ghost use Rattle.bounded_search.specs.Table.{BoundedTable};
+    ghost use Rattle.bounded_table.specs.Table.{BoundedTable};
 
     ghost Value = { BoundedTable };
 
-    ghost use Rattle.table_work.specs.RecentInside.{AreRight};
+    ghost use Rattle.table_work.specs.inside.RecentInside.{AreRight};
 
     ghost view = { λ a. record { network = a.network.now; bound = a.bound } };
 

@@ -5,17 +5,18 @@ ghost use Rattle.program_frame.specs.Loads.{Accepts};
 ghost use Rattle.program_frame.specs.Performs.{Performs};
 ghost use Rattle.road_network.specs.Net.{IsLawful};
 ghost use Rattle.table_work.specs.Table.{table_plan, table_said};
-ghost use Rattle.table_work.specs.TableDone.{AddsRows, WritesTable};
+ghost use Rattle.table_work.specs.inside.TableDone.{AddsRows, WritesTable};
 
+use crate::fault::TableWriteFault;
 use crate::recent_rows::RecentRows;
-use bounded_search::Searcher;
+use crate::writing::TableWriter;
 use cost_model::Params;
 use edge_io::{Shelf, Sink};
-use polyline_geometry::List;
+use plain_list::List;
 use program_frame::{NetworkFile, Refusal, Stop, load_network, put_text, refuse};
 use road_network::{Network, NodeId};
+use row_search::Searcher;
 use std::alloc::Global;
-use table_file::{TableWriteFault, TableWriter};
 
 // Finds the row of each node, by the rows found last, and adds it.
 fn add_rows(

@@ -5,7 +5,7 @@ use lib.ListN.{get_elem?}
 use Rattle.atomic_table.specs.Seated.{TableId}
 use Rattle.tickets.specs.declared.rule.Hand.{Hand}
 
--- how often x stands in the list
+-- how often x is in the list
 abbrev pub times : ℕ → List ℕ → ℕ
 times x xs = count_by (λ y. eqb y x) xs
 
@@ -27,7 +27,7 @@ pub record IsHeldView (n word : ℕ) (v : Hand) : Type 0 where
   pub idle : v.share ≡ 0 → v.numbers ≡ []
   pub seen : v.seen ≤ word
 
--- the rule: of n numbers, between so many shares
+-- the rule: of n numbers, between this many shares
 pub record Dealt (n seats : ℕ) (words : List ℕ) (views : List Hand) : Type 0 where
   pub one_word : length words ≡ 1
   pub once : (h : ℕ → ℕ) → sum_by (λ v. sum_by h v.numbers) views ≡ weigh_below h (slice_index words 0)

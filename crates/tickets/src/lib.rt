@@ -16,7 +16,7 @@ mod rule;
 use crate::rule::{Draw, Hand, Limits, Note, Numbers, Opening};
 use atomic_table::{Seat, Table};
 pub use laws::each_number_is_drawn_once;
-use polyline_geometry::List;
+use plain_list::List;
 use std::alloc::{AllocError, Global};
 use std::marker::Model;
 

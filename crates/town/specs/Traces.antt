@@ -33,8 +33,7 @@ street_fixes c way x =
     ∷ fix_near (along c way 7_500) (state_after 2 x)
     ∷ []
 
--- the fixes of a walk over so many streets from corner c. A street takes 5 draws: the way, and two
--- for each fix
+-- the fixes of a walk over this many streets from corner c. A street takes 5 draws: the way, and two for each fix
 unfoldable pub walk_fixes : ℕ → ℕ → Corner → ℕ → List Fix
 walk_fixes n zero c x = []
 walk_fixes n (suc streets) c x =
@@ -46,7 +45,7 @@ abbrev pub town_trace : ℕ → ℕ → ℕ → Trace
 town_trace n id x =
     record { id = id; fixes = walk_fixes n 10 (start_corner n x) (state_after 2 x) }
 
--- so many traces, which are numbered from `id` on
+-- this many traces, which are numbered from `id` on
 unfoldable pub traces_from : ℕ → ℕ → ℕ → ℕ → List Trace
 traces_from n zero id x = []
 traces_from n (suc count) id x =

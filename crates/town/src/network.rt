@@ -6,7 +6,7 @@ ghost use Rattle.town.specs.Network.{edge_line, network_text, place_text, street
 
 use crate::corner::{Corner, Heading};
 use decimal_text::write_unsigned;
-use polyline_geometry::List;
+use plain_list::List;
 use std::alloc::{AllocError, Global};
 
 // Appends a number and the byte after it.

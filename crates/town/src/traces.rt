@@ -8,7 +8,7 @@ ghost use Rattle.town.specs.Traces.{fix_line, fix_near, street_fixes, start_corn
 use crate::corner::{Corner, Heading, Spot};
 use crate::draw::Draw;
 use decimal_text::{write_signed, write_unsigned};
-use polyline_geometry::List;
+use plain_list::List;
 use std::alloc::{AllocError, Global};
 
 // How many streets a trace covers.

@@ -1,10 +1,10 @@
 -- What traces make known, one after the other.
 use Rattle.std.proofs.Common.{◌≡◌, ℕ, ◌+◌, ◌<◌, Bool, true, false, ◌||◌, List, [], ◌∷◌, ◌++◌, length, take, get_or, refl, sym, ◌∙◌, subst, inl, inr, ⊎_elim}
 use Rattle.std.proofs.lemmas.Bool.{or_left}
-use Rattle.bounded_search.specs.Rows.{AreRowsOf, AsksAll, Keeps, RowsState}
+use Rattle.bounded_table.specs.Rows.{AreRowsOf, AsksAll, Keeps, RowsState}
 use Rattle.trace_match.specs.Match.{asks}
 use Rattle.trace_reader.specs.declared.trace.Trace.{Trace}
-use Rattle.trace_match.specs.Asked.{AsksTraces, LearnsAsked}
+use Rattle.trace_match.specs.inside.Asked.{AsksTraces, LearnsAsked}
 use Rattle.trace_match.specs.Setting.{Setting}
 use Rattle.trace_match.proofs.Asking.{asked_parts}
 use Rattle.trace_match.proofs.Traces.{next_trace}

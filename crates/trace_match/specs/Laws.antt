@@ -47,7 +47,7 @@ abbrev pub committed_labels : Net → Params → Trace → List Label
 committed_labels n p trace =
     take (committed_of (trellis n p) (layers_of n p trace)) (match_of n p trace).labels
 
--- the trace with more fixes behind its last
+-- the trace with more fixes after its last
 abbrev pub with_more : Trace → List Fix → Trace
 with_more trace more = record trace { fixes = trace.fixes ++ more }
 

@@ -3,6 +3,5 @@ pub mod Ranked
 pub mod Ground
 pub mod Laws
 pub mod Setting
-pub mod MatcherInside
 pub mod Totals
-pub mod Asked
+pub mod inside

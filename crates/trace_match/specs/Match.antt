@@ -40,12 +40,12 @@ solution_of n p trace = solution (trellis n p) (layers_of n p trace)
 abbrev pub label_on : Net → Candidate → Label
 label_on n c = On (edge_name n c.edge.0) c.offset c.d2
 
--- the label of a point: that of its ranked candidate, or none
+-- the label of a position: that of its ranked candidate, or none
 abbrev pub label_of : Net → Layer → Option ℕ → Label
 label_of n l None = Missing
 label_of n l (Some rank) = label_on n (candidate_of_rank l rank)
 
--- the labels of points, one for each rank
+-- the labels of positions, one for each rank
 abbrev pub labels_of : Net → List Layer → List (Option ℕ) → List Label
 labels_of n [] ranks = []
 labels_of n (l ∷ layers) [] = []

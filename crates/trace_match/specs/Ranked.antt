@@ -11,7 +11,7 @@ pub record IsRanked (n : Net) (l : Layer) (rank : Option ℕ) : Type 0 where
   pub edges : All (λ c. HasEdge n c.edge.0) l.candidates
   pub among : IfSome rank (λ r. r < length l.candidates)
 
--- each point has a rank, or none, and it is one of its candidates
+-- each position has a rank, or none, and it is one of its candidates
 pub record AreRanked (n : Net) (layers : List Layer) (ranks : List (Option ℕ)) : Type 0 where
   pub count : length ranks ≡ length layers
   pub each : (i : ℕ) (l : Layer) → IsAt layers i l → IsRanked n l (slice_index_or ranks i None)

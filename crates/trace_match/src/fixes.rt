@@ -9,7 +9,7 @@ use candidate_search::CandidateSearch;
 use cost_model::Params;
 use grid_index::Grid;
 use matching::Layer;
-use polyline_geometry::List;
+use plain_list::List;
 use road_network::Network;
 use std::alloc::{AllocError, Global};
 use trace_reader::Fix;

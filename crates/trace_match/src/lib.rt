@@ -5,11 +5,11 @@
 //! trace asks for. All crates that match, follow or check a trace build on these.
 //!
 //! - [`layers`] gives the positions of a trace with their candidates, and [`layer`] one of them.
-//! - [`labels`] gives the labels of points by their ranks, and [`label_on`] that of a candidate.
+//! - [`labels`] gives the labels of positions by their ranks, and [`label_on`] that of a candidate.
 //! - [`routed`] gives a piece with its route in the ids of the file.
 //! - [`Matcher`] has what traces are matched on: a network with the grid of its edges, and the options.
 //!   Contracts see it as a `Setting` (`specs/Setting.antt`). `specs/Totals.antt` has the pieces of
-//!   traces and the rows that they ask for, and `specs/Asked.antt` what becomes known by these.
+//!   traces and the rows that they ask for, and `specs/inside/Asked.antt` what becomes known by these.
 //! - [`laws`] has what holds of every match, that labels agree exactly if ranks do, and that committed
 //!   labels stay, whatever positions follow.
 #![tactic(auto)]

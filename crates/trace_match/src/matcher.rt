@@ -1,11 +1,9 @@
 //! What traces are matched on: a network with the grid of its edges, and the options. Serves the jobs of
 //! every program; decided by `Setting`.
 ghost use Rattle.std.specs.Prelude.{◌≡◌, ◌≤◌, IfOk};
-ghost use Rattle.bounded_search.specs.Rows.{no_rows};
 ghost use Rattle.cost_model.specs.Options.{IsAccepted};
 ghost use Rattle.trace_match.specs.Ground.{IsGridFor};
 
-use bounded_search::NearRows;
 use cost_model::Params;
 use grid_index::Grid;
 use road_network::Network;
@@ -39,7 +37,7 @@ impl<'n> Model for Matcher<'n> {
 
     ghost Value = { Setting };
 
-    ghost use Rattle.trace_match.specs.MatcherInside.{setting_of, IsLaidOut};
+    ghost use Rattle.trace_match.specs.inside.MatcherInside.{setting_of, IsLaidOut};
 
     ghost view = { setting_of };
 
@@ -92,14 +90,5 @@ impl<'n> Matcher<'n> {
         ensures { result ≤ self.now.params.bound }
     {
         near_reach(self.params.bound)
-    }
-
-    /// Rows of the network within the bound of the options, for matching along traces. No node is known.
-    pub fn rows(&self, alloc: Global) -> Result<NearRows<'n>, AllocError>
-        ensures { IfOk result
-            (λ rows. rows ≡ no_rows self.now.network self.now.params.bound) }
-    {
-        let bound = self.params.bound;
-        NearRows::open(alloc, self.network, bound, self.near_reach())
     }
 }

@@ -7,7 +7,7 @@ ghost use Rattle.trace_match.specs.Match.{routed_over};
 
 use match_text::Routed;
 use matching::Piece;
-use polyline_geometry::List;
+use plain_list::List;
 use road_network::{EdgeId, Network};
 use std::alloc::{AllocError, Global};
 

@@ -1,4 +1,4 @@
-//! The labels of the points of a trace. Serves `labels`; decided by `labels_of`.
+//! The labels of the positions of a trace. Serves `labels`; decided by `labels_of`.
 ghost use Rattle.std.specs.Prelude.{◌≡◌, IfOk};
 ghost use Rattle.road_network.specs.Net.{HasEdge};
 ghost use Rattle.trace_match.specs.Match.{label_on, labels_of};
@@ -6,11 +6,11 @@ ghost use Rattle.trace_match.specs.Ranked.{AreRanked};
 
 use match_text::Label;
 use matching::Layer;
-use polyline_geometry::List;
+use plain_list::List;
 use road_network::{Candidate, Network};
 use std::alloc::{AllocError, Global};
 
-/// The label of a point on a candidate, with the edge's id in the network file.
+/// The label of a position on a candidate, with the edge's id in the network file.
 pub fn label_on(net: &Network, candidate: &Candidate) -> Label
     requires { HasEdge net.now candidate.now.edge.0 }
     ensures { result ≡ label_on net.now candidate.now }
@@ -22,7 +22,7 @@ pub fn label_on(net: &Network, candidate: &Candidate) -> Label
     }
 }
 
-/// The labels of the points of a trace, by a rank or none for each layer: that of the chosen candidate, or none.
+/// The labels of the positions of a trace, by a rank or none for each layer: that of the chosen candidate, or none.
 pub fn labels(
     alloc: Global,
     net: &Network,

@@ -3,7 +3,7 @@ use Rattle.std.proofs.Common.{◌≡◌, ◌≢◌, ℕ, ◌+◌, List, [], ◌+
 use Rattle.trace_reader.specs.Content.{Content, read_line}
 use Rattle.trace_reader.specs.Reading.{reads, reading_of, nothing_read, closed, end_content, end_read, end_reading, file_traces, file_fault}
 use Rattle.trace_reader.specs.Reader.{progress_of, content_of, StandsFor, Ends, EndsFaulty}
-use Rattle.trace_reader.specs.Steps.{start_of, EndsFile, FailsEnd}
+use Rattle.trace_reader.specs.inside.Steps.{start_of, EndsFile, FailsEnd}
 use Rattle.trace_reader.specs.declared.row.Header.{Header}
 use Rattle.trace_reader.specs.declared.reader.TraceReader.{TraceReader}
 use Rattle.trace_reader.specs.declared.trace.Trace.{Trace}

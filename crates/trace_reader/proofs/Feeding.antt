@@ -4,7 +4,7 @@ use Rattle.std.proofs.lemmas.Bool.{lt-leb}
 use Rattle.std.proofs.lemmas.List.Sums.{fold-append}
 use Rattle.trace_reader.specs.Reading.{Progress, Reading, reads, refused, read_byte, read_bytes, reading_of, nothing_read, closed, closed_of, fault_in, fault_of}
 use Rattle.trace_reader.specs.Reader.{progress_of, StandsFor, Closes, Fails, Takes}
-use Rattle.trace_reader.specs.Steps.{start_of, Reaches, TakesLines, FailsLines}
+use Rattle.trace_reader.specs.inside.Steps.{start_of, Reaches, TakesLines, FailsLines}
 use Rattle.trace_reader.specs.declared.reader.TraceReader.{TraceReader}
 use Rattle.trace_reader.specs.declared.trace.Trace.{Trace}
 use Rattle.trace_reader.specs.declared.fault.TraceFault.{TraceFault}

@@ -3,7 +3,7 @@ use Rattle.std.proofs.Common.{◌≡◌, ℕ, ℤ, ◌+◌, ◌<◌, ◌==◌, L
 use Rattle.std.specs.Result.{result_err}
 use Rattle.std.specs.List.{position_or_len}
 use Rattle.std.proofs.lemmas.Bool.{false_from_ne_true}
-use Rattle.trace_reader.specs.FirstField.{first_of}
+use Rattle.trace_reader.specs.inside.FirstField.{first_of}
 use Rattle.std.proofs.lemmas.List.Splits.{slice_split_first, length-slice_split}
 use Rattle.memchr.specs.Find.{NoneBefore, Nowhere, Passes, is_byte}
 use Rattle.trace_reader.specs.Row.{fields_of, row_of, row_fault, numbers_of, u32_of, coordinate_of}

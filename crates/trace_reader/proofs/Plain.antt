@@ -13,7 +13,7 @@ use Rattle.decimal_text.proofs.AtFront.{bytes-signed, unsigned-plain}
 use Rattle.decimal_text.proofs.Trimmed.{digit-solid, solid, trim-solid, weaker}
 use Rattle.std.proofs.lemmas.Int.{ints}
 use Rattle.trace_reader.proofs.Magnitudes.{abs-signed_within}
-use Rattle.trace_reader.specs.FirstField.{first_of, is_within_field}
+use Rattle.trace_reader.specs.inside.FirstField.{first_of, is_within_field}
 use Rattle.trace_reader.specs.Row.{fields_of, u32_of, coordinate_of}
 
 -- ---- numbers

@@ -6,10 +6,10 @@ use Rattle.std.proofs.lemmas.List.Elements.{All-take}
 use Rattle.std.proofs.lemmas.List.Sums.{fold-append}
 use Rattle.memchr.specs.Find.{Passes, is_byte}
 use Rattle.trace_reader.specs.Content.{read_line}
-use Rattle.trace_reader.specs.Parts.{HasNoEnd}
+use Rattle.trace_reader.specs.inside.Parts.{HasNoEnd}
 use Rattle.trace_reader.specs.Reading.{Reading, reads, refused, read_byte, read_bytes, file_limit, end_line, closed_of}
 use Rattle.trace_reader.specs.Reader.{progress_of, content_of}
-use Rattle.trace_reader.specs.Steps.{start_of, Exceeds, HasRoom}
+use Rattle.trace_reader.specs.inside.Steps.{start_of, Exceeds, HasRoom}
 use Rattle.trace_reader.specs.declared.reader.TraceReader.{TraceReader}
 use Rattle.trace_reader.specs.declared.trace.Trace.{Trace}
 use Rattle.trace_reader.specs.declared.fault.TraceFault.{TraceFault}

@@ -4,9 +4,9 @@ use Rattle.std.proofs.Math.Seq.{take-add}
 use Rattle.std.proofs.lemmas.Bool.{leb-false, cases_lt}
 use Rattle.std.proofs.lemmas.List.{take-append-drop}
 use Rattle.std.proofs.lemmas.List.Sums.{fold-append}
-use Rattle.trace_reader.specs.Parts.{is_reached}
+use Rattle.trace_reader.specs.inside.Parts.{is_reached}
 use Rattle.trace_reader.specs.Reading.{refused, read_byte, read_bytes, closed_of}
-use Rattle.trace_reader.specs.Steps.{start_of, Reaches, Refuses, TakesLine, IsUnderway, FailsLines}
+use Rattle.trace_reader.specs.inside.Steps.{start_of, Reaches, Refuses, TakesLine, IsUnderway, FailsLines}
 use Rattle.trace_reader.specs.declared.reader.TraceReader.{TraceReader}
 use Rattle.trace_reader.specs.declared.trace.Trace.{Trace}
 use Rattle.trace_reader.specs.declared.fault.TraceFault.{TraceFault}

@@ -1,11 +1,9 @@
 pub mod Content
 pub mod Fault
-pub mod FirstField
 pub mod LineByLine
-pub mod Parts
 pub mod Reader
 pub mod Reading
 pub mod Row
-pub mod Steps
 pub mod Trace
 pub mod ReadingLaws
+pub mod inside

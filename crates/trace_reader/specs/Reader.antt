@@ -1,4 +1,4 @@
--- What a reader stands for, and what its calls leave.
+-- What a reader represents, and what its calls leave.
 use Rattle.std.specs.Prelude.{◌≡◌, ◌≢◌, ℕ, ◌+◌, ◌<◌, ◌≤◌, List, [], ◌++◌, length, take, Result, Ok, Err, Some, None}
 use Rattle.trace_reader.specs.Content.{Content}
 use Rattle.trace_reader.specs.Reading.{Progress, reads, reading_of, closed, fault_in, file_traces, file_fault}
@@ -42,7 +42,7 @@ pub record Fails (fed chunk : List ℕ) (old new : List Trace) (fault : TraceFau
   pub due : closed (fed ++ chunk) ≡ closed fed ++ (more ++ rest)
   pub known : fault ≢ Memory → (rest ≡ []) × (fault_in (fed ++ chunk) ≡ Some fault)
 
--- what `feed` leaves of a reader that stands for these bytes
+-- what `feed` leaves of a reader that represents these bytes
 abbrev pub Feeds : List ℕ → List ℕ → TraceReader → List Trace → List Trace
     → Result (Unit {0}) TraceFault → Type 0
 Feeds fed chunk reader old new (Ok done) =
@@ -60,15 +60,15 @@ pub record Takes (fed chunk : List ℕ) (most : ℕ) (reader : TraceReader) (old
   pub whole : length new < length old + most → n ≡ length chunk
   pub before : (k : ℕ) → k < n → length (closed (fed ++ take k chunk)) < length (closed fed) + most
 
--- what `feed_some` leaves of a reader that stands for these bytes
+-- what `feed_some` leaves of a reader that represents these bytes
 abbrev pub FeedsSome : List ℕ → List ℕ → ℕ → TraceReader → List Trace → List Trace
     → Result ℕ TraceFault → Type 0
 FeedsSome fed chunk most reader old new (Ok n) = Takes fed chunk most reader old new n
 FeedsSome fed chunk most reader old new (Err fault) =
     Fails fed chunk old new fault × (length new < length old + most)
 
--- what `finish` leaves of a reader that stands for the bytes of a whole file: its other traces were
--- appended, and the reader stands for no bytes
+-- what `finish` leaves of a reader that represents the bytes of a whole file: its other traces were appended, and
+-- the reader represents no bytes
 pub record Ends (fed : List ℕ) (reader : TraceReader) (old new : List Trace) : Type 0 where
   pub anew : StandsFor reader []
   pub more : List Trace

@@ -8,7 +8,7 @@ use crate::fault::TraceFault;
 use crate::row::{Header, Row, read_header, read_row};
 use crate::trace::{Fix, Trace};
 use decimal_text::is_blank;
-use polyline_geometry::List;
+use plain_list::List;
 use std::alloc::Global;
 
 /// The state after the lines read so far.

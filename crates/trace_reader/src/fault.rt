@@ -2,7 +2,7 @@
 ghost use Rattle.std.specs.Prelude.{◌≡◌, ◌≢◌, ◌++◌, OnOk, OnErr};
 
 use decimal_text::write_worded;
-use polyline_geometry::List;
+use plain_list::List;
 use std::alloc::{AllocError, Global};
 use std::fmt::{self, Display, Formatter, Write};
 use thiserror::Error;
@@ -19,7 +19,7 @@ pub enum TraceFault {
     BadNumber(u64, u32),
     /// A number is outside the range of its field.
     OutOfRange(u64, u32),
-    /// A trace has more points than the limit.
+    /// A trace has more positions than the limit.
     TraceTooLong(u64),
     /// A line has more bytes than the limit.
     LineTooLong(u64),

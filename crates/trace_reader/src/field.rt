@@ -2,7 +2,7 @@
 //! delimited first.
 ghost use Rattle.std.specs.Prelude.{◌≡◌, ◌≤◌, ◌∷◌, [], true, Ok, length, take, IfSome, MatchOption};
 ghost use Rattle.std.specs.List.{list_all};
-ghost use Rattle.trace_reader.specs.FirstField.{first_of, is_within_field};
+ghost use Rattle.trace_reader.specs.inside.FirstField.{first_of, is_within_field};
 ghost use Rattle.trace_reader.specs.Row.{fields_of, u32_of, coordinate_of};
 
 use decimal_text::{

@@ -1,12 +1,12 @@
 //! The reader: chunks of any size in, closed traces and the first fault out.
 ghost use Rattle.std.specs.Prelude.{◌≡◌, ◌≢◌, ◌+◌, ◌<◌, ◌≤◌, ◌^◌, ℕ, [], ◌∷◌, ◌++◌, List as ListOf, length, IfOk, IfErr, OnOk, OnErr};
-ghost use Rattle.trace_reader.specs.Parts.{HasNoEnd, is_reached};
+ghost use Rattle.trace_reader.specs.inside.Parts.{HasNoEnd, is_reached};
 
 use crate::content::ContentReader;
 use crate::fault::TraceFault;
 use crate::trace::Trace;
 use memchr::memchr;
-use polyline_geometry::List;
+use plain_list::List;
 use std::alloc::Global;
 
 const FILE_LIMIT: u64 = 1_099_511_627_776;
@@ -43,7 +43,7 @@ impl Drop for TraceReader {
 
 impl TraceReader {
     ghost use Rattle.trace_reader.specs.Reader.{StandsFor, HasFailed, Feeds, FeedsSome, Finishes};
-    ghost use Rattle.trace_reader.specs.Steps.{Exceeds, HasRoom, Reaches, Refuses, EndsLine, TakesLine, TakesLines, FailsLines, EndsFile, FailsEnd};
+    ghost use Rattle.trace_reader.specs.inside.Steps.{Exceeds, HasRoom, Reaches, Refuses, EndsLine, TakesLine, TakesLines, FailsLines, EndsFile, FailsEnd};
 
     /// A reader that was fed nothing. Allocates nothing.
     pub fn open(alloc: Global) -> Self

@@ -2,7 +2,8 @@
 ghost use Rattle.std.specs.Prelude.{◌≡◌};
 ghost use Rattle.trace_reader.specs.Trace.{point_of_fix};
 
-use polyline_geometry::{List, Point};
+use plain_list::List;
+use polyline_geometry::Point;
 
 /// A measured position in centimetres, and its time in seconds (0 under a header without times).
 #[derive(Clone, Copy, Debug, PartialEq, Eq)]

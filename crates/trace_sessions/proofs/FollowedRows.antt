@@ -2,8 +2,8 @@
 use Rattle.std.proofs.Common.{◌≡◌, ◌⊎◌, ℕ, ◌+◌, ◌<◌, arith, length, take, drop, get_or, true, List, [], ◌∷◌, ◌++◌, Result, Ok, OnOk, sym, ◌∙◌, ap, subst, ⊎_elim}
 use Rattle.std.specs.Prelude.{Contains}
 use Rattle.std.proofs.lemmas.List.{take-append-drop}
-use Rattle.bounded_search.specs.Rows.{AreRowsOf, AsksAll, AsksOnly, RowsState}
-use Rattle.bounded_search.proofs.Asking.{all_by, asks_known, only_by, only_then, still_of}
+use Rattle.bounded_table.specs.Rows.{AreRowsOf, AsksAll, AsksOnly, RowsState}
+use Rattle.bounded_table.proofs.Asking.{all_by, asks_known, only_by, only_then, still_of}
 use Rattle.cost_model.specs.declared.params.Params.{Params}
 use Rattle.road_network.specs.Net.{Net}
 use Rattle.matching.specs.declared.parts.Layer.{Layer}

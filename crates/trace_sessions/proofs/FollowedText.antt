@@ -10,7 +10,7 @@ use Rattle.online_commit.specs.declared.items.Item.{Item}
 use Rattle.trace_match.specs.Match.{layers_of}
 use Rattle.trace_reader.specs.declared.trace.Trace.{Trace}
 use Rattle.trace_sessions.specs.FollowText.{follow_text, handed_at, left_of, point_lines}
-use Rattle.trace_sessions.specs.StreamingInside.{rest_lines, step_lines}
+use Rattle.trace_sessions.specs.inside.StreamingInside.{rest_lines, step_lines}
 
 -- the lines of the first i points
 abbrev first_lines : Net → Params → Trace → ℕ → List (List ℕ)

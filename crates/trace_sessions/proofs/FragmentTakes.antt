@@ -6,8 +6,8 @@ use Rattle.std.proofs.lemmas.List.Elements.{All-map, All-take}
 use Rattle.polyline_geometry.specs.Plane.{InRange}
 use Rattle.cost_model.specs.declared.params.Params.{Params}
 use Rattle.cost_model.specs.Options.{IsAccepted}
-use Rattle.bounded_search.specs.Rows.{RowsState, AreRowsOf}
-use Rattle.bounded_search.proofs.Asking.{still_of}
+use Rattle.bounded_table.specs.Rows.{RowsState, AreRowsOf}
+use Rattle.bounded_table.proofs.Asking.{still_of}
 use Rattle.trace_reader.specs.declared.trace.Fix.{Fix}
 use Rattle.trace_reader.specs.Trace.{IsLawfulTrace, point_of_fix}
 use Rattle.trace_reader.specs.declared.trace.Trace.{Trace}

@@ -23,7 +23,7 @@ use Rattle.trace_sessions.specs.ItemText.{AddsPrefix, AreItemsOf, item_lines}
 use Rattle.trace_sessions.specs.Sessions.{IsFeedFault, Keeps, Pair, SessionsState, TakesFix, fixes_and, fixes_of, with_fix}
 use Rattle.trace_sessions.specs.StreamText.{first_line, has_room, led_by, lines_of_fix, stream_lines, trace_of, with_taken}
 use Rattle.trace_sessions.specs.Streaming.{AreLawful, Streams, TakesPoints, pieces_told}
-use Rattle.trace_sessions.specs.StreamingInside.{heading, lines_of_items}
+use Rattle.trace_sessions.specs.inside.StreamingInside.{heading, lines_of_items}
 use Rattle.trace_sessions.proofs.FollowLines.{none_handed}
 use Rattle.trace_sessions.proofs.ItemEdges.{handed_edges}
 use Rattle.trace_sessions.proofs.FollowedPoints.{lies_behind}

@@ -11,8 +11,8 @@ use Rattle.polyline_geometry.specs.Plane.{InRange}
 use Rattle.cost_model.specs.declared.params.Params.{Params}
 use Rattle.cost_model.specs.Options.{IsAccepted}
 use Rattle.road_network.specs.Net.{Net}
-use Rattle.bounded_search.specs.Rows.{RowsState, AreRowsOf, AsksOnly}
-use Rattle.bounded_search.proofs.Asking.{asks_nothing, keeps_itself}
+use Rattle.bounded_table.specs.Rows.{RowsState, AreRowsOf, AsksOnly}
+use Rattle.bounded_table.proofs.Asking.{asks_nothing, keeps_itself}
 use Rattle.trace_reader.specs.declared.trace.Fix.{Fix}
 use Rattle.trace_reader.specs.Trace.{point_of_fix}
 use Rattle.matching.specs.declared.parts.Layer.{Layer}
@@ -26,7 +26,7 @@ use Rattle.trace_sessions.specs.declared.sessions.SessionFault.{SessionFault}
 use Rattle.trace_sessions.specs.declared.sessions.SessionFault.TheVariants.{Memory, NotOpen, TooLong}
 use Rattle.trace_sessions.specs.FollowText.{handed_at}
 use Rattle.trace_sessions.specs.Sessions.{AsksClosed, AsksFedTo, Closes, HasPair, IsCloseFault, IsFeedFault, IsSessionOf, Keeps, KeepsEach, Pair, SessionsState, TakesFix, fixes_and, fixes_of, length_of, with_fix, without}
-use Rattle.trace_sessions.specs.SessionsInside.{AreOf, FeedsAt, FinishesAt, session_at, session_in}
+use Rattle.trace_sessions.specs.inside.SessionsInside.{AreOf, FeedsAt, FinishesAt, session_at, session_in}
 use Rattle.trace_sessions.proofs.SessionPairs.{Both, are-at, are-insert, kept-insert, kept-keys, kept-lookup, kept-remove, set-inserts}
 
 abbrev pub state : Net → Params → List (ℕ × Session) → SessionsState

@@ -3,14 +3,14 @@ use Rattle.std.proofs.Common.{◌≡◌, ℕ, suc, ◌<◌, Bool, true, false, c
 use Rattle.std.specs.Prelude.{IfSome}
 use Rattle.std.specs.Map.{keys_of, lookup, remove_entry, set_value}
 use Rattle.indexmap.specs.IndexMap.{insert_entry}
-use Rattle.bounded_search.specs.Rows.{RowsState, AreRowsOf}
+use Rattle.bounded_table.specs.Rows.{RowsState, AreRowsOf}
 use Rattle.cost_model.specs.declared.params.Params.{Params}
 use Rattle.road_network.specs.Net.{Net}
 use Rattle.trace_reader.specs.declared.trace.Fix.{Fix}
 use Rattle.online_commit.specs.declared.items.Item.{Item}
 use Rattle.online_commit.specs.Session.{Session}
 use Rattle.trace_sessions.specs.Sessions.{IsPairOf, IsSessionOf, KeepsEach, Pair}
-use Rattle.trace_sessions.specs.SessionsInside.{AreOf, FinishesAt, session_at}
+use Rattle.trace_sessions.specs.inside.SessionsInside.{AreOf, FinishesAt, session_at}
 
 -- a session that stands for the fixes, or neither
 abbrev pub Both : Net → Params → Option Session → Option (List Fix) → Type 0

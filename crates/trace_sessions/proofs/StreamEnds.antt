@@ -12,8 +12,8 @@ use Rattle.std.proofs.lemmas.Map.Keys.{IsDistinct-head, IsDistinct-tail}
 use Rattle.cost_model.specs.declared.params.Params.{Params}
 use Rattle.cost_model.specs.Options.{IsAccepted}
 use Rattle.road_network.specs.Net.{Net}
-use Rattle.bounded_search.specs.Rows.{RowsState, AreRowsOf, AsksOnly}
-use Rattle.bounded_search.proofs.Asking.{asks_nothing, only_then, still_of}
+use Rattle.bounded_table.specs.Rows.{RowsState, AreRowsOf, AsksOnly}
+use Rattle.bounded_table.proofs.Asking.{asks_nothing, only_then, still_of}
 use Rattle.trace_match.specs.Match.{layer_of, match_of}
 use Rattle.trace_reader.specs.declared.trace.Fix.{Fix}
 use Rattle.trace_reader.specs.Trace.{IsLawfulTrace}

@@ -23,7 +23,7 @@ use Rattle.trace_sessions.specs.ItemText.{AddsPrefix, AreItemsOf, item_line, ite
 use Rattle.trace_sessions.specs.Sessions.{IsSessionOf, Pair}
 use Rattle.trace_sessions.specs.StreamText.{led_by, lines_at_end, trace_of}
 use Rattle.trace_sessions.specs.Streaming.{AreLawful, fixes_in, pieces_of_all, pieces_told}
-use Rattle.trace_sessions.specs.StreamingInside.{heading, lines_of_items, rest_lines, step_lines}
+use Rattle.trace_sessions.specs.inside.StreamingInside.{heading, lines_of_items, rest_lines, step_lines}
 use Rattle.trace_sessions.proofs.FollowLines.{left_behind}
 use Rattle.trace_sessions.proofs.FollowedPoints.{drop_behind, lies_behind}
 use Rattle.trace_sessions.proofs.ItemEdges.{items_edges}

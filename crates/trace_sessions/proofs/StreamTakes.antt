@@ -7,8 +7,8 @@ use Rattle.std.proofs.lemmas.List.{append_assoc, append-nil, length-append, map-
 use Rattle.std.proofs.lemmas.List.Elements.{All-head, All-tail, filter-append}
 use Rattle.std.proofs.lemmas.List.Folds.{concat-append}
 use Rattle.polyline_geometry.specs.Plane.{InRange}
-use Rattle.bounded_search.specs.Rows.{RowsState}
-use Rattle.bounded_search.proofs.Asking.{asks_nothing, keeps_itself, keeps_then, only_by, only_then}
+use Rattle.bounded_table.specs.Rows.{RowsState}
+use Rattle.bounded_table.proofs.Asking.{asks_nothing, keeps_itself, keeps_then, only_by, only_then}
 use Rattle.trace_match.specs.Match.{layer_of}
 use Rattle.trace_reader.specs.declared.trace.Fix.{Fix}
 use Rattle.trace_reader.specs.Trace.{point_of_fix}
@@ -20,7 +20,7 @@ use Rattle.trace_sessions.specs.declared.sessions.SessionFault.{SessionFault}
 use Rattle.trace_sessions.specs.declared.sessions.SessionFault.TheVariants.{Memory, NotOpen, TooLong}
 use Rattle.trace_sessions.specs.ItemText.{AddsPrefix}
 use Rattle.trace_sessions.specs.Sessions.{AsksFedTo, AsksFixes, Keeps, Pair, SessionsState, fixes_and, fixes_of, with_fix}
-use Rattle.trace_sessions.specs.SessionsInside.{session_at, session_in}
+use Rattle.trace_sessions.specs.inside.SessionsInside.{session_at, session_in}
 use Rattle.trace_sessions.specs.StreamText.{Point, fixes_among, full_id, has_room, stream_lines, with_points}
 use Rattle.trace_sessions.specs.Streaming.{AreLawful, AsksAmong, AsksSome, AsksStream, Streams, TakesPoints, pieces_told}
 use Rattle.trace_sessions.proofs.SessionFixes.{count_of, no-ok, opened-is, stands-in}

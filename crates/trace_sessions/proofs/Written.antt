@@ -8,7 +8,7 @@ use Rattle.match_text.proofs.Written.{concat-append}
 use Rattle.online_commit.specs.declared.items.Item.{Item}
 use Rattle.match_text.specs.MatchText.{end_line}
 use Rattle.trace_sessions.specs.FollowText.{finish_line, fix_line}
-use Rattle.trace_sessions.specs.StreamingInside.{rest_lines, step_lines}
+use Rattle.trace_sessions.specs.inside.StreamingInside.{rest_lines, step_lines}
 use Rattle.trace_sessions.specs.ItemText.{AddsPrefix, Stays, item_line, item_lines, lead_of}
 
 -- the lines of one item more

@@ -11,7 +11,7 @@ abbrev pub id_of : Call → ℕ
 id_of (feeds id fix) = id
 id_of (closes id) = id
 
--- the pairs behind it
+-- the pairs after it
 abbrev pub pairs_after : List Pair → Call → List Pair
 pairs_after pairs (feeds id fix) = with_fix pairs id fix
 pairs_after pairs (closes id) = without pairs id
@@ -35,7 +35,7 @@ CallsGive s (call ∷ calls) [] = ⊥
 CallsGive s (call ∷ calls) (answer ∷ given) =
     (new : SessionsState) × (answer.0 ≡ id_of call) × CallGives s call new answer.1 × CallsGive new calls given
 
--- sessions without points
+-- sessions without positions
 pub record IsEmpty (n : Net) (p : Params) (s : SessionsState) : Type 0 where
   pub network : s.network ≡ n
   pub params : s.params ≡ p

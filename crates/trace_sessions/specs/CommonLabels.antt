@@ -19,8 +19,8 @@ pub record IsLongestCommonPrefix (lists : List (List Label)) (front : List Label
   pub longest : (other : List Label) → All (λ labels. BeginsWith labels other) lists
       → length other ≤ length front
 
--- the labels of all points: those of the closed pieces, which end before point `first`, and then those
--- of each best sequence over the points of the open piece, one for each rank of the latest point
+-- the labels of all positions: those of the closed pieces, which end before position `first`, and then those of
+-- each best sequence over the positions of the open piece, one for each rank of the latest position
 abbrev pub lists_from : Net → Params → List Layer → ℕ → List (List Label)
 lists_from n p layers first =
     map (λ ranks. labels_of n layers (take first (solution (trellis n p) layers).ranks ++ map (λ r. Some r) ranks))
@@ -30,7 +30,7 @@ abbrev pub label_lists : Net → Params → List Layer → List (List Label)
 label_lists n p layers =
     lists_from n p layers (open_first (solution (trellis n p) layers).pieces (length layers))
 
--- the latest of these points has a candidate
+-- the latest of these positions has a candidate
 abbrev pub LatestIsNear : List Layer → Type 0
 LatestIsNear layers = HasCandidateAt layers (length layers - 1)
 

@@ -1,5 +1,5 @@
--- What is written of a trace while its points come: after the line of each point what the point makes
--- certain, and after the line `finish` what is left. In this file layers stand in the order of the points.
+-- What is written of a trace while its positions come: after the line of each position what the position makes
+-- certain, and after the line `finish` what is left. In this file layers are in the order of the positions.
 use Rattle.std.specs.Prelude.{◌≡◌, ℕ, suc, Bool, ◌||◌, not, List, [], ◌∷◌, ◌++◌, None, length, take, drop, codes, nat_eq}
 use Rattle.std.specs.List.{concat, filter, flat_map, range_with_len, starts_with}
 use Rattle.std.specs.Str.{bytes_eq}
@@ -18,7 +18,7 @@ use Rattle.trace_sessions.specs.ItemText.{item_lines}
 
 -- ---- what is handed out
 
--- with point i, at the points up to it
+-- with position i, at the positions up to it
 abbrev pub handed_at : Net → Params → List Layer → ℕ → List Item
 handed_at n p layers i =
     drop (length (handed n p (take i layers))) (handed n p (take (suc i) layers))
@@ -35,7 +35,7 @@ fix_line i = line (codes "fix") (decimal i ∷ [])
 abbrev pub finish_line : List ℕ
 finish_line = line (codes "finish") []
 
--- the line of point i and the lines of what it makes certain
+-- the line of position i and the lines of what it makes certain
 abbrev pub point_lines : Net → Params → List Layer → ℕ → List (List ℕ)
 point_lines n p layers i = fix_line i ∷ item_lines n None (handed_at n p layers i)
 

@@ -17,12 +17,12 @@ is_piece (Closed piece route) = true
 abbrev pub pieces_among : List Item → ℕ
 pieces_among items = count_by is_piece items
 
--- the number of pieces of the match of this trace, which is no more than that of its points
+-- the number of pieces of the match of this trace, which is no more than that of its positions
 pub record IsPieceCount (n : Net) (p : Params) (trace : Trace) (count : ℕ) : Type 0 where
   pub is : count ≡ length (match_of n p trace).pieces
   pub few : count ≤ length trace.fixes
 
--- the follow text of this trace stands behind the text, and the answer is the number of its pieces
+-- the follow text of this trace comes after the text, and the answer is the number of its pieces
 pub record IsFollowed (n : Net) (p : Params) (trace : Trace) (text text' : List ℕ) (count : ℕ) : Type 0 where
   pub written : text' ≡ text ++ follow_text n p trace
   pub pieces : IsPieceCount n p trace count

@@ -16,7 +16,7 @@ item_line n (At index candidate) = label_line index (label_on n candidate)
 item_line n (Missing index) = label_line index MissingLabel
 item_line n (Closed piece route) = piece_line (routed_over n piece (numbers route))
 
--- what stands before each line: the id and a space, or nothing
+-- what comes before each line: the id and a space, or nothing
 abbrev pub lead_of : Option ℕ → List ℕ
 lead_of None = []
 lead_of (Some id) = decimal id ++ 32 ∷ []
@@ -41,6 +41,6 @@ pub record AddsPrefix (text more text' : List ℕ) : Type 0 where
   pub is : more ≡ front ++ rest
   pub written : text' ≡ text ++ front
 
--- what stood in a text still stands at its front
+-- what was in a text is still at its front
 abbrev pub Stays : (text text' : List ℕ) → Type 0
 Stays text text' = take (length text) text' ≡ text

@@ -2,9 +2,8 @@ pub mod ItemText
 pub mod FollowText
 pub mod Following
 pub mod Sessions
-pub mod SessionsInside
 pub mod StreamText
 pub mod Calls
 pub mod Streaming
-pub mod StreamingInside
 pub mod CommonLabels
+pub mod inside

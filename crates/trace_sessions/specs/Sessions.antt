@@ -1,4 +1,4 @@
--- Many sessions at once, one for each trace id, and the fixes for which they stand.
+-- Many sessions at once, one for each trace id, and the fixes that they represent.
 use Rattle.std.specs.Prelude.{◌≡◌, ◌⊎◌, ℕ, ◌<◌, ◌≤◌, List, [], ◌∷◌, ◌++◌, Option, None, Result, OnOk, IsSome, Contains, length, map, nat_eq, unwrap_or}
 use Rattle.std.specs.List.{IsDistinct}
 use Rattle.std.specs.Map.{keys_of, lookup, remove_entry}
@@ -6,7 +6,7 @@ use Rattle.std.specs.Option.{option_map}
 use Rattle.indexmap.specs.IndexMap.{insert_entry}
 use Rattle.cost_model.specs.declared.params.Params.{Params}
 use Rattle.road_network.specs.Net.{Net}
-use Rattle.bounded_search.specs.Rows.{RowsState, AsksOnly, Keeps as KeepsRows}
+use Rattle.bounded_table.specs.Rows.{RowsState, AsksOnly, Keeps as KeepsRows}
 use Rattle.trace_reader.specs.declared.trace.Fix.{Fix}
 use Rattle.trace_match.specs.Match.{layer_of}
 use Rattle.online_commit.specs.declared.items.Item.{Item}
@@ -56,9 +56,9 @@ IsFull pairs id = 100_000 ≤ length (fixes_of pairs id)
 abbrev pub length_of : List Pair → ℕ → Option ℕ
 length_of pairs id = option_map length (lookup (nat_eq id) pairs)
 
--- ---- what the sessions stand for
+-- ---- what the sessions represent
 
--- a session of this network and these options that stands for these fixes
+-- a session of this network and these options that represents these fixes
 pub record IsSessionOf (n : Net) (p : Params) (s : Session) (fixes : List Fix) : Type 0 where
   pub network : s.network ≡ n
   pub params : s.params ≡ p
@@ -77,7 +77,7 @@ KeepsEach n p [] (pair ∷ pairs) = ⊥
 KeepsEach n p (entry ∷ entries) [] = ⊥
 KeepsEach n p (entry ∷ entries) (pair ∷ pairs) = IsPairOf n p entry pair × KeepsEach n p entries pairs
 
--- the sessions stand for these pairs, which have different ids
+-- the sessions represent these pairs, which have different ids
 pub record Keeps (s : SessionsState) (pairs : List Pair) : Type 0 where
   pub each : KeepsEach s.network s.params s.sessions pairs
   pub different : IsDistinct nat_eq (keys_of pairs)
@@ -106,7 +106,7 @@ items_of_call n p pairs (feeds id fix) =
     handed_at n p (map (layer_of n p) (fixes_and pairs id fix)) (length (fixes_of pairs id))
 items_of_call n p pairs (closes id) = left_of n p (map (layer_of n p) (fixes_of pairs id))
 
--- the id was not full and has the fix behind its others, whose items stay; these are the new ones
+-- the id was not full and has the fix after its others, whose items stay; these are the new ones
 pub record TakesFix (old : SessionsState) (id : ℕ) (fix : Fix) (new : SessionsState) (items : List Item) : Type 0 where
   pub network : new.network ≡ old.network
   pub params : new.params ≡ old.params

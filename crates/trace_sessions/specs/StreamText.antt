@@ -1,5 +1,5 @@
--- Interleaved traces: what is written of a stream of points, each with the id of its trace. Each id is
--- followed as if it were alone.
+-- Interleaved traces: what is written of a stream of positions, each with the id of its trace. Each id is followed
+-- as if it were alone.
 use Rattle.std.specs.Prelude.{◌≡◌, ℕ, ◌<◌, ◌^◌, Bool, List, [], ◌∷◌, ◌++◌, Option, Some, None, if◌then◌else◌, All, length, map, drop, nat_eq, nat_lt}
 use Rattle.std.specs.List.{concat, filter, flat_map, starts_with}
 use Rattle.cost_model.specs.declared.params.Params.{Params}
@@ -13,13 +13,13 @@ use Rattle.trace_sessions.specs.FollowText.{follow_lines, follow_text, last_line
 use Rattle.trace_sessions.specs.ItemText.{lead_of}
 use Rattle.trace_sessions.specs.Sessions.{Pair, fixes_of, with_fix}
 
--- ---- points
+-- ---- positions
 
--- a point of a stream: the id of its trace, and its fix
+-- a position of a stream: the id of its trace, and its fix
 abbrev pub Point : Type 0
 Point = ℕ × Fix
 
--- the points of a file, whose traces are fragments of ids
+-- the positions of a file, whose traces are fragments of ids
 abbrev pub fragment_points : Trace → List Point
 fragment_points trace = map (λ fix. (trace.id, fix)) trace.fixes
 
@@ -30,7 +30,7 @@ points_in traces = flat_map fragment_points traces
 abbrev pub trace_of : Pair → Trace
 trace_of pair = record { id = pair.0; fixes = pair.1 }
 
--- the ids with their fixes, where these points follow those of the pairs
+-- the ids with their fixes, where these positions follow those of the pairs
 abbrev pub with_points : List Pair → List Point → List Pair
 with_points pairs [] = pairs
 with_points pairs (x ∷ more) = with_points (with_fix pairs x.0 x.1) more
@@ -39,7 +39,7 @@ with_points pairs (x ∷ more) = with_points (with_fix pairs x.0 x.1) more
 abbrev pub has_room : List Pair → ℕ → Bool
 has_room pairs id = nat_lt (length (fixes_of pairs id)) 100_000
 
--- and where the points before the first whose id has no room do so
+-- and where the positions before the first whose id has no room do so
 abbrev pub with_taken : List Pair → List Point → List Pair
 with_taken pairs [] = pairs
 with_taken pairs (x ∷ more) =
@@ -56,12 +56,12 @@ abbrev pub first_line : ℕ → List Fix → List (List ℕ)
 first_line id [] = trace_line id ∷ []
 first_line id (fix ∷ fixes) = []
 
--- the lines of a fix behind the others of its id
+-- the lines of a fix after the others of its id
 abbrev pub lines_of_fix : Net → Params → ℕ → List Fix → Fix → List (List ℕ)
 lines_of_fix n p id fixes fix =
     first_line id fixes ++ point_lines n p (map (layer_of n p) (fixes ++ fix ∷ [])) (length fixes)
 
--- the lines of points behind those of the pairs, up to the first whose id has no room
+-- the lines of positions after those of the pairs, up to the first whose id has no room
 abbrev pub stream_lines : Net → Params → List Pair → List Point → List (List ℕ)
 stream_lines n p pairs [] = []
 stream_lines n p pairs (x ∷ more) =
@@ -70,7 +70,7 @@ stream_lines n p pairs (x ∷ more) =
     ++ stream_lines n p (with_fix pairs x.0 x.1) more
     else []
 
--- the id of that point; none where each has room
+-- the id of that position; none where each has room
 abbrev pub full_id : List Pair → List Point → Option ℕ
 full_id pairs [] = None
 full_id pairs (x ∷ more) =
@@ -91,7 +91,7 @@ all_lines n p points = stream_lines n p [] points ++ closing_lines n p (with_poi
 
 -- ---- each id is followed as if it were alone
 
--- the fixes of the id among these points
+-- the fixes of the id among these positions
 abbrev pub fixes_among : ℕ → List Point → List Fix
 fixes_among id points = map (λ x. x.1) (filter (λ x. nat_eq id x.0) points)
 
@@ -101,7 +101,7 @@ lines_led_by id lines =
     map (drop (length (lead_of (Some id))))
     (filter (λ text. starts_with nat_eq text (lead_of (Some id))) lines)
 
--- the lines of an id are the follow text of its points alone
+-- the lines of an id are the follow text of its positions alone
 abbrev pub IdsAreFollowedAlone : Type 0
 IdsAreFollowedAlone =
     (n : Net) (p : Params) (points : List Point) (id : ℕ)

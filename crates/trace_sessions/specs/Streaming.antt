@@ -1,10 +1,10 @@
--- What taking the points of a stream, and ending it, leave.
+-- What taking the positions of a stream, and ending it, leave.
 use Rattle.std.specs.Prelude.{◌≡◌, ◌⊎◌, ℕ, ◌+◌, ◌<◌, ◌≤◌, ◌^◌, List, ◌++◌, Result, Ok, Err, Some, None, OnOk, All, Contains, length, map}
 use Rattle.std.specs.List.{concat, sum_by}
 use Rattle.cost_model.specs.Options.{IsAccepted}
 use Rattle.cost_model.specs.declared.params.Params.{Params}
 use Rattle.road_network.specs.Net.{Net}
-use Rattle.bounded_search.specs.Rows.{RowsState, AsksOnly, Keeps as KeepsRows}
+use Rattle.bounded_table.specs.Rows.{RowsState, AsksOnly, Keeps as KeepsRows}
 use Rattle.trace_reader.specs.Trace.{IsLawfulTrace}
 use Rattle.trace_reader.specs.declared.trace.Fix.{Fix}
 use Rattle.trace_match.specs.Match.{layer_of, match_of}
@@ -34,7 +34,7 @@ pieces_of_all n p pairs =
 abbrev pub AsksSome : SessionsState → List Pair → ℕ → Type 0
 AsksSome s pairs v = (id : ℕ) × AsksFixes s (fixes_of pairs id) v
 
--- the match of an id of these points, with all its fixes up to them, asks for the row of node v
+-- the match of an id of these positions, with all its fixes up to them, asks for the row of node v
 abbrev pub AsksAmong : SessionsState → List Pair → List Point → ℕ → Type 0
 AsksAmong s pairs points v =
     (id : ℕ) × (0 < length (fixes_among id points)) × AsksFixes s (fixes_of (with_points pairs points) id) v
@@ -43,14 +43,14 @@ AsksAmong s pairs points v =
 abbrev pub AreLawful : List Pair → Type 0
 AreLawful pairs = All (λ pair. IsLawfulTrace (trace_of pair)) pairs
 
--- the sessions stand for lawful pairs, which have room for so many more points
+-- the sessions represent lawful pairs, which have room for this many more positions
 pub record CanStream (s : SessionsState) (more : ℕ) : Type 0 where
   pub pairs : List Pair
   pub keeps : Keeps s pairs
   pub lawful : AreLawful pairs
   pub few : fixes_in pairs + more < 2 ^ 62
 
--- the points were taken behind those of the pairs, and their lines written, with so many pieces
+-- the positions were taken after those of the pairs, and their lines written, with this many pieces
 pub record TakesPoints (old : SessionsState) (pairs : List Pair) (points : List Point)
     (new : SessionsState) (text text' : List ℕ) (pieces : ℕ) : Type 0 where
   pub network : new.network ≡ old.network
@@ -70,7 +70,7 @@ pub record TakesUntilFull (old : SessionsState) (pairs : List Pair) (points : Li
   pub stands : Keeps new (with_taken pairs points)
   pub written : text' ≡ text ++ concat (stream_lines old.network old.params pairs points)
 
--- memory ran out: some points were taken, and their lines written, those of the last one maybe only in part
+-- memory ran out: some positions were taken, and their lines written, those of the last one maybe only in part
 pub record TakesUntilMemory (old : SessionsState) (pairs : List Pair) (points : List Point)
     (new : SessionsState) (text text' : List ℕ) : Type 0 where
   pub whole : List Point
@@ -94,8 +94,8 @@ Streams old pairs points new text text' (Err (TooLong id)) =
 Streams old pairs points new text text' (Err (NotOpen id)) = ⊥
 Streams old pairs points new text text' (Err Memory) = TakesUntilMemory old pairs points new text text'
 
--- what taking points leaves of the rows: nothing became known but what an id of these points asks
--- for with them, and after Ok all that some id asks for is known or was asked for before
+-- what taking positions leaves of the rows: nothing became known but what an id of these positions asks for with
+-- them, and after Ok all that some id asks for is known or was asked for before
 pub record AsksStream {A E : Type 0} (old : SessionsState) (points : List Point) (rows : RowsState)
     (result : Result A E) (new : RowsState) : Type 0 where
   pub keeps : KeepsRows rows new
@@ -119,7 +119,7 @@ Ends old pairs text text' (Err refused) =
 
 -- ---- one id at its end
 
--- a session of this network that stands for the fixes of a lawful trace
+-- a session of this network that represents the fixes of a lawful trace
 pub record CanEnd (n : Net) (s : Session) (id : ℕ) : Type 0 where
   pub fixes : List Fix
   pub is : IsSessionOf n s.params s fixes

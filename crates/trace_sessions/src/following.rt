@@ -1,21 +1,21 @@
-//! A trace that is followed point by point. Serves `follow`; decided by `follow_text`.
+//! A trace that is followed position by position. Serves `follow`; decided by `follow_text`.
 ghost use Rattle.std.specs.Prelude.{◌≡◌, ◌++◌, true, IfOk, OnOk, OnErr};
 ghost use Rattle.std.specs.List.{concat};
-ghost use Rattle.bounded_search.specs.Rows.{AreRowsOf, AsksFor};
+ghost use Rattle.bounded_table.specs.Rows.{AreRowsOf, AsksFor};
 ghost use Rattle.trace_match.specs.Match.{asks};
 ghost use Rattle.trace_reader.specs.Trace.{IsLawfulTrace};
 ghost use Rattle.trace_sessions.specs.FollowText.{fix_line};
 ghost use Rattle.trace_sessions.specs.Following.{IsFollowed, pieces_among};
 ghost use Rattle.trace_sessions.specs.ItemText.{AddsPrefix, AreItemsOf, Stays};
-ghost use Rattle.trace_sessions.specs.StreamingInside.{rest_lines, step_lines};
+ghost use Rattle.trace_sessions.specs.inside.StreamingInside.{rest_lines, step_lines};
 
 use crate::basis::Basis;
 use crate::items::{Writer, write_items, write_lead};
-use bounded_search::Rows;
+use bounded_table::Rows;
 use decimal_text::write_unsigned;
 use match_text::{write_end, write_trace};
 use online_commit::{Item, Online};
-use polyline_geometry::List;
+use plain_list::List;
 use std::alloc::{AllocError, Global};
 use trace_match::layer;
 use trace_reader::Trace;
@@ -23,9 +23,9 @@ use trace_reader::Trace;
 /// Appends the follow text of a trace, and returns the number of pieces of its match. Exactly the rows
 /// that the trace asks for become known; on `Err`, only some of them.
 ///
-/// `rows` are of this network and the bound of these options. Each point is matched as it comes: the
-/// candidates are found for one point at a time, and kept for the points of the open piece. `Err` means
-/// out of memory; then `into` is unchanged, and what was known is still known.
+/// `rows` are of this network and the bound of these options. Each position is matched as it comes: the candidates
+/// are found for one position at a time, and kept for the positions of the open piece. `Err` means out of memory;
+/// then `into` is unchanged, and what was known is still known.
 pub fn follow_trace<R: Rows>(
     alloc: Global,
     on: &Basis,
@@ -82,8 +82,8 @@ fn append_followed<R: Rows>(
     Ok(pieces + count_pieces(items.as_slice()))
 }
 
-/// Appends the line `fix I` of a point and the lines of its items, each after the lead and a space if
-/// there is a lead. On `Err`, a prefix of them may remain at the end.
+/// Appends the line `fix I` of a position and the lines of its items, each after the lead and a space if there is a
+/// lead. On `Err`, a prefix of them may remain at the end.
 pub fn write_step(
     by: &Writer,
     lead: Option<u32>,

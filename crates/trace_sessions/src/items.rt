@@ -6,7 +6,7 @@ ghost use Rattle.trace_sessions.specs.ItemText.{AreItemsOf, IsItemOf, Stays, ite
 use itoa::write_digits;
 use match_text::{Label, write_label, write_piece};
 use online_commit::Item;
-use polyline_geometry::List;
+use plain_list::List;
 use road_network::Network;
 use std::alloc::{AllocError, Global};
 use trace_match::{label_on, routed};

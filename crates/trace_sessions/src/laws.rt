@@ -9,19 +9,19 @@ pub fn follow_is_match()
     ensures { FollowIsMatch }
 {}
 
-/// Lines written for some points stay, whatever points follow.
+/// Lines written for some positions stay, whatever positions follow.
 pub fn written_lines_stay()
     ensures { WrittenLinesStay }
 {}
 
-/// The lines of an id in a stream, without the id, are the follow text of its points alone, if no id is
-/// full and all ids are below 2^32.
+/// The lines of an id in a stream, without the id, are the follow text of its positions alone, if no id is full and
+/// all ids are below 2^32.
 pub fn ids_are_followed_alone()
     ensures { IdsAreFollowedAlone }
 {}
 
-/// In the text of a stream, the lines that begin with an id and a space are, without these, the follow
-/// text of its points alone, if no id is full and all ids are below 2^32.
+/// In the text of a stream, the lines that begin with an id and a space are, without these, the follow text of its
+/// positions alone, if no id is full and all ids are below 2^32.
 pub fn ids_have_follow_texts()
     ensures { IdsHaveFollowTexts }
 {}

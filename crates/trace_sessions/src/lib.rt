@@ -1,23 +1,23 @@
-//! Traces that are matched while their points still come, and their output as lines.
+//! Traces that are matched while their positions still come, and their output as lines.
 //!
 //! [`write_items`] appends the lines of items, `At` and `Missing` as the label line of a match text
 //! and `Closed` as its piece line. With an id, each line begins with that id and a space.
 //!
-//! `follow_lines` in `specs/FollowText.antt` defines the follow text of a trace: a line `fix I` for each
-//! point, after it the lines that the point makes certain, and after a line `finish` the remaining
-//! lines. [`follow_is_match`] says that without the `fix` and `finish` lines it is the match text, and
-//! [`written_lines_stay`] that a written line stays, whatever points follow.
+//! `follow_lines` in `specs/FollowText.antt` defines the follow text of a trace: a line `fix I` for each position,
+//! after it the lines that the position makes certain, and after a line `finish` the remaining lines.
+//! [`follow_is_match`] says that without the `fix` and `finish` lines it is the match text, and
+//! [`written_lines_stay`] that a written line stays, whatever positions follow.
 //!
-//! [`follow_trace`] appends the follow text of a trace on a [`Basis`]: it feeds one point after the other
-//! to a session, and writes what the session returns.
+//! [`follow_trace`] appends the follow text of a trace on a [`Basis`]: it feeds one position after the other to a
+//! session, and writes what the session returns.
 //!
 //! [`Sessions`] keeps the sessions of many traces at once, one for each id. `Keeps` in
 //! `specs/Sessions.antt` says which ids and positions they represent. What [`Sessions::feed`] and
 //! [`Sessions::close`] return depends only on the positions of their id.
 //!
-//! [`Sessions::stream`] takes the points of a fragment and appends their lines, and [`Sessions::close_all`]
-//! those of the end. If no id is full and all ids are below 2^32, the lines of an id are the follow text of
-//! its points alone: [`ids_are_followed_alone`] says so, and [`ids_have_follow_texts`] of the bytes.
+//! [`Sessions::stream`] takes the positions of a fragment and appends their lines, and [`Sessions::close_all`]
+//! those of the end. If no id is full and all ids are below 2^32, the lines of an id are the follow text of its
+//! positions alone: [`ids_are_followed_alone`] says so, and [`ids_have_follow_texts`] of the bytes.
 //! [`ids_are_answered_alone`] compares the calls of an id among others and alone, if all of them are `Ok`.
 //!
 //! Read first: `item_lines` in `specs/ItemText.antt`, then `follow_lines` and `FollowIsMatch`; and

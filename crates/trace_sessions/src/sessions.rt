@@ -2,7 +2,7 @@
 ghost use Rattle.std.specs.Prelude.{◌≡◌, ◌<◌, ◌⊎◌, List, [], None, nat_eq, length, slice_get, IfOk, IfErr, IfSome, OnErr};
 ghost use Rattle.std.specs.Map.{keys_of, lookup};
 ghost use Rattle.polyline_geometry.specs.Plane.{InRange};
-ghost use Rattle.bounded_search.specs.Rows.{AreRowsOf};
+ghost use Rattle.bounded_table.specs.Rows.{AreRowsOf};
 ghost use Rattle.cost_model.specs.Options.{IsAccepted};
 ghost use Rattle.road_network.specs.Net.{IsLawful};
 ghost use Rattle.trace_match.specs.Ground.{IsGridFor};
@@ -10,15 +10,15 @@ ghost use Rattle.trace_reader.specs.Trace.{point_of_fix};
 ghost use Rattle.online_commit.specs.Session.{AsksFed, AsksFinished, CanFeed, Session, points_of};
 ghost use Rattle.trace_sessions.specs.declared.sessions.SessionFault.TheVariants.{Memory, NotOpen};
 ghost use Rattle.trace_sessions.specs.Sessions.{AsksClosed, AsksFedTo, Closes, IsCloseFault, Keeps, Pair, RefusesFix, TakesFix, length_of};
-ghost use Rattle.trace_sessions.specs.SessionsInside.{FeedsAt, FinishesAt, session_at, session_in};
+ghost use Rattle.trace_sessions.specs.inside.SessionsInside.{FeedsAt, FinishesAt, session_at, session_in};
 
-use bounded_search::Rows;
+use bounded_table::Rows;
 use cost_model::Params;
 use grid_index::Grid;
 use indexmap::IndexMap;
 use matching::Layer;
 use online_commit::{Item, Online};
-use polyline_geometry::List;
+use plain_list::List;
 use road_network::Network;
 use std::alloc::{AllocError, Global};
 use std::marker::Model;
@@ -27,11 +27,11 @@ use trace_reader::Fix;
 
 mod streaming;
 
-/// Why a call of [`Sessions`] did not do all of its work. `feed` and `close` changed nothing then;
-/// `stream` may have taken some points.
+/// Why a call of [`Sessions`] did not do all of its work. `feed` and `close` changed nothing then; `stream` may
+/// have taken some positions.
 #[derive(Clone, Copy, Debug, PartialEq, Eq)]
 pub enum SessionFault {
-    /// The id already has 100,000 points.
+    /// The id already has 100,000 positions.
     TooLong(u32),
     /// The id has no session.
     NotOpen(u32),
@@ -72,7 +72,7 @@ impl<'n> Drop for Sessions<'n> {
 
 impl<'n> Model for Sessions<'n> {
     ghost use Rattle.trace_sessions.specs.Sessions.{SessionsState};
-    ghost use Rattle.trace_sessions.specs.SessionsInside.{shown_sessions, IsKept};
+    ghost use Rattle.trace_sessions.specs.inside.SessionsInside.{shown_sessions, IsKept};
 
     ghost Value = { SessionsState };
 
@@ -81,7 +81,7 @@ impl<'n> Model for Sessions<'n> {
     ghost invariant = { IsKept };
 }
 
-// Feeds the session of the id, or else this newly opened one, which is kept if it took the point.
+// Feeds the session of the id, or else this newly opened one, which is kept if it took the position.
 fn feed_session<'n, R: Rows>(
     sessions: &mut IndexMap<u32, Online<'n>>,
     id: u32,
@@ -180,7 +180,7 @@ impl<'n> Sessions<'n> {
         }
     }
 
-    /// The number of points of the id, or `None` if it has no session.
+    /// The number of positions of the id, or `None` if it has no session.
     pub fn length(&self, id: u32) -> Option<u32>
         ensures { (pairs : List Pair) → Keeps self.now pairs → result ≡ length_of pairs id }
     {
@@ -198,7 +198,7 @@ impl<'n> Sessions<'n> {
         self.net.invariants();
     }
 
-    // The number of points of the id, 0 if it has no session.
+    // The number of positions of the id, 0 if it has no session.
     fn points(&self, id: u32) -> u32
         ensures { result ≡ points_of (session_in self.now id) }
     {
@@ -208,11 +208,11 @@ impl<'n> Sessions<'n> {
         }
     }
 
-    /// Takes the next point of the id, whose session is opened by its first point, and returns the
-    /// items that it commits. `TooLong` means that the id already has 100,000 points; on a fault
-    /// the sessions are unchanged.
+    /// Takes the next position of the id, whose session is opened by its first position, and returns the items that
+    /// it commits. `TooLong` means that the id already has 100,000 positions; on a fault the sessions are
+    /// unchanged.
     ///
-    /// Rows become known as by [`Online::feed`] on the points of this id.
+    /// Rows become known as by [`Online::feed`] on the positions of this id.
     pub fn feed<R: Rows>(
         &mut self,
         id: u32,
@@ -238,7 +238,7 @@ impl<'n> Sessions<'n> {
     /// keep their order. `NotOpen` means that the id has no session; on a fault the sessions are
     /// unchanged. Takes time for each session after that of the id.
     ///
-    /// Rows become known as by [`Online::finish`] on the points of this id.
+    /// Rows become known as by [`Online::finish`] on the positions of this id.
     pub fn close<R: Rows>(&mut self, id: u32, rows: &mut R) -> Result<List<Item>, SessionFault>
         requires rows { AreRowsOf (R.state rows.old) self.old.network self.old.params.bound }
         ensures closed { IfOk result (Closes self.old id self.new) }

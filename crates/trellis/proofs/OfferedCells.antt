@@ -3,7 +3,7 @@ use Rattle.std.proofs.Common.{◌≡◌, ℕ, ◌+◌, ◌-◌, ◌^◌, ◌<◌
 use Rattle.std.proofs.lemmas.Bool.{cases_eq}
 use Rattle.std.specs.Prelude.{Result}
 use Rattle.std.proofs.Math.Seq.{take-append_seam}
-use Rattle.bounded_search.specs.Rows.{RowsState, AsksFor}
+use Rattle.bounded_table.specs.Rows.{RowsState, AsksFor}
 use Rattle.cost_model.specs.Costs.{emission}
 use Rattle.road_network.specs.declared.Candidate.{Candidate}
 use Rattle.road_network.specs.Net.{IsLawful, target}

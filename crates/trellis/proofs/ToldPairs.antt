@@ -4,13 +4,13 @@ use Rattle.std.specs.Prelude.{slice_get}
 use Rattle.std.proofs.lemmas.Bool.{cases_eq}
 use Rattle.std.proofs.lemmas.Option.{same_Some}
 use Rattle.std.specs.Option.{option_map}
-use Rattle.bounded_search.specs.declared.table_row.Entry.{Entry}
-use Rattle.bounded_search.specs.declared.table_row.Label.{Label}
-use Rattle.bounded_search.specs.Table.{BoundedTable, TableRow, IsNearRow, IsRow, entry_in, label_in, label_of}
-use Rattle.bounded_search.proofs.KnownNodes.{get_set, get_set_else}
-use Rattle.bounded_search.proofs.OneRow.{listed_too, one_row}
-use Rattle.bounded_search.proofs.RowValues.{row_of_is}
-use Rattle.bounded_search.specs.RowValue.{row_of}
+use Rattle.bounded_table.specs.declared.table_row.Entry.{Entry}
+use Rattle.bounded_table.specs.declared.table_row.Label.{Label}
+use Rattle.bounded_table.specs.Table.{BoundedTable, TableRow, IsNearRow, IsRow, entry_in, label_in, label_of}
+use Rattle.bounded_table.proofs.KnownNodes.{get_set, get_set_else}
+use Rattle.bounded_table.proofs.OneRow.{listed_too, one_row}
+use Rattle.bounded_table.proofs.RowValues.{row_of_is}
+use Rattle.bounded_table.specs.RowValue.{row_of}
 use Rattle.matching.specs.Routes.{Direct, HasNoRoute, IsRoute}
 use Rattle.road_network.specs.declared.Candidate.{Candidate}
 use Rattle.road_network.specs.Net.{HasEdge, HasNode, IsLawful, Net, source, target}
@@ -18,7 +18,7 @@ use Rattle.trellis.proofs.RouteOfRow.{IsOverWalk, no_route, told_entry, told_wal
 use Rattle.trellis.specs.declared.pairs.NearRow.{NearRow}
 use Rattle.trellis.specs.declared.pairs.Told.{Told}
 use Rattle.trellis.specs.Pairs.{IsTold, TellsPair, TellsReached, distance_in, pairs_of, reached_by}
-use Rattle.trellis.specs.PairsInside.{ArePlaces}
+use Rattle.trellis.specs.inside.PairsInside.{ArePlaces}
 
 pub places_more : (table : BoundedTable) (places : List (Option Told)) (i : ℕ) (told : Told) → ArePlaces table places → i < length places
     → TellsPair table told.origin told.node told.distance → ArePlaces table (set places i (Some told))

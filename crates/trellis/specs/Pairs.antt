@@ -2,8 +2,8 @@
 use Rattle.std.specs.Prelude.{ℕ, ◌≡◌, Option, Some, None}
 use Rattle.std.specs.Option.{option_map}
 use Rattle.road_network.specs.Net.{Net}
-use Rattle.bounded_search.specs.declared.table_row.Entry.{Entry}
-use Rattle.bounded_search.specs.Table.{BoundedTable, TableRow, IsRow, entry_in}
+use Rattle.bounded_table.specs.declared.table_row.Entry.{Entry}
+use Rattle.bounded_table.specs.Table.{BoundedTable, TableRow, IsRow, entry_in}
 use Rattle.trellis.specs.declared.pairs.NearRow.{NearRow}
 use Rattle.trellis.specs.declared.pairs.Reached.{Reached}
 use Rattle.trellis.specs.declared.pairs.Reached.TheVariants.{At, Nowhere, Further}

@@ -1,15 +1,16 @@
 //! A memory of lookups in rows, which saves repeated lookups of a pair of nodes. Serves `arrival_cost`;
 //! decided by `distance_in`.
 ghost use Rattle.std.specs.Prelude.{◌≡◌, IfSome};
-ghost use Rattle.bounded_search.specs.Table.{IsNearRow};
+ghost use Rattle.bounded_table.specs.Table.{IsNearRow};
 ghost use Rattle.trellis.specs.Pairs.{IsTold, TellsPair, TellsReached, distance_in, pairs_of, reached_by};
 
-use bounded_search::Row;
+use bounded_table::Row;
 use road_network::{Network, NodeId};
 use std::alloc::{AllocError, Global};
 use std::marker::Model;
 
-/// How many pairs are remembered. If several pairs share a place, the last one stays.
+/// How many pairs are remembered. If several pairs share a place, the last one stays. Speed only: any value is
+/// right.
 const PLACES: usize = 2_048;
 
 /// What the row of one node says of another: its distance, or that it is not listed.
@@ -71,8 +72,8 @@ impl<'n> Drop for PairMemory<'n> {
 }
 
 impl<'n> Model for PairMemory<'n> {
-    ghost use Rattle.bounded_search.specs.Table.{BoundedTable};
-    ghost use Rattle.trellis.specs.PairsInside.{shown_pairs, AreTold};
+    ghost use Rattle.bounded_table.specs.Table.{BoundedTable};
+    ghost use Rattle.trellis.specs.inside.PairsInside.{shown_pairs, AreTold};
 
     ghost Value = { BoundedTable };
 

@@ -17,7 +17,7 @@ use Rattle.matching.proofs.Matches.{match_missing, match_piece, match_same, solv
 use Rattle.trellis.specs.declared.parts.Solved.{Solved}
 use Rattle.trellis.specs.Offers.{AreCosts}
 use Rattle.matching.proofs.PieceSoFar.{IsGround, IsPieceSoFar, IsStepAt, so_far_count, so_far_small}
-use Rattle.viterbi.specs.Growing.{IsSolvedSoFar}
+use Rattle.viterbi.specs.inside.Growing.{IsSolvedSoFar}
 
 -- the layers from a point on are layers of a trace too
 pub matchable_from : (n : Net) (p : Params) (layers : List Layer) (first : ℕ) → IsMatchable n p layers → IsMatchable n p (drop first layers)

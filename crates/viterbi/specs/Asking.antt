@@ -1,5 +1,5 @@
--- The nodes that a piece and a trace ask for, by the layers alone: they do not depend on what a call
--- returns. In this file layers stand in the order of the points.
+-- The nodes that a piece and a trace ask for, by the layers alone: they do not depend on what a call returns. In
+-- this file layers are in the order of the positions.
 use Rattle.std.specs.Prelude.{ℕ, ◌+◌, ◌-◌, List, drop, take}
 use Rattle.cost_model.specs.declared.params.Params.{Params}
 use Rattle.road_network.specs.Net.{Net}
@@ -10,7 +10,7 @@ use Rattle.matching.specs.PieceSteps.{AsksPiece, AsksTrace}
 use Rattle.matching.specs.Sequences.{Trellis}
 use Rattle.matching.specs.Value.{best_of, piece_length, solution}
 
--- the piece that begins at point `first`
+-- the piece that begins at position `first`
 abbrev pub piece_from : {L : Type 0} → Trellis L → List L → ℕ → Piece
 piece_from t layers first =
     let rest = drop first layers in

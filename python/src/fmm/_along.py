@@ -2,7 +2,7 @@
 from __future__ import annotations
 
 from dataclasses import dataclass
-from typing import List, Optional, Sequence
+from typing import List, Optional
 
 import numpy as np
 
@@ -99,12 +99,12 @@ def _followed(text: MatchText, position: np.ndarray, pieces: np.ndarray, place: 
     for number in pieces.tolist():
         some = slice(begins[number], begins[number + 1])
         route = text.route[text.route_first[number]:text.route_first[number + 1]].tolist()
-        found = _follow(edge[some].tolist(), offset[some].tolist(), route, back)
+        found = _follow(edge[some], offset[some], route, back)
         if found is None:
             trace = text.traces[text.piece_trace[number]]
             where = f"the route of positions {text.first[number]} to {text.last[number]} of trace {trace}"
             raise MismatchError(f"{where} does not lead past their edges: the match of other files", text.name)
-        place[some] = text.route_first[number] + np.array(found)
+        place[some] = text.route_first[number] + found
     return place
 
 
@@ -122,33 +122,35 @@ def _by_rank(keys: np.ndarray, route_keys: np.ndarray) -> np.ndarray:
     return np.where(even, np.append(order, 0)[np.where(even, left + rank, 0)], -1)
 
 
-def _follow(edges: Sequence[int], offsets: Sequence[int], route: List[int], back: Optional[int]) -> Optional[List[int]]:
+def _follow(edge: np.ndarray, offset: np.ndarray, route: List[int], back: Optional[int]) -> Optional[np.ndarray]:
     """The place in the route of each position of a piece.
 
     If `back` is not known: all moves back on an edge are standing in most matches, and none is in a match without the option.
     """
     if back is not None:
-        return _follow_with(edges, offsets, route, back)
-    moves = sorted({before - after for edge, following, before, after in zip(edges, edges[1:], offsets, offsets[1:])
-                    if edge == following and before > after}, reverse=True)
+        return _follow_with(edge, offset, route, back)
+    moves = np.unique((offset[:-1] - offset[1:])[edge[:-1] == edge[1:]])[::-1].tolist()
+    moves = [move for move in moves if move > 0]
     for some in [*moves[:1], 0, *moves[1:]]:
-        found = _follow_with(edges, offsets, route, some)
+        found = _follow_with(edge, offset, route, some)
         if found is not None:
             return found
     return None
 
 
-def _follow_with(edges: Sequence[int], offsets: Sequence[int], route: List[int], back: int) -> Optional[List[int]]:
+def _follow_with(edge: np.ndarray, offset: np.ndarray, route: List[int], back: int) -> Optional[np.ndarray]:
     """The places if moves back of up to `back` are standing; None if they do not lead to the end of the route."""
+    begins = np.flatnonzero((edge[1:] != edge[:-1]) | (offset[:-1] > offset[1:] + back)) + 1
     at, found = 0, [0]
-    for edge, following, before, after in zip(edges, edges[1:], offsets, offsets[1:]):
-        if edge != following or before > after + back:
-            try:  # a shortest walk repeats no edge, so the next place of the edge is the one that the walk leads to
-                now = route.index(following, at + 1)
-            except ValueError:
-                return None
-            if edge in route[at + 1:now]:
-                return None
-            at = now
+    for following in edge[begins].tolist():
+        try:  # a shortest walk repeats no edge, so the next place of the edge is the one that the walk leads to
+            now = route.index(following, at + 1)
+        except ValueError:
+            return None
+        if route[at] in route[at + 1:now]:
+            return None
+        at = now
         found.append(at)
-    return found if at == len(route) - 1 else None
+    if at != len(route) - 1:
+        return None
+    return np.array(found).repeat(np.diff(begins, prepend=0, append=len(edge)))

@@ -15,7 +15,7 @@ from ._evidence import checksum_of, compare, part, read_side_file, write_side_fi
 from ._layer_files import read_layer, write_layer
 from ._libraries import explained
 from ._output import Outputs
-from ._tables import escaped, read_table, write_rows
+from ._tables import CONTROL, escaped, read_table, write_rows
 from .errors import InputError, OptionError, OutputError, PathText
 from .options import Options
 from .projection import DEGREES
@@ -78,7 +78,9 @@ def safe(frame: geopandas.GeoDataFrame) -> geopandas.GeoDataFrame:
 def texts(values: pd.Series) -> np.ndarray:
     """The values as texts without control characters, missing ones as None."""
     out = np.empty(len(values), object)
-    out[:] = [None if missing else escaped(str(value)) for value, missing in zip(values, pd.isna(values))]
+    out[:] = [None if missing else str(value) for value, missing in zip(values, pd.isna(values))]
+    if CONTROL.search("".join(filter(None, out))):
+        out[:] = [text and escaped(text) for text in out]
     return out
 
 

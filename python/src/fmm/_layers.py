@@ -270,7 +270,8 @@ class Nodes:
         """The node at each place, 0 for none. Looks only at places near a node's cell."""
         wide = 2 * self.join
         cells = np.array([(x // wide, y // wide) for nodes in self.cells.values() for x, y, _ in nodes], np.int64).reshape(-1, 2)
-        near = np.unique(keys(np.concatenate([cells + [i, j] for i in (-1, 0, 1) for j in (-1, 0, 1)])))
+        around = np.concatenate([cells + [i, j] for i in (-1, 0, 1) for j in (-1, 0, 1)])
+        near = np.unique(keys(around))
         found = np.zeros(len(places), np.int64)
         for at in np.flatnonzero(np.isin(keys(places // wide), near)).tolist():
             found[at] = self._find(int(places[at, 0]), int(places[at, 1]))

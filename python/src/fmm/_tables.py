@@ -30,6 +30,7 @@ PACKED = (
     (b"%PDF", "a PDF file, not a table of comma-separated values"),
 )
 CONTROL = re.compile(r"[\x00-\x1f\x7f-\x9f\u2028\u2029\ud800-\udfff]")
+HEADER = re.compile(r'((?:"(?:[^"]|"")*"|[^",]*)(?:,|$))+')  # a quote stands only around a name, or twice within such a name
 BATCH = 1 << 16
 NUMBER = re.compile(r"\s*[+-]?(\d+\.?\d*|\.\d+)([eE][+-]?\d+)?\s*", re.ASCII)
 
@@ -60,8 +61,8 @@ def read_table(path: PathText, *, required: Sequence[str] = (), unique: Sequence
     Each column is text (dtype object), as it stands in the file. `frame.attrs` has `path` and `lines`, the number of the
     line of each record. Blank lines are no records. Refused with InputError (path, line, column): records with another
     number of fields than the header, a quoted field that does not end in its line, a last line without LF, NUL, invalid
-    UTF-8, CR without LF, an empty or doubled name in the header, a missing column of `required`, and a value that comes
-    twice in a column of `unique`. A byte-order mark is dropped. Takes about a second for a million records of 5 fields.
+    UTF-8, CR without LF, an empty or doubled name in the header or a quote within one, a missing column of `required`, and a
+    value that comes twice in a column of `unique`. A byte-order mark is dropped. A million records of 5 fields take about 1 s.
     """
     name = name or ("standard input" if os.fspath(path) == "-" else os.fspath(path))
     text = decoded(read_bytes(path, name), name)
@@ -101,12 +102,12 @@ def decoded(data: bytes, name: str) -> str:
         if data.startswith(begin):
             raise InputError(f"is {what.format(name)}", name)
     if b"\0" in data:
-        raise InputError("is not text (NUL)", name, line_at(data, data.index(b"\0")))
+        raise InputError("is not text (NUL)", name, data.count(b"\n", 0, data.index(b"\0")) + 1)
     try:
         text = data.decode()
     except UnicodeDecodeError as fault:
         raise InputError(f"is not UTF-8 text; convert it first: iconv -f LATIN1 -t UTF-8 {name}", name,
-                         line_at(data, fault.start)) from None
+                         data.count(b"\n", 0, fault.start) + 1) from None
     if "\r" in text:
         text = text.replace("\r\n", "\n")
         if "\r" in text:
@@ -114,10 +115,6 @@ def decoded(data: bytes, name: str) -> str:
     if not text.endswith("\n"):
         raise InputError("the last line does not end with a line feed, so the file may be cut", name, text.count("\n") + 1)
     return text
-
-
-def line_at(data: bytes, place: int) -> int:
-    return data.count(b"\n", 0, place) + 1
 
 
 def split_records(lines: list[str], numbers: np.ndarray, name: str, quotes: bool) -> tuple[list[str], list[list[str]]]:
@@ -155,8 +152,8 @@ def quoted_records(lines: list[str], numbers: np.ndarray, name: str) -> Iterator
             yield row
     except csv.Error as fault:
         open_end = "unexpected end of data" in str(fault)
-        text = "a quoted field does not end in its line" if open_end else f"a stray quote: {fault}"
-        raise InputError(text, name, int(numbers[count - 1])) from None
+        raise InputError("a quoted field does not end in its line" if open_end else f"a stray quote: {fault}", name,
+                         int(numbers[count - 1])) from None
     finally:
         csv.field_size_limit(limit)
 
@@ -170,6 +167,8 @@ def check_header(header: list[str], text: str, name: str, line: int, required: S
     if len(header) == 1 and (";" in text or "\t" in text):
         raise InputError(f"the fields are separated by {'semicolons' if ';' in text else 'tabs'}, not by commas: {shown(text)}",
                          name, line)
+    if not HEADER.fullmatch(text):
+        raise InputError("a stray quote in the header", name, line)
     for place, column in enumerate(header, 1):
         if not column.strip():
             raise InputError(f"name {place} of the header is empty", name, line)

@@ -150,7 +150,8 @@ def extent_of(longitudes: Places, latitudes: Places) -> Extent:
     x, y = x[good], y[good]
     west, east = float(x.min()), float(x.max())
     if east - west > 180:
-        inner = np.sort(np.unique(np.concatenate([np.floor(x % 360), np.ceil(x % 360)])))  # whole degrees suffice for a gap
+        degrees = np.concatenate([np.floor(x % 360), np.ceil(x % 360)])  # whole degrees suffice for a gap
+        inner = np.unique(degrees)
         gaps = np.diff(np.append(inner, inner[0] + 360))
         begin = inner[(int(gaps.argmax()) + 1) % len(inner)]
         turned = (x - begin) % 360

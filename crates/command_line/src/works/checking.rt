@@ -1,7 +1,7 @@
 //! `check NET TRACES CERT`. Serves `read_work` and `program`; decided by `check_kind`.
 ghost use Rattle.std.specs.Prelude.{◌≡◌, IfOk};
 ghost use Rattle.std.specs.Result.{result_map_both};
-ghost use Rattle.command_line.specs.Given.{given_for};
+ghost use Rattle.command_line.specs.inside.Given.{given_for};
 ghost use Rattle.command_line.specs.Work.{AreNumbersWithin, plain_work};
 ghost use Rattle.command_line.specs.works.Check.{check_kind};
 

@@ -1,7 +1,7 @@
 //! `table NET`. Serves `read_work` and `program`; decided by `table_kind`.
 ghost use Rattle.std.specs.Prelude.{◌≡◌};
 ghost use Rattle.std.specs.Result.{result_map_both};
-ghost use Rattle.command_line.specs.Given.{given_for};
+ghost use Rattle.command_line.specs.inside.Given.{given_for};
 ghost use Rattle.command_line.specs.Work.{plain_work};
 ghost use Rattle.command_line.specs.works.Table.{table_kind};
 

@@ -2,7 +2,7 @@
 ghost use Rattle.std.specs.Prelude.{◌≡◌, IfOk};
 ghost use Rattle.std.specs.Result.{result_map_both};
 ghost use Rattle.cost_model.specs.Options.{IsWithin};
-ghost use Rattle.command_line.specs.Given.{given_for};
+ghost use Rattle.command_line.specs.inside.Given.{given_for};
 ghost use Rattle.command_line.specs.Work.{AreNumbersWithin, plain_work};
 ghost use Rattle.command_line.specs.Values.{name_of, range_of};
 ghost use Rattle.command_line.specs.works.Town.{argument_of, town_kind};

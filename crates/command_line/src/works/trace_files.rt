@@ -2,7 +2,7 @@
 //! by `trace_files_kind`.
 ghost use Rattle.std.specs.Prelude.{◌≡◌, IfOk, codes};
 ghost use Rattle.std.specs.Result.{result_map_both};
-ghost use Rattle.command_line.specs.Given.{given_for};
+ghost use Rattle.command_line.specs.inside.Given.{given_for};
 ghost use Rattle.command_line.specs.Work.{AreNumbersWithin, plain_work};
 ghost use Rattle.command_line.specs.works.TraceFiles.{file_names, follow_kind, prove_kind, streams_kind};
 

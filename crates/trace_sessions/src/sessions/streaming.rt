@@ -1,9 +1,9 @@
-//! A stream of points of many traces, whose lines are written as they become certain. Serves `streams`;
-//! decided by `stream_lines` and `closing_lines`.
+//! A stream of positions of many traces, whose lines are written as they become certain. Serves `streams`; decided
+//! by `stream_lines` and `closing_lines`.
 ghost use Rattle.std.specs.Prelude.{◌≡◌, ◌++◌, ◌∷◌, [], List as ListOf, OnOk, OnErr, length};
 ghost use Rattle.std.specs.List.{concat};
 ghost use Rattle.polyline_geometry.specs.Plane.{InRange};
-ghost use Rattle.bounded_search.specs.Rows.{AreRowsOf, AsksOnly};
+ghost use Rattle.bounded_table.specs.Rows.{AreRowsOf, AsksOnly};
 ghost use Rattle.online_commit.specs.Session.{AsksFinished};
 ghost use Rattle.trace_reader.specs.Trace.{IsLawfulTrace, point_of_fix};
 ghost use Rattle.trace_sessions.specs.Calls.{IsEmpty};
@@ -11,21 +11,21 @@ ghost use Rattle.trace_sessions.specs.ItemText.{AddsPrefix, AreItemsOf};
 ghost use Rattle.trace_sessions.specs.Sessions.{IsSessionOf, Keeps, Pair};
 ghost use Rattle.trace_sessions.specs.StreamText.{fragment_points, led_by};
 ghost use Rattle.trace_sessions.specs.Streaming.{AsksSome, AsksStream, CanEnd, CanStream, Ends, EndsOne, Streams};
-ghost use Rattle.trace_sessions.specs.StreamingInside.{heading, lines_of_items};
+ghost use Rattle.trace_sessions.specs.inside.StreamingInside.{heading, lines_of_items};
 
 use super::{SessionFault, Sessions};
 use crate::following::{count_pieces, write_rest, write_step};
 use crate::items::{Writer, write_lead};
-use bounded_search::Rows;
+use bounded_table::Rows;
 use indexmap::IndexMap;
 use match_text::write_trace;
 use online_commit::{Item, Online};
-use polyline_geometry::List;
+use plain_list::List;
 use std::alloc::AllocError;
 use trace_reader::{Fix, Trace};
 
 impl<'n> Sessions<'n> {
-    // Appends the lines of a point that follows this many others of its id.
+    // Appends the lines of a position that follows this many others of its id.
     fn write_point(
         &self,
         id: u32,
@@ -47,7 +47,7 @@ impl<'n> Sessions<'n> {
         write_step(&by, Some(id), point, items, into)
     }
 
-    // Takes the next point of the id and appends its lines.
+    // Takes the next position of the id and appends its lines.
     fn stream_point<R: Rows>(
         &mut self,
         id: u32,
@@ -70,10 +70,10 @@ impl<'n> Sessions<'n> {
         Ok(count_pieces(items.as_slice()))
     }
 
-    /// Takes the points of a fragment of a trace, each as by [`Sessions::feed`], appends their lines,
-    /// and returns how many pieces they closed. `TooLong` means that the id had 100,000 points before
-    /// one of them; the lines of the points before it are appended then. After `Memory`, the sessions have
-    /// some of the points, and the lines of these are appended, those of the last one maybe only in part.
+    /// Takes the positions of a fragment of a trace, each as by [`Sessions::feed`], appends their lines, and
+    /// returns how many pieces they closed. `TooLong` means that the id had 100,000 positions before one of them;
+    /// the lines of the positions before it are appended then. After `Memory`, the sessions have some of the
+    /// positions, and the lines of these are appended, those of the last one maybe only in part.
     pub fn stream<R: Rows>(
         &mut self,
         trace: &Trace,
@@ -129,7 +129,7 @@ impl<'n> Sessions<'n> {
     }
 }
 
-// Appends the line that begins the trace, before its first point.
+// Appends the line that begins the trace, before its first position.
 fn write_heading(id: u32, point: u32, into: &mut List<u8>) -> Result<(), AllocError>
     ensures ok { OnOk result (into.new ≡ into.old ++ concat (led_by id (heading id point))) }
     ensures err { OnErr result

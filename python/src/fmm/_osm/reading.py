@@ -10,7 +10,7 @@ import tempfile
 import xml.parsers.expat
 import zlib
 from array import array
-from contextlib import contextmanager
+from contextlib import contextmanager, suppress
 from dataclasses import dataclass, field
 from pathlib import Path
 from typing import IO, Any, Iterator, Union
@@ -237,6 +237,25 @@ def room_for(source: Source) -> str:
     return folder
 
 
+@contextmanager
+def file_of_places(source: Source) -> Iterator[str]:
+    """The path of a temporary file. libosmium leaves it open, so that its room would not come back before the process ends."""
+    with tempfile.TemporaryDirectory(prefix="fmm-", dir=room_for(source)) as folder:
+        path = os.path.join(folder, "nodes")
+        try:
+            yield path
+        finally:
+            close_file(path)
+
+
+def close_file(path: str) -> None:
+    """Closes all descriptors of a file in this process."""
+    for name in os.listdir("/dev/fd"):
+        with suppress(OSError):  # the folder was open itself
+            if os.path.samestat(os.fstat(int(name)), os.stat(path)):
+                os.close(int(name))
+
+
 def read_places(source: Source, wanted: np.ndarray) -> tuple[np.ndarray, np.ndarray, np.ndarray]:
     """Longitudes and latitudes of nodes by their ids (sorted, each once), and which of them the file has.
 
@@ -245,12 +264,11 @@ def read_places(source: Source, wanted: np.ndarray) -> tuple[np.ndarray, np.ndar
     """
     x, y = np.full(len(wanted), np.nan), np.full(len(wanted), np.nan)
     known = np.zeros(len(wanted), bool)
-    with tempfile.TemporaryDirectory(prefix="fmm-", dir=room_for(source)) as folder:
-        path = os.path.join(folder, "nodes")
+    with file_of_places(source) as path:
         try:
             index = osmium.index.create_map(f"sparse_file_array,{path}")
         except RuntimeError as fault:  # it begins with a file of 16 MB
-            raise OutputError(f"{folder}: {fault}; name another folder in TMPDIR") from None
+            raise OutputError(f"{os.path.dirname(path)}: {fault}; name another folder in TMPDIR") from None
         source.apply(osm_entity_bits.NODE, osmium.NodeLocationsForWays(index))
         count = index.used_memory() // NODE.itemsize
         for begin in range(0, count, CHUNK):

@@ -37,6 +37,12 @@ def add_broker(options: Parser, command: str) -> None:
     add("--tls", action="store_true", help="encrypt the connection to the broker")
 
 
+def check_broker(options: Parser, args: argparse.Namespace) -> None:
+    """Refuses a broker without a topic, and a topic without a broker."""
+    if (args.mqtt is None) != (args.topic is None):
+        options.error("--mqtt and --topic go together")
+
+
 def seconds(text: str) -> float:
     """A number of seconds, at least 0."""
     value = float(text) if text.replace(".", "", 1).isascii() and text.replace(".", "", 1).isdigit() else -1.0

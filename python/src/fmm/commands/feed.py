@@ -24,7 +24,7 @@ from ..feed.notices import Notices
 from ..feed.outlet import outlet_of
 from ..feed.reports import Reader
 from ..feed.state import State
-from ._feed_options import add_broker, add_reading, form_of, seconds, source_of, whole
+from ._feed_options import add_broker, add_reading, check_broker, form_of, seconds, source_of, whole
 from ._parser import Parser
 
 
@@ -35,7 +35,8 @@ def parser() -> Parser:
     add("--network", type=Path, metavar="NETWORK", help="the network: its side file has the projection")
     add("--state", type=Path, required=True, metavar="STATE", help="the state of this feed; it is made if it is not there")
     add("--into", type=Path, metavar="ROWS", help="the file that gets the rows; without it they go to standard output")
-    add("--ids", type=Path, metavar="IDS", help="write the table of numbers and ids to this file at the end")
+    add("--ids", type=Path, metavar="IDS", help="write the table of numbers and ids to this file at the end, and the "
+        "types of its columns beside it")
     add_reading(options)
     add("--gap", type=seconds, default=600.0, metavar="S", help="seconds without a position that end a drive (default: 600)")
     add("--most", type=whole(1, MOST_POSITIONS), default=MOST_POSITIONS, metavar="N",
@@ -50,8 +51,7 @@ def main(words: Sequence[str]) -> int:
     """Runs a feed until its input ends or a signal ends it."""
     options = parser()
     args = options.parse_args(words)
-    if (args.mqtt is None) != (args.topic is None):
-        options.error("--mqtt and --topic go together")
+    check_broker(options, args)
     if args.network is None and args.crs != "metres":
         options.error("--network is wanted, which has the projection; or --crs metres, for positions in metres of the network")
     try:
@@ -96,8 +96,11 @@ def _reading(args: argparse.Namespace) -> Reading:
 def _write_ids(path: Path, state: State) -> None:
     import pandas as pd
 
+    from .._column_types import write_column_types
     from .._output import Outputs
     from .._tables import write_table
-    frame = pd.DataFrame(state.drives(), columns=["trace", "id"])
+    frame = pd.DataFrame(state.drives(), columns=["trace", "id"]).astype({"trace": "int64"})
     with Outputs(inputs=[state.path]) as outputs:
         write_table(outputs, path, frame)
+        if path.suffix == ".csv":
+            write_column_types(outputs, path, frame)

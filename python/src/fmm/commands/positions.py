@@ -2,8 +2,9 @@
 
 TRACES.csv has the positions in whole centimetres of the network's projection, for `fmm match` and the other proved commands.
 TRACES.rows.csv has a record for each row of the input: its file and line, its id, and its trace and its number there, or the
-reason why it is not in the trace file. TRACES.json says what both were made of. The report on standard error says what was read,
-and whether positions and network lie at the same place; if they do not, it begins with the likely reason, and the status is 1.
+reason why it is not in the trace file; TRACES.rows.csvt has the types of its columns, so that GDAL and QGIS keep an id 007 as
+text. TRACES.json says what both were made of. The report on standard error says what was read, and whether positions and network
+lie at the same place; if they do not, it begins with the likely reason, and the status is 1.
 
 By default all positions are written. `--suggest` measures sampling, error and pauses, prints the suggested options for
 `fmm match`, and takes the suggested gap and thinning unless they are given.
@@ -20,6 +21,7 @@ from typing import Any, Dict, List, Sequence
 import numpy as np
 import pandas as pd
 
+from .._column_types import write_column_types
 from .._evidence import checksum_of, write_side_file
 from .._extents import Extents, compare_extents
 from .._output import Outputs
@@ -82,7 +84,9 @@ def written(outputs: Outputs, into: str, traces: Traces, positions: Positions, n
     with traces.path.open("rb") as file, outputs.open(into, binary=True) as out:
         for block in iter(lambda: file.read(1 << 20), b""):
             out.write(block)
-    write_table(outputs, f"{stem}.rows.csv", rows_of(traces, positions))
+    rows = rows_of(traces, positions)
+    write_table(outputs, f"{stem}.rows.csv", rows)
+    write_column_types(outputs, Path(f"{stem}.rows.csv"), rows)
     content: Dict[str, Any] = {
         "traces": {"sha256": checksum_of(traces.path), "traces": len(traces.drives), "positions": len(traces.row)},
         "network": {"sha256": network.checksum}, "projection": {"crs": network.projection.text},

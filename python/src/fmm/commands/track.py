@@ -23,7 +23,7 @@ from ..feed.intake import Reading, Rules
 from ..feed.notices import Notices
 from ..feed.reports import Reader
 from ..feed.state import State
-from ._feed_options import add_broker, add_reading, form_of, seconds, source_of, whole
+from ._feed_options import add_broker, add_reading, check_broker, form_of, seconds, source_of, whole
 from ._parser import Parser
 
 if TYPE_CHECKING:
@@ -63,8 +63,7 @@ def main(words: Sequence[str]) -> int:
     """Runs until the input ends or a signal ends the run."""
     options = parser()
     args = options.parse_args(words)
-    if (args.mqtt is None) != (args.topic is None):
-        options.error("--mqtt and --topic go together")
+    check_broker(options, args)
     if args.mqtt is not None and args.feed is not None:
         options.error("- and --mqtt exclude each other")
     if args.idle is not None and args.gap is not None:

@@ -73,15 +73,16 @@ class Filter {
   }
 }
 
-// One frame on a canvas. `view` has the pixel of a place, ax * x + bx and ay * y + by, and the box of pixels that is drawn.
+// One frame on a canvas. `view` has the pixel of a place, ax * x + bx and ay * y + by, the box of pixels that is drawn, the size of a
+// pixel of the screen, and whether the map is close enough to tell places on the road from positions.
 class Frame {
   constructor(context, view) {
     this.context = context;
     this.view = view;
     this.drawn = Object.fromEntries(KINDS.map((kind) => [kind, 0]));
     this.level = Math.floor(Math.log2(1 / Math.abs(view.ax)));  // squares of half a pixel to a pixel
-    this.wide = Math.ceil((view.right - view.left) / 2) + 2;
-    this.taken = new Uint8Array(this.wide * (Math.ceil((view.bottom - view.top) / 2) + 2));
+    this.squares = Math.ceil((view.right - view.left) / 2) + 2;  // in a row of two by two pixels
+    this.taken = new Uint8Array(this.squares * (Math.ceil((view.bottom - view.top) / 2) + 2));
     const xs = [(view.left - view.bx) / view.ax, (view.right - view.bx) / view.ax];
     const ys = [(view.top - view.by) / view.ay, (view.bottom - view.by) / view.ay];
     this.box = [Math.min(...xs), Math.min(...ys), Math.max(...xs), Math.max(...ys)];
@@ -89,12 +90,13 @@ class Frame {
 
   // Whether the square of two by two pixels is still free; it is taken then.
   free(px, py) {
-    const at = ((py - this.view.top) >> 1) * this.wide + ((px - this.view.left) >> 1);
+    const at = ((py - this.view.top) >> 1) * this.squares + ((px - this.view.left) >> 1);
     return this.taken[at] ? false : (this.taken[at] = 1, true);
   }
 
-  line(lines, i) {
-    const { context, view, level, box } = this, at = 4 * i;
+  // Adds a line to a path. Returns whether it is drawn.
+  line(path, lines, i) {
+    const { view, level, box } = this, at = 4 * i;
     if (lines.box[at] > box[2] || lines.box[at + 2] < box[0] || lines.box[at + 1] > box[3] || lines.box[at + 3] < box[1]) return false;
     const { xy } = lines, end = lines.first[i + 1];
     let p = lines.first[i];
@@ -102,35 +104,46 @@ class Frame {
     const x = xy[2 * p] * view.ax + view.bx, y = xy[2 * p + 1] * view.ay + view.by;
     const small = (lines.box[at + 2] - lines.box[at]) * view.ax < 1 && (lines.box[at + 3] - lines.box[at + 1]) * -view.ay < 1;
     if (small && x >= view.left && x < view.right && y >= view.top && y < view.bottom && !this.free(x, y)) return false;
-    context.moveTo(x, y);
+    path.moveTo(x, y);
     for (p++; p < end; p++) {
-      if (lines.level[p] > level) context.lineTo(xy[2 * p] * view.ax + view.bx, xy[2 * p + 1] * view.ay + view.by);
+      if (lines.level[p] > level) path.lineTo(xy[2 * p] * view.ax + view.bx, xy[2 * p + 1] * view.ay + view.by);
     }
     return true;
   }
 
   network(lines) {
-    const { context } = this;
+    const { context, view } = this;
     this.taken.fill(0);
     context.strokeStyle = "#b4bac1";
-    context.lineWidth = 1;
+    context.lineWidth = view.close ? 1 : view.pixel;
     context.beginPath();
-    for (let i = 0; i < lines.count; i++) this.drawn.network += this.line(lines, i);
+    for (let i = 0; i < lines.count; i++) this.drawn.network += this.line(context, lines, i);
     context.stroke();
   }
 
   routes(lines, filter, colours) {
-    const { context } = this, { order, begins } = colours.edges;
-    context.lineWidth = 3.5;
-    context.lineJoin = context.lineCap = "round";
+    const { order, begins } = colours.edges;
     this.taken.fill(0);
     for (let c = 0; c < colours.palette.length; c++) {
-      context.strokeStyle = colours.palette[c];
-      context.beginPath();
+      const path = new Path2D();
       for (let at = begins[c]; at < begins[c + 1]; at++) {
-        if (filter.edges[order[at]]) this.drawn.routes += this.line(lines, order[at]);
+        if (filter.edges[order[at]]) this.drawn.routes += this.line(path, lines, order[at]);
       }
-      context.stroke();
+      this.wide(path, colours.palette[c]);
+    }
+  }
+
+  // Strokes a path with a wide line. From afar a path has so many lines that its outline takes seconds to fill; three lines of one
+  // pixel beside each other, which have no outline, take a tenth of that.
+  wide(path, colour) {
+    const { context, view } = this, { pixel } = view;
+    context.strokeStyle = colour;
+    context.lineJoin = context.lineCap = view.close ? "round" : "butt";
+    context.lineWidth = view.close ? 3.5 : pixel;
+    for (const [dx, dy] of view.close ? [[0, 0]] : [[0, 0], [pixel, 0], [0, pixel]]) {
+      context.translate(dx, dy);
+      context.stroke(path);
+      context.translate(-dx, -dy);
     }
   }
 
@@ -163,17 +176,15 @@ class Frame {
     this.taken.fill(0);
     for (let c = 0; c < colours.palette.length; c++) {
       context.fillStyle = kind === "matched" ? "#ffffff" : colours.palette[c];
-      context.beginPath();
       for (let at = begins[c]; at < begins[c + 1]; at++) {
         const p = order[at];
         if (!filter.positions[p] || !wanted(p)) continue;
         const x = xy[2 * p] * view.ax + view.bx, y = xy[2 * p + 1] * view.ay + view.by;
         if (!this.inside(x, y) || !this.free(x, y)) continue;
-        context.rect(x - half, y - half, size, size);
+        context.fillRect(Math.round(x - half), Math.round(y - half), size, size);
+        if (kind === "matched") context.strokeRect(Math.round(x - half), Math.round(y - half), size, size);
         this.drawn[kind]++;
       }
-      context.fill();
-      if (kind === "matched") context.stroke();
     }
   }
 

@@ -2,6 +2,8 @@
 
 const QUICK = 12;  // milliseconds: frames as quick as this are drawn again while the map moves
 
+const CLOSE = 0.002;  // pixels in a centimetre: from here on a pixel is less than five metres
+
 const CanvasLayer = L.Renderer.extend({
   initialize(draw) {
     L.Renderer.prototype.initialize.call(this, { padding: 0.4 });
@@ -56,7 +58,8 @@ const CanvasLayer = L.Renderer.extend({
 function viewOf(map, box) {
   const { _a, _b, _c, _d } = map.options.crs.transformation, scale = map.options.crs.scale(map.getZoom()), origin = map.getPixelOrigin();
   return { ax: scale * _a / 100, bx: scale * _b - origin.x, ay: scale * _c / 100, by: scale * _d - origin.y,
-    left: box.min.x, top: box.min.y, right: box.max.x, bottom: box.max.y };
+    left: box.min.x, top: box.min.y, right: box.max.x, bottom: box.max.y, pixel: 1 / (window.devicePixelRatio || 1),
+    close: scale * _a / 100 > CLOSE };
 }
 
 const crs = about.mercator ? L.CRS.EPSG3857 : L.CRS.Simple;

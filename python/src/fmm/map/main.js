@@ -71,10 +71,9 @@ function draw(app, context, view) {
   const { data, filter, colours } = app, frame = new Frame(context, view), { shown } = filter;
   if (shown.network && app.network) frame.network(app.network);
   if (shown.routes) frame.routes(app.edges, filter, colours);
-  const close = view.ax > 0.002;  // a pixel is less than five metres: lines and places are apart from positions
-  if (shown.lines && close) frame.between(data, filter);
-  if (shown.matched && close) frame.dots("matched", data.onto, filter, colours, 4, (p) => data.flags[p] & MATCHED);
-  if (shown.positions) frame.dots("positions", data.xy, filter, colours, close ? 6 : 3, () => true);
+  if (shown.lines && view.close) frame.between(data, filter);
+  if (shown.matched && view.close) frame.dots("matched", data.onto, filter, colours, 4, (p) => data.flags[p] & MATCHED);
+  if (shown.positions) frame.dots("positions", data.xy, filter, colours, view.close ? 6 : 3, () => true);
   if (shown.doubtful) frame.doubtful(data, filter);
   app.drawn = frame.drawn;
   app.frames++;

@@ -1,11 +1,11 @@
 """The lines that `streams` writes for one drive, read into arrays.
 
 `read_match` reads each text by its whole grammar. The lines of one drive have a known form, so this reader needs a tenth of
-the time: it compares the words of all lines of a kind at once, and then looks at their numbers.
+the time: it compares the words of all lines at once, and then looks at their numbers.
 """
 from __future__ import annotations
 
-from typing import Dict, List, Tuple
+from typing import List, Tuple
 
 import numpy as np
 
@@ -13,8 +13,11 @@ from .._match_text import MatchText
 from .._ragged import offsets_of, spread
 from .program import Lost
 
-DIGITS, LETTERS = b"0123456789", b"abcdefghijklmnopqrstuvwxyz"
-TRACE, FIX, AT, NONE, PIECE = b"tfanp"  # the words after the id begin with other letters each
+DIGITS = b"0123456789"
+NO_LETTERS = bytes(byte if byte < 58 else 32 for byte in range(256))  # blanks in place of letters
+# The words of the lines of a drive without their numbers, and a letter for each kind.
+TRACE, FIX, AT, NONE = b" trace \n", b" fix \n", b" at  edge  offset  d \n", b" none \n"
+IS_FIX, IS_AT, IS_NONE = b"fan"
 Piece = Tuple[int, int, int, List[int]]  # the first position, the last, the cost, the route
 
 
@@ -23,33 +26,44 @@ def drive_text(got: bytes, drive: int, count: int) -> MatchText:
 
     Lost: they are not such lines.
     """
-    kinds: Dict[int, List[bytes]] = {TRACE: [], FIX: [], AT: [], NONE: [], PIECE: []}
-    opening = b"\n%d trace %d\n" % (drive, drive)
-    word = opening.index(b"t") - 1
-    try:
-        for line in got[(b"\n" + got).index(opening):-1].split(b"\n"):
-            kinds[line[word]].append(line)
-    except (KeyError, IndexError, ValueError):
-        raise lost() from None
-    own, place, edge, offset, _, d2 = numbers_of(kinds[AT], b" at  edge  offset  d ", 6)
-    without, taken = numbers_of(kinds[NONE], b" none ", 2), numbers_of(kinds[FIX], b" fix ", 2)
-    ids, places = np.concatenate([own, without[0], taken[0]]), np.concatenate([place, without[1]])
-    every = np.arange(count + 1)
-    good = len(kinds[TRACE]) == 1 and np.array_equal(taken[1], every) and np.array_equal(np.sort(places), every)
-    if not good or (ids != drive).any() or without[1][-1:] != count:
+    rest, pieces = without_pieces(lines_of(got, drive))
+    words = rest.translate(None, DIGITS)
+    kinds = words[len(TRACE):].replace(AT, b"a").replace(FIX, b"f").replace(NONE, b"n")
+    if not words.startswith(TRACE) or kinds.translate(None, b"afn"):
         raise lost()
-    labels = np.full((3, count), -1, np.int64)
-    labels[:, place] = edge, offset, d2
-    return text_of(labels, [piece_of(line, drive) for line in kinds[PIECE]])
+    kind = np.frombuffer(kinds, np.uint8)
+    size = np.where(kind == IS_AT, 6, 2)
+    begin = size.cumsum() + (2 - size)
+    numbers = np.fromstring(rest.translate(NO_LETTERS), np.int64, sep=" ")
+    every, place = np.arange(count + 1), numbers[begin + 1] if len(numbers) == 2 + size.sum() else begin
+    if not (numbers[begin] == drive).all() or not np.array_equal(place[kind == IS_FIX], every):
+        raise lost()
+    if not np.array_equal(np.sort(place[kind != IS_FIX]), every) or place[kind == IS_NONE][-1:] != count:
+        raise lost()
+    labels, ats = np.full((3, count), -1, np.int64), begin[kind == IS_AT]
+    labels[:, numbers[ats + 1]] = numbers[ats + 2], numbers[ats + 3], numbers[ats + 5]
+    return text_of(labels, [piece_of(line, drive) for line in pieces])
 
 
-def numbers_of(lines: List[bytes], form: bytes, count: int) -> np.ndarray:
-    """The numbers of lines that differ only in numbers, a column for each line. Lost: a line has other words than `form`."""
-    text = b"\n".join(lines)
-    numbers = np.fromstring(text.translate(None, LETTERS), np.int64, sep=" ")
-    if text.translate(None, DIGITS) != b"\n".join([form] * len(lines)) or len(numbers) != count * len(lines):
+def lines_of(got: bytes, drive: int) -> bytes:
+    """The lines from the first one of a drive on. Lost: there is none."""
+    begin = (b"\n" + got).find(b"\n%d trace %d\n" % (drive, drive))
+    if begin < 0:
         raise lost()
-    return numbers.reshape(-1, count).T
+    return got[begin:]
+
+
+def without_pieces(lines: bytes) -> Tuple[bytes, List[bytes]]:
+    """The lines that tell no piece, and those that do."""
+    rest, pieces, done = [], [], 0
+    found = lines.find(b" piece ")
+    while found >= 0:
+        begin, end = lines.rfind(b"\n", done, found) + 1, lines.find(b"\n", found) + 1
+        rest.append(lines[done:begin])
+        pieces.append(lines[begin:end])
+        done, found = end, lines.find(b" piece ", end)
+    rest.append(lines[done:])
+    return b"".join(rest), pieces
 
 
 def piece_of(line: bytes, drive: int) -> Piece:

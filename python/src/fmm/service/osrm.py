@@ -24,7 +24,9 @@ from .requests import MatchRequest, NearestRequest
 TIDY = 1000  # centimetres: with tidy=true a position is matched only if it moved so far
 PIXELS = 1000  # of the map for which a line is simplified
 PLACE = "[%.7f,%.7f]"
-POINT = ('{"location":' + PLACE + ',"name":%s,"distance":%.2f,"matchings_index":%d,"waypoint_index":%d,"edge":%d}')
+POINT = ('{"location":' + PLACE + ',"name":%s,"distance":%s,"matchings_index":%d,"waypoint_index":%d,"edge":%d}')
+# 0.00, 0.01, .. to 655.35: most lengths are among them, and a look into the table takes a fifth of the time of a format.
+HUNDREDTHS = np.array([f"{number // 100}.{number % 100:02d}" for number in range(1 << 16)], object)
 
 
 def match(matcher: Matcher, roads: Roads, request: MatchRequest, until: float) -> str:
@@ -78,18 +80,28 @@ def matchings(request: MatchRequest, drive: Drive, times: Optional[np.ndarray], 
 def legs(metres: np.ndarray, seconds: Optional[np.ndarray], annotations: tuple[str, ...]) -> str:
     """The ways from each matched position to the next."""
     duration = "null" if seconds is None else "%d.0"
-    columns, leg = [metres.tolist()], '{"distance":%.2f,"duration":' + duration + ',"summary":"","steps":[]'
+    distances: List[Any] = with_hundredths(metres)
+    columns, leg = [distances], '{"distance":%s,"duration":' + duration + ',"summary":"","steps":[]'
     if seconds is not None:
         columns.append(seconds.tolist())
     if annotations:
         speeds: List[Any] = ["null"] * len(metres)
         if seconds is not None:
-            speeds = [round(m / s, 2) if s else "null" for m, s in zip(columns[0], columns[1])]
-        values = {"distance": ("%.2f", columns[0]), "duration": (duration, columns[1:] and columns[1]), "speed": ("%s", speeds)}
+            speeds = [round(m / s, 2) if s else "null" for m, s in zip(metres.tolist(), columns[1])]
+        values = {"distance": ("%s", distances), "duration": (duration, columns[1:] and columns[1]), "speed": ("%s", speeds)}
         some = {name: values[name] for name in annotations}
         leg += ',"annotation":{' + ",".join(f'"{name}":[{form}]' for name, (form, _) in some.items()) + "}"
         columns += [column for form, column in some.values() if form != "null"]
     return ",".join([leg + "}"] * len(metres)) % tuple(chain.from_iterable(zip(*columns)))
+
+
+def with_hundredths(values: np.ndarray) -> List[str]:
+    """Numbers of at least 0 as `%.2f` writes them."""
+    hundredths = 100 * values
+    units = np.rint(hundredths)
+    if units.max(initial=0) < len(HUNDREDTHS) and (np.abs(hundredths - units) < 1e-6).all():
+        return HUNDREDTHS[units.astype(np.int64)].tolist()
+    return [f"{value:.2f}" for value in values.tolist()]
 
 
 def shown(line: Line, roads: Roads, request: MatchRequest) -> Line:
@@ -117,9 +129,9 @@ def tracepoints(roads: Roads, drive: Drive, snapped: np.ndarray, kept: np.ndarra
     found = np.zeros(count, bool)
     found[kept[along.position]] = True
     waypoint = np.arange(len(along.piece)) - along.first[along.piece]
-    columns = [*snapped.T, roads.json_names[drive.edge], np.round(drive.away, 2), along.piece, waypoint,
-               drive.text.edge[along.position]]
-    values = chain.from_iterable(zip(*(column.tolist() for column in columns)))
+    x, y, names = snapped[:, 0].tolist(), snapped[:, 1].tolist(), roads.json_names[drive.edge].tolist()
+    numbers = [column.tolist() for column in (along.piece, waypoint, drive.text.edge[along.position])]
+    values = chain.from_iterable(zip(x, y, names, with_hundredths(np.round(drive.away, 2)), *numbers))
     return ",".join([POINT if there else "null" for there in found.tolist()]) % tuple(values)
 
 

@@ -8,32 +8,19 @@ has the labels, pieces and routes of `match`.
 """
 from __future__ import annotations
 
-import os
-import select
-import signal
-import subprocess
-import time
 from pathlib import Path
 from typing import Sequence
 
 import numpy as np
 
 from ..errors import ProgramError
-from .memory import Memory
+from .kept import KeptProgram, Late, Lost
 
 HEADER = b"trace,x,y,time\n"
 CORNER = 1_000_000_000  # centimetres: the range of the proved programs
 DRIVES = 50_000  # of one process: less than the positions of an id, since the closing vehicle has one for each drive
-BLOCK = 1 << 16
 NO_ROWS = np.zeros((0, 3), np.int64)
-
-
-class Lost(Exception):
-    """The program ended, or its output is not that of a drive."""
-
-
-class Late(Exception):
-    """The program took too long."""
+__all__ = ["Late", "Lost", "Program", "far_place", "follow_text"]
 
 
 def far_place(xy: np.ndarray, radius: int) -> tuple[int, int]:
@@ -51,26 +38,22 @@ def far_place(xy: np.ndarray, radius: int) -> tuple[int, int]:
 
 
 class Program:
-    """One process. It is not shared between threads."""
+    """Matches one drive after another."""
 
     def __init__(self, path: Path, network: Path, words: Sequence[str], far: tuple[int, int]) -> None:
         self.far = far
         self.drives = 0
-        self.child = subprocess.Popen([str(path), "streams", *words, "--", os.fspath(network), "/dev/stdin"], bufsize=0,
-                                      stdin=subprocess.PIPE, stdout=subprocess.PIPE, stderr=subprocess.PIPE)
-        assert self.child.stdin and self.child.stdout
-        self.input, self.output = self.child.stdin.fileno(), self.child.stdout.fileno()
-        os.set_blocking(self.input, False)
-        os.set_blocking(self.output, False)
-        self._asked = HEADER
-        self.memory = Memory(self.child.pid)
+        self._kept = KeptProgram(path, network, words)
+        self._kept.give(HEADER)
+        self.memory, self.child = self._kept.memory, self._kept.child
 
     def ask(self, rows: np.ndarray) -> int:
         """Hands over a drive, int64[n, 3] of x, y and time; returns its id. `answer` has to be called before the next drive."""
         self.drives += 1
         name, far = self.drives, f"{self.far[0]},{self.far[1]},0\n"
-        text = f"{name},%d,%d,%d\n" * len(rows) % tuple(rows.ravel().tolist())
-        self._asked += f"{text}{name},{far}0,{far}".encode()
+        form, given = (f"{name},%d,%d,%d\n", rows) if rows[:, 2].any() else (f"{name},%d,%d,0\n", rows[:, :2])
+        text = form * len(rows) % tuple(given.ravel().tolist())
+        self._kept.give(f"{text}{name},{far}0,{far}".encode())
         self._rows = len(rows)
         return name
 
@@ -80,63 +63,15 @@ class Program:
         Late: the time has passed; the program is then of no use. Lost: the program has ended.
         """
         ending = f"\n{self.drives} none {self._rows}\n".encode()
-        got = bytearray()
-        asked, self._asked = memoryview(self._asked), b""
-        poll = select.poll()
-        poll.register(self.output, select.POLLIN)
-        if asked:
-            poll.register(self.input, select.POLLOUT)
-        while not got.endswith(ending):
-            left = until - time.monotonic()
-            if left <= 0:
-                raise Late
-            for file, _ in poll.poll(1000 * left):
-                if file == self.input:
-                    asked = self._write(asked)
-                    if not asked:
-                        poll.unregister(self.input)
-                else:
-                    got += self._read()
-        return bytes(got)
+        return self._kept.answer(lambda got: got.endswith(ending), until)
 
     def is_answered(self) -> bool:
         """Whether there is something to read, without waiting."""
-        self._asked = bytes(self._write(memoryview(self._asked))) if self._asked else b""
-        return bool(select.select([self.output], [], [], 0)[0])
-
-    def _write(self, data: memoryview) -> memoryview:
-        try:
-            return data[os.write(self.input, data):]
-        except BlockingIOError:
-            return data
-        except OSError:
-            raise Lost(self.message()) from None
-
-    def _read(self) -> bytes:
-        try:
-            block = os.read(self.output, BLOCK)
-        except BlockingIOError:
-            return b""
-        if not block:
-            raise Lost(self.message())
-        return block
-
-    def message(self) -> str:
-        """What the program that has ended said."""
-        try:
-            _, said = self.child.communicate(timeout=1)
-        except (subprocess.TimeoutExpired, ValueError, OSError):
-            said = b""
-        return said.decode(errors="replace").strip() or f"the program ended with status {self.child.poll()}"
+        return self._kept.is_answering()
 
     def close(self) -> None:
         """Ends the program. What it was asked is lost."""
-        for file in (self.child.stdin, self.child.stdout, self.child.stderr):
-            if file:
-                file.close()
-        if self.child.poll() is None:
-            self.child.send_signal(signal.SIGKILL)
-        self.child.wait()
+        self._kept.close()
 
 
 def follow_text(got: bytes, drive: int, count: int, name: int) -> bytes:

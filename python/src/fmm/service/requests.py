@@ -82,21 +82,23 @@ def places_of(text: str, most: int) -> np.ndarray:
     else:
         if text.count(";") >= most:
             raise too_many(most)
-        places = np.array(numbers_of(text), np.float64).reshape(-1, 2)
+        places = numbers_of(text).reshape(-1, 2)
     return checked(places, most)
 
 
-def numbers_of(text: str) -> List[float]:
-    """The numbers of pairs. A text without exponents is read by `float`, which is faster than the pattern."""
-    count = text.count(";")
+def numbers_of(text: str) -> np.ndarray:
+    """The numbers of pairs. A text without exponents is read at once, which is faster than the pattern."""
+    flat, count = text.replace(";", ","), text.count(";")
     if text.encode("ascii", "replace").translate(None, PLAIN) == b",;" * count + b",":
         try:
-            return list(map(float, text.replace(";", ",").split(",")))
-        except ValueError:
-            pass
+            numbers = np.fromstring(flat, np.float64, sep=",")
+        except (ValueError, DeprecationWarning):  # depends on the version of numpy and on the filter of warnings
+            numbers = np.zeros(0)
+        if len(numbers) == 2 * count + 2:
+            return numbers
     if not PAIRS.fullmatch(text):
         raise wrong_pair(text.split(";"))
-    return list(map(float, text.replace(";", ",").split(",")))
+    return np.array(list(map(float, flat.split(","))))
 
 
 def wrong_pair(pairs: List[str]) -> Refused:

@@ -2,14 +2,15 @@
 from __future__ import annotations
 
 import asyncio
+import signal
 import socket
 from dataclasses import asdict
-from typing import Any, Dict, Optional
+from typing import Any, Coroutine, Dict, List, Optional
 
 import numpy as np
 import uvicorn
 
-from ..commands import say
+from ..commands import SIGNALS, Stopped, say
 from ..errors import FmmError, MismatchError
 from ..network import Network
 from .app import Service
@@ -83,7 +84,7 @@ async def run(forks: Forks, listening: socket.socket, settings: Settings, facts:
     metrics = Metrics()
     pool = Pool(forks, settings.processes, settings.limits, metrics)
     try:
-        await pool.start()
+        await unless_stopped(pool.start())
         host, port = listening.getsockname()[:2]
         address = f"http://{f'[{host}]' if ':' in host else host}:{port}/"
         live = Live() if settings.live else None
@@ -98,6 +99,34 @@ async def run(forks: Forks, listening: socket.socket, settings: Settings, facts:
         await server.serve(sockets=[listening])
     finally:
         await pool.close()
+
+
+async def unless_stopped(work: Coroutine[Any, Any, None]) -> None:
+    """Does some work, until a signal comes. A handler that raises would not do: the loop logs what it raises, and goes on.
+    Stopped, KeyboardInterrupt: a signal came."""
+    loop, task = asyncio.get_running_loop(), asyncio.ensure_future(work)
+    came: List[int] = []
+
+    def stop(number: int) -> None:
+        came.append(number)
+        task.cancel()
+
+    kept = {number: signal.getsignal(number) for number in SIGNALS if signal.getsignal(number) != signal.SIG_IGN}
+    for number in kept:
+        loop.add_signal_handler(number, stop, number)
+    try:
+        await task
+    except asyncio.CancelledError:
+        if not came:
+            raise
+    finally:
+        for number, handler in kept.items():
+            loop.remove_signal_handler(number)
+            signal.signal(number, handler)
+    if came[:1] == [signal.SIGINT]:
+        raise KeyboardInterrupt
+    if came:
+        raise Stopped(came[0])
 
 
 def about(network: Network, settings: Settings) -> Dict[str, Any]:

@@ -11,10 +11,11 @@ from ..errors import ProgramError
 from ..feed.intake import Intake
 from ..feed.notices import Notices
 from ..feed.ordering import Position
+from ..service.kept import Lost
 from .drives import Drive, Drives, Found
 from .journal import Journal, Row
 from .roads import Streets
-from .streams import Ended, Streams
+from .streams import Streams
 
 AT_ONCE = 2000  # rows that are followed again at a time
 TRIES = 3  # programs that may end one after the other
@@ -84,7 +85,7 @@ class Fleet:
         for last_try in (False, True):
             try:
                 return self.drives.read(self.streams.finish())
-            except Ended as fault:
+            except Lost as fault:
                 self._lost(fault, last_try)
                 found = self.restore()
                 if found:  # they were not read before the program ended
@@ -96,7 +97,7 @@ class Fleet:
         for last_try in (*[False] * (TRIES - 1), True):
             try:
                 return self._restored()
-            except Ended as fault:
+            except Lost as fault:
                 self._lost(fault, last_try)
         raise AssertionError
 
@@ -151,7 +152,7 @@ class Fleet:
     def _follow(self, text: Sequence[str]) -> list[Found]:
         try:
             found = self.drives.read(self.streams.take(text, int(self.newest)))
-        except Ended as fault:
+        except Lost as fault:
             self._lost(fault, False)
             found = self.restore()
         for one in found:

@@ -3,7 +3,7 @@ use Rattle.std.specs.List.{insert}
 use Rattle.std.proofs.lemmas.Bool.{cases_lt, true≢false}
 use Rattle.std.proofs.lemmas.List.{get_or_default, length-set}
 use Rattle.std.proofs.lemmas.List.Edits.{get_or-insert_below}
-use Rattle.candidate_search.specs.Best.{ComesBefore}
+use Rattle.candidate_search.specs.inside.Best.{ComesBefore}
 use Rattle.candidate_search.proofs.Inserting.{insert_last, insert_lower, others_of}
 use Rattle.candidate_search.proofs.LastFound.{no_edge, place_last}
 use Rattle.candidate_search.proofs.best.move_last_up.Goals as goal

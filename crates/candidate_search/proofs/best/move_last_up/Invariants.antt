@@ -1,7 +1,7 @@
 use Rattle.std.proofs.Common.{ℕ, ◌≡◌, ◌<◌, ◌≤◌, get_or, length}
 use Rattle.std.specs.List.{insert}
 use Rattle.candidate_search.specs.declared.best.NearEdge.{NearEdge}
-use Rattle.candidate_search.specs.Best.{ComesBefore}
+use Rattle.candidate_search.specs.inside.Best.{ComesBefore}
 use Rattle.candidate_search.proofs.Inserting.{others_of}
 use Rattle.candidate_search.proofs.best.move_last_up.Given as goal
 

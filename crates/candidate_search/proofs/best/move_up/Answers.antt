@@ -2,7 +2,7 @@ use Rattle.std.proofs.Common.{◌≡◌, All, subst, sym}
 use Rattle.std.proofs.lemmas.List.Quantifiers.{all_pairs_remove}
 use Rattle.std.proofs.lemmas.Result.{on_ok_weaker}
 use Rattle.candidate_search.specs.declared.best.NearEdge.{NearEdge}
-use Rattle.candidate_search.specs.Best.{AreApart, IsApart, Puts}
+use Rattle.candidate_search.specs.inside.Best.{AreApart, IsApart, Puts}
 use Rattle.candidate_search.proofs.BestLists.{others_without}
 use Rattle.candidate_search.proofs.best.move_up.Goals as goal
 

@@ -1,7 +1,7 @@
 use Rattle.std.proofs.Common.{◌≡◌, ◌∙◌, ap, sym, subst, take}
 use Rattle.std.specs.List.{All, insert}
 use Rattle.candidate_search.specs.declared.best.NearEdge.{NearEdge}
-use Rattle.candidate_search.specs.Best.{AreApart, IsPlaceFor}
+use Rattle.candidate_search.specs.inside.Best.{AreApart, IsPlaceFor}
 use Rattle.candidate_search.proofs.Pairs.{apart_placed, others_placed}
 use Rattle.candidate_search.proofs.best.put_pair.Goals as goal
 

@@ -4,7 +4,7 @@ use Rattle.std.proofs.lemmas.Bool.{true≢false}
 use Rattle.std.proofs.lemmas.List.{get_or_default}
 use Rattle.std.proofs.lemmas.Result.{on_ok_weaker}
 use Rattle.candidate_search.specs.declared.best.NearEdge.{NearEdge}
-use Rattle.candidate_search.specs.Best.{AreApart, IsBehind, IsNoLater, IsPlaceOf, IsWanted}
+use Rattle.candidate_search.specs.inside.Best.{AreApart, IsBehind, IsNoLater, IsPlaceOf, IsWanted}
 use Rattle.candidate_search.proofs.BestLists.{is_left, is_whole, takes_put, takes_told}
 use Rattle.candidate_search.proofs.LastFound.{later_other, others_whole}
 use Rattle.candidate_search.proofs.Pairs.{wanted_unless}

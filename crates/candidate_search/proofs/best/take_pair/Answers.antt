@@ -1,6 +1,6 @@
 use Rattle.std.proofs.Common.{subst, ◌≤◌, List, length, sym}
 use Rattle.std.proofs.lemmas.Result.{on_ok_weaker}
-use Rattle.candidate_search.specs.Best.{IsNewPair, AreApart}
+use Rattle.candidate_search.specs.inside.Best.{IsNewPair, AreApart}
 use Rattle.candidate_search.proofs.Pairs.{takes_put_pair, takes_two}
 use Rattle.candidate_search.specs.declared.best.NearEdge.{NearEdge}
 use Rattle.candidate_search.proofs.best.take_pair.Goals as goal

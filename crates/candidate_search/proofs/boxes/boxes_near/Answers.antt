@@ -3,7 +3,7 @@ use Rattle.std.specs.List.{filter}
 use Rattle.std.proofs.lemmas.List.{take_all}
 use Rattle.std.proofs.lemmas.List.Elements.{filter_more}
 use Rattle.candidate_search.specs.declared.boxes.EdgeBox.{EdgeBox}
-use Rattle.candidate_search.specs.Boxes.{touches}
+use Rattle.candidate_search.specs.inside.Boxes.{touches}
 use Rattle.candidate_search.proofs.Shared.{no_box}
 use Rattle.candidate_search.proofs.boxes.boxes_near.Goals.{then-touches+in_ok-push, else-touches}
 use Rattle.candidate_search.proofs.boxes.boxes_near.Goals as goal

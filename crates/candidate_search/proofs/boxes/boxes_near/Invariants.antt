@@ -1,6 +1,6 @@
 use Rattle.std.proofs.Common.{◌≡◌, take}
 use Rattle.std.specs.List.{filter}
-use Rattle.candidate_search.specs.Boxes.{touches}
+use Rattle.candidate_search.specs.inside.Boxes.{touches}
 use Rattle.candidate_search.proofs.boxes.boxes_near.Given as goal
 
 abbrev pub invariant-loop-edge_box : goal.invariant-loop-edge_box

@@ -3,7 +3,7 @@ use Rattle.candidate_search.proofs.EdgeBoxes.{next_box}
 use Rattle.candidate_search.proofs.Shared.{boxes_rise}
 use Rattle.std.specs.List.{range_with_len}
 use Rattle.candidate_search.specs.declared.boxes.EdgeBox.{EdgeBox}
-use Rattle.candidate_search.specs.Boxes.{IsEdgeBox}
+use Rattle.candidate_search.specs.inside.Boxes.{IsEdgeBox}
 use Rattle.candidate_search.proofs.boxes.boxes_of.Goals as goal
 
 pub loop-number-preserved : goal.loop-number-preserved

@@ -1,6 +1,6 @@
 use Rattle.std.proofs.Common.{◌≡◌, All, map}
 use Rattle.std.specs.List.{range_with_len}
-use Rattle.candidate_search.specs.Boxes.{IsEdgeBox}
+use Rattle.candidate_search.specs.inside.Boxes.{IsEdgeBox}
 use Rattle.candidate_search.proofs.boxes.boxes_of.Given as goal
 
 abbrev pub invariant-loop-number : goal.invariant-loop-number

@@ -1,8 +1,8 @@
 use Rattle.std.proofs.Common.{sym, subst, take}
 use Rattle.std.proofs.lemmas.List.{map_more}
 use Rattle.candidate_search.specs.declared.placed.Placed.{Placed}
-use Rattle.candidate_search.specs.Boxes.{HoldsPoints}
-use Rattle.candidate_search.specs.Placed.{points_of}
+use Rattle.candidate_search.specs.inside.Boxes.{HoldsPoints}
+use Rattle.candidate_search.specs.inside.Placed.{points_of}
 use Rattle.candidate_search.proofs.EdgeBoxes.{holds_none, no_point, one_more_inside}
 use Rattle.candidate_search.proofs.boxes.extent_of.Goals as goal
 

@@ -1,6 +1,6 @@
 use Rattle.std.specs.Prelude.{◌&&◌}
 use Rattle.std.proofs.Common.{rules, sym, ap, ◌∙◌, to_z, of_z, w32}
-use Rattle.candidate_search.specs.Boxes.{overlap}
+use Rattle.candidate_search.specs.inside.Boxes.{overlap}
 use Rattle.candidate_search.proofs.EdgeBoxes.{same_overlap}
 use Rattle.candidate_search.proofs.boxes.touches.Goals as goal
 

@@ -2,8 +2,8 @@ use Rattle.std.proofs.lemmas.Result.{err_from_is_err_and, on_ok_weaker}
 use Rattle.std.proofs.Common.{IfSome, List, All, ap, arith, length, sym, subst}
 use Rattle.road_network.specs.Near.{candidates}
 use Rattle.candidate_search.specs.declared.boxes.EdgeBox.{EdgeBox}
-use Rattle.candidate_search.specs.Boxes.{AreBoxesFor}
-use Rattle.candidate_search.specs.Placed.{AreHalves, AreWritten, IsAsked, IsPlaced}
+use Rattle.candidate_search.specs.inside.Boxes.{AreBoxesFor}
+use Rattle.candidate_search.specs.inside.Placed.{AreHalves, AreWritten, IsAsked, IsPlaced}
 use Rattle.candidate_search.proofs.Parts.{All-parts, shorter}
 use Rattle.candidate_search.proofs.Shared.{for_part}
 use Rattle.candidate_search.proofs.Written.{Lists, both_written}

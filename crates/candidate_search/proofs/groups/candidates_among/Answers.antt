@@ -3,7 +3,7 @@ use Rattle.std.proofs.lemmas.List.{get_or_default, take_all}
 use Rattle.candidate_search.specs.declared.boxes.EdgeBox.{EdgeBox}
 use Rattle.candidate_search.proofs.Shared.{found_below, no_box, taken_box, all_taken, of_box}
 use Rattle.polyline_geometry.specs.declared.plane.Point.{Point}
-use Rattle.candidate_search.specs.Nearest.{nearest}
+use Rattle.candidate_search.specs.inside.Nearest.{nearest}
 use Rattle.candidate_search.proofs.Taken.{none_found, taken_none}
 use Rattle.candidate_search.proofs.groups.candidates_among.Goals as goal
 

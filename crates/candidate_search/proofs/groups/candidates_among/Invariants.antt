@@ -1,6 +1,6 @@
 use Rattle.std.proofs.Common.{◌≡◌, ℕ, ◌<◌, ◌≤◌, get_or, length, map, take}
 use Rattle.candidate_search.specs.declared.boxes.EdgeBox.{EdgeBox}
-use Rattle.candidate_search.specs.Nearest.{IsFound, nearest}
+use Rattle.candidate_search.specs.inside.Nearest.{IsFound, nearest}
 use Rattle.candidate_search.proofs.Shared.{of_box}
 use Rattle.candidate_search.proofs.groups.candidates_among.Given as goal
 

@@ -5,7 +5,7 @@ use Rattle.std.proofs.lemmas.List.Elements.{All-take}
 use Rattle.road_network.specs.declared.Candidate.{Candidate}
 use Rattle.road_network.specs.Near.{candidates}
 use Rattle.candidate_search.specs.declared.placed.Placed.{Placed}
-use Rattle.candidate_search.specs.Placed.{AreWritten, IsPlaced}
+use Rattle.candidate_search.specs.inside.Placed.{AreWritten, IsPlaced}
 use Rattle.candidate_search.proofs.EdgeBoxes.{no_point}
 use Rattle.candidate_search.proofs.Written.{Lists, one_written}
 use Rattle.candidate_search.proofs.groups.list_each.Goals as goal

@@ -1,7 +1,7 @@
 use Rattle.std.proofs.Common.{All, List, take}
 use Rattle.polyline_geometry.specs.declared.plane.Point.{Point}
 use Rattle.road_network.specs.Near.{candidates}
-use Rattle.candidate_search.specs.Placed.{AreWritten, IsPlaced}
+use Rattle.candidate_search.specs.inside.Placed.{AreWritten, IsPlaced}
 use Rattle.candidate_search.proofs.groups.list_each.Given as goal
 
 abbrev pub invariant-loop-index : goal.invariant-loop-index

@@ -3,7 +3,7 @@ use Rattle.std.specs.Prelude.{MatchOption}
 use Rattle.polyline_geometry.specs.Nearest.{AreFar, IsNearest}
 use Rattle.road_network.specs.declared.Candidate.{Candidate}
 use Rattle.road_network.specs.Net.{edge_line}
-use Rattle.candidate_search.specs.Nearest.{AllAreFar}
+use Rattle.candidate_search.specs.inside.Nearest.{AllAreFar}
 use Rattle.candidate_search.proofs.Found.{nearest_taken}
 use Rattle.candidate_search.proofs.nearest.consider.Goals as goal
 

@@ -1,6 +1,6 @@
 use Rattle.std.proofs.Common.{◌≡◌, ◌∙◌, ap, take, sym, refl, subst}
 use Rattle.std.specs.List.{insert}
-use Rattle.candidate_search.specs.Nearest.{IsPlace}
+use Rattle.candidate_search.specs.inside.Nearest.{IsPlace}
 use Rattle.candidate_search.proofs.Found.{found_insert, placed_insert}
 use Rattle.candidate_search.proofs.nearest.insert.Goals as goal
 

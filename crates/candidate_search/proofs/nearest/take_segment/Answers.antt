@@ -10,7 +10,7 @@ use Rattle.polyline_geometry.proofs.OffsetLists.{get_or-line_offsets, length-lin
 use Rattle.road_network.specs.Net.{edge_line}
 use Rattle.road_network.specs.Near.{candidate, candidate_at}
 use Rattle.road_network.specs.declared.Candidate.{Candidate}
-use Rattle.candidate_search.specs.Nearest.{IsNearestOf, with_one}
+use Rattle.candidate_search.specs.inside.Nearest.{IsNearestOf, with_one}
 use Rattle.candidate_search.proofs.Found.{far_same, near_one}
 use Rattle.candidate_search.proofs.Shared.{found_below}
 use Rattle.candidate_search.proofs.nearest.take_segment.Goals as goal

@@ -2,7 +2,7 @@ use Rattle.std.proofs.Common.{get_or, sym, subst, take, rules}
 use Rattle.std.specs.List.Sorted.{IsPermutation}
 use Rattle.std.proofs.lemmas.List.{take_more, take_all}
 use Rattle.candidate_search.specs.declared.placed.Placed.{Placed}
-use Rattle.candidate_search.specs.Placed.{both}
+use Rattle.candidate_search.specs.inside.Placed.{both}
 use Rattle.candidate_search.proofs.EdgeBoxes.{no_point}
 use Rattle.candidate_search.proofs.Parts.{one_more}
 use Rattle.candidate_search.proofs.placed.cut_in_two.Goals as goal

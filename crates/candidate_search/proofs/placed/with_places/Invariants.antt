@@ -1,6 +1,6 @@
 use Rattle.std.proofs.Common.{◌≡◌, ◌<◌, ℕ, All, length, slice_index_or}
 use Rattle.candidate_search.specs.declared.placed.Placed.{Placed}
-use Rattle.candidate_search.specs.Placed.{IsPlaced}
+use Rattle.candidate_search.specs.inside.Placed.{IsPlaced}
 use Rattle.candidate_search.proofs.placed.with_places.Given as goal
 
 abbrev pub invariant-loop-place : goal.invariant-loop-place

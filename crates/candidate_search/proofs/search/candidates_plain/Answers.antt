@@ -3,7 +3,7 @@ use Rattle.std.proofs.Common.{◌≡◌, ◌∙◌, ap, arith, length, map}
 use Rattle.std.specs.List.{range_with_len}
 use Rattle.polyline_geometry.specs.declared.plane.Point.{Point}
 use Rattle.road_network.specs.Near.{candidate_at}
-use Rattle.candidate_search.specs.Nearest.{nearest}
+use Rattle.candidate_search.specs.inside.Nearest.{nearest}
 use Rattle.candidate_search.proofs.search.candidates_plain.Goals as goal
 
 pub loop-number-preserved : goal.loop-number-preserved

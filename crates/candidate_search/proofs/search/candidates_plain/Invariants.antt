@@ -1,7 +1,7 @@
 use Rattle.std.proofs.Common.{◌≡◌, map}
 use Rattle.std.specs.List.{range_with_len}
 use Rattle.road_network.specs.Near.{candidate_at}
-use Rattle.candidate_search.specs.Nearest.{IsFound, nearest}
+use Rattle.candidate_search.specs.inside.Nearest.{IsFound, nearest}
 use Rattle.candidate_search.proofs.search.candidates_plain.Given as goal
 
 abbrev pub invariant-loop-number : goal.invariant-loop-number

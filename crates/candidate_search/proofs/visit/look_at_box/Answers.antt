@@ -1,7 +1,7 @@
 use Rattle.std.proofs.Common.{◌≤◌, List, length, subst, sym}
 use Rattle.candidate_search.proofs.Visiting.{stays, far_box}
 use Rattle.candidate_search.specs.declared.best.NearEdge.{NearEdge}
-use Rattle.candidate_search.specs.Best.{AreApart, IsLimit}
+use Rattle.candidate_search.specs.inside.Best.{AreApart, IsLimit}
 use Rattle.candidate_search.proofs.visit.look_at_box.Goals as goal
 
 pub limit_for-limit-requires-clause-apart : goal.limit_for-limit-requires-clause-apart

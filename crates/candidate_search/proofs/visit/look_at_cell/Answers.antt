@@ -5,7 +5,7 @@ use Rattle.road_network.specs.Net.{Net}
 use Rattle.grid_index.specs.Runs.{IsRun}
 use Rattle.std.proofs.lemmas.List.{get_or_default}
 use Rattle.grid_index.specs.declared.runs.Run.{Run}
-use Rattle.candidate_search.specs.Best.{AreApart, HasSeen, IsLimit, Steps}
+use Rattle.candidate_search.specs.inside.Best.{AreApart, HasSeen, IsLimit, Steps}
 use Rattle.candidate_search.proofs.Visiting.{far_cell, goes_on, nothing, seen_cell, seen_one_more, stays}
 use Rattle.candidate_search.specs.declared.best.NearEdge.{NearEdge}
 use Rattle.candidate_search.proofs.visit.look_at_cell.Goals as goal

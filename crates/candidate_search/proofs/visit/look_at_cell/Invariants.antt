@@ -1,4 +1,4 @@
-use Rattle.candidate_search.specs.Best.{Steps}
+use Rattle.candidate_search.specs.inside.Best.{Steps}
 use Rattle.candidate_search.proofs.Visiting.{HasSeenUpTo}
 use Rattle.candidate_search.proofs.visit.look_at_cell.Given as goal
 

@@ -1,4 +1,4 @@
-use Rattle.candidate_search.specs.Best.{HasSeenRow, Steps}
+use Rattle.candidate_search.specs.inside.Best.{HasSeenRow, Steps}
 use Rattle.candidate_search.proofs.visit.look_at_columns.Given as goal
 
 abbrev pub invariant-loop-column : goal.invariant-loop-column

@@ -1,4 +1,4 @@
-use Rattle.candidate_search.specs.Best.{HasSeenRows, Steps}
+use Rattle.candidate_search.specs.inside.Best.{HasSeenRows, Steps}
 use Rattle.candidate_search.proofs.visit.look_at_rows.Given as goal
 
 abbrev pub invariant-loop-row : goal.invariant-loop-row

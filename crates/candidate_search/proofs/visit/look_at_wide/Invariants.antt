@@ -1,4 +1,4 @@
-use Rattle.candidate_search.specs.Best.{Steps}
+use Rattle.candidate_search.specs.inside.Best.{Steps}
 use Rattle.candidate_search.proofs.Visiting.{HasSeenFirst}
 use Rattle.candidate_search.proofs.visit.look_at_wide.Given as goal
 

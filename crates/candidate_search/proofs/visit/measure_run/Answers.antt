@@ -4,7 +4,7 @@ use Rattle.candidate_search.proofs.Visiting.{stays, pair_steps, seen_far, taken_
 use Rattle.std.proofs.lemmas.Result.{on_ok_weaker}
 use Rattle.polyline_geometry.specs.Nearest.{AreFar, AreNearest}
 use Rattle.candidate_search.specs.declared.best.NearEdge.{NearEdge}
-use Rattle.candidate_search.specs.Best.{AreNearestIn}
+use Rattle.candidate_search.specs.inside.Best.{AreNearestIn}
 use Rattle.candidate_search.proofs.Twins.{no_twin, own_near, seen_both, taken_own, taken_twin, twin_near}
 use Rattle.candidate_search.proofs.visit.measure_run.Goals as goal
 

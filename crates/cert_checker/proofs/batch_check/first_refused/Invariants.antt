@@ -1,6 +1,6 @@
 use Rattle.std.proofs.Common.{◌≡◌, IfOk, List, drop}
 use Rattle.std.specs.List.{AllZip}
-use Rattle.cert_checker.specs.Batches.{first_refused}
+use Rattle.cert_checker.specs.inside.Batches.{first_refused}
 use Rattle.cert_checker.specs.declared.verdict.Verdict.{Verdict}
 use Rattle.cert_checker.proofs.batch_check.first_refused.Given as goal
 

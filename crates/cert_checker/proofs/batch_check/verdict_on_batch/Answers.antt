@@ -8,7 +8,7 @@ use Rattle.std.proofs.lemmas.List.{get_or_default, length-map}
 use Rattle.polyline_geometry.specs.Plane.{InRange}
 use Rattle.matching.specs.declared.parts.Layer.{Layer}
 use Rattle.trace_match.specs.Match.{layer_of, layers_of}
-use Rattle.cert_checker.specs.CaseSeen.{IsCheckable}
+use Rattle.cert_checker.specs.inside.CaseSeen.{IsCheckable}
 use Rattle.cert_checker.specs.Verdicts.{case_of, trace_verdict}
 use Rattle.cert_checker.specs.Whole.{verdict_from}
 use Rattle.cert_checker.proofs.BatchLists.{batch_part, fixes_few, fixes_in_range}

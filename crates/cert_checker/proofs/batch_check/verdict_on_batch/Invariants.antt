@@ -1,6 +1,6 @@
 use Rattle.std.proofs.Common.{◌≡◌, ◌+◌, drop, length, take}
 use Rattle.std.specs.List.{flat_map}
-use Rattle.cert_checker.specs.Batches.{batch_verdict}
+use Rattle.cert_checker.specs.inside.Batches.{batch_verdict}
 use Rattle.cert_checker.specs.Whole.{verdict_from}
 use Rattle.cert_checker.proofs.batch_check.verdict_on_batch.Given as goal
 

@@ -2,7 +2,7 @@ use Rattle.std.proofs.Common.{◌≡◌, IfOk, ap, ◌∙◌}
 use Rattle.rayon.specs.Lists.{min_len_base}
 use Rattle.rayon.proofs.ListFacts.{IfOk-then}
 use Rattle.rayon.proofs.ToStd.{slice-AllZip}
-use Rattle.cert_checker.specs.Batches.{batch_verdict}
+use Rattle.cert_checker.specs.inside.Batches.{batch_verdict}
 use Rattle.cert_checker.proofs.batch_check.verdicts.Goals as goal
 
 pub returns : goal.returns

@@ -1,7 +1,7 @@
 use Rattle.std.proofs.Common.{◌≤◌, refl, sym, ap, subst, ◌∙◌, arith}
 use Rattle.std.specs.List.{flat_map}
 use Rattle.cert_checker.specs.declared.batch.Batch.{Batch}
-use Rattle.cert_checker.specs.Batches.{FollowFrom}
+use Rattle.cert_checker.specs.inside.Batches.{FollowFrom}
 use Rattle.cert_checker.proofs.BatchLists.{follow_more, part_length, parts_more}
 use Rattle.cert_checker.proofs.batches.batches.Goals as goal
 

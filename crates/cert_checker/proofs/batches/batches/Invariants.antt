@@ -1,6 +1,6 @@
 use Rattle.std.proofs.Common.{◌≡◌, ◌-◌, ◌≤◌, length, take}
 use Rattle.std.specs.List.{flat_map}
-use Rattle.cert_checker.specs.Batches.{FollowFrom}
+use Rattle.cert_checker.specs.inside.Batches.{FollowFrom}
 use Rattle.cert_checker.proofs.batches.batches.Given as goal
 
 abbrev pub invariant-loop-first : goal.invariant-loop-first

@@ -1,8 +1,8 @@
 use Rattle.std.proofs.Common.{◌∷◌, [], None, Some, sym, ◌∙◌, refl}
 use Rattle.match_text.specs.declared.matched.Routed.{Routed}
 use Rattle.cert_checker.specs.declared.verdict.Condition.TheVariants.{Chosen, Route}
-use Rattle.cert_checker.specs.CaseSeen.{case_seen}
-use Rattle.cert_checker.specs.InHand.{IsEnding}
+use Rattle.cert_checker.specs.inside.CaseSeen.{case_seen}
+use Rattle.cert_checker.specs.inside.InHand.{IsEnding}
 use Rattle.cert_checker.specs.Verdicts.{has_route, holds, is_chosen}
 use Rattle.cert_checker.proofs.FailingFirst.{fails_here, fails_later}
 use Rattle.cert_checker.proofs.PieceRuns.{ending_routable}

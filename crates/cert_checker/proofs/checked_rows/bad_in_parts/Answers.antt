@@ -1,7 +1,7 @@
 use Rattle.std.proofs.Common.{◌≡◌, IfOk, ap, ◌∙◌}
 use Rattle.rayon.specs.Lists.{min_len_base}
 use Rattle.rayon.proofs.ToStd.{slice-AllZip}
-use Rattle.cert_checker.specs.RowParts.{bad_in_part}
+use Rattle.cert_checker.specs.inside.RowParts.{bad_in_part}
 use Rattle.cert_checker.proofs.RowParts.{gathered}
 use Rattle.cert_checker.proofs.checked_rows.bad_in_parts.Goals as goal
 

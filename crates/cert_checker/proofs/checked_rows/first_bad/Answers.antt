@@ -1,5 +1,5 @@
 use Rattle.std.proofs.Common.{◌≡◌, ◌+◌, ℕ, true, false, drop, get_or, arith, sym, ap, ◌∙◌}
-use Rattle.bounded_search.specs.Table.{BoundedTable, TableRow}
+use Rattle.bounded_table.specs.Table.{BoundedTable, TableRow}
 use Rattle.std.proofs.lemmas.List.{get_or_default}
 use Rattle.cert_checker.specs.Rows.{bad_row_from, is_next_row}
 use Rattle.cert_checker.proofs.RightRows.{all_rows, bad_row, good_row}

@@ -1,5 +1,5 @@
 use Rattle.std.proofs.Common.{◌≡◌, ◌+◌, drop}
-use Rattle.cert_checker.specs.RowParts.{bad_in_part}
+use Rattle.cert_checker.specs.inside.RowParts.{bad_in_part}
 use Rattle.cert_checker.specs.Rows.{bad_row_from}
 use Rattle.cert_checker.proofs.checked_rows.first_bad.Given as goal
 

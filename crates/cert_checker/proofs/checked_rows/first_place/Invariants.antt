@@ -1,5 +1,5 @@
 use Rattle.std.proofs.Common.{◌≡◌, drop}
-use Rattle.cert_checker.specs.RowParts.{first_place}
+use Rattle.cert_checker.specs.inside.RowParts.{first_place}
 use Rattle.cert_checker.proofs.checked_rows.first_place.Given as goal
 
 abbrev pub invariant-loop-number : goal.invariant-loop-number

@@ -1,8 +1,8 @@
 use Rattle.std.proofs.Common.{◌↔◌, ℕ, arith, subst}
 use Rattle.std.specs.Prelude.{IsTrue}
 use Rattle.road_network.specs.Net.{Net}
-use Rattle.bounded_search.specs.Table.{IsRow}
-use Rattle.bounded_search.proofs.RightRows.{tried_is}
+use Rattle.bounded_table.specs.Table.{IsRow}
+use Rattle.bounded_table.proofs.RightRows.{tried_is}
 use Rattle.cert_checker.proofs.checked_rows.is_right.Goals as goal
 
 pub returns-then-origin-node_count-clause-right : goal.returns-then-origin-node_count-clause-right

@@ -1,5 +1,5 @@
 use Rattle.std.proofs.Common.{◌≡◌, ◌-◌, true}
-use Rattle.cert_checker.specs.CaseSeen.{case_seen}
+use Rattle.cert_checker.specs.inside.CaseSeen.{case_seen}
 use Rattle.cert_checker.specs.Verdicts.{each_below}
 use Rattle.cert_checker.proofs.PointersBack.{is_pointed_in}
 use Rattle.cert_checker.proofs.chosen.follows_pointers.Given as goal

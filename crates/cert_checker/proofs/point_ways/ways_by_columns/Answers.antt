@@ -3,8 +3,8 @@ use Rattle.cert_checker.specs.declared.point_ways.PointWays.{PointWays}
 use Rattle.matching.specs.declared.parts.Cell.{Cell}
 use Rattle.matching.specs.Cells.{cell_at}
 use Rattle.cert_checker.specs.Case.{ways, width}
-use Rattle.cert_checker.specs.CaseSeen.{case_seen}
-use Rattle.cert_checker.specs.Columns.{AreWaysOf, with_column}
+use Rattle.cert_checker.specs.inside.CaseSeen.{case_seen}
+use Rattle.cert_checker.specs.inside.Columns.{AreWaysOf, with_column}
 use Rattle.cert_checker.proofs.ColumnSteps.{one_column}
 use Rattle.cert_checker.proofs.ReadyPoints.{cells_here}
 use Rattle.cert_checker.proofs.point_ways.ways_by_columns.Goals as goal

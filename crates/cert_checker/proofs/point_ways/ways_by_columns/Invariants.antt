@@ -1,5 +1,5 @@
-use Rattle.cert_checker.specs.CaseSeen.{case_seen}
-use Rattle.cert_checker.specs.Columns.{AreWaysOf}
+use Rattle.cert_checker.specs.inside.CaseSeen.{case_seen}
+use Rattle.cert_checker.specs.inside.Columns.{AreWaysOf}
 use Rattle.cert_checker.proofs.point_ways.ways_by_columns.Given as goal
 
 abbrev pub invariant-loop-j : goal.invariant-loop-j

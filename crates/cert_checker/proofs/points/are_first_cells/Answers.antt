@@ -1,7 +1,7 @@
 use Rattle.std.proofs.Common.{◌<◌, sym, ◌∙◌, arith}
 use Rattle.cert_checker.specs.Case.{width}
-use Rattle.cert_checker.specs.CaseSeen.{case_seen}
-use Rattle.cert_checker.specs.Columns.{is_first_at}
+use Rattle.cert_checker.specs.inside.CaseSeen.{case_seen}
+use Rattle.cert_checker.specs.inside.Columns.{is_first_at}
 use Rattle.cert_checker.proofs.EachBelow.{one_fails, one_more}
 use Rattle.cert_checker.proofs.points.are_first_cells.Goals as goal
 

@@ -1,6 +1,6 @@
 use Rattle.std.proofs.Common.{◌≡◌, true}
-use Rattle.cert_checker.specs.CaseSeen.{case_seen}
-use Rattle.cert_checker.specs.Columns.{is_first_at}
+use Rattle.cert_checker.specs.inside.CaseSeen.{case_seen}
+use Rattle.cert_checker.specs.inside.Columns.{is_first_at}
 use Rattle.cert_checker.specs.Verdicts.{each_below}
 use Rattle.cert_checker.proofs.points.are_first_cells.Given as goal
 

@@ -1,8 +1,8 @@
 use Rattle.std.proofs.Common.{◌≡◌, ◌<◌, ◌-◌, Bool, true, sym, ap, ◌∙◌, arith}
 use Rattle.std.specs.Prelude.{◌||◌, not}
 use Rattle.cert_checker.specs.Case.{is_looked_at, width}
-use Rattle.cert_checker.specs.CaseSeen.{case_seen}
-use Rattle.cert_checker.specs.Columns.{has_row_of}
+use Rattle.cert_checker.specs.inside.CaseSeen.{case_seen}
+use Rattle.cert_checker.specs.inside.Columns.{has_row_of}
 use Rattle.cert_checker.specs.Verdicts.{each_below}
 use Rattle.cert_checker.proofs.EachBelow.{one_fails, one_more}
 use Rattle.cert_checker.proofs.points.has_rows.Goals as goal

@@ -1,6 +1,6 @@
 use Rattle.std.proofs.Common.{◌≡◌, true}
-use Rattle.cert_checker.specs.CaseSeen.{case_seen}
-use Rattle.cert_checker.specs.Columns.{has_row_of}
+use Rattle.cert_checker.specs.inside.CaseSeen.{case_seen}
+use Rattle.cert_checker.specs.inside.Columns.{has_row_of}
 use Rattle.cert_checker.specs.Verdicts.{each_below}
 use Rattle.cert_checker.proofs.points.has_rows.Given as goal
 

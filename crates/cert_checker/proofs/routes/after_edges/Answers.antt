@@ -2,7 +2,7 @@ use Rattle.std.proofs.Common.{◌+◌, ◌∷◌, [], ◌++◌, None, Some, List
 use Rattle.std.proofs.lemmas.List.{take_all}
 use Rattle.road_network.specs.declared.EdgeId.{EdgeId}
 use Rattle.route_rebuild.specs.Numbers.{numbers}
-use Rattle.cert_checker.specs.Legs.{IsLeftAfter}
+use Rattle.cert_checker.specs.inside.Legs.{IsLeftAfter}
 use Rattle.cert_checker.proofs.Legs.{after_more, after_none, numbers_more, numbers_split}
 use Rattle.cert_checker.proofs.routes.after_edges.Goals as goal
 

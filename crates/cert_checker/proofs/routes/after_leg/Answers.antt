@@ -5,11 +5,11 @@ use Rattle.road_network.specs.Net.{HasEdge, source, target}
 use Rattle.road_network.specs.Walk.{IsLeastWalk}
 use Rattle.road_network.specs.declared.Candidate.{Candidate}
 use Rattle.road_network.specs.declared.EdgeId.{EdgeId}
-use Rattle.bounded_search.specs.Table.{IsRow, TableRow, entry_in}
+use Rattle.bounded_table.specs.Table.{IsRow, TableRow, entry_in}
 use Rattle.matching.specs.Routes.{Direct, IsRoute}
 use Rattle.route_rebuild.specs.Numbers.{numbers}
-use Rattle.cert_checker.specs.CaseSeen.{case_seen}
-use Rattle.cert_checker.specs.Legs.{IsLeftAfter, chosen_in}
+use Rattle.cert_checker.specs.inside.CaseSeen.{case_seen}
+use Rattle.cert_checker.specs.inside.Legs.{IsLeftAfter, chosen_in}
 use Rattle.cert_checker.proofs.Legs.{is_listed, walk_edges}
 use Rattle.cert_checker.proofs.LegRows.{IsDirectLeg, differs_walk, follows_walk, leg_found, leg_row, stays_direct}
 use Rattle.cert_checker.proofs.routes.after_leg.Goals as goal

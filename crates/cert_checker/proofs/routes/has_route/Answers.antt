@@ -1,7 +1,7 @@
 use Rattle.std.proofs.Common.{◌∷◌, [], None, Some, subst, option_copied}
 use Rattle.road_network.specs.declared.Candidate.{Candidate}
-use Rattle.cert_checker.specs.CaseSeen.{case_seen}
-use Rattle.cert_checker.specs.Legs.{IsLeftAfter, leg}
+use Rattle.cert_checker.specs.inside.CaseSeen.{case_seen}
+use Rattle.cert_checker.specs.inside.Legs.{IsLeftAfter, leg}
 use Rattle.cert_checker.proofs.RouteLegs.{begins_otherwise, first_left, leg_differs, legs_left}
 use Rattle.cert_checker.proofs.routes.has_route.Goals as goal
 

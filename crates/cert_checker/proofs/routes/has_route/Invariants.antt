@@ -1,7 +1,7 @@
 use Rattle.std.proofs.Common.{◌≡◌, ◌-◌}
 use Rattle.route_rebuild.specs.Routes.{legs}
-use Rattle.cert_checker.specs.CaseSeen.{case_seen}
-use Rattle.cert_checker.specs.Legs.{are_names, chosen_in}
+use Rattle.cert_checker.specs.inside.CaseSeen.{case_seen}
+use Rattle.cert_checker.specs.inside.Legs.{are_names, chosen_in}
 use Rattle.cert_checker.specs.Verdicts.{has_route}
 use Rattle.cert_checker.proofs.routes.has_route.Given as goal
 

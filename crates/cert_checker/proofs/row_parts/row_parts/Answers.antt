@@ -1,5 +1,5 @@
 use Rattle.std.proofs.Common.{◌<◌, ◌≤◌, ◌+◌, length, refl, sym, ap, ◌∙◌, arith}
-use Rattle.bounded_search.specs.Table.{TableRow}
+use Rattle.bounded_table.specs.Table.{TableRow}
 use Rattle.cert_checker.proofs.RowParts.{all_parts, one_more_part}
 use Rattle.cert_checker.proofs.row_parts.row_parts.Goals as goal
 

@@ -1,7 +1,7 @@
 use Rattle.std.proofs.Common.{◌↔◌, ℕ, arith, subst}
 use Rattle.std.specs.Prelude.{IsTrue}
-use Rattle.bounded_search.specs.Table.{IsRow}
-use Rattle.bounded_search.proofs.RightRows.{tried_is}
+use Rattle.bounded_table.specs.Table.{IsRow}
+use Rattle.bounded_table.proofs.RightRows.{tried_is}
 use Rattle.cert_checker.proofs.rows.is_right.Goals as goal
 
 pub returns-then-origin-node_count : goal.returns-then-origin-node_count

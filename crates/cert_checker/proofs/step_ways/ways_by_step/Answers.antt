@@ -3,8 +3,8 @@ use Rattle.std.specs.List.{list_any}
 use Rattle.matching.specs.declared.parts.Cell.{Cell}
 use Rattle.matching.specs.Growth.{CostAtMost}
 use Rattle.cert_checker.specs.Case.{width}
-use Rattle.cert_checker.specs.CaseSeen.{case_seen}
-use Rattle.cert_checker.specs.Columns.{AreWaysOf}
+use Rattle.cert_checker.specs.inside.CaseSeen.{case_seen}
+use Rattle.cert_checker.specs.inside.Columns.{AreWaysOf}
 use Rattle.cert_checker.proofs.StepWays.{AreParts, can_step, has_live, step_ways, stepped_of}
 use Rattle.cert_checker.proofs.step_ways.ways_by_step.Goals as goal
 

@@ -1,8 +1,8 @@
 use Rattle.std.proofs.Common.{◌≡◌, ◌∷◌, [], None, Some, sym, ◌∙◌}
 use Rattle.std.proofs.lemmas.Result.{IfOk-weaker}
 use Rattle.cert_checker.specs.declared.verdict.Condition.TheVariants.{Break, Candidates, Chosen, FirstCost, Pointer, Relaxed, Route, Row, Tight}
-use Rattle.cert_checker.specs.CaseSeen.{case_seen}
-use Rattle.cert_checker.specs.Checked.{of_cells}
+use Rattle.cert_checker.specs.inside.CaseSeen.{case_seen}
+use Rattle.cert_checker.specs.inside.Checked.{of_cells}
 use Rattle.cert_checker.specs.Verdicts.{first_failing, holds}
 use Rattle.cert_checker.proofs.FailingFirst.{fails_behind, fails_front, fails_later}
 use Rattle.cert_checker.proofs.LaterPoints.{cells_met, points_to}

@@ -1,7 +1,7 @@
 use Rattle.std.proofs.Common.{◌≡◌, ◌∷◌, [], true, None, Some, sym, ◌∙◌, refl}
 use Rattle.cert_checker.specs.declared.verdict.Condition.TheVariants.{Break, FirstCost, Pointer, Relaxed, Tight}
 use Rattle.std.proofs.lemmas.Bool.{not-false, not-true}
-use Rattle.cert_checker.specs.CaseSeen.{case_seen}
+use Rattle.cert_checker.specs.inside.CaseSeen.{case_seen}
 use Rattle.cert_checker.specs.Cells.{is_first_pointer, is_relaxed, is_tight}
 use Rattle.cert_checker.specs.Pieces.{goes_on}
 use Rattle.cert_checker.specs.Verdicts.{has_breaks, holds}

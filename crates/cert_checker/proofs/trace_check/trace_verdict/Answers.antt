@@ -1,6 +1,6 @@
 use Rattle.std.proofs.Common.{◌≡◌, None, true, refl, sym, ◌∙◌, ap, subst, arith}
-use Rattle.cert_checker.specs.CaseSeen.{case_seen}
-use Rattle.cert_checker.specs.InHand.{AreLeft}
+use Rattle.cert_checker.specs.inside.CaseSeen.{case_seen}
+use Rattle.cert_checker.specs.inside.InHand.{AreLeft}
 use Rattle.cert_checker.specs.Pieces.{rise_from}
 use Rattle.cert_checker.specs.Verdicts.{first_failing, holds, order}
 use Rattle.cert_checker.proofs.LaterPoints.{all_met, first_fails, none_fails, points_more}

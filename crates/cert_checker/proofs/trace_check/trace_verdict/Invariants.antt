@@ -1,9 +1,9 @@
 use Rattle.std.proofs.Common.{◌≡◌, ◌<◌, ℕ}
 use Rattle.trellis.specs.Pairs.{pairs_of}
 use Rattle.cert_checker.specs.declared.verdict.Verdict.TheVariants.{Proved}
-use Rattle.cert_checker.specs.CaseSeen.{case_seen}
-use Rattle.cert_checker.specs.Checked.{HasCells}
-use Rattle.cert_checker.specs.InHand.{AreLeft}
+use Rattle.cert_checker.specs.inside.CaseSeen.{case_seen}
+use Rattle.cert_checker.specs.inside.Checked.{HasCells}
+use Rattle.cert_checker.specs.inside.InHand.{AreLeft}
 use Rattle.cert_checker.specs.Verdicts.{verdict_before}
 use Rattle.cert_checker.proofs.trace_check.trace_verdict.Given as goal
 

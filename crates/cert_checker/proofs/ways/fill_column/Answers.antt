@@ -1,7 +1,7 @@
 use Rattle.std.proofs.Common.{◌≡◌, ◌≢◌, ◌<◌, ◌-◌, None, length, get_or-set_other, get_or-set_same, arith, below_more, ◌∙◌}
 use Rattle.std.proofs.lemmas.List.FromFn.{fill_by_all}
 use Rattle.cert_checker.specs.Case.{way, width}
-use Rattle.cert_checker.specs.CaseSeen.{case_seen}
+use Rattle.cert_checker.specs.inside.CaseSeen.{case_seen}
 use Rattle.cert_checker.proofs.ways.fill_column.Goals as goal
 
 pub loop-a-preserved : goal.loop-a-preserved

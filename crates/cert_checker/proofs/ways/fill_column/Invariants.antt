@@ -1,6 +1,6 @@
 use Rattle.std.proofs.Common.{◌≡◌, ◌<◌, ℕ, None, slice_index_or}
 use Rattle.cert_checker.specs.Case.{way}
-use Rattle.cert_checker.specs.CaseSeen.{case_seen}
+use Rattle.cert_checker.specs.inside.CaseSeen.{case_seen}
 use Rattle.cert_checker.proofs.ways.fill_column.Given as goal
 
 abbrev pub invariant-loop-a : goal.invariant-loop-a

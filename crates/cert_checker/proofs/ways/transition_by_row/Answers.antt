@@ -3,7 +3,7 @@ use Rattle.polyline_geometry.specs.Plane.{straight}
 use Rattle.matching.specs.declared.parts.Layer.{Layer}
 use Rattle.trellis.proofs.Ways.{IsMove}
 use Rattle.cert_checker.specs.Case.{layer}
-use Rattle.cert_checker.specs.CaseSeen.{case_seen}
+use Rattle.cert_checker.specs.inside.CaseSeen.{case_seen}
 use Rattle.cert_checker.proofs.WayCosts.{link_cost, link_tells}
 use Rattle.cert_checker.proofs.ways.transition_by_row.Goals as goal
 

@@ -1,12 +1,12 @@
 use Rattle.std.proofs.Common.{◌≡◌, ◌-◌, ℕ, List, Some, true≢false, slice_index_or, sym, ap, ◌∙◌, subst}
 use Rattle.road_network.specs.declared.Candidate.{Candidate}
 use Rattle.road_network.specs.Net.{target}
-use Rattle.bounded_search.specs.Table.{IsRow, TableRow}
+use Rattle.bounded_table.specs.Table.{IsRow, TableRow}
 use Rattle.matching.specs.declared.parts.Cell.{Cell}
 use Rattle.matching.specs.Cells.{cell_at}
 use Rattle.matching.specs.Layers.{end_of}
 use Rattle.cert_checker.specs.Case.{has_row, layer, table}
-use Rattle.cert_checker.specs.CaseSeen.{case_seen}
+use Rattle.cert_checker.specs.inside.CaseSeen.{case_seen}
 use Rattle.cert_checker.proofs.ReadyPoints.{row_there}
 use Rattle.cert_checker.proofs.RightRows.{no_row}
 use Rattle.cert_checker.proofs.RowsAtPlaces.{row_at_place}

@@ -2,13 +2,13 @@ use Rattle.std.specs.List.{AllZip}
 use Rattle.std.proofs.Common.{◌≡◌, ℕ, IfOk, Option, None, List, length, map, subst, sym, ap, ◌∙◌}
 use Rattle.road_network.specs.Net.{Net}
 use Rattle.potential_certificate.specs.declared.proof.TraceProof.{TraceProof}
-use Rattle.bounded_search.specs.Table.{TableRow}
+use Rattle.bounded_table.specs.Table.{TableRow}
 use Rattle.cert_checker.specs.Rows.{first_bad_row}
 use Rattle.cert_checker.specs.Whole.{apart_from, found_of, verdict}
 use Rattle.cert_checker.specs.declared.verdict.Finding.TheVariants.{Judged}
 use Rattle.cert_checker.specs.declared.verdict.Verdict.{Verdict}
 use Rattle.cert_checker.specs.declared.batch.Batch.{Batch}
-use Rattle.cert_checker.specs.Batches.{AreBatchesOf, batch_verdict, first_refused}
+use Rattle.cert_checker.specs.inside.Batches.{AreBatchesOf, batch_verdict, first_refused}
 use Rattle.cert_checker.proofs.BatchLists.{batches_verdict, to_verdicts}
 use Rattle.cert_checker.proofs.WholeVerdicts.{as_many, by_traces, refused_by_ids}
 use Rattle.cert_checker.proofs.whole.check_certificate.Goals as goal

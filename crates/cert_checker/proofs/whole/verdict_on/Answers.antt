@@ -1,7 +1,7 @@
 use Rattle.std.proofs.Common.{List, map, sym, ap, subst, ◌∙◌}
 use Rattle.matching.specs.declared.parts.Layer.{Layer}
 use Rattle.trace_match.specs.Match.{layer_of}
-use Rattle.cert_checker.specs.CaseSeen.{IsCheckable}
+use Rattle.cert_checker.specs.inside.CaseSeen.{IsCheckable}
 use Rattle.cert_checker.proofs.WholeVerdicts.{case_checkable}
 use Rattle.cert_checker.proofs.whole.verdict_on.Goals as goal
 

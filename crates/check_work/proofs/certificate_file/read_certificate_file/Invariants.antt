@@ -1,7 +1,7 @@
 use Rattle.std.proofs.Common.{◌≡◌, ◌+◌, ◌-◌, length}
 use Rattle.potential_certificate.specs.CertificateText.{text_limit}
 use Rattle.program_frame.specs.Read.{IsReadSoFar}
-use Rattle.check_work.specs.CertificateFiles.{ReadsBlock}
+use Rattle.check_work.specs.inside.CertificateFiles.{ReadsBlock}
 use Rattle.check_work.proofs.certificate_file.read_certificate_file.Given as goal
 
 abbrev pub invariant-loop-goes_on : goal.invariant-loop-goes_on

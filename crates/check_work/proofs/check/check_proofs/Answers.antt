@@ -1,5 +1,5 @@
 use Rattle.std.proofs.Common.{subst, ap, ◌∙◌}
-use Rattle.check_work.specs.CheckDone.{finding_said}
+use Rattle.check_work.specs.inside.CheckDone.{finding_said}
 use Rattle.check_work.proofs.CheckedProofs.{finding_says}
 use Rattle.program_frame.specs.Loads.{Accepts}
 use Rattle.program_frame.specs.declared.stop.Refusal.TheVariants.{Certificate}

@@ -2,7 +2,7 @@ use Rattle.std.proofs.Common.{◌∙◌, ap, map}
 use Rattle.std.proofs.lemmas.Result.{IfOk-weaker}
 use Rattle.clap.specs.Words.{App}
 use Rattle.command_line.specs.Options.{all_options}
-use Rattle.command_line.specs.Building.{rule_of_word, with_rules}
+use Rattle.command_line.specs.inside.Building.{rule_of_word, with_rules}
 use Rattle.command_line.specs.Syntax.{option_rule}
 use Rattle.command_line.specs.Values.{name_of}
 use Rattle.command_line.proofs.Rules.{in_three, of_the_names}

@@ -1,6 +1,6 @@
 use Rattle.std.proofs.Common.{◌∙◌, ap, map, take_all, rules}
 use Rattle.clap.specs.Words.{app_of, with_subcommand}
-use Rattle.command_line.specs.Building.{form_shape, with_commands}
+use Rattle.command_line.specs.inside.Building.{form_shape, with_commands}
 use Rattle.command_line.specs.Syntax.{all_kinds, kind_shape, program}
 use Rattle.command_line.proofs.Rules.{one_more_command}
 use Rattle.command_line.proofs.syntax.program.Goals as goal

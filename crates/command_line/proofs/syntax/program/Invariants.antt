@@ -1,6 +1,6 @@
 use Rattle.std.proofs.Common.{◌≡◌, map, take}
 use Rattle.clap.specs.Words.{app_of}
-use Rattle.command_line.specs.Building.{form_shape, with_commands}
+use Rattle.command_line.specs.inside.Building.{form_shape, with_commands}
 use Rattle.command_line.proofs.syntax.program.Given as goal
 
 abbrev pub invariant-loop-form : goal.invariant-loop-form

@@ -2,7 +2,7 @@ use Rattle.std.proofs.Common.{◌≡◌, map, take, false}
 use Rattle.clap.specs.Words.{app_of}
 use Rattle.clap.specs.declared.builder.command.Command.TheViews.{out-Command}
 use Rattle.command_line.specs.Values.{name_of}
-use Rattle.command_line.specs.Building.{with_rules}
+use Rattle.command_line.specs.inside.Building.{with_rules}
 use Rattle.command_line.specs.Syntax.{option_rule}
 use Rattle.command_line.proofs.syntax.with_options.Given as goal
 

@@ -1,6 +1,6 @@
 use Rattle.std.proofs.Common.{◌∙◌, ap, ap₂, ◌||◌, rules, map, take_all, []}
 use Rattle.clap.specs.Words.{app_of, with_rule}
-use Rattle.command_line.specs.Building.{rule_of_word, with_rules}
+use Rattle.command_line.specs.inside.Building.{rule_of_word, with_rules}
 use Rattle.command_line.proofs.Rules.{one_more}
 use Rattle.command_line.proofs.syntax.with_words.Goals as goal
 

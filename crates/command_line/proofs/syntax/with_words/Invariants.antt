@@ -1,7 +1,7 @@
 use Rattle.std.proofs.Common.{◌≡◌, map, take, false}
 use Rattle.clap.specs.Words.{app_of}
 use Rattle.clap.specs.declared.builder.command.Command.TheViews.{out-Command}
-use Rattle.command_line.specs.Building.{rule_of_word, with_rules}
+use Rattle.command_line.specs.inside.Building.{rule_of_word, with_rules}
 use Rattle.command_line.proofs.syntax.with_words.Given as goal
 
 abbrev pub invariant-loop-name : goal.invariant-loop-name

@@ -1,6 +1,5 @@
-use Rattle.std.proofs.Common.{◌≡◌, ◌∙◌, ◌++◌, List, ℕ, rules, OnErr, length, take, drop, sym, ap, subst, append-nil, drop_of_length-le}
-use Rattle.std.proofs.lemmas.Bool.{eqb-true}
-use Rattle.edge_io.proofs.KnownBytes.{appends_more, prefix_whole}
+use Rattle.std.proofs.Common.{◌∙◌, ◌++◌, rules, take, sym, ap}
+use Rattle.edge_io.proofs.KnownBytes.{appends_more}
 use Rattle.edge_io.proofs.Writing.{done_more, grown_kept, grown_more, prefix_done}
 use Rattle.edge_io.proofs.stream_sink.write_flushed.Goals.{in-Ok, in-Err}
 use Rattle.edge_io.proofs.stream_sink.write_flushed.Goals as goal

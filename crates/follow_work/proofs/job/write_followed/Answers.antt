@@ -1,8 +1,8 @@
 use Rattle.std.proofs.Common.{◌≡◌, ◌++◌, refl, sym, subst, append-nil, arith}
 use Rattle.std.proofs.lemmas.List.{take_all}
-use Rattle.bounded_search.proofs.Asking.{asks_ok}
+use Rattle.bounded_table.proofs.Asking.{asks_ok}
 use Rattle.follow_work.specs.Follow.{followed_of}
-use Rattle.trace_match.specs.Asked.{AsksTraces}
+use Rattle.trace_match.specs.inside.Asked.{AsksTraces}
 use Rattle.program_frame.specs.Counts.{ArePieces}
 use Rattle.trace_match.proofs.AskedRows.{asks_next, asks_none}
 use Rattle.follow_work.proofs.Follows.{followed_next, pieces_followed}

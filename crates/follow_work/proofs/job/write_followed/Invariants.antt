@@ -1,6 +1,6 @@
 use Rattle.std.proofs.Common.{◌≡◌, ◌++◌, take}
 use Rattle.follow_work.specs.Follow.{followed_of}
-use Rattle.trace_match.specs.Asked.{AsksTraces}
+use Rattle.trace_match.specs.inside.Asked.{AsksTraces}
 use Rattle.program_frame.specs.Counts.{ArePieces}
 use Rattle.follow_work.proofs.job.write_followed.Given as goal
 use Rattle.trace_match.specs.Totals.{pieces_of}

@@ -1,5 +1,5 @@
 use Rattle.std.proofs.Common.{◌-◌, ◌≤◌, length}
-use Rattle.grid_index.specs.Starts.{AreBefore}
+use Rattle.grid_index.specs.inside.Starts.{AreBefore}
 use Rattle.grid_index.proofs.starts.first_from.Given as goal
 
 abbrev pub invariant-loop-place : goal.invariant-loop-place

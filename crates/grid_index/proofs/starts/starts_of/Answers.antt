@@ -1,5 +1,5 @@
 use Rattle.std.proofs.Common.{◌+◌, subst, sym, arith}
-use Rattle.grid_index.specs.Starts.{AreStarts}
+use Rattle.grid_index.specs.inside.Starts.{AreStarts}
 use Rattle.grid_index.proofs.Starting.{start_none, starts_more, starts_none}
 use Rattle.grid_index.proofs.starts.starts_of.Goals as goal
 

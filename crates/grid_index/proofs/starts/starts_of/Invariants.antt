@@ -1,5 +1,5 @@
 use Rattle.std.proofs.Common.{◌+◌}
-use Rattle.grid_index.specs.Starts.{AreStarts, IsStart}
+use Rattle.grid_index.specs.inside.Starts.{AreStarts, IsStart}
 use Rattle.grid_index.proofs.starts.starts_of.Given as goal
 
 abbrev pub invariant-loop-slot : goal.invariant-loop-slot

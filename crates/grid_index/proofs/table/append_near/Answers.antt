@@ -2,7 +2,7 @@ use Rattle.std.proofs.Common.{get_or, pos, ◌≡◌, length, subst, arith}
 use Rattle.std.proofs.lemmas.List.{get_or_default}
 use Rattle.grid_index.specs.declared.runs.Run.{Run}
 use Rattle.grid_index.proofs.Gathering.{appends_more, appends_none}
-use Rattle.grid_index.specs.Table.{Appends}
+use Rattle.grid_index.specs.inside.Table.{Appends}
 use Rattle.grid_index.proofs.table.append_near.Goals as goal
 
 abbrev none : Run

@@ -1,4 +1,4 @@
-use Rattle.grid_index.specs.Table.{Appends}
+use Rattle.grid_index.specs.inside.Table.{Appends}
 use Rattle.grid_index.proofs.table.append_near.Given as goal
 
 abbrev pub invariant-loop-run : goal.invariant-loop-run

@@ -1,5 +1,5 @@
 use Rattle.std.proofs.Common.{ap}
-use Rattle.trace_relay.specs.Order.{Parts}
+use Rattle.live_pipeline.specs.Order.{Parts}
 use Rattle.live_pipeline.proofs.Feeding.{feeds_bounded, feeds_put}
 use Rattle.live_pipeline.proofs.feeder.put_chunk.Goals as goal
 

@@ -1,5 +1,5 @@
 use Rattle.std.proofs.Common.{ap}
-use Rattle.trace_relay.specs.Order.{Parts}
+use Rattle.live_pipeline.specs.Order.{Parts}
 use Rattle.live_pipeline.proofs.Feeding.{ends_bounded, ends_put}
 use Rattle.live_pipeline.proofs.feeder.put_end.Goals as goal
 

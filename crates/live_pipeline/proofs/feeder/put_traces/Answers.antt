@@ -1,6 +1,6 @@
 use Rattle.std.proofs.Common.{◌∙◌, ap}
 use Rattle.std.specs.Vec.Iter.{into_iter_items}
-use Rattle.trace_relay.specs.Order.{Parts}
+use Rattle.live_pipeline.specs.Order.{Parts}
 use Rattle.live_pipeline.proofs.Puts.{next_bounded}
 use Rattle.live_pipeline.proofs.feeder.put_traces.Goals as goal
 

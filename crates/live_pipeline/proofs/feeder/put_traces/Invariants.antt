@@ -1,6 +1,6 @@
 use Rattle.std.proofs.Common.{◌≡◌, ◌++◌, length}
 use Rattle.std.specs.Vec.Iter.{into_iter_items, into_iter_len}
-use Rattle.trace_relay.specs.Pieces.{parts_of}
+use Rattle.live_pipeline.specs.Pieces.{parts_of}
 use Rattle.live_pipeline.proofs.feeder.put_traces.Given as goal
 
 abbrev pub invariant-loop-trace : goal.invariant-loop-trace

@@ -1,6 +1,6 @@
 use Rattle.std.proofs.Common.{[], ◌∷◌, ◌++◌, refl, sym, ap, subst, ◌∙◌}
 use Rattle.program_frame.specs.Batches.{WritesBatch}
-use Rattle.trace_relay.specs.Order.{Parts}
+use Rattle.live_pipeline.specs.Order.{Parts}
 use Rattle.live_pipeline.proofs.Taking.{may_take, none_written, took_bounded, took_more}
 use Rattle.live_pipeline.proofs.matcher.match_parts.Goals as goal
 

@@ -1,7 +1,7 @@
 use Rattle.std.proofs.Common.{◌≡◌, List, []}
 use Rattle.program_frame.specs.Batches.{WritesBatch}
 use Rattle.trace_reader.specs.declared.trace.Trace.{Trace}
-use Rattle.trace_relay.specs.Pieces.{parts_of}
+use Rattle.live_pipeline.specs.Pieces.{parts_of}
 use Rattle.live_pipeline.proofs.matcher.match_parts.Given as goal
 
 abbrev pub invariant-loop : goal.invariant-loop

@@ -1,7 +1,7 @@
 use Rattle.std.proofs.Common.{Ok, ap, sym, subst, string_bytes, []}
 use Rattle.program_frame.specs.Batches.{WritesBatch}
 use Rattle.program_frame.specs.Stream.{works_traces}
-use Rattle.trace_relay.specs.Order.{Parts}
+use Rattle.live_pipeline.specs.Order.{Parts}
 use Rattle.live_pipeline.specs.Living.{LivePerforms}
 use Rattle.live_pipeline.proofs.Closings.{both}
 use Rattle.live_pipeline.proofs.pipeline.live_traces.Goals as goal

@@ -1,6 +1,6 @@
 use Rattle.std.proofs.Common.{◌∙◌, sym, ap}
 use Rattle.trace_reader.proofs.Laws.{closed-none}
-use Rattle.trace_relay.specs.Pieces.{parts_of}
+use Rattle.live_pipeline.specs.Pieces.{parts_of}
 use Rattle.live_pipeline.proofs.reader.put_file.Goals as goal
 
 pub put_chunks-requires-clause-first : goal.put_chunks-requires-clause-first

@@ -5,10 +5,10 @@ use Rattle.std.proofs.lemmas.List.{length-map}
 use Rattle.std.proofs.lemmas.List.Sums.{get_or-le-sum_by}
 use Rattle.std.proofs.lemmas.Slice.Zip.{AllZip-long}
 use Rattle.row_store.specs.Store.{Reading}
-use Rattle.match_pool.specs.WorkerSet.{CanDrawFrom, Ran, reader_of}
-use Rattle.match_pool.specs.Dealing.{numbers_of}
+use Rattle.match_pool.specs.inside.WorkerSet.{CanDrawFrom, Ran, reader_of}
+use Rattle.match_pool.specs.inside.Dealing.{numbers_of}
 use Rattle.match_pool.specs.Learning.{LearnAsked}
-use Rattle.match_pool.specs.Tables.{AreColumnsOf}
+use Rattle.match_pool.specs.inside.Tables.{AreColumnsOf}
 use Rattle.match_pool.specs.Working.{Job, ReadsWithin, job}
 use Rattle.match_pool.specs.declared.turn.Partition.{Partition}
 use Rattle.match_pool.specs.declared.turn.Turn.{Turn}

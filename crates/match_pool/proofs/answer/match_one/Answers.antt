@@ -1,6 +1,6 @@
 use Rattle.std.proofs.Common.{◌≡◌, true, sym, ap, ◌∙◌, subst, map, All}
-use Rattle.bounded_search.specs.Rows.{AsksFor, AsksOnly}
-use Rattle.bounded_search.proofs.Asking.{asks_done, asks_err, asks_nothing, asks_ok, still_of}
+use Rattle.bounded_table.specs.Rows.{AsksFor, AsksOnly}
+use Rattle.bounded_table.proofs.Asking.{asks_done, asks_err, asks_nothing, asks_ok, still_of}
 use Rattle.matching.specs.Layers.{IsMatchable, trellis}
 use Rattle.matching.specs.Match.{IsMatch}
 use Rattle.matching.specs.PieceSteps.{AsksTrace}

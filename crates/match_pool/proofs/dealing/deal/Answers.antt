@@ -3,7 +3,7 @@ use Rattle.std.specs.List.{AllZip}
 use Rattle.std.specs.Vec.Iter.{into_iter_items}
 use Rattle.std.proofs.lemmas.List.{map-append}
 use Rattle.std.proofs.lemmas.List.Elements.{All-head, All-nil, All-push, All-tail}
-use Rattle.match_pool.specs.Dealing.{HasClaims, numbers_of}
+use Rattle.match_pool.specs.inside.Dealing.{HasClaims, numbers_of}
 use Rattle.match_pool.specs.declared.turn.Partition.{Partition}
 use Rattle.match_pool.proofs.Started.{AreFreshAt, all_wide, fresh_at, by_worker_fresh}
 use Rattle.match_pool.proofs.Lists.{zip_push}

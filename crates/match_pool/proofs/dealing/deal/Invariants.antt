@@ -1,7 +1,7 @@
 use Rattle.std.proofs.Common.{◌≡◌, ◌≤◌, ◌^◌, ◌++◌, ℕ, List, All, length, map}
 use Rattle.std.specs.List.{AllZip}
 use Rattle.std.specs.Vec.Iter.{into_iter_items, into_iter_len}
-use Rattle.match_pool.specs.Dealing.{HasClaims, numbers_of}
+use Rattle.match_pool.specs.inside.Dealing.{HasClaims, numbers_of}
 use Rattle.match_pool.proofs.Started.{AreFreshAt}
 use Rattle.match_pool.proofs.dealing.deal.Given as goal
 

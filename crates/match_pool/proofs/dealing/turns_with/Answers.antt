@@ -2,7 +2,7 @@ use Rattle.std.proofs.Common.{◌≡◌, [], ◌∷◌, ◌++◌, List, length, 
 use Rattle.std.proofs.lemmas.List.{map-append}
 use Rattle.tickets.specs.Tickets.{Drawn}
 use Rattle.match_pool.specs.declared.turn.Turn.{Turn}
-use Rattle.match_pool.specs.Dealing.{ticket_of}
+use Rattle.match_pool.specs.inside.Dealing.{ticket_of}
 use Rattle.match_pool.proofs.Yields.{ends, goes_on}
 use Rattle.match_pool.proofs.dealing.turns_with.Goals as goal
 

@@ -1,6 +1,6 @@
 use Rattle.std.proofs.Common.{◌≡◌, ◌++◌, length, map}
 use Rattle.std.specs.Vec.Iter.{into_iter_items, into_iter_len}
-use Rattle.match_pool.specs.Dealing.{ticket_of}
+use Rattle.match_pool.specs.inside.Dealing.{ticket_of}
 use Rattle.match_pool.proofs.dealing.turns_with.Given as goal
 
 abbrev pub invariant-loop-ticket : goal.invariant-loop-ticket

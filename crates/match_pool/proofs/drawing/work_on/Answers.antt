@@ -1,6 +1,6 @@
 use Rattle.std.proofs.Common.{◌<◌, ◌∙◌, ◌++◌, ◌∷◌, [], ℕ, length, refl, sym, ap, arith, append_assoc, List}
 use Rattle.std.proofs.lemmas.List.{get_or_default}
-use Rattle.bounded_search.proofs.Asking.{asks_ok}
+use Rattle.bounded_table.proofs.Asking.{asks_ok}
 use Rattle.tickets.specs.Tickets.{Drawn}
 use Rattle.match_pool.specs.Drawing.{job_of, number_at}
 use Rattle.match_pool.specs.Working.{no_trace}

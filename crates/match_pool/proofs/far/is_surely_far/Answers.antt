@@ -2,7 +2,7 @@ use Rattle.std.proofs.Common.{◌≡◌, ℕ, List, get_or, length, ap, ◌∙�
 use Rattle.std.proofs.lemmas.Bool.{cases_lt}
 use Rattle.std.proofs.lemmas.List.{get_or_default}
 use Rattle.trace_reader.specs.declared.trace.Fix.{Fix}
-use Rattle.match_pool.specs.Unmatched.{LiesFar}
+use Rattle.match_pool.specs.inside.Unmatched.{LiesFar}
 use Rattle.match_pool.proofs.far.is_surely_far.Goals as goal
 
 pub loop-fix-preserved : goal.loop-fix-preserved

@@ -1,6 +1,6 @@
 use Rattle.std.proofs.Common.{ℕ, ◌<◌, slice_index_or}
 use Rattle.trace_reader.specs.declared.trace.Fix.{Fix}
-use Rattle.match_pool.specs.Unmatched.{LiesFar}
+use Rattle.match_pool.specs.inside.Unmatched.{LiesFar}
 use Rattle.match_pool.proofs.far.is_surely_far.Given as goal
 
 abbrev pub invariant-loop-fix : goal.invariant-loop-fix

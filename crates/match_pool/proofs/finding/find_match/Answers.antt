@@ -1,6 +1,6 @@
 use Rattle.std.proofs.Common.{◌≡◌, true, sym, ◌∙◌}
 use Rattle.std.proofs.lemmas.Result.{IfOk-weaker}
-use Rattle.bounded_search.proofs.Asking.{asks_done, asks_err, asks_nothing, asks_ok}
+use Rattle.bounded_table.proofs.Asking.{asks_done, asks_err, asks_nothing, asks_ok}
 use Rattle.row_store.specs.Store.{rows_state}
 use Rattle.trace_match.specs.Match.{asks}
 use Rattle.match_pool.proofs.OneFix.{one_asks}

@@ -5,7 +5,7 @@ use Rattle.std.specs.Prelude.{slice_get}
 use Rattle.std.specs.Vec.Iter.{into_iter_items}
 use Rattle.std.proofs.lemmas.List.{length-replicate}
 use Rattle.match_pool.specs.Drawing.{job_of}
-use Rattle.match_pool.specs.Gathering.{AllDrawn, AreTurnsOver}
+use Rattle.match_pool.specs.inside.Gathering.{AllDrawn, AreTurnsOver}
 use Rattle.match_pool.specs.Working.{matched_at}
 use Rattle.match_pool.specs.declared.turn.Partition.{Partition}
 use Rattle.match_pool.proofs.Learning.{matches_are}

@@ -2,7 +2,7 @@ use Rattle.std.proofs.Common.{◌≡◌, ◌++◌, List, length}
 use Rattle.std.specs.List.{AllZip}
 use Rattle.std.specs.Vec.Iter.{into_iter_items, into_iter_len}
 use Rattle.match_pool.specs.Drawing.{job_of}
-use Rattle.match_pool.specs.Gathering.{AllDrawn, AreTurnsOver}
+use Rattle.match_pool.specs.inside.Gathering.{AllDrawn, AreTurnsOver}
 use Rattle.match_pool.specs.declared.turn.Turn.{Turn}
 use Rattle.match_pool.proofs.Slots.{AreIn}
 use Rattle.match_pool.proofs.gathering.gather.Given as goal

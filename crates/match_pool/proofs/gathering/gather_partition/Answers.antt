@@ -5,9 +5,9 @@ use Rattle.std.proofs.lemmas.List.Elements.{All-head, All-map, All-tail, All-wea
 use Rattle.tickets.specs.Tickets.{Drawn, HasEnded}
 use Rattle.match_pool.specs.declared.turn.Turn.{Turn}
 use Rattle.match_pool.specs.declared.worker.Done.{Done}
-use Rattle.match_pool.specs.Dealing.{ticket_of}
+use Rattle.match_pool.specs.inside.Dealing.{ticket_of}
 use Rattle.match_pool.specs.Drawing.{job_of}
-use Rattle.match_pool.specs.Turns.{IsOver}
+use Rattle.match_pool.specs.inside.Turns.{IsOver}
 use Rattle.match_pool.specs.Working.{matched_at}
 use Rattle.match_pool.proofs.Slots.{holds_more, holds_none, places_inside, some_ticket, partition_filled}
 use Rattle.match_pool.proofs.Yields.{ends, goes_on}

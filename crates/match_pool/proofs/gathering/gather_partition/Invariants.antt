@@ -1,8 +1,8 @@
 use Rattle.std.proofs.Common.{◌≡◌, ◌++◌, All, length, map}
 use Rattle.std.specs.Vec.Iter.{into_iter_items, into_iter_len}
-use Rattle.match_pool.specs.Dealing.{ticket_of}
+use Rattle.match_pool.specs.inside.Dealing.{ticket_of}
 use Rattle.match_pool.specs.Drawing.{job_of}
-use Rattle.match_pool.specs.Turns.{IsOver}
+use Rattle.match_pool.specs.inside.Turns.{IsOver}
 use Rattle.match_pool.proofs.Slots.{Holds}
 use Rattle.match_pool.proofs.gathering.gather_partition.Given as goal
 

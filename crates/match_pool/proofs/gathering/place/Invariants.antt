@@ -1,6 +1,6 @@
 use Rattle.std.proofs.Common.{◌≡◌, ◌+◌, ◌<◌, ◌≤◌, ◌++◌, All, length}
 use Rattle.std.specs.Vec.Iter.{into_iter_items, into_iter_len}
-use Rattle.match_pool.specs.Gathering.{PlacesAnswers}
+use Rattle.match_pool.specs.inside.Gathering.{PlacesAnswers}
 use Rattle.match_pool.specs.declared.worker.Done.{Done}
 use Rattle.match_pool.proofs.gathering.place.Given as goal
 

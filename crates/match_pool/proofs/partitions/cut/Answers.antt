@@ -1,7 +1,7 @@
 use Rattle.std.proofs.Common.{◌≡◌, ◌<◌, ◌+◌, ◌∷◌, ◌++◌, ◌∙◌, ℕ, List, [], length, length-set, set, slice_index_or, sym, subst, ap, arith}
 use Rattle.std.proofs.lemmas.Result.{IfOk-weaker}
 use Rattle.std.proofs.lemmas.List.{get_or_read, length-replicate}
-use Rattle.match_pool.specs.Partitions.{ArePartitionsOf}
+use Rattle.match_pool.specs.inside.Partitions.{ArePartitionsOf}
 use Rattle.match_pool.specs.declared.partitions.Spot.{Spot}
 use Rattle.match_pool.proofs.Lists.{default_same}
 use Rattle.match_pool.proofs.Spots.{Cutting, cut_all, cut_more, cut_none, one_partition}

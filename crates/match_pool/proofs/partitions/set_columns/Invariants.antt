@@ -1,5 +1,5 @@
 use Rattle.std.proofs.Common.{◌≡◌, ℕ, length}
-use Rattle.match_pool.specs.Partitions.{AreSpotsOf}
+use Rattle.match_pool.specs.inside.Partitions.{AreSpotsOf}
 use Rattle.match_pool.proofs.partitions.set_columns.Given as goal
 
 abbrev pub invariant-loop-rank : goal.invariant-loop-rank

@@ -1,5 +1,5 @@
 use Rattle.std.proofs.Common.{◌≡◌, ℕ, length, sym, subst, arith}
-use Rattle.match_pool.specs.Partitions.{AreSpotsOf}
+use Rattle.match_pool.specs.inside.Partitions.{AreSpotsOf}
 use Rattle.match_pool.proofs.Spots.{spots_more, spots_none}
 use Rattle.match_pool.proofs.partitions.spots_of.Goals as goal
 

@@ -1,7 +1,7 @@
 use Rattle.std.proofs.Common.{◌≡◌, ◌++◌, ◌∷◌, [], All, List, ℕ, length, map, take, sym, ap, ◌∙◌, arith, subst, ⊎_elim}
 use Rattle.std.proofs.Math.Seq.{take-length}
 use Rattle.std.proofs.lemmas.List.{map_more}
-use Rattle.bounded_search.proofs.Asking.{asks_nothing, only_by, only_then, still_of}
+use Rattle.bounded_table.proofs.Asking.{asks_nothing, only_by, only_then, still_of}
 use Rattle.matching.specs.Layers.{trellis}
 use Rattle.matching.specs.declared.parts.Piece.{Piece}
 use Rattle.road_network.specs.declared.EdgeId.{EdgeId}

@@ -1,5 +1,5 @@
 use Rattle.std.proofs.Common.{◌≡◌, map, take}
-use Rattle.bounded_search.specs.Rows.{AsksOnly}
+use Rattle.bounded_table.specs.Rows.{AsksOnly}
 use Rattle.matching.specs.PieceSteps.{AsksTrace}
 use Rattle.trace_match.specs.Match.{routed_of}
 use Rattle.match_pool.proofs.routes.pieces.Given as goal

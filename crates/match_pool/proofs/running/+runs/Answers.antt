@@ -1,6 +1,6 @@
 use Rattle.std.proofs.Common.{rules, subst, ◌≡◌, ◌+◌, length, arith}
 use Rattle.std.specs.Fork.{AcceptsAt, ChangesAt}
-use Rattle.match_pool.specs.Running.{EachFromTo}
+use Rattle.match_pool.specs.inside.Running.{EachFromTo}
 use Rattle.match_pool.proofs.Items.{each_first, each_rest, each_joined}
 use Rattle.match_pool.proofs.running.+runs.Goals as goal
 

@@ -2,7 +2,7 @@ use Rattle.std.proofs.Common.{◌≡◌, ◌<◌, ◌≤◌, ◌+◌, ◌∷◌,
 use Rattle.std.specs.Vec.Iter.{into_iter_items}
 use Rattle.std.proofs.lemmas.List.{get_or_read}
 use Rattle.match_pool.specs.declared.turn.Turn.{Turn}
-use Rattle.match_pool.specs.Tables.{AddsRow}
+use Rattle.match_pool.specs.inside.Tables.{AddsRow}
 use Rattle.match_pool.proofs.Columns.{Adding, adding_all, adding_more}
 use Rattle.match_pool.proofs.Yields.{ends, goes_on, next_at}
 use Rattle.match_pool.proofs.tables.add_row.Goals as goal

@@ -1,7 +1,7 @@
 use Rattle.std.proofs.Common.{◌≡◌, ◌∙◌, List, [], All, length, rules, refl, ap, sym, subst, arith}
 use Rattle.std.specs.Vec.Iter.{into_iter_items}
 use Rattle.std.proofs.lemmas.List.Elements.{All-head, All-tail}
-use Rattle.match_pool.specs.Tables.{AreColumnsOf}
+use Rattle.match_pool.specs.inside.Tables.{AreColumnsOf}
 use Rattle.match_pool.specs.declared.turn.Turn.{Turn}
 use Rattle.match_pool.proofs.Columns.{columns_more, columns_none}
 use Rattle.match_pool.proofs.Yields.{ends, goes_on}

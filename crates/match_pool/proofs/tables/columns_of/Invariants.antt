@@ -1,6 +1,6 @@
 use Rattle.std.proofs.Common.{◌≡◌, ◌++◌, All, List, length}
 use Rattle.std.specs.Vec.Iter.{into_iter_items, into_iter_len}
-use Rattle.match_pool.specs.Tables.{AreColumnsOf}
+use Rattle.match_pool.specs.inside.Tables.{AreColumnsOf}
 use Rattle.match_pool.specs.declared.turn.Turn.{Turn}
 use Rattle.match_pool.proofs.tables.columns_of.Given as goal
 

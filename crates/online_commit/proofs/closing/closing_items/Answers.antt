@@ -1,12 +1,12 @@
 use Rattle.std.proofs.Common.{◌≡◌, ◌-◌, ◌<◌, ◌++◌, ◌∷◌, [], get_or, length, refl, ap, sym, ◌∙◌, subst, arith, unwrap_or}
-use Rattle.bounded_search.proofs.Asking.{asks_nothing}
-use Rattle.bounded_search.specs.Rows.{AsksOnly}
+use Rattle.bounded_table.proofs.Asking.{asks_nothing}
+use Rattle.bounded_table.specs.Rows.{AsksOnly}
 use Rattle.route_rebuild.specs.Chosen.{IsChosenRun}
 use Rattle.route_rebuild.specs.Numbers.{numbers}
 use Rattle.route_rebuild.specs.Routes.{IsRouteOf, IsWalkStart}
 use Rattle.online_commit.specs.declared.items.Item.TheVariants.{Closed}
-use Rattle.online_commit.specs.Pieces.{session_of}
-use Rattle.online_commit.specs.Steps.{as_ranks, piece_from, rank_in, ranked_items, whole_piece}
+use Rattle.online_commit.specs.inside.Pieces.{session_of}
+use Rattle.online_commit.specs.inside.Steps.{as_ranks, piece_from, rank_in, ranked_items, whole_piece}
 use Rattle.online_commit.proofs.ClosedRun.{closing-made, end-asks, end-read, run-made}
 use Rattle.online_commit.proofs.OwnRun.{own-count}
 use Rattle.online_commit.proofs.closing.closing_items.Goals as goal

@@ -2,7 +2,7 @@ use Rattle.std.proofs.Common.{◌+◌, ◌-◌, ◌∷◌, [], ◌++◌, ap, sym
 use Rattle.matching.specs.Layers.{candidate_of_rank}
 use Rattle.route_rebuild.specs.Routes.{no_layer}
 use Rattle.online_commit.specs.declared.items.Item.TheVariants.{At}
-use Rattle.online_commit.specs.Steps.{rank_in, ranked_items}
+use Rattle.online_commit.specs.inside.Steps.{rank_in, ranked_items}
 use Rattle.online_commit.proofs.NextCells.{read-at}
 use Rattle.online_commit.proofs.Settling.{ranked-more, ranked-none}
 use Rattle.online_commit.proofs.closing.labelled.Goals as goal

@@ -1,5 +1,5 @@
 use Rattle.std.proofs.Common.{◌≡◌, ◌-◌}
-use Rattle.online_commit.specs.Steps.{rank_in, ranked_items}
+use Rattle.online_commit.specs.inside.Steps.{rank_in, ranked_items}
 use Rattle.online_commit.proofs.closing.labelled.Given as goal
 
 abbrev pub invariant-loop-point : goal.invariant-loop-point

@@ -1,6 +1,6 @@
 use Rattle.std.proofs.Common.{ℕ, List, sym, ap, ◌∙◌, subst, arith, length}
 use Rattle.std.proofs.lemmas.List.{with_items_is}
-use Rattle.online_commit.specs.Pieces.{IsAppended, Piece, piece_of}
+use Rattle.online_commit.specs.inside.Pieces.{IsAppended, Piece, piece_of}
 use Rattle.online_commit.proofs.Writing.{appended-made}
 use Rattle.online_commit.proofs.feeding.append_point.Goals as goal
 

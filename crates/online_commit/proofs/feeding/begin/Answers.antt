@@ -1,5 +1,5 @@
 use Rattle.std.proofs.Common.{◌<◌, length, sym, subst, arith, rules}
-use Rattle.online_commit.specs.Pieces.{IsExtended, MayGrow, piece_of}
+use Rattle.online_commit.specs.inside.Pieces.{IsExtended, MayGrow, piece_of}
 use Rattle.online_commit.proofs.Anew.{first-grows}
 use Rattle.online_commit.proofs.feeding.begin.Goals as goal
 

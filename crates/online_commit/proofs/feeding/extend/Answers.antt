@@ -1,5 +1,5 @@
 use Rattle.std.proofs.Common.{◌≡◌, ◌+◌, ap, ◌∙◌, subst}
-use Rattle.online_commit.specs.Pieces.{IsAppended, Piece, Settles, piece_of}
+use Rattle.online_commit.specs.inside.Pieces.{IsAppended, Piece, Settles, piece_of}
 use Rattle.online_commit.proofs.Extended.{extended-made}
 use Rattle.online_commit.proofs.feeding.extend.Goals as goal
 

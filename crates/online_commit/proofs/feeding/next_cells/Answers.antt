@@ -1,9 +1,9 @@
 use Rattle.std.proofs.Common.{◌<◌, length, subst, rules, IsTrue}
-use Rattle.bounded_search.proofs.Asking.{asks_done, asks_err, asks_ok}
+use Rattle.bounded_table.proofs.Asking.{asks_done, asks_err, asks_ok}
 use Rattle.matching.specs.Layers.{trellis}
 use Rattle.matching.specs.Local.{IsLeastCell}
 use Rattle.matching.proofs.Chosen.{all_dead}
-use Rattle.online_commit.specs.Pieces.{session_of}
+use Rattle.online_commit.specs.inside.Pieces.{session_of}
 use Rattle.online_commit.proofs.NextCells.{asked-step, dead-ends, last-read, next-costs}
 use Rattle.online_commit.proofs.feeding.next_cells.Goals as goal
 

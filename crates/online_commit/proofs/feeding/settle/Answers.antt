@@ -1,7 +1,7 @@
 use Rattle.std.proofs.Common.{◌+◌, ◌≤◌, ◌∷◌, [], ◌++◌, length, subst}
-use Rattle.online_commit.specs.Masks.{AreMasks, mask_after}
-use Rattle.online_commit.specs.Pieces.{piece_of}
-use Rattle.online_commit.specs.Steps.{AreSettled}
+use Rattle.online_commit.specs.inside.Masks.{AreMasks, mask_after}
+use Rattle.online_commit.specs.inside.Pieces.{piece_of}
+use Rattle.online_commit.specs.inside.Steps.{AreSettled}
 use Rattle.online_commit.proofs.feeding.settle.Goals as goal
 
 -- the calls speak of what is lent to them

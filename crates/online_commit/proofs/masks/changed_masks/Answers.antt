@@ -1,5 +1,5 @@
 use Rattle.std.proofs.Common.{◌≡◌, ◌+◌, ◌-◌, ◌<◌, ◌∷◌, [], ◌++◌, length, get_or, ap, sym, ◌∙◌, subst, arith}
-use Rattle.online_commit.specs.Masks.{IsBehind}
+use Rattle.online_commit.specs.inside.Masks.{IsBehind}
 use Rattle.online_commit.proofs.Changing.{IsChanging, changing-all, changing-begin, changing-more, changing-same}
 use Rattle.online_commit.proofs.NextCells.{read-at}
 use Rattle.online_commit.proofs.masks.changed_masks.Goals as goal

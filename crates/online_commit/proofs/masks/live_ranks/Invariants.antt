@@ -1,6 +1,6 @@
 use Rattle.std.proofs.Common.{◌↔◌, ◌<◌, ℕ}
 use Rattle.matching.specs.Cells.{IsLive}
-use Rattle.online_commit.specs.Masks.{HasBit}
+use Rattle.online_commit.specs.inside.Masks.{HasBit}
 use Rattle.online_commit.proofs.masks.live_ranks.Given as goal
 
 abbrev pub invariant-loop-rank : goal.invariant-loop-rank

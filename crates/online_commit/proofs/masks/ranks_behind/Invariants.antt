@@ -1,6 +1,6 @@
 use Rattle.std.proofs.Common.{◌≡◌, ◌↔◌, ◌<◌, ℕ, Some}
 use Rattle.matching.specs.Cells.{cell_at}
-use Rattle.online_commit.specs.Masks.{HasBit}
+use Rattle.online_commit.specs.inside.Masks.{HasBit}
 use Rattle.online_commit.proofs.masks.ranks_behind.Given as goal
 
 abbrev pub invariant-loop-rank : goal.invariant-loop-rank

@@ -1,7 +1,7 @@
 use Rattle.std.proofs.Common.{◌≡◌, ◌+◌, length, sym, subst, rules}
-use Rattle.online_commit.specs.Pieces.{IsBegun, piece_of, session_of}
+use Rattle.online_commit.specs.inside.Pieces.{IsBegun, piece_of, session_of}
 use Rattle.online_commit.specs.Session.{IsFed, points_of}
-use Rattle.online_commit.specs.Steps.{seen}
+use Rattle.online_commit.specs.inside.Steps.{seen}
 use Rattle.online_commit.proofs.AnewSession.{anew-session}
 use Rattle.online_commit.proofs.Anew.{IsLeft, anew-fed}
 use Rattle.online_commit.proofs.Extended.{begins-anew}

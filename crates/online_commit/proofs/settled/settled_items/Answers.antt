@@ -1,7 +1,7 @@
 use Rattle.std.proofs.Common.{◌+◌, ◌≤◌, ◌∷◌, [], ◌++◌, length, ap, sym, subst, arith}
 use Rattle.std.proofs.lemmas.List.{length_push}
 use Rattle.online_commit.specs.declared.items.Item.TheVariants.{At}
-use Rattle.online_commit.specs.Masks.{IsNotOne, IsOnly, mask_after}
+use Rattle.online_commit.specs.inside.Masks.{IsNotOne, IsOnly, mask_after}
 use Rattle.online_commit.proofs.Settling.{IsSettledSoFar, settled-begin, settled-ends, settled-more}
 use Rattle.online_commit.proofs.settled.settled_items.Goals as goal
 

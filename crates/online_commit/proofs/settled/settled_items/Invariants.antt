@@ -1,5 +1,5 @@
 use Rattle.std.proofs.Common.{◌∷◌, [], ◌++◌}
-use Rattle.online_commit.specs.Masks.{mask_after}
+use Rattle.online_commit.specs.inside.Masks.{mask_after}
 use Rattle.online_commit.proofs.Settling.{IsSettledSoFar}
 use Rattle.online_commit.proofs.settled.settled_items.Given as goal
 

@@ -1,6 +1,6 @@
 use Rattle.std.proofs.Common.{◌≡◌, pos, ◌*ℤ◌, rules, sym, subst, to_z, of_z, w64}
 use Rattle.std.specs.Int.{int_div_euclid}
-use Rattle.polyline_geometry.specs.Parts.{IsPartOf}
+use Rattle.polyline_geometry.specs.inside.Parts.{IsPartOf}
 use Rattle.polyline_geometry.proofs.Parts.{part_between}
 use Rattle.polyline_geometry.proofs.segment.part.Goals as goal
 

@@ -1,7 +1,7 @@
 use Rattle.std.proofs.Common.{Bor, ℕ, List, ◌<◌, All, length, sym, subst, arith, ◌∙◌}
 use Rattle.std.proofs.lemmas.List.{get_or_default}
 use Rattle.std.proofs.lemmas.List.Elements.{All-push}
-use Rattle.potential_certificate.specs.Gathering.{IsPlacedIn, IsReadOf}
+use Rattle.potential_certificate.specs.inside.Gathering.{IsPlacedIn, IsReadOf}
 use Rattle.potential_certificate.proofs.drawing.draw_parts.Goals as goal
 
 pub loop-number-preserved : goal.loop-number-preserved

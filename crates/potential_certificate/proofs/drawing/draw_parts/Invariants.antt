@@ -1,6 +1,6 @@
 use Rattle.std.proofs.Common.{◌≡◌, ◌+◌, ◌-◌, All}
 use Rattle.tickets.specs.Tickets.{IsOpenTicket}
-use Rattle.potential_certificate.specs.Gathering.{IsPlacedIn}
+use Rattle.potential_certificate.specs.inside.Gathering.{IsPlacedIn}
 use Rattle.potential_certificate.proofs.drawing.draw_parts.Given as goal
 
 abbrev pub invariant-loop-number : goal.invariant-loop-number

@@ -1,7 +1,7 @@
 use Rattle.std.proofs.Common.{◌<◌, All, length, length-set, sym, ap, subst, ◌∙◌}
 use Rattle.std.specs.Vec.Iter.{into_iter_items}
 use Rattle.std.proofs.lemmas.List.Elements.{All-tail}
-use Rattle.potential_certificate.specs.Gathering.{put_at_places}
+use Rattle.potential_certificate.specs.inside.Gathering.{put_at_places}
 use Rattle.potential_certificate.specs.declared.drawing.PlacedRead.{PlacedRead}
 use Rattle.potential_certificate.proofs.drawing.put_in.Goals as goal
 

@@ -1,6 +1,6 @@
 use Rattle.std.proofs.Common.{◌≡◌, ◌<◌, All, length}
 use Rattle.std.specs.Vec.Iter.{into_iter_items}
-use Rattle.potential_certificate.specs.Gathering.{put_at_places}
+use Rattle.potential_certificate.specs.inside.Gathering.{put_at_places}
 use Rattle.potential_certificate.specs.declared.drawing.PlacedRead.{PlacedRead}
 use Rattle.potential_certificate.proofs.drawing.put_in.Given as goal
 

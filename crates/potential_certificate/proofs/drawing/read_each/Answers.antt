@@ -4,7 +4,7 @@ use Rattle.std.specs.declared.alloc.AllocError.{AllocError}
 use Rattle.std.proofs.lemmas.List.{with_items_is}
 use Rattle.std.proofs.lemmas.List.Elements.{All-head, All-tail, All-weaker}
 use Rattle.std.proofs.lemmas.Slice.Zip.{AllZip-long}
-use Rattle.potential_certificate.specs.Gathering.{AreEachReadOf, IsPlacedIn, IsReadOf}
+use Rattle.potential_certificate.specs.inside.Gathering.{AreEachReadOf, IsPlacedIn, IsReadOf}
 use Rattle.potential_certificate.specs.declared.drawing.PlacedRead.{PlacedRead}
 use Rattle.potential_certificate.specs.declared.parts.PartRead.{PartRead}
 use Rattle.potential_certificate.proofs.Drawings.{put_each}

@@ -1,6 +1,6 @@
 use Rattle.std.proofs.Common.{All, IfOk}
 use Rattle.std.specs.Vec.Iter.{into_iter_items}
-use Rattle.potential_certificate.specs.Gathering.{AreEachReadOf, IsPlacedIn}
+use Rattle.potential_certificate.specs.inside.Gathering.{AreEachReadOf, IsPlacedIn}
 use Rattle.potential_certificate.proofs.drawing.read_each.Given as goal
 
 abbrev pub invariant-loop-done : goal.invariant-loop-done

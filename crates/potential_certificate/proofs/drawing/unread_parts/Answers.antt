@@ -1,6 +1,6 @@
 use Rattle.std.proofs.Common.{Bor, List, ℕ, ◌+◌, take, sym, subst}
 use Rattle.std.proofs.lemmas.List.{get_or_default}
-use Rattle.potential_certificate.specs.Gathering.{AreEachReadOf, IsReadOf}
+use Rattle.potential_certificate.specs.inside.Gathering.{AreEachReadOf, IsReadOf}
 use Rattle.potential_certificate.specs.declared.parts.PartRead.{PartRead}
 use Rattle.potential_certificate.proofs.Drawings.{zip_more}
 use Rattle.potential_certificate.proofs.drawing.unread_parts.Goals as goal

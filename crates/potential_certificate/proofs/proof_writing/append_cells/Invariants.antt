@@ -1,5 +1,5 @@
 use Rattle.std.proofs.Common.{◌≡◌, ◌++◌, take}
-use Rattle.potential_certificate.specs.Words.{cells_text}
+use Rattle.potential_certificate.specs.inside.Words.{cells_text}
 use Rattle.potential_certificate.proofs.proof_writing.append_cells.Given as goal
 
 abbrev pub invariant-loop-cell : goal.invariant-loop-cell

@@ -1,5 +1,5 @@
 use Rattle.std.proofs.Common.{◌≡◌, ◌+◌, ℕ, List, ap, sym, ◌∙◌}
-use Rattle.bounded_search.specs.Table.{TableRow}
+use Rattle.bounded_table.specs.Table.{TableRow}
 use Rattle.potential_certificate.proofs.RowsRead.{begins, ends, goes_on, read_behind, row_goes_down}
 use Rattle.potential_certificate.proofs.rows.more_rows.Goals as goal
 

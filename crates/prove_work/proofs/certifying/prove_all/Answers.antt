@@ -1,7 +1,7 @@
 use Rattle.std.proofs.Common.{◌≡◌, ◌∙◌, map, subst}
 use Rattle.std.proofs.lemmas.List.{take_all}
-use Rattle.bounded_search.proofs.Asking.{asks_ok}
-use Rattle.trace_match.specs.Asked.{AsksTraces}
+use Rattle.bounded_table.proofs.Asking.{asks_ok}
+use Rattle.trace_match.specs.inside.Asked.{AsksTraces}
 use Rattle.trace_match.specs.Setting.{Setting}
 use Rattle.trace_match.proofs.AskedRows.{asks_next, asks_none}
 use Rattle.prove_work.specs.Certificates.{proof_of}

@@ -1,5 +1,5 @@
 use Rattle.std.proofs.Common.{◌≡◌, map, take}
-use Rattle.trace_match.specs.Asked.{AsksTraces}
+use Rattle.trace_match.specs.inside.Asked.{AsksTraces}
 use Rattle.prove_work.specs.Certificates.{proof_of}
 use Rattle.prove_work.proofs.certifying.prove_all.Given as goal
 

@@ -1,6 +1,6 @@
 use Rattle.std.proofs.Common.{◌∙◌, ap}
 use Rattle.std.proofs.lemmas.Result.{IfOk-weaker}
-use Rattle.bounded_search.proofs.Asking.{asks_done, asks_err, asks_ok}
+use Rattle.bounded_table.proofs.Asking.{asks_done, asks_err, asks_ok}
 use Rattle.potential_certificate.specs.declared.proof.TraceProof.{TraceProof}
 use Rattle.prove_work.proofs.TraceProofs.{proof_made}
 use Rattle.prove_work.proofs.certifying.prove_trace.Goals as goal

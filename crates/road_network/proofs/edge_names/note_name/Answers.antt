@@ -1,7 +1,7 @@
 use Rattle.std.proofs.lemmas.Result.{err_from_is_err_and}
 use Rattle.std.proofs.Common.{refl}
 use Rattle.std.proofs.Common.{◌∙◌, Some, not, sym, ap}
-use Rattle.road_network.specs.EdgeNames.{HasNames, names_of}
+use Rattle.road_network.specs.inside.EdgeNames.{HasNames, names_of}
 use Rattle.road_network.proofs.KeptNames.{kept-none, kept-set, more-names, next-is-new, next-is-last}
 use Rattle.road_network.proofs.edge_names.note_name.Goals as goal
 use Rattle.road_network.proofs.edge_names.note_name.Goals.{in-Some, in-None+else-is_next+in_ok-set-in-None}

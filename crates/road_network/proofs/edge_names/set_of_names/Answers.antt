@@ -1,7 +1,7 @@
 use Rattle.std.proofs.Common.{refl, take, get_or}
 use Rattle.std.proofs.lemmas.List.{map_more, take_all}
 use Rattle.road_network.specs.declared.StoredEdge.{StoredEdge}
-use Rattle.road_network.specs.EdgeNames.{names_of}
+use Rattle.road_network.specs.inside.EdgeNames.{names_of}
 use Rattle.road_network.proofs.KeptNames.{more-names}
 use Rattle.road_network.proofs.edge_names.set_of_names.Goals as goal
 

@@ -1,7 +1,7 @@
 use Rattle.std.proofs.Common.{◌∙◌, ◌+◌, sym, ap, take, arith}
 use Rattle.std.proofs.lemmas.List.{take_rest}
 use Rattle.road_network.specs.NetworkFile.{line_of, point_of}
-use Rattle.road_network.specs.Rows.{with_point}
+use Rattle.road_network.specs.inside.Rows.{with_point}
 use Rattle.road_network.proofs.Points.{before-none, line-cut, line-whole, whole-none}
 use Rattle.road_network.proofs.fields.first_part.Goals as goal
 

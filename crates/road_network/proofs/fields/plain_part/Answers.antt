@@ -1,7 +1,7 @@
 use Rattle.std.proofs.Common.{◌≡◌, ◌<◌, ◌+◌, ◌∙◌, Ok, [], sym, ap, take, length, arith}
 use Rattle.std.proofs.lemmas.List.{take_all, take_rest}
 use Rattle.road_network.specs.NetworkFile.{line_of}
-use Rattle.road_network.specs.Rows.{with_point}
+use Rattle.road_network.specs.inside.Rows.{with_point}
 use Rattle.road_network.proofs.Points.{line-cut, line-whole, none-within, plain-within}
 use Rattle.road_network.proofs.fields.plain_part.Goals as goal
 

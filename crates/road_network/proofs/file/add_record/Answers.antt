@@ -1,9 +1,9 @@
 use Rattle.std.proofs.Common.{◌≡◌, ◌∙◌, ap, sym}
 use Rattle.std.proofs.lemmas.Result.{err_from_is_err_and, on_ok_weaker}
 use Rattle.csv.specs.Records.{fields_of}
-use Rattle.road_network.specs.Drafted.{drafted, AddsRow}
+use Rattle.road_network.specs.inside.Drafted.{drafted, AddsRow}
 use Rattle.road_network.specs.NetworkFile.{add_record, add_row}
-use Rattle.road_network.specs.Rows.{row_with}
+use Rattle.road_network.specs.inside.Rows.{row_with}
 use Rattle.road_network.proofs.Adding.{record-read, record-refused}
 use Rattle.road_network.proofs.file.add_record.Goals as goal
 

@@ -1,8 +1,8 @@
 use Rattle.std.proofs.Common.{◌∙◌, Ok, sym, ap}
 use Rattle.std.proofs.lemmas.Result.{IfOk-weaker, err_from_is_err_and}
 use Rattle.csv.specs.Records.{fields_of}
-use Rattle.road_network.specs.Between.{records_left}
-use Rattle.road_network.specs.Drafted.{drafted}
+use Rattle.road_network.specs.inside.Between.{records_left}
+use Rattle.road_network.specs.inside.Drafted.{drafted}
 use Rattle.road_network.specs.NetworkFile.{add_records}
 use Rattle.road_network.proofs.Adding.{records-end, records-more, records-refused}
 use Rattle.road_network.proofs.file.read_edges.Goals as goal

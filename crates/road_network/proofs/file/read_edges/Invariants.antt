@@ -1,6 +1,6 @@
 use Rattle.std.proofs.Common.{◌≡◌, length}
-use Rattle.road_network.specs.Between.{IsBetween, records_left, text_left}
-use Rattle.road_network.specs.Drafted.{IsDraft, drafted}
+use Rattle.road_network.specs.inside.Between.{IsBetween, records_left, text_left}
+use Rattle.road_network.specs.inside.Drafted.{IsDraft, drafted}
 use Rattle.road_network.specs.NetworkFile.{add_records, no_net}
 use Rattle.road_network.proofs.file.read_edges.Given as goal
 

@@ -1,6 +1,6 @@
 use Rattle.std.proofs.Common.{◌≡◌, Some, ◌≤◌, ◌<◌, ◌∙◌, length, ap, sym, arith}
 use Rattle.csv.specs.Reading.{strip_bom}
-use Rattle.road_network.specs.Between.{records_left}
+use Rattle.road_network.specs.inside.Between.{records_left}
 use Rattle.road_network.specs.Limits.{file_limit}
 use Rattle.road_network.specs.NetworkFile.{network_of, network_of_records}
 use Rattle.road_network.proofs.Adding.{file-long, file-short}

@@ -1,7 +1,7 @@
 use Rattle.std.proofs.lemmas.Result.{err_from_is_err_and}
 use Rattle.std.proofs.Common.{◌∙◌, sym}
 use Rattle.csv.specs.Records.{fields_of}
-use Rattle.road_network.specs.Between.{records_left}
+use Rattle.road_network.specs.inside.Between.{records_left}
 use Rattle.road_network.proofs.Adding.{network-empty, network-headless, network-read}
 use Rattle.road_network.proofs.file.read_records.Goals as goal
 

@@ -1,15 +1,15 @@
 use Rattle.std.proofs.Common.{◌≤◌, ◌+◌, ◌++◌, ◌∷◌, [], List, Result, Ok, Err, OnOk, ap, reverse, sym, subst, ◌∙◌, arith}
 use Rattle.std.proofs.lemmas.Bool.{eqb-true}
 use Rattle.std.proofs.lemmas.Bool.Decides.{nat_tests}
-use Rattle.bounded_search.specs.Table.{entry_in, label_of}
-use Rattle.bounded_search.proofs.Asking.{asks_done, asks_err, asks_known, asks_ok}
+use Rattle.bounded_table.specs.Table.{entry_in, label_of}
+use Rattle.bounded_table.proofs.Asking.{asks_done, asks_err, asks_known, asks_ok}
 use Rattle.matching.specs.Routes.{Direct, IsRoute}
 use Rattle.road_network.specs.Net.{HasEdge, source, target}
 use Rattle.road_network.specs.Walk.{IsLeastWalk, IsWalk, walk_length}
 use Rattle.road_network.specs.declared.Candidate.{Candidate}
 use Rattle.road_network.specs.declared.EdgeId.{EdgeId}
 use Rattle.route_rebuild.specs.Numbers.{numbers}
-use Rattle.route_rebuild.specs.Runs.{HasWalk, IsDirectLeg}
+use Rattle.route_rebuild.specs.inside.Runs.{HasWalk, IsDirectLeg}
 use Rattle.route_rebuild.proofs.RouteSoFar.{asks_walk, direct_leg, leg_edges, leg_walk, offset_fits, walk_leg}
 use Rattle.route_rebuild.proofs.StepsBack.{is_there}
 use Rattle.route_rebuild.proofs.routes.append_leg.Goals as goal

@@ -1,7 +1,7 @@
 use Rattle.std.proofs.Common.{◌≡◌, ◌+◌, ◌<◌, arith}
-use Rattle.bounded_search.proofs.Asking.{all_by, all_then, asks_done, asks_err, asks_nothing, only_then}
+use Rattle.bounded_table.proofs.Asking.{all_by, all_then, asks_done, asks_err, asks_nothing, only_then}
 use Rattle.route_rebuild.specs.Numbers.{numbers}
-use Rattle.route_rebuild.specs.Runs.{IsWalkStartOf}
+use Rattle.route_rebuild.specs.inside.Runs.{IsWalkStartOf}
 use Rattle.route_rebuild.proofs.RouteSoFar.{so_far_end, so_far_more, start_all, start_more, start_of, start_split}
 use Rattle.route_rebuild.proofs.routes.follow.Goals as goal
 

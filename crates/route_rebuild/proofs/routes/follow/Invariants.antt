@@ -1,4 +1,4 @@
-use Rattle.bounded_search.specs.Rows.{AsksAll}
+use Rattle.bounded_table.specs.Rows.{AsksAll}
 use Rattle.route_rebuild.specs.Numbers.{numbers}
 use Rattle.route_rebuild.proofs.RouteSoFar.{IsSoFar, IsWalkStartBefore}
 use Rattle.route_rebuild.proofs.routes.follow.Given as goal

@@ -1,5 +1,5 @@
 use Rattle.std.proofs.lemmas.Result.{IfOk-weaker}
-use Rattle.bounded_search.proofs.Asking.{asks_by}
+use Rattle.bounded_table.proofs.Asking.{asks_by}
 use Rattle.route_rebuild.specs.Numbers.{numbers}
 use Rattle.route_rebuild.specs.Routes.{piece_at}
 use Rattle.route_rebuild.proofs.ChosenRun.{chosen_run}

@@ -1,4 +1,4 @@
-use Rattle.bounded_search.proofs.Asking.{asks_done, asks_err, asks_ok, asks_twice}
+use Rattle.bounded_table.proofs.Asking.{asks_done, asks_err, asks_ok, asks_twice}
 use Rattle.route_rebuild.proofs.routes.walk_between.Goals as goal
 
 pub returns-in_err-row-clause-asks : goal.returns-in_err-row-clause-asks

@@ -3,8 +3,8 @@ use Rattle.std.proofs.lemmas.Option.{same_Some}
 use Rattle.std.specs.Option.{IsSome}
 use Rattle.road_network.specs.Net.{source}
 use Rattle.road_network.specs.Walk.{IsLeastWalk}
-use Rattle.bounded_search.specs.declared.table_row.Entry.{Entry}
-use Rattle.bounded_search.specs.Table.{entry_in}
+use Rattle.bounded_table.specs.declared.table_row.Entry.{Entry}
+use Rattle.bounded_table.specs.Table.{entry_in}
 use Rattle.route_rebuild.specs.Numbers.{numbers}
 use Rattle.route_rebuild.proofs.StepsBack.{IsStep, found_entry, step_back, numbers_push}
 use Rattle.route_rebuild.proofs.walks.walk_back.Invariants.{distance_of}

@@ -1,7 +1,7 @@
 use Rattle.std.proofs.Common.{◌++◌, ℕ, List, Option, Some, None}
 use Rattle.road_network.specs.Walk.{IsLeastWalk}
-use Rattle.bounded_search.specs.declared.table_row.Entry.{Entry}
-use Rattle.bounded_search.specs.Table.{IsRow}
+use Rattle.bounded_table.specs.declared.table_row.Entry.{Entry}
+use Rattle.bounded_table.specs.Table.{IsRow}
 use Rattle.route_rebuild.specs.Numbers.{numbers}
 use Rattle.route_rebuild.proofs.StepsBack.{IsFound}
 use Rattle.route_rebuild.proofs.walks.walk_back.Given as goal

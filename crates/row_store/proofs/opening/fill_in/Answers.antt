@@ -1,6 +1,6 @@
 use Rattle.std.proofs.Common.{sym, true≢false, refl, subst, ◌∙◌, arith}
 use Rattle.row_store.specs.Store.{Viewing}
-use Rattle.row_store.specs.Views.{Fills, viewing_of}
+use Rattle.row_store.specs.inside.Views.{Fills, viewing_of}
 use Rattle.row_store.proofs.Places.{on_ok}
 use Rattle.row_store.proofs.Opened.{seen_open, seen_some}
 use Rattle.row_store.proofs.opening.fill_in.Goals as goal

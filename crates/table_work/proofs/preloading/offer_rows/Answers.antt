@@ -2,7 +2,7 @@ use Rattle.std.proofs.Common.{◌≡◌, Ok, List, ap, length, subst, ◌∙◌,
 use Rattle.std.proofs.lemmas.List.Elements.{All-rest}
 use Rattle.std.proofs.lemmas.Result.{err_from_is_err_and}
 use Rattle.std.specs.Vec.Iter.{into_iter_items}
-use Rattle.bounded_search.specs.Table.{BoundedTable, TableRow}
+use Rattle.bounded_table.specs.Table.{BoundedTable, TableRow}
 use Rattle.program_frame.specs.Loads.{Refuses}
 use Rattle.program_frame.specs.declared.stop.Refusal.TheVariants.{Table}
 use Rattle.road_network.specs.Net.{HasNode}

@@ -1,6 +1,6 @@
 use Rattle.std.proofs.Common.{◌≡◌, All, length}
 use Rattle.std.specs.Vec.Iter.{into_iter_items, into_iter_len}
-use Rattle.bounded_search.specs.Table.{TableRow}
+use Rattle.bounded_table.specs.Table.{TableRow}
 use Rattle.road_network.specs.Net.{HasNode}
 use Rattle.table_work.specs.Preload.{rows_said}
 use Rattle.table_work.proofs.preloading.offer_rows.Given as goal

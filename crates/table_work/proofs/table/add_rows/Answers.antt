@@ -1,6 +1,6 @@
 use Rattle.std.proofs.Common.{◌<◌, length, subst, ◌∙◌, arith}
 use Rattle.std.proofs.lemmas.Result.{err_from_is_err_and}
-use Rattle.bounded_search.specs.Table.{BoundedTable, IsRow}
+use Rattle.bounded_table.specs.Table.{BoundedTable, IsRow}
 use Rattle.table_work.proofs.TableRows.{row_added, row_fails}
 use Rattle.table_work.proofs.table.add_rows.Goals as goal
 

@@ -1,5 +1,5 @@
 use Rattle.std.proofs.Common.{◌≡◌}
-use Rattle.table_work.specs.TableDone.{with_rows}
+use Rattle.table_work.specs.inside.TableDone.{with_rows}
 use Rattle.table_work.proofs.table.add_rows.Given as goal
 
 -- the rows of the nodes so far were added

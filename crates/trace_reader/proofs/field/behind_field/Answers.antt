@@ -1,6 +1,6 @@
 use Rattle.std.proofs.Common.{◌+◌, ◌∷◌, ◌∙◌, ap, sym, arith}
 use Rattle.std.proofs.lemmas.List.{take_rest}
-use Rattle.trace_reader.specs.FirstField.{first_of}
+use Rattle.trace_reader.specs.inside.FirstField.{first_of}
 use Rattle.trace_reader.specs.Row.{fields_of}
 use Rattle.trace_reader.proofs.Plain.{first-all, fields-all, first-comma, fields-comma}
 use Rattle.trace_reader.proofs.field.behind_field.Goals as goal

@@ -1,6 +1,6 @@
 use Rattle.std.proofs.Common.{◌≡◌, ◌-◌, ◌+◌, ◌∙◌, ◌∷◌, ap, sym, take, drop, length, arith}
 use Rattle.std.proofs.lemmas.Grind.{common_steps}
-use Rattle.trace_reader.specs.FirstField.{first_of}
+use Rattle.trace_reader.specs.inside.FirstField.{first_of}
 use Rattle.trace_reader.specs.Row.{fields_of}
 use Rattle.trace_reader.proofs.Fields.{first-place, fields-place, first-whole, fields-whole}
 use Rattle.trace_reader.proofs.field.first_field.Goals as goal

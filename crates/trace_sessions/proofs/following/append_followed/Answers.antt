@@ -1,7 +1,7 @@
 use Rattle.std.proofs.Common.{◌≡◌, ◌≤◌, ◌+◌, true, ◌∙◌, sym, ap, subst, arith, length}
 use Rattle.std.proofs.lemmas.List.{length-map}
-use Rattle.bounded_search.specs.Rows.{AsksAll}
-use Rattle.bounded_search.proofs.Asking.{asks_done, asks_err, asks_nothing}
+use Rattle.bounded_table.specs.Rows.{AsksAll}
+use Rattle.bounded_table.proofs.Asking.{asks_done, asks_err, asks_nothing}
 use Rattle.trace_match.specs.Match.{asks, layer_of}
 use Rattle.online_commit.specs.Session.{AsksPoints}
 use Rattle.trace_sessions.specs.Following.{pieces_among}

@@ -1,5 +1,5 @@
 use Rattle.std.proofs.Common.{◌≡◌, ◌++◌}
-use Rattle.bounded_search.specs.Rows.{AsksAll}
+use Rattle.bounded_table.specs.Rows.{AsksAll}
 use Rattle.online_commit.specs.Session.{AsksPoints}
 use Rattle.trace_sessions.proofs.FollowedPoints.{HasFollowed, first_layers}
 use Rattle.trace_sessions.proofs.FollowedText.{text_so_far}

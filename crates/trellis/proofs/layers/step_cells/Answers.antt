@@ -1,5 +1,5 @@
 use Rattle.std.proofs.Common.{◌≡◌, ◌+◌, ◌∙◌, length, drop, refl, rules}
-use Rattle.bounded_search.proofs.Asking.{asks_done, asks_err, asks_ok}
+use Rattle.bounded_table.proofs.Asking.{asks_done, asks_err, asks_ok}
 use Rattle.trellis.proofs.Learning.{all_more, asks_any, asks_dead, asks_more, only_any}
 use Rattle.trellis.proofs.OfferedCells.{asks_origin, offer_taken, passed_over}
 use Rattle.trellis.proofs.layers.step_cells.Goals as goal

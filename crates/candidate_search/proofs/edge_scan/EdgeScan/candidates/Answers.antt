@@ -2,8 +2,8 @@ use Rattle.std.proofs.Common.{◌≡◌, [], List, All, ap, map, vec_len, length
 use Rattle.std.proofs.lemmas.List.{length-replicate, with_items_is}
 use Rattle.road_network.specs.Near.{candidates}
 use Rattle.candidate_search.specs.declared.boxes.EdgeBox.{EdgeBox}
-use Rattle.candidate_search.specs.Boxes.{AreBoxesFor}
-use Rattle.candidate_search.specs.Placed.{AreWritten, IsAsked, IsPlaced}
+use Rattle.candidate_search.specs.inside.Boxes.{AreBoxesFor}
+use Rattle.candidate_search.specs.inside.Placed.{AreWritten, IsAsked, IsPlaced}
 use Rattle.candidate_search.proofs.Shared.{all_enough}
 use Rattle.candidate_search.proofs.Written.{Lists, all_asked, all_written}
 use Rattle.candidate_search.proofs.edge_scan.EdgeScan.candidates.Goals as goal

@@ -1,7 +1,7 @@
 use Rattle.std.proofs.Common.{◌++◌, ◌∷◌, [], List, sym, subst}
 use Rattle.std.specs.List.Sorted.{IsPermutation}
 use Rattle.candidate_search.specs.declared.placed.Placed.{Placed}
-use Rattle.candidate_search.specs.Placed.{both}
+use Rattle.candidate_search.specs.inside.Placed.{both}
 use Rattle.candidate_search.proofs.Parts.{one_more_below}
 use Rattle.candidate_search.proofs.placed.Halves.take.Goals as goal
 

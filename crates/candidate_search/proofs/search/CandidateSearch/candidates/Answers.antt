@@ -1,7 +1,7 @@
 use Rattle.std.proofs.Common.{All, ap, map, ◌∙◌, subst, sym}
 use Rattle.polyline_geometry.specs.declared.plane.Point.{Point}
 use Rattle.road_network.specs.Near.{candidates}
-use Rattle.candidate_search.specs.Nearest.{IsNearestOn}
+use Rattle.candidate_search.specs.inside.Nearest.{IsNearestOn}
 use Rattle.candidate_search.proofs.Reached.{made, made_nearest, nearest_are, nearest_on}
 use Rattle.candidate_search.proofs.search.CandidateSearch.candidates.Goals as goal
 

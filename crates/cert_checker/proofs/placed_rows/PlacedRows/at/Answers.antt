@@ -1,6 +1,6 @@
 use Rattle.std.proofs.Common.{◌<◌, List, length, slice_index_or, sym, ap, ◌∙◌, subst}
 use Rattle.std.proofs.lemmas.List.{get_or_default}
-use Rattle.bounded_search.specs.Table.{TableRow}
+use Rattle.bounded_table.specs.Table.{TableRow}
 use Rattle.cert_checker.proofs.placed_rows.PlacedRows.at.Goals as goal
 
 pub returns : goal.returns

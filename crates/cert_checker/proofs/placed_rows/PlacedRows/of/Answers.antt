@@ -1,6 +1,6 @@
 use Rattle.std.proofs.Common.{◌≡◌, ◌<◌, ◌+◌, length, get_or, length-set, sym, ap, ◌∙◌, subst, arith}
 use Rattle.std.proofs.lemmas.List.{get_or_default}
-use Rattle.bounded_search.specs.Table.{TableRow}
+use Rattle.bounded_table.specs.Table.{TableRow}
 use Rattle.cert_checker.proofs.RightRows.{no_row}
 use Rattle.cert_checker.proofs.RowsAtPlaces.{place_at_most, right_node}
 use Rattle.cert_checker.proofs.ToldPlaces.{TellPlaces, all_placed, one_placed}

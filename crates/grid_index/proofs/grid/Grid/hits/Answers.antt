@@ -1,6 +1,6 @@
 use Rattle.std.proofs.Common.{subst}
 use Rattle.grid_index.specs.GridOf.{AreHits, GridOf}
-use Rattle.grid_index.specs.Table.{grid_of}
+use Rattle.grid_index.specs.inside.Table.{grid_of}
 use Rattle.grid_index.proofs.Gathering.{gathers_hits}
 use Rattle.grid_index.proofs.grid.Grid.hits.Goals as goal
 

@@ -1,5 +1,5 @@
 use Rattle.std.proofs.Common.{inr, arith}
-use Rattle.grid_index.specs.Table.{grid_of}
+use Rattle.grid_index.specs.inside.Table.{grid_of}
 use Rattle.grid_index.proofs.Gathering.{gathers_higher, gathers_none, gathers_row}
 use Rattle.grid_index.proofs.table.Table.gather.Goals as goal
 

@@ -1,5 +1,5 @@
 use Rattle.road_network.specs.Net.{Net}
-use Rattle.grid_index.specs.Table.{Gathers, grid_of}
+use Rattle.grid_index.specs.inside.Table.{Gathers, grid_of}
 use Rattle.grid_index.proofs.table.Table.gather.Given as goal
 
 abbrev pub invariant-loop-row : goal.invariant-loop-row

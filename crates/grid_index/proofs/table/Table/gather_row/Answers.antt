@@ -2,7 +2,7 @@ use Rattle.std.proofs.Common.{◌+◌, ◌∙◌, [], All, inl, arith, subst, sy
 use Rattle.road_network.specs.Net.{Net}
 use Rattle.grid_index.specs.Cells.{slot}
 use Rattle.grid_index.specs.Runs.{HasCorners}
-use Rattle.grid_index.specs.Table.{grid_of}
+use Rattle.grid_index.specs.inside.Table.{grid_of}
 use Rattle.grid_index.proofs.Gathering.{gathers_cell, gathers_more, gathers_none}
 use Rattle.grid_index.proofs.LaidOut.{all_at}
 use Rattle.grid_index.proofs.Parts.{runs_are}

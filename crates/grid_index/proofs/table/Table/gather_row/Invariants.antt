@@ -1,6 +1,6 @@
 use Rattle.std.proofs.Common.{◌+◌}
 use Rattle.road_network.specs.Net.{Net}
-use Rattle.grid_index.specs.Table.{Gathers, grid_of}
+use Rattle.grid_index.specs.inside.Table.{Gathers, grid_of}
 use Rattle.grid_index.proofs.table.Table.gather_row.Given as goal
 
 abbrev pub invariant-loop-column : goal.invariant-loop-column

@@ -1,8 +1,8 @@
 use Rattle.std.proofs.Common.{◌+◌, ◌*◌, subst, sym, refl}
 use Rattle.grid_index.specs.declared.entries.Entry.{Entry}
 use Rattle.grid_index.specs.GridOf.{IsGrid}
-use Rattle.grid_index.specs.Starts.{AreStarts}
-use Rattle.grid_index.specs.Table.{rows_of}
+use Rattle.grid_index.specs.inside.Starts.{AreStarts}
+use Rattle.grid_index.specs.inside.Table.{rows_of}
 use Rattle.grid_index.proofs.LaidOut.{table_of}
 use Rattle.std.specs.List.Sorted.{IsNonDecreasingBy}
 use Rattle.grid_index.proofs.table.Table.of.Goals as goal

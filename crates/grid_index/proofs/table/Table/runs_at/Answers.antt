@@ -1,5 +1,5 @@
 use Rattle.std.proofs.Common.{◌∙◌, sym, ap, ap₂, take, drop, ◌-◌, length, arith}
-use Rattle.grid_index.specs.Table.{members_at}
+use Rattle.grid_index.specs.inside.Table.{members_at}
 use Rattle.grid_index.proofs.Parts.{is_part, runs_are}
 use Rattle.std.proofs.lemmas.List.{get_or_default}
 use Rattle.grid_index.proofs.table.Table.runs_at.Goals as goal

@@ -1,5 +1,5 @@
 use Rattle.std.proofs.Common.{◌≡◌, ◌∙◌, ◌<◌, ℕ, length, refl, sym, subst, arith}
-use Rattle.match_pool.specs.WorkerSet.{DrewFrom}
+use Rattle.match_pool.specs.inside.WorkerSet.{DrewFrom}
 use Rattle.match_pool.specs.Drawing.{job_of}
 use Rattle.match_pool.proofs.Lists.{default_same}
 use Rattle.match_pool.proofs.Draws.{reads_none, reads_then, drew_more, drew_none}

@@ -1,4 +1,4 @@
-use Rattle.match_pool.specs.WorkerSet.{DrewFrom}
+use Rattle.match_pool.specs.inside.WorkerSet.{DrewFrom}
 use Rattle.match_pool.specs.Drawing.{job_of}
 use Rattle.match_pool.specs.Working.{ReadsWithin}
 use Rattle.match_pool.proofs.worker_set.Worker.take_turns.Given as goal

@@ -1,7 +1,7 @@
 use Rattle.std.proofs.Common.{◌∷◌, [], ◌++◌, List, length, map, refl, rules, sym, ap, ◌∙◌, arith}
 use Rattle.std.proofs.lemmas.List.{map-append}
 use Rattle.row_store.specs.Store.{Reading}
-use Rattle.match_pool.specs.WorkerSet.{reader_of, turns_of}
+use Rattle.match_pool.specs.inside.WorkerSet.{reader_of, turns_of}
 use Rattle.match_pool.specs.declared.worker_set.Worker.{Worker}
 use Rattle.match_pool.specs.declared.turn.Turn.{Turn}
 use Rattle.match_pool.proofs.Yields.{ends, goes_on}

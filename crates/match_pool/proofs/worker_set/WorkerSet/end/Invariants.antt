@@ -1,6 +1,6 @@
 use Rattle.std.proofs.Common.{◌≡◌, ◌+◌, ◌≤◌, ◌++◌, length, map, vec_len, vec_capacity}
 use Rattle.std.specs.Vec.Iter.{into_iter_items, into_iter_len}
-use Rattle.match_pool.specs.WorkerSet.{reader_of, turns_of}
+use Rattle.match_pool.specs.inside.WorkerSet.{reader_of, turns_of}
 use Rattle.match_pool.proofs.worker_set.WorkerSet.end.Given as goal
 
 abbrev pub invariant-loop-worker : goal.invariant-loop-worker

@@ -1,7 +1,7 @@
 use Rattle.std.proofs.Common.{◌≡◌, List, length, vec_len, rules, sym, ap, subst, arith}
 use Rattle.std.specs.List.{AllZip}
 use Rattle.std.proofs.lemmas.List.{with_items_is}
-use Rattle.match_pool.specs.WorkerSet.{Ran}
+use Rattle.match_pool.specs.inside.WorkerSet.{Ran}
 use Rattle.match_pool.specs.Drawing.{job_of}
 use Rattle.match_pool.specs.declared.worker_set.Worker.{Worker}
 use Rattle.match_pool.proofs.Yields.{zip_from}

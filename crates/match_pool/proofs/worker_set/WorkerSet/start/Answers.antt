@@ -3,7 +3,7 @@ use Rattle.std.proofs.lemmas.List.{length-map, map-append}
 use Rattle.std.proofs.lemmas.List.Elements.{All-contains_itself, All-nil, All-push}
 use Rattle.tickets.proofs.Moves.{all_front, all_last}
 use Rattle.row_store.specs.Store.{Reading}
-use Rattle.match_pool.specs.WorkerSet.{reader_of}
+use Rattle.match_pool.specs.inside.WorkerSet.{reader_of}
 use Rattle.match_pool.specs.declared.worker_set.Worker.{Worker}
 use Rattle.match_pool.specs.declared.turn.Turn.{Turn}
 use Rattle.match_pool.proofs.Yields.{ends, goes_on}

@@ -1,6 +1,6 @@
 use Rattle.std.proofs.Common.{◌≡◌, ◌+◌, ◌≤◌, ◌++◌, All, Contains, length, map, vec_len, vec_capacity}
 use Rattle.std.specs.Vec.Iter.{into_iter_items, into_iter_len}
-use Rattle.match_pool.specs.WorkerSet.{reader_of}
+use Rattle.match_pool.specs.inside.WorkerSet.{reader_of}
 use Rattle.match_pool.specs.declared.worker_set.Worker.{Worker}
 use Rattle.match_pool.proofs.worker_set.WorkerSet.start.Given as goal
 

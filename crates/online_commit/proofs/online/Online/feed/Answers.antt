@@ -1,9 +1,9 @@
 use Rattle.std.proofs.Common.{Some, IfOk, sym, subst}
-use Rattle.bounded_search.proofs.Asking.{asks_nothing, asks_ok}
+use Rattle.bounded_table.proofs.Asking.{asks_nothing, asks_ok}
 use Rattle.matching.specs.PieceSteps.{AsksIn}
-use Rattle.online_commit.specs.Pieces.{piece_of, session_of}
+use Rattle.online_commit.specs.inside.Pieces.{piece_of, session_of}
 use Rattle.online_commit.specs.Session.{AsksFed, IsFed}
-use Rattle.online_commit.specs.Steps.{TellsCells, seen}
+use Rattle.online_commit.specs.inside.Steps.{TellsCells, seen}
 use Rattle.online_commit.proofs.Extended.{fed-grown, goes-on, still-session}
 use Rattle.online_commit.proofs.Extending.{may-grow}
 use Rattle.online_commit.proofs.FedAsking.{done-asks, failed-asks}

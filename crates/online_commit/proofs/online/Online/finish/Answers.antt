@@ -1,7 +1,7 @@
 use Rattle.std.proofs.Common.{subst, ap}
-use Rattle.online_commit.specs.Pieces.{session_of, session_with}
+use Rattle.online_commit.specs.inside.Pieces.{session_of, session_with}
 use Rattle.online_commit.specs.Session.{AsksFinished, IsFinished}
-use Rattle.online_commit.specs.Steps.{seen}
+use Rattle.online_commit.specs.inside.Steps.{seen}
 use Rattle.online_commit.proofs.ClosedSession.{finished-made}
 use Rattle.online_commit.proofs.FedAsking.{finished-asks}
 use Rattle.online_commit.proofs.online.Online.finish.Goals as goal

@@ -1,7 +1,7 @@
 use Rattle.std.proofs.Common.{[], sym, subst}
-use Rattle.online_commit.specs.Pieces.{session_with}
+use Rattle.online_commit.specs.inside.Pieces.{session_with}
 use Rattle.online_commit.specs.Session.{StandsFor}
-use Rattle.online_commit.specs.Steps.{seen}
+use Rattle.online_commit.specs.inside.Steps.{seen}
 use Rattle.online_commit.proofs.Opened.{opened-stands}
 use Rattle.online_commit.proofs.online.Online.open.Goals as goal
 

@@ -1,7 +1,7 @@
 use Rattle.std.proofs.Common.{◌++◌, List, refl, rules, ap, ◌∙◌}
 use Rattle.std.proofs.lemmas.Result.{on_ok_weaker}
-use Rattle.bounded_search.specs.Table.{TableRow}
-use Rattle.potential_certificate.specs.Gathering.{GoesOn}
+use Rattle.bounded_table.specs.Table.{TableRow}
+use Rattle.potential_certificate.specs.inside.Gathering.{GoesOn}
 use Rattle.potential_certificate.specs.declared.proof.TraceProof.{TraceProof}
 use Rattle.potential_certificate.proofs.Gatherings.{added, extended}
 use Rattle.potential_certificate.proofs.gathered.Gathered.add.Goals as goal

@@ -1,7 +1,7 @@
 use Rattle.std.proofs.Common.{◌≡◌, arith, subst, sym}
 use Rattle.std.specs.List.{AllByRecursion}
 use Rattle.std.specs.Vec.Iter.{into_iter_items}
-use Rattle.potential_certificate.specs.Gathering.{IsPartRead}
+use Rattle.potential_certificate.specs.inside.Gathering.{IsPartRead}
 use Rattle.potential_certificate.proofs.Gatherings.{Adding, adding_begins, adding_ends, adding_on}
 use Rattle.potential_certificate.proofs.gathered.Gathered.add_items.Goals as goal
 

@@ -1,10 +1,10 @@
 use Rattle.std.proofs.Common.{◌≡◌, ◌+◌, ◌++◌, ◌∷◌, [], ◌∙◌, true, false, not, None, Ok, refl, length, sym, ap, rules, arith}
 use Rattle.std.proofs.lemmas.Result.{err_from_is_err_and}
-use Rattle.road_network.specs.Drafted.{drafted}
+use Rattle.road_network.specs.inside.Drafted.{drafted}
 use Rattle.road_network.specs.NetworkFile.{first_fault, has_name, line_faults, nodes_with, place_of, with_node, with_row}
-use Rattle.road_network.specs.Rows.{row_with}
+use Rattle.road_network.specs.inside.Rows.{row_with}
 use Rattle.road_network.specs.Net.{point_count}
-use Rattle.road_network.specs.Stored.{edge_of, net_of}
+use Rattle.road_network.specs.inside.Stored.{edge_of, net_of}
 use Rattle.road_network.specs.declared.StoredEdge.{StoredEdge}
 use Rattle.road_network.proofs.Names.{mentioned, stays-at}
 use Rattle.std.proofs.lemmas.List.{length-map}

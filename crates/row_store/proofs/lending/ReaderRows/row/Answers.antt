@@ -1,11 +1,11 @@
 use Rattle.std.proofs.Common.{◌≡◌, ◌∙◌, ap, refl, sym, subst, true≢false}
 use Rattle.std.proofs.lemmas.Result.{IfOk-from_err}
-use Rattle.bounded_search.specs.Rows.{AsksAll, AsksFor}
-use Rattle.bounded_search.specs.Table.{IsRow}
-use Rattle.bounded_search.proofs.Asking.{asks_done, asks_err, asks_ok}
-use Rattle.row_store.specs.ReaderInside.{reading_of}
+use Rattle.bounded_table.specs.Rows.{AsksAll, AsksFor}
+use Rattle.bounded_table.specs.Table.{IsRow}
+use Rattle.bounded_table.proofs.Asking.{asks_done, asks_err, asks_ok}
+use Rattle.row_store.specs.inside.ReaderInside.{reading_of}
 use Rattle.row_store.specs.Store.{Reading, SeesRow, SlotSet, Viewing, rows_state, table_of, table_slots}
-use Rattle.row_store.specs.Views.{Fills, seen_of}
+use Rattle.row_store.specs.inside.Views.{Fills, seen_of}
 use Rattle.row_store.proofs.Kept.{seen_is, table_is}
 use Rattle.row_store.proofs.Readings.{table_fills, with_table}
 use Rattle.row_store.proofs.lending.ReaderRows.row.Goals as goal

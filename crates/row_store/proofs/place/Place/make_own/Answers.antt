@@ -1,7 +1,7 @@
 use Rattle.std.proofs.Common.{sym, subst}
 use Rattle.road_network.specs.Net.{HasNode}
 use Rattle.row_store.specs.Store.{SlotSet}
-use Rattle.row_store.specs.Places.{IsPlaceOf}
+use Rattle.row_store.specs.inside.Places.{IsPlaceOf}
 use Rattle.row_store.proofs.place.Place.make_own.Goals as goal
 
 pub row-requires : goal.row-requires

@@ -1,8 +1,8 @@
 use Rattle.std.proofs.Common.{◌∙◌, ap, sym, subst}
 use Rattle.std.specs.Prelude.{slice_index}
 use Rattle.road_network.specs.Net.{HasNode}
-use Rattle.bounded_search.specs.Table.{IsRow}
-use Rattle.row_store.specs.Places.{IsCheckedFor, row_in}
+use Rattle.bounded_table.specs.Table.{IsRow}
+use Rattle.row_store.specs.inside.Places.{IsCheckedFor, row_in}
 use Rattle.row_store.specs.Store.{SlotSet}
 use Rattle.row_store.proofs.place.Place.vouch.Goals as goal
 

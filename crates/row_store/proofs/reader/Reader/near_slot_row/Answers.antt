@@ -1,12 +1,12 @@
 use Rattle.std.proofs.Common.{◌≡◌, ◌≤◌, ap, arith, refl, sym, subst, true, true≢false, IsOk, List, None, Option, Some}
 use Rattle.std.specs.Option.{IfSome}
 use Rattle.std.proofs.lemmas.Result.{IfOk-from_err}
-use Rattle.bounded_search.specs.Rows.{AsksAll, AsksFor}
-use Rattle.bounded_search.specs.Table.{IsRow, TableRow}
-use Rattle.bounded_search.proofs.Asking.{asks_done, asks_err, asks_ok}
-use Rattle.row_store.specs.ReaderInside.{near_seen, reading_of}
+use Rattle.bounded_table.specs.Rows.{AsksAll, AsksFor}
+use Rattle.bounded_table.specs.Table.{IsRow, TableRow}
+use Rattle.bounded_table.proofs.Asking.{asks_done, asks_err, asks_ok}
+use Rattle.row_store.specs.inside.ReaderInside.{near_seen, reading_of}
 use Rattle.row_store.specs.Store.{NearSlots, Reading, SeesRow, SlotSet, Viewing, near_of, rows_state}
-use Rattle.row_store.specs.Views.{Fills, seen_of}
+use Rattle.row_store.specs.inside.Views.{Fills, seen_of}
 use Rattle.row_store.proofs.Kept.{near_is, near_places, near_short, near_view, seen_near}
 use Rattle.row_store.proofs.Readings.{near_fills}
 use Rattle.row_store.proofs.reader.Reader.near_slot_row.Goals as goal
@@ -16,25 +16,25 @@ always : (o : Option NearSlots) (P : NearSlots → Type 0) → IfSome o (λ s. P
 always None P = tt
 always (Some s) P = λ _. refl
 
-pub returns-in_err-fill_in : goal.returns-in_err-fill_in
-returns-in_err-fill_in c =
+pub returns-in_err-fill_both : goal.returns-in_err-fill_both
+returns-in_err-fill_both c =
     let n = c.args.n.0 in
     let store = c.self.inside.store.now in
     let slots = c.in-Some.slots in
     let of = near_is c.store.inside store slots c.store.invariant c.store.view_is c.in-Some.is in
     let r = reading_of c.self.inside in
     let eq = seen_near store slots c.self.inside.near of (near_view store slots c.self.inside.near of c.self.invariant.near) in
-    let after = seen_of slots c.fill_in.new.view in
-    let asks = near_fills of.0 r n c.fill_in.result after (subst (λ (v : Viewing). Fills v n c.fill_in.result after) eq c.fill_in.ensures.fills) in
-    let places = sym (near_places store slots c.fill_in.new.view of) in
+    let after = seen_of slots c.fill_both.new.view in
+    let asks = near_fills of.0 r n c.fill_both.result after (subst (λ (v : Viewing). Fills v n c.fill_both.result after) eq c.fill_both.ensures.fills) in
+    let places = sym (near_places store slots c.fill_both.new.view of) in
     let only = asks_err asks.only c.from_residual.ensures.0 in
     let left = subst (λ (l : List (Option TableRow)). AsksFor (rows_state r) (λ v. v ≡ n) c.from_residual.result (rows_state (record r { near = l }))) places only in (
-      (refl, λ _. tt, subst (λ (y : Reading). AsksFor (rows_state y) (λ v. v ≡ n) c.from_residual.result (rows_state (record r { near = near_seen store store.near c.fill_in.new.view }))) c.self.view_is left),
+      (refl, λ _. tt, subst (λ (y : Reading). AsksFor (rows_state y) (λ v. v ≡ n) c.from_residual.result (rows_state (record r { near = near_seen store store.near c.fill_both.new.view }))) c.self.view_is left),
       record {
         value = IfOk-from_err _ _ c.from_residual.ensures.0;
         again = subst (λ (y : Reading). IfSome y.store.near (λ (s : NearSlots). SeesRow (near_of y s) n → IsOk c.from_residual.result)) c.self.view_is
             (subst (λ (o : Option NearSlots). IfSome o (λ (s : NearSlots). SeesRow (near_of r s) n → IsOk c.from_residual.result)) (sym of.1)
-            (λ known. absurd (true≢false (sym (c.in_err-fill_in.ensures.again (subst (λ (v : Viewing). SeesRow v n) (sym eq) known))))));
+            (λ known. absurd (true≢false (sym (c.in_err-fill_both.ensures.again (subst (λ (v : Viewing). SeesRow v n) (sym eq) known))))));
         after = tt;
       },
     )
@@ -47,15 +47,15 @@ returns c =
     let of = near_is c.store.inside store slots c.store.invariant c.store.view_is c.in-Some.is in
     let r = reading_of c.self.inside in
     let eq = seen_near store slots c.self.inside.near of (near_view store slots c.self.inside.near of c.self.invariant.near) in
-    let after = seen_of slots c.fill_in.new.view in
-    let asks = near_fills of.0 r n c.fill_in.result after (subst (λ (v : Viewing). Fills v n c.fill_in.result after) eq c.fill_in.ensures.fills) in
-    let places = sym (near_places store slots c.fill_in.new.view of) in
-    let all = asks_ok asks c.in_ok-fill_in.was in
+    let after = seen_of slots c.fill_both.new.view in
+    let asks = near_fills of.0 r n c.fill_both.result after (subst (λ (v : Viewing). Fills v n c.fill_both.result after) eq c.fill_both.ensures.fills) in
+    let places = sym (near_places store slots c.fill_both.new.view of) in
+    let all = asks_ok asks c.in_ok-fill_both.was in
     let left = subst (λ (l : List (Option TableRow)). AsksAll (rows_state r) (rows_state (record r { near = l })) (λ v. v ≡ n)) places all in
     let short = near_short c.store.inside store slots c.store.invariant c.store.view_is c.in-Some.is in
     let same = ap (λ (x : SlotSet). x.bound) of.2 in
     let row = subst (λ (x : SlotSet). IsRow x.network x.bound n c.lend_from.result.now) of.2 c.lend_from.ensures in (
-      (refl, λ _. tt, asks_done (subst (λ (y : Reading). AsksAll (rows_state y) (rows_state (record r { near = near_seen store store.near c.fill_in.new.view })) (λ v. v ≡ n)) c.self.view_is left)),
+      (refl, λ _. tt, asks_done (subst (λ (y : Reading). AsksAll (rows_state y) (rows_state (record r { near = near_seen store store.near c.fill_both.new.view })) (λ v. v ≡ n)) c.self.view_is left)),
       record {
         value = subst (λ (y : Reading). IfSome y.store.near (λ (s : NearSlots). (s.bound ≤ y.store.bound) × IsRow y.store.network s.bound n c.lend_from.result.now)) c.self.view_is
             (subst (λ (o : Option NearSlots). IfSome o (λ (s : NearSlots). (s.bound ≤ store.bound) × IsRow store.network s.bound n c.lend_from.result.now)) (sym of.1)

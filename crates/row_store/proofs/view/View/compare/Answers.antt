@@ -1,7 +1,7 @@
 use Rattle.std.proofs.Common.{ℕ, ◌<◌, ◌∙◌, Some, refl, sym, ap, subst, length-set}
 use Rattle.std.specs.Prelude.{slice_index}
 use Rattle.row_store.specs.Store.{SlotSet}
-use Rattle.row_store.specs.Views.{viewing_of}
+use Rattle.row_store.specs.inside.Views.{viewing_of}
 use Rattle.row_store.proofs.Places.{fits_at, same_fit, same_reading, known_there, known_here, known_of, one_row}
 use Rattle.row_store.proofs.view.View.compare.Goals as goal
 

@@ -1,5 +1,5 @@
 use Rattle.std.proofs.Common.{ℕ, ◌<◌, ◌∙◌, refl, sym, subst}
-use Rattle.row_store.specs.Views.{viewing_of}
+use Rattle.row_store.specs.inside.Views.{viewing_of}
 use Rattle.row_store.proofs.Places.{fits_at, known_there, shows}
 use Rattle.row_store.proofs.view.View.knows.Goals as goal
 

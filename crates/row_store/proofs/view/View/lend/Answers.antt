@@ -1,6 +1,6 @@
 use Rattle.std.proofs.Common.{Some, subst, ◌∙◌}
 use Rattle.std.specs.Option.{IsSome}
-use Rattle.row_store.specs.Places.{IsReady}
+use Rattle.row_store.specs.inside.Places.{IsReady}
 use Rattle.row_store.specs.declared.place.Place.{Place}
 use Rattle.row_store.proofs.Places.{place_is}
 use Rattle.row_store.proofs.view.View.lend.Goals as goal

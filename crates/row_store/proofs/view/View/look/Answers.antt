@@ -1,7 +1,7 @@
 use Rattle.std.proofs.Common.{length, Bor, ◌≡◌, ◌<◌, ◌∙◌, Some, sym, subst}
-use Rattle.bounded_search.specs.Table.{TableRow}
+use Rattle.bounded_table.specs.Table.{TableRow}
 use Rattle.row_store.specs.Store.{SlotSet, Sees}
-use Rattle.row_store.specs.Views.{viewing_of}
+use Rattle.row_store.specs.inside.Views.{viewing_of}
 use Rattle.row_store.specs.Sights.{row_seen}
 use Rattle.row_store.proofs.view.View.look.Goals as goal
 

@@ -1,6 +1,6 @@
 use Rattle.std.proofs.Common.{ℕ, ◌<◌, ◌∙◌, refl, sym, subst, length-set}
-use Rattle.bounded_search.proofs.KnownNodes.{get_set}
-use Rattle.row_store.specs.Views.{viewing_of}
+use Rattle.bounded_table.proofs.KnownNodes.{get_set}
+use Rattle.row_store.specs.inside.Views.{viewing_of}
 use Rattle.row_store.proofs.Places.{all_fit, fits_at, known_as, known_here, known_there, right_ready, same_reading, some_is, on_ok}
 use Rattle.row_store.proofs.view.View.make_own.Goals as goal
 

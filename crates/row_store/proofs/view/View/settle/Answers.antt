@@ -1,8 +1,8 @@
 use Rattle.std.proofs.Common.{ℕ, ◌≡◌, ◌<◌, ◌∙◌, OnErr, OnOk, refl, sym, ap, subst, length-set}
-use Rattle.bounded_search.specs.Table.{TableRow}
+use Rattle.bounded_table.specs.Table.{TableRow}
 use Rattle.row_store.specs.Store.{Viewing, Sees}
 use Rattle.row_store.specs.declared.view.View.{View}
-use Rattle.row_store.specs.Views.{IsViewAt, StaysView, viewing_of}
+use Rattle.row_store.specs.inside.Views.{IsViewAt, StaysView, viewing_of}
 use Rattle.row_store.proofs.Places.{all_fit, fits_at, settled_seen, unseen, err_so}
 use Rattle.row_store.proofs.view.View.settle.Goals as goal
 

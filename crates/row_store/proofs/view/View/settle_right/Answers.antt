@@ -1,5 +1,5 @@
 use Rattle.std.proofs.Common.{ℕ, ◌<◌, ◌∙◌, refl, sym, subst, length-set}
-use Rattle.row_store.specs.Views.{viewing_of}
+use Rattle.row_store.specs.inside.Views.{viewing_of}
 use Rattle.row_store.proofs.Places.{all_fit, fits_at, settled_seen, settled_err, known_there, known_not, on_ok, on_err, ok_or_none}
 use Rattle.row_store.proofs.view.View.settle_right.Goals as goal
 

@@ -1,6 +1,6 @@
 use Rattle.std.proofs.Common.{ℕ, ◌<◌, refl, sym, subst}
 use Rattle.std.specs.Prelude.{slice_index}
-use Rattle.row_store.specs.Views.{viewing_of}
+use Rattle.row_store.specs.inside.Views.{viewing_of}
 use Rattle.row_store.proofs.Places.{fits_at, known_there, not_blind, sight_row, sight_checked}
 use Rattle.row_store.proofs.view.View.sight.Goals as goal
 

@@ -1,5 +1,5 @@
 use Rattle.std.proofs.Common.{◌≡◌, map, length, replicate, None}
-use Rattle.row_store.specs.Views.{AllFit}
+use Rattle.row_store.specs.inside.Views.{AllFit}
 use Rattle.row_store.proofs.Places.{known_of}
 use Rattle.row_store.proofs.view.View.with.Given as goal
 

@@ -1,9 +1,9 @@
 use Rattle.std.proofs.Common.{◌<◌, ◌∙◌, length, sym, subst, refl, ap, arith}
 use Rattle.std.specs.Prelude.{slice_index}
 use Rattle.once_cell.specs.declared.race.note.Note.{Note}
-use Rattle.bounded_search.specs.Table.{TableRow}
+use Rattle.bounded_table.specs.Table.{TableRow}
 use Rattle.row_store.specs.Store.{SlotSet}
-use Rattle.row_store.specs.Vouchers.{HasVoucher}
+use Rattle.row_store.specs.inside.Vouchers.{HasVoucher}
 use Rattle.row_store.proofs.Vouching.{Seat, agreed, exchanged_for, gives_back, out_is, takes_out, voucher_of}
 use Rattle.row_store.proofs.vouchers.VoucherSeat.has.Goals as goal
 

@@ -1,8 +1,8 @@
 use Rattle.std.proofs.Common.{◌<◌, ◌∙◌, length, sym, subst, refl, arith}
 use Rattle.once_cell.specs.declared.race.note.Note.{Note}
-use Rattle.bounded_search.specs.Table.{TableRow}
+use Rattle.bounded_table.specs.Table.{TableRow}
 use Rattle.row_store.specs.Store.{SlotSet}
-use Rattle.row_store.specs.Vouchers.{IsVoucher}
+use Rattle.row_store.specs.inside.Vouchers.{IsVoucher}
 use Rattle.row_store.proofs.Vouching.{exchanged_for, gives_back, takes_out}
 use Rattle.row_store.proofs.vouchers.VoucherSeat.leave.Goals as goal
 

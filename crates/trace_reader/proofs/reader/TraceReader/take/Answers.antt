@@ -1,7 +1,7 @@
 use Rattle.std.proofs.Common.{◌≡◌, ◌-◌, ◌∙◌, false, length, take, drop, ap, sym, subst, arith}
 use Rattle.std.proofs.lemmas.Grind.{common_steps}
-use Rattle.trace_reader.specs.Parts.{is_reached}
-use Rattle.trace_reader.specs.Steps.{Refuses, TakesLine}
+use Rattle.trace_reader.specs.inside.Parts.{is_reached}
+use Rattle.trace_reader.specs.inside.Steps.{Refuses, TakesLine}
 use Rattle.trace_reader.proofs.Underway.{underway_more, fails_underway}
 use Rattle.trace_reader.proofs.reader.TraceReader.take.Goals as goal
 

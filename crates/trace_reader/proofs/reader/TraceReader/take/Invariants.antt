@@ -1,5 +1,5 @@
 use Rattle.std.proofs.Common.{◌≡◌, ◌-◌, length}
-use Rattle.trace_reader.specs.Steps.{IsUnderway}
+use Rattle.trace_reader.specs.inside.Steps.{IsUnderway}
 use Rattle.trace_reader.proofs.reader.TraceReader.take.Given as goal
 
 abbrev pub invariant-loop-taken : goal.invariant-loop-taken

@@ -3,7 +3,7 @@ use Rattle.std.proofs.lemmas.Result.{err_from_is_err_and}
 use Rattle.std.proofs.lemmas.List.{take-append-drop}
 use Rattle.std.proofs.lemmas.Grind.{common_steps}
 use Rattle.trace_reader.specs.Reading.{read_bytes, refused}
-use Rattle.trace_reader.specs.Steps.{start_of, Reaches}
+use Rattle.trace_reader.specs.inside.Steps.{start_of, Reaches}
 use Rattle.trace_reader.proofs.Places.{HasNo-none, HasNo-before}
 use Rattle.trace_reader.proofs.Steps.{refused_in_front, to_first_end, quiet_in_part}
 use Rattle.trace_reader.proofs.reader.TraceReader.take_line.Goals as goal

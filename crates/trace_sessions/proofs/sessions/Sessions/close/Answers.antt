@@ -1,5 +1,5 @@
 use Rattle.std.proofs.Common.{IfErr, IfOk, sym, subst}
-use Rattle.bounded_search.specs.Rows.{AreRowsOf}
+use Rattle.bounded_table.specs.Rows.{AreRowsOf}
 use Rattle.trace_sessions.specs.Sessions.{AsksClosed, Closes, IsCloseFault}
 use Rattle.trace_sessions.proofs.SessionPairs.{are-finished, rows-at}
 use Rattle.trace_sessions.proofs.SessionFixes.{close-asks, close-fault, closes, state}

@@ -1,10 +1,10 @@
 use Rattle.std.proofs.Common.{◌≡◌, ◌<◌, ◌≤◌, Ok, OnOk, refl, sym, subst, arith}
-use Rattle.bounded_search.specs.Rows.{AreRowsOf}
+use Rattle.bounded_table.specs.Rows.{AreRowsOf}
 use Rattle.online_commit.specs.Session.{points_of}
 use Rattle.trace_sessions.specs.declared.sessions.SessionFault.{SessionFault}
 use Rattle.trace_sessions.specs.declared.sessions.SessionFault.TheVariants.{TooLong}
 use Rattle.trace_sessions.specs.Sessions.{AsksFedTo, IsFeedFault, TakesFix}
-use Rattle.trace_sessions.specs.SessionsInside.{session_in}
+use Rattle.trace_sessions.specs.inside.SessionsInside.{session_in}
 use Rattle.trace_sessions.proofs.SessionFixes.{are-taken, feed-asks, few-fed, layer-fed, no-ok, opened-is, rows-fed, state, takes, too-long}
 use Rattle.trace_sessions.proofs.sessions.Sessions.feed.Goals as goal
 

@@ -4,7 +4,7 @@ use Rattle.std.proofs.lemmas.Result.{err_from_is_err_and}
 use Rattle.trace_sessions.specs.declared.sessions.SessionFault.{SessionFault}
 use Rattle.trace_sessions.specs.Following.{pieces_among}
 use Rattle.trace_sessions.specs.ItemText.{AddsPrefix, AreItemsOf}
-use Rattle.trace_sessions.specs.StreamingInside.{lines_of_items}
+use Rattle.trace_sessions.specs.inside.StreamingInside.{lines_of_items}
 use Rattle.trace_sessions.proofs.SessionFixes.{no-ok}
 use Rattle.trace_sessions.proofs.OnePointTaken.{items-lie, point-cut, point-refused, point-taken}
 use Rattle.trace_sessions.proofs.StreamTakes.{point-asks, points-in}

@@ -2,7 +2,7 @@ use Rattle.std.proofs.Common.{◌≡◌, ◌++◌, subst, OnErr, OnOk}
 use Rattle.std.specs.List.{concat}
 use Rattle.std.proofs.lemmas.Result.{on_err_weaker, on_ok_weaker}
 use Rattle.trace_sessions.specs.ItemText.{AddsPrefix}
-use Rattle.trace_sessions.specs.StreamingInside.{lines_of_items}
+use Rattle.trace_sessions.specs.inside.StreamingInside.{lines_of_items}
 use Rattle.trace_sessions.proofs.SessionFixes.{on-err}
 use Rattle.trace_sessions.proofs.StreamLines.{heading-cut, point-cut-off, point-text}
 use Rattle.trace_sessions.proofs.sessions.Sessions.write_point.Goals as goal

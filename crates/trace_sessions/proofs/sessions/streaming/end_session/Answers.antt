@@ -1,7 +1,7 @@
 use Rattle.std.proofs.Common.{◌∙◌, refl, sym, ap, subst}
 use Rattle.std.specs.List.{concat}
 use Rattle.std.proofs.lemmas.Result.{err_from_is_err_and}
-use Rattle.bounded_search.specs.Rows.{AreRowsOf}
+use Rattle.bounded_table.specs.Rows.{AreRowsOf}
 use Rattle.trace_sessions.specs.Following.{pieces_among}
 use Rattle.trace_sessions.specs.ItemText.{AreItemsOf}
 use Rattle.trace_sessions.specs.StreamText.{lines_at_end}

@@ -1,9 +1,9 @@
 use Rattle.std.proofs.Common.{◌≡◌, ◌≤◌, ℕ, Bool, false, not, is_some, Option, Some, None, sym, ap, ◌∙◌, subst, arith}
 use Rattle.std.proofs.lemmas.Bool.{false≢true}
-use Rattle.bounded_search.specs.Table.{BoundedTable, IsNearRow}
+use Rattle.bounded_table.specs.Table.{BoundedTable, IsNearRow}
 use Rattle.trellis.specs.declared.pairs.Told.{Told}
 use Rattle.trellis.specs.Pairs.{TellsPair}
-use Rattle.trellis.specs.PairsInside.{shown_pairs}
+use Rattle.trellis.specs.inside.PairsInside.{shown_pairs}
 use Rattle.trellis.proofs.ToldPairs.{pair_told, places_more, told_reached}
 use Rattle.trellis.proofs.pairs.PairMemory.reached.Goals.{else-is_none-via-then-is_none+else-near-self, else-is_none-via-else-is_none}
 use Rattle.trellis.proofs.pairs.PairMemory.reached.Goals as goal

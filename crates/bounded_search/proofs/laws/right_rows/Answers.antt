@@ -1,5 +1,0 @@
-use Rattle.bounded_search.proofs.RightRows.{right_rows}
-use Rattle.bounded_search.proofs.laws.right_rows.Goals as goal
-
-pub returns : goal.returns
-returns c = right_rows

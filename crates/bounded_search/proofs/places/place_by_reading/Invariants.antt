@@ -1,6 +1,0 @@
-use Rattle.std.proofs.Common.{ℕ, ◌<◌, ◌≢◌, slice_index_or}
-use Rattle.bounded_search.specs.declared.table_row.Entry.{Entry}
-use Rattle.bounded_search.proofs.places.place_by_reading.Given as goal
-
-abbrev pub invariant-loop-place : goal.invariant-loop-place
-invariant-loop-place l = (k : ℕ) (d : Entry) → k < l.place → (slice_index_or l.entries k d).node.0 ≢ l.n.0

@@ -1,5 +1,0 @@
-use Rattle.std.proofs.lemmas.Result.{err_from_is_err_and}
-use Rattle.bounded_search.proofs.searcher.Searcher.open.Goals as goal
-
-pub returns-in_err-workspace : goal.returns-in_err-workspace
-returns-in_err-workspace c = let p = err_from_is_err_and c.from_residual.result c.from_residual.ensures.1 in rw p.1 tt

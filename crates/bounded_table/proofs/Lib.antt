@@ -1,0 +1,16 @@
+pub mod ClosedTables
+pub mod Entries
+pub mod RowChecks
+pub mod OneRow
+pub mod RowValues
+pub mod RightRows
+pub mod Arcs
+pub mod LabelWords
+pub mod KnownNodes
+pub mod Asking
+pub mod LastEdges
+pub mod Counting
+pub mod GivenLabels
+pub mod GivenRows
+pub mod WordChecks
+pub mod Tallies

@@ -1,0 +1,12 @@
+pub mod Table
+pub mod Closed
+pub mod RowRules
+pub mod Finding
+pub mod LabelWords
+pub mod Spread
+pub mod Known
+pub mod Rows
+pub mod RowValue
+pub mod RightRow
+pub mod Laws
+pub mod inside

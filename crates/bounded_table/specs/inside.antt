@@ -1,0 +1,4 @@
+pub mod Given
+pub mod RowInside
+pub mod Tally
+pub mod CheckerInside

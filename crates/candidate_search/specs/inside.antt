@@ -1,0 +1,5 @@
+pub mod Best
+pub mod Boxes
+pub mod Nearest
+pub mod Placed
+pub mod Scanned

@@ -1,0 +1,9 @@
+pub mod RowParts
+pub mod CaseSeen
+pub mod InHand
+pub mod Legs
+pub mod RowPlaces
+pub mod Columns
+pub mod PlacedInside
+pub mod Checked
+pub mod Batches

@@ -1,0 +1,2 @@
+pub mod CertificateFiles
+pub mod CheckDone

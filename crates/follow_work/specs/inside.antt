@@ -1,0 +1,2 @@
+pub mod FollowDone
+pub mod StreamsDone

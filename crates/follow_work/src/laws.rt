@@ -1,0 +1,9 @@
+//! The law of what `streams` writes. The function exists for its clause and does nothing.
+ghost use Rattle.follow_work.specs.FollowedIds.{StreamsFollowEachId};
+
+/// If the outcome of `streams` has status 0, the lines of each id of the trace file are, without the id and
+/// the space after it, what `follow` writes of the trace of all its positions. The last line is the total line
+/// of these traces.
+pub fn streams_follow_each_id()
+    ensures { StreamsFollowEachId }
+{}

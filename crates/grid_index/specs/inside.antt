@@ -1,0 +1,4 @@
+pub mod Entries
+pub mod Starts
+pub mod Table
+pub mod Inside

@@ -1,0 +1,9 @@
+pub mod Dealing
+pub mod Gathering
+pub mod OneFix
+pub mod Partitions
+pub mod Running
+pub mod Tables
+pub mod Turns
+pub mod Unmatched
+pub mod WorkerSet

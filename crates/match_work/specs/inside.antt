@@ -1,0 +1,2 @@
+pub mod MatchesDone
+pub mod TownsDone

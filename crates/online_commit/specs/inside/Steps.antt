@@ -1,0 +1,128 @@
+-- One step of a session: what its parts do, in the words of the session. In this file layers and tables are in the
+-- order of the positions.
+use Rattle.std.specs.Prelude.{◌≡◌, ℕ, ◌+◌, ◌-◌, ◌<◌, ◌≤◌, List, [], ◌∷◌, ◌++◌, Option, Some, None, MatchOption, length, map, reverse, slice_index_or}
+use Rattle.std.specs.List.{All, range_with_len}
+use Rattle.cost_model.specs.declared.params.Params.{Params}
+use Rattle.cost_model.specs.Options.{IsAccepted}
+use Rattle.road_network.specs.Net.{Net}
+use Rattle.matching.specs.declared.parts.Cell.{Cell}
+use Rattle.matching.specs.declared.parts.Layer.{Layer}
+use Rattle.matching.specs.declared.parts.Piece.{Piece}
+use Rattle.matching.specs.Committed.{IsCommitted}
+use Rattle.matching.specs.Layers.{candidate_of_rank, trellis}
+use Rattle.matching.specs.PieceSteps.{AsksNext, PieceEndsBefore, PieceGoesOn}
+use Rattle.matching.specs.Sequences.{IsBest}
+use Rattle.matching.proofs.PieceSoFar.{IsPieceSoFar}
+use Rattle.route_rebuild.specs.Routes.{no_layer, route_of}
+use Rattle.online_commit.specs.declared.items.Item.{Item}
+use Rattle.online_commit.specs.declared.items.Item.TheVariants.{At, Closed}
+use Rattle.online_commit.specs.Items.{edge_ids}
+use Rattle.online_commit.specs.inside.Masks.{AreMasks, HasFewRanks, IsNotOne, IsOnly, mask_at}
+use Rattle.online_commit.specs.Session.{IsFed, IsFedLayer, Session, points_of}
+
+-- a session with what it keeps of each position of the open piece: the layer, the cells and the ranks that are
+-- still possible
+pub record KeptSession : Type 0 where
+  pub network : Net
+  pub params : Params
+  pub first : ℕ
+  pub told : ℕ
+  pub layers : List Layer
+  pub tables : List (List Cell)
+  pub masks : List ℕ
+
+-- what contracts see of it
+abbrev pub seen : KeptSession → Session
+seen s = record { network = s.network; params = s.params; first = s.first; told = s.told; layers = s.layers }
+
+-- the open piece: its tables, its masks and what is committed of it
+pub record IsOpen (s : KeptSession) : Type 0 where
+  pub so_far : IsPieceSoFar s.network s.params s.layers s.tables
+  pub masks : AreMasks s.tables (mask_at s.masks) (length s.layers)
+
+-- what a session always keeps
+pub record IsSession (s : KeptSession) : Type 0 where
+  pub options : IsAccepted s.params
+  pub few : points_of (seen s) ≤ 100_000
+  pub layers : All (IsFedLayer s.network s.params) s.layers
+  pub ranks : All HasFewRanks s.tables
+  pub tables_count : length s.tables ≡ length s.layers
+  pub masks_count : length s.masks ≡ length s.layers
+  pub open_is : 0 < length s.layers → IsOpen s
+  pub front : IsCommitted (trellis s.network s.params) (reverse s.layers) s.told
+
+-- the last position of the open piece, and its cells
+abbrev pub last_layer : KeptSession → Layer
+last_layer s = slice_index_or s.layers (length s.layers - 1) no_layer
+
+abbrev pub last_cells : KeptSession → List Cell
+last_cells s = slice_index_or s.tables (length s.layers - 1) []
+
+-- the cells of a position with which the open piece goes on, or none where it does not or there is none
+abbrev pub TellsCells : KeptSession → Layer → Option (List Cell) → Type 0
+TellsCells s l next =
+    let t = trellis s.network s.params in
+    MatchOption next (0 < length s.layers → PieceEndsBefore t (last_layer s) (last_cells s) l)
+    (λ cells. (0 < length s.layers) × PieceGoesOn t (last_layer s) (last_cells s) l cells)
+
+-- a position that a session may take, and with which its open piece does not go on
+pub record EndsBefore (s : KeptSession) (l : Layer) : Type 0 where
+  pub session : IsSession s
+  pub layer : IsFedLayer s.network s.params l
+  pub room : points_of (seen s) < 100_000
+  pub ends : TellsCells s l None
+
+-- it took this position, and these are the items that were handed out
+pub record TakesAnew (old : KeptSession) (l : Layer) (new : KeptSession) (items : List Item) : Type 0 where
+  pub session : IsSession new
+  pub fed : IsFed (seen old) l (seen new) items
+
+-- a step to this position asks for the row of node v
+abbrev pub AsksStep : KeptSession → Layer → ℕ → Type 0
+AsksStep s l v =
+    (0 < length s.layers) × AsksNext s.network s.params (last_layer s) (last_cells s) l v
+
+-- position j of a piece that begins with position `first`, with this rank
+abbrev pub ranked_item : ℕ → List Layer → (ℕ → ℕ) → ℕ → Item
+ranked_item first layers rank j = At (first + j) (candidate_of_rank (slice_index_or layers j no_layer) (rank j))
+
+-- k positions of it from position j on
+abbrev pub ranked_items : ℕ → List Layer → (ℕ → ℕ) → ℕ → ℕ → List Item
+ranked_items first layers rank j k = map (ranked_item first layers rank) (range_with_len j k)
+
+-- of the positions of a piece from `from` on, those before the first whose mask has not one rank alone
+pub record AreSettled (first : ℕ) (layers : List Layer) (mask : ℕ → ℕ) («from» : ℕ) (items : List Item) : Type 0 where
+  pub within : «from» + length items ≤ length layers
+  pub single : (j : ℕ) → «from» ≤ j → j < «from» + length items → (r : ℕ) × IsOnly (mask j) r
+  pub ends : «from» + length items < length layers → IsNotOne (mask («from» + length items))
+  pub are : (rank : ℕ → ℕ) → ((j : ℕ) → «from» ≤ j → j < «from» + length items → IsOnly (mask j) (rank j))
+      → items ≡ ranked_items first layers rank «from» (length items)
+
+abbrev pub rank_in : List ℕ → ℕ → ℕ
+rank_in ranks j = slice_index_or ranks j 0
+
+-- ranks that all positions of a piece have
+abbrev pub as_ranks : List ℕ → List (Option ℕ)
+as_ranks ranks = map (λ r. Some r) ranks
+
+-- the piece of `count` positions from position `first` on, and the same on its own
+abbrev pub piece_from : ℕ → ℕ → ℕ → Piece
+piece_from first count c = record { first = first; last = first + (count - 1); cost = c }
+
+abbrev pub whole_piece : ℕ → ℕ → Piece
+whole_piece count c = record { first = 0; last = count - 1; cost = c }
+
+-- what is left of a piece of these layers and ranks that begins with position `first`, of which the first `told`
+-- positions were handed out: their labels, and the piece with its route
+abbrev pub closing_of : Net → Params → ℕ → List Layer → ℕ → List ℕ → ℕ → List Item
+closing_of n p first layers c ranks told =
+    ranked_items first layers (rank_in ranks) told (length layers - told)
+    ++ Closed (piece_from first (length layers) c)
+    (edge_ids (route_of n p layers (as_ranks ranks) (whole_piece (length layers) c))) ∷ []
+
+-- these are left of the open piece
+pub record IsClosing (s : KeptSession) (items : List Item) : Type 0 where
+  pub cost : ℕ
+  pub ranks : List ℕ
+  pub best : IsBest (trellis s.network s.params) (reverse s.layers) cost (reverse ranks)
+  pub are : items ≡ closing_of s.network s.params s.first s.layers cost ranks s.told

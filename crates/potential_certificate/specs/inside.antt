@@ -1,0 +1,4 @@
+pub mod Words
+pub mod Gathering
+pub mod ReaderInside
+pub mod AddedPoint

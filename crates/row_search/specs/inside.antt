@@ -1,0 +1,13 @@
+pub mod Labels
+pub mod Marked
+pub mod QueueInside
+pub mod FoundInside
+pub mod Underway
+pub mod Fans
+pub mod FansInside
+pub mod Searching
+pub mod Merging
+pub mod Octets
+pub mod SearcherInside
+pub mod OwnInside
+pub mod NearInside

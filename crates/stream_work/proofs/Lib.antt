@@ -1,6 +1,0 @@
-pub mod IdTraces
-pub mod ReadIds
-pub mod FollowedIds
-pub mod StreamJobs
-pub mod StreamTakes
-pub mod StreamTotals

@@ -1,4 +1,0 @@
-pub mod StreamTexts
-pub mod Streams
-pub mod StreamsDone
-pub mod FollowedIds

@@ -1,5 +1,0 @@
-use Rattle.table_file.proofs.Tables as tables
-use Rattle.table_file.proofs.laws.tables_read_back.Goals as goal
-
-pub returns : goal.returns
-returns c = tables.tables_read_back

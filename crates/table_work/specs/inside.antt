@@ -1,0 +1,4 @@
+pub mod PreloadDone
+pub mod TableDone
+pub mod RecentInside
+pub mod WriterInside

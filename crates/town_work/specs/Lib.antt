@@ -1,2 +1,0 @@
-pub mod Towns
-pub mod TownsDone

@@ -1,0 +1,2 @@
+pub mod MatcherInside
+pub mod Asked

@@ -1,0 +1,3 @@
+pub mod FirstField
+pub mod Parts
+pub mod Steps

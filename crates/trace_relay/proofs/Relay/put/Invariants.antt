@@ -1,5 +1,0 @@
-use Rattle.std.proofs.Common.{◌≡◌}
-use Rattle.trace_relay.proofs.Relay.put.Given as goal
-
-abbrev pub invariant-loop : goal.invariant-loop
-invariant-loop g l = (l.pass ≡ l.initial.pass) × (l.part ≡ l.initial.part)

@@ -1,0 +1,2 @@
+pub mod SessionsInside
+pub mod StreamingInside
