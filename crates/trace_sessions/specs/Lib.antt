@@ -3,6 +3,7 @@ pub mod FollowText
 pub mod Following
 pub mod Sessions
 pub mod StreamText
+pub mod Drives
 pub mod Calls
 pub mod Streaming
 pub mod CommonLabels
