@@ -49,7 +49,7 @@ impl<'n> Sessions<'n> {
 
     /// Takes the next position of the id, as by [`Sessions::feed`], appends its lines, and returns how many pieces
     /// it closed. `TooLong` means that the id already has 100,000 positions; then nothing is changed. After `Memory`,
-    /// the sessions have the position or not, and of its lines a prefix may be appended if they have it.
+    /// either nothing is changed, or the position is taken and a prefix of its lines is appended.
     pub fn stream_fix<R: Rows>(
         &mut self,
         id: u32,
