@@ -3,6 +3,8 @@ pub mod FollowText
 pub mod Following
 pub mod Sessions
 pub mod StreamText
+pub mod Drives
+pub mod DrivesAlone
 pub mod Calls
 pub mod Streaming
 pub mod CommonLabels
