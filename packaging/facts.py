@@ -1,7 +1,7 @@
 """What tools/package reads from the sources: commands, options and ranges of the programs, commands of the Python package.
 
-Commands and options come from crates/command_line/src, the ranges and defaults of options from crates/cost_model/src, and
-descriptions from docs/fmm.1. If these do not agree, `Wrong` says how, so that no option is left out of the completions.
+Commands and options come from crates/command_line/src, the ranges and defaults of options from there and from
+crates/cost_model/src, and descriptions from docs/fmm.1. If these do not agree, `Wrong` says how, so that no option is left out of the completions.
 """
 import os
 import re
@@ -84,10 +84,10 @@ def commands(top):
     params = "".join(read(model, name) for name in sorted(os.listdir(model)))
     written = r"ValueRange \{\s*least: ([\w:]+),\s*most: ([\w:]+),?\s*\}"
     constants = {name: (number(least), number(most)) for name, least, most
-                 in re.findall(r"const (\w+_RANGE): ValueRange = " + written, params)}
+                 in re.findall(r"const (\w+_RANGE): ValueRange = " + written, params + values)}
     ranges = {name_of[variant]: (number(least), number(most)) for variant, least, most
               in re.findall(r"ValueName::(\w+) => " + written, values)}
-    for variant, constant in re.findall(r"ValueName::(\w+) => Params::(\w+_RANGE)", values):
+    for variant, constant in re.findall(r"ValueName::(\w+) => (?:Params::)?(\w+_RANGE)", values):
         if constant not in constants:
             raise Wrong(f"packaging/facts.py does not find {constant} in {model}")
         ranges[name_of[variant]] = constants[constant]
@@ -99,13 +99,15 @@ def commands(top):
 
     default = found(r"pub const DEFAULT: Params = Params \{(.*?)\};", params, "the default of the options")[1]
     defaults = {name: number(value) for name, value in re.findall(r"(\w+): ([\w:]+),", default)}
+    works = "".join(read(source, "works", name) for name in sorted(os.listdir(os.path.join(source, "works"))))
+    defaults.update((name.lower(), number(value)) for name, value in re.findall(r"const DEFAULT_(\w+): u32 = ([\w:]+);", works))
     described, texts = manual(top)
 
     def option(name):
         if name not in described:
             raise Wrong(f"docs/fmm.1 does not describe --{name}")
         value, text = described[name]
-        if name not in shared_names:
+        if name not in shared_names and name not in ranges:
             return Option(name, value, None, text)
         if name not in ranges or name not in defaults:
             raise Wrong(f"packaging/facts.py does not find the range and the default of --{name}")

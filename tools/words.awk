@@ -16,7 +16,7 @@ function read_page(    line, section, words, count, i, name, ends) {
             if (words[1] == "fmm_large" || name !~ /^[a-z]/) continue
             commands[name]
             for (; i <= count && words[i] !~ /^\[/; i++) arguments[name, ++many[name]] = words[i]
-            if (words[i] != "[--NAME") { sub(/^\[/, "", words[i]); own[name, words[i]] }
+            if (words[i] != "[--NAME") { sub(/^\[/, "", words[i]); own[name, words[i]]; owned[words[i]] }
         }
         if (section == "OPTIONS" && words[1] == ".BI") { name = words[2]; options[name]; order[++known] = name }
         else if (section == "OPTIONS" && name != "" && match(line, /[0-9,]+ to [0-9,]+/)) {
@@ -84,7 +84,7 @@ function check_option(at,    word, name, value, takes) {
     if (("-" name) in options) fault(name " is no option; did you mean -" name "?")
     else if (name !~ /^--/) fault(shown(word) " begins with a hyphen; write -- before arguments that do")
     else if (!(name in options)) fault(shown(name) " is no option" meant(name, options, "--"))
-    else if (!(name in range) && !((command, name) in own)) fault(name " is no option of " command)
+    else if (name in owned && !((command, name) in own)) fault(name " is no option of " command)
     else if (name in given) fault(name " is given twice")
     else if (!takes) fault(name " has no value")
     given[name] = value

@@ -60,6 +60,23 @@ def test_all_texts_give_the_same_tables(folder: Path, command: str, capsys: pyte
     assert matches.text() == Path("match.txt").read_bytes()
 
 
+def test_an_id_of_streams_has_several_drives(folder: Path, capsys: pytest.CaptureFixture[str]) -> None:
+    """As `streams --idle` writes it where trace 2 is a second drive of vehicle 1."""
+    Path("t.csv").write_text(ROUND.replace("\n2,", "\n1,"))
+    lines, number = [], "1"
+    for line in Path("follow.txt").read_text().replace("trace 2\n", "trace 1\n").replace("end 2\n", "end 1\n").splitlines():
+        number = line.split()[1] if line.startswith("trace") else number
+        lines.append(line if line.startswith("total") else f"{number} {line}")
+    Path("drives.txt").write_text("\n".join(lines) + "\n")
+    words = ["tables", "n.csv", "t.csv", "drives.txt", "--into", "out", "--trust", "--", "--back", "2000", "--idle", "60"]
+    assert main(words) == 0
+    edges = pd.read_csv("out/edges.csv", dtype={"id": str})
+    assert edges["edge"].tolist() == [1, 2, 3, 1, 1, 1, 2, 3, 1, 1, 2, 3, 1]
+    assert edges["id"].tolist() == ["1"] * 5 + ["3"] * 4 + ["4"] * 4
+    Path("t.csv").write_text(ROUND.replace("\n2,", "\n1,").replace("1,20000,0,200\n", ""))
+    assert main(words) == 1 and "drives.txt: is not the match of t.csv" in capsys.readouterr().err
+
+
 def test_untimed_traces_have_no_seconds(folder: Path) -> None:
     Path("t.csv").write_text("".join(line.rsplit(",", 1)[0] + "\n" for line in ROUND.splitlines()))
     Path("m.txt").write_text(program("match", "n.csv", "t.csv", "--back", "2000", cwd=folder))

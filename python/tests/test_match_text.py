@@ -173,3 +173,74 @@ def test_ids_of_streams_keep_their_own_lines() -> None:
     for line in LINES["streams"][:-1]:
         trace = line.split()[0]
         refused(text.replace(line, line.replace(trace, "9" + trace, 1), 1))
+
+
+# Vehicle 1 has two drives, of which one ends before the file, together with that of vehicle 2.
+DRIVES = """1 trace 1
+1 fix 0
+1 at 0 edge 10 offset 1000 d2 0
+2 trace 2
+2 fix 0
+2 at 0 edge 10 offset 9000 d2 0
+1 fix 1
+1 finish
+1 at 1 edge 10 offset 2000 d2 0
+1 piece 0 1 cost 0 route 10
+1 end 1
+2 finish
+2 piece 0 0 cost 0 route 10
+2 end 2
+1 trace 1
+1 fix 0
+1 none 0
+3 trace 3
+3 fix 0
+1 finish
+1 end 1
+3 finish
+3 at 0 edge 11 offset 5 d2 4
+3 piece 0 0 cost 2 route 11
+3 end 3
+total traces 4 points 5 pieces 3 rows 1
+""".splitlines(keepends=True)
+
+
+def test_an_id_of_streams_may_have_several_drives() -> None:
+    text = read_match("".join(DRIVES).encode())
+    assert text.kind == "streams" and text.traces.tolist() == [1, 1, 2, 3]
+    assert text.position_first.tolist() == [0, 2, 3, 4, 5] and text.edge.tolist() == [10, 10, -1, 10, 11]
+    assert text.piece_trace.tolist() == [0, 2, 3] and text.last.tolist() == [1, 0, 0]
+
+
+def test_no_line_of_drives_can_be_lost_doubled_or_moved() -> None:
+    for at in range(len(DRIVES)):
+        refused("".join(DRIVES[:at] + DRIVES[at + 1:]))
+        refused("".join(DRIVES[:at + 1] + DRIVES[at:]))
+    for at in [at for at, line in enumerate(DRIVES) if "piece" in line or "end" in line]:
+        others = DRIVES[:at] + DRIVES[at + 1:]
+        for to in [to for to in range(len(others)) if to != at]:
+            refused("".join([*others[:to], DRIVES[at], *others[to:]]))
+
+
+def test_drives_that_end_together_have_their_order() -> None:
+    first, second = slice(7, 11), slice(11, 14)
+    refused("".join(DRIVES[:7] + DRIVES[second] + DRIVES[first] + DRIVES[14:]))
+    first, second = slice(19, 21), slice(21, 25)
+    refused("".join(DRIVES[:19] + DRIVES[second] + DRIVES[first] + DRIVES[25:]))
+    refused("".join(DRIVES[:7] + DRIVES[11:14] + DRIVES[14:]))  # the second drive begins while the first is open
+
+
+def test_a_full_drive_ends_after_all_others(tmp_path: Path) -> None:
+    subprocess.run(["sh", TOP / "tests" / "cases" / "a_drive_of_100000_positions_ends" / "make"], cwd=tmp_path, check=True)
+    lines = (tmp_path / "stdout").read_text().splitlines(keepends=True)
+    text = read_match("".join(lines).encode())
+    assert text.traces.tolist() == [1, 1, 2] and np.diff(text.position_first).tolist() == [100_000, 1, 1]
+    full, second = ["1 finish\n", "1 end 1\n"], ["2 finish\n", "2 end 2\n"]
+    at = lines.index(full[0])
+    ended = [*lines[:-5], *lines[-3:]]  # vehicle 2 ends before vehicle 1 is full
+    begun = lines.index("2 none 0\n")
+    assert read_match("".join([*ended[:begun + 1], *second, *ended[begun + 1:]]).encode()).traces.tolist() == [1, 1, 2]
+    assert read_match("".join([*ended[:at], *second, *ended[at:]]).encode()).traces.tolist() == [1, 1, 2]
+    total = "total traces 2 points 100001 pieces 0 rows 0\n"
+    assert len(read_match("".join([*lines[:at], *full, *second, total]).encode()).traces) == 2
+    refused("".join([*lines[:at], *second, *full, total]))  # with the file, drives end in their order

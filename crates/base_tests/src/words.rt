@@ -15,7 +15,7 @@ fn words(alloc: Global, line: &str) -> Result<Vec<String>, AllocError> {
 // The line of a fault of usage.
 const USAGE: &str = "fmm: bad command line\n";
 
-static REFUSED: [(&str, &str); 33] = [
+static REFUSED: [(&str, &str); 39] = [
     ("", USAGE),
     ("match a", USAGE),
     ("match a b c", USAGE),
@@ -52,6 +52,12 @@ static REFUSED: [(&str, &str); 33] = [
         "match --gap 4294967296 a b --radius 0",
         "fmm: bad value radius\n",
     ),
+    ("match a b --idle 60", USAGE),
+    ("follow a b --idle=4294967295", USAGE),
+    ("streams a b --idle 0", "fmm: bad value idle\n"),
+    ("streams --idle=4294967296 a b", "fmm: bad value idle\n"),
+    ("streams a b --idle x", "fmm: bad value idle\n"),
+    ("streams a b --idle x --gap x", "fmm: bad value gap\n"),
 ];
 
 fn is_refused(alloc: Global, line: &str, refusal: &str) -> bool {
@@ -76,7 +82,7 @@ const BACK_500: Params = Params {
     ..Params::DEFAULT
 };
 
-static ACCEPTED: [(&str, Command<'static>); 7] = [
+static ACCEPTED: [(&str, Command<'static>); 8] = [
     (
         "match a --k=3 --table t --gap 60 --bound 0 -- -b",
         Command {
@@ -109,6 +115,18 @@ static ACCEPTED: [(&str, Command<'static>); 7] = [
             work: Work::Streams {
                 network: "a",
                 traces: "b",
+                idle: u32::MAX,
+            },
+            options: BACK_500,
+        },
+    ),
+    (
+        "streams --idle 1 a --back=500 b",
+        Command {
+            work: Work::Streams {
+                network: "a",
+                traces: "b",
+                idle: 1,
             },
             options: BACK_500,
         },
@@ -166,7 +184,11 @@ fn names_of<'a>(work: &Work<'a>) -> [&'a str; 4] {
             table,
         } => ["match", network, traces, table.unwrap_or("")],
         Work::Follow { network, traces } => ["follow", network, traces, ""],
-        Work::Streams { network, traces } => ["streams", network, traces, ""],
+        Work::Streams {
+            network,
+            traces,
+            ..
+        } => ["streams", network, traces, ""],
         Work::Prove { network, traces } => ["prove", network, traces, ""],
         Work::Check {
             network,
@@ -178,17 +200,18 @@ fn names_of<'a>(work: &Work<'a>) -> [&'a str; 4] {
     }
 }
 
-// The numbers of a town, and 0 for each without one.
-fn town_of(work: &Work<'_>) -> [u32; 3] {
+// The numbers of a work, and 0 for each without one.
+fn numbers_of(work: &Work<'_>) -> [u32; 3] {
     match *work {
         Work::Town { side, traces, seed } => [side, traces, seed],
+        Work::Streams { idle, .. } => [idle, 0, 0],
         _ => [0; 3],
     }
 }
 
 fn is_same(read: &Command<'_>, wanted: &Command<'_>) -> bool {
     names_of(&read.work) == names_of(&wanted.work)
-        && town_of(&read.work) == town_of(&wanted.work)
+        && numbers_of(&read.work) == numbers_of(&wanted.work)
         && read.options == wanted.options
 }
 

@@ -6,10 +6,11 @@ use Rattle.command_line.specs.Options.{all_options}
 use Rattle.command_line.specs.Values.{name_of}
 use Rattle.command_line.specs.Work.{WorkKind}
 use Rattle.command_line.specs.works.Match.{match_kind}
+use Rattle.command_line.specs.works.Streams.{streams_kind}
 use Rattle.command_line.specs.works.Check.{check_kind}
 use Rattle.command_line.specs.works.Table.{table_kind}
 use Rattle.command_line.specs.works.Town.{town_kind}
-use Rattle.command_line.specs.works.TraceFiles.{follow_kind, prove_kind, streams_kind}
+use Rattle.command_line.specs.works.TraceFiles.{follow_kind, prove_kind}
 
 abbrev pub all_kinds : List WorkKind
 all_kinds =

@@ -7,7 +7,7 @@ use Rattle.cost_model.specs.declared.params.ValueRange.{ValueRange}
 use Rattle.command_line.specs.declared.fault.WordsFault.{WordsFault}
 use Rattle.command_line.specs.declared.fault.WordsFault.TheVariants.{BadValue}
 use Rattle.command_line.specs.declared.value.ValueName.{ValueName}
-use Rattle.command_line.specs.declared.value.ValueName.TheVariants.{K, Radius, Sigma, Beta, Bound, Workers, Back, Gap, N, T, Seed}
+use Rattle.command_line.specs.declared.value.ValueName.TheVariants.{K, Radius, Sigma, Beta, Bound, Workers, Back, Gap, Idle, N, T, Seed}
 
 abbrev pub name_of : ValueName → List ℕ
 name_of K = codes "k"
@@ -18,6 +18,7 @@ name_of Bound = codes "bound"
 name_of Workers = codes "workers"
 name_of Back = codes "back"
 name_of Gap = codes "gap"
+name_of Idle = codes "idle"
 name_of N = codes "N"
 name_of T = codes "T"
 name_of Seed = codes "SEED"
@@ -32,6 +33,7 @@ range_of Bound = record { least = 0; most = 10_000_000 }
 range_of Workers = record { least = 1; most = 64 }
 range_of Back = record { least = 0; most = 100_000 }
 range_of Gap = record { least = 0; most = 4_294_967_295 }
+range_of Idle = record { least = 1; most = 4_294_967_295 }
 range_of N = record { least = 2; most = 100 }
 range_of T = record { least = 1; most = 2_000 }
 range_of Seed = record { least = 0; most = 4_294_967_295 }

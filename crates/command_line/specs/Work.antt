@@ -4,7 +4,7 @@ use Rattle.cost_model.specs.Options.{IsWithin}
 use Rattle.cost_model.specs.declared.params.Params.{Params}
 use Rattle.command_line.specs.Values.{range_of}
 use Rattle.command_line.specs.declared.fault.WordsFault.{WordsFault}
-use Rattle.command_line.specs.declared.value.ValueName.TheVariants.{N, T}
+use Rattle.command_line.specs.declared.value.ValueName.TheVariants.{Idle, N, T}
 use Rattle.command_line.specs.declared.work.Command.{Command}
 use Rattle.command_line.specs.declared.work.Work.{Work}
 use Rattle.command_line.specs.declared.work.Work.TheVariants.{Match, Follow, Streams, Prove, Check, Table, Town}
@@ -12,7 +12,7 @@ use Rattle.command_line.specs.declared.work.Work.TheVariants.{Match, Follow, Str
 pub data PlainWork : Type 0 where
   match_files : (network traces : List ℕ) (table : Option (List ℕ)) → PlainWork
   follow_files : (network traces : List ℕ) → PlainWork
-  stream_files : (network traces : List ℕ) → PlainWork
+  stream_files : (network traces : List ℕ) (idle : ℕ) → PlainWork
   prove_files : (network traces : List ℕ) → PlainWork
   check_files : (network traces certificate : List ℕ) → PlainWork
   table_of_network : (network : List ℕ) → PlainWork
@@ -26,7 +26,7 @@ abbrev pub plain_work : Work → PlainWork
 plain_work (Match network traces table) =
     match_files network.now traces.now (option_map (λ name. name.now) table)
 plain_work (Follow network traces) = follow_files network.now traces.now
-plain_work (Streams network traces) = stream_files network.now traces.now
+plain_work (Streams network traces idle) = stream_files network.now traces.now idle
 plain_work (Prove network traces) = prove_files network.now traces.now
 plain_work (Check network traces certificate) =
     check_files network.now traces.now certificate.now
@@ -37,7 +37,7 @@ plain_work (Town side traces seed) = match_town side traces seed
 abbrev pub AreNumbersWithin : Work → Type 0
 AreNumbersWithin (Match network traces table) = Unit {0}
 AreNumbersWithin (Follow network traces) = Unit {0}
-AreNumbersWithin (Streams network traces) = Unit {0}
+AreNumbersWithin (Streams network traces idle) = IsWithin (range_of Idle).least (range_of Idle).most idle
 AreNumbersWithin (Prove network traces) = Unit {0}
 AreNumbersWithin (Check network traces certificate) = Unit {0}
 AreNumbersWithin (Table network) = Unit {0}

@@ -43,6 +43,7 @@ impl WordsFault {
             WordsFault::BadValue(ValueName::Workers) => "fmm: bad value workers\n",
             WordsFault::BadValue(ValueName::Back) => "fmm: bad value back\n",
             WordsFault::BadValue(ValueName::Gap) => "fmm: bad value gap\n",
+            WordsFault::BadValue(ValueName::Idle) => "fmm: bad value idle\n",
             WordsFault::BadValue(ValueName::N) => "fmm: bad value N\n",
             WordsFault::BadValue(ValueName::T) => "fmm: bad value T\n",
             WordsFault::BadValue(ValueName::Seed) => "fmm: bad value SEED\n",

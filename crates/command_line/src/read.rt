@@ -62,7 +62,8 @@ fn read_limits(found: &ArgMatches, model: Params) -> Result<Params, WordsFault>
     })
 }
 
-fn read_option(found: &ArgMatches, name: ValueName, default: u32) -> Result<u32, WordsFault>
+/// The value of an option, or its default.
+pub fn read_option(found: &ArgMatches, name: ValueName, default: u32) -> Result<u32, WordsFault>
     requires { IsWithin (range_of name).least (range_of name).most default }
     ensures value { result ≡ option_of name default (given_for found.now) }
     ensures range { IfOk result (IsWithin (range_of name).least (range_of name).most) }

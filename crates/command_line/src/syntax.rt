@@ -8,7 +8,7 @@ ghost use Rattle.command_line.specs.Syntax.{option_rule, program};
 ghost use Rattle.command_line.specs.Values.{name_of};
 
 use crate::value::ValueName;
-use crate::works::{checking, matching, table, towns, trace_files};
+use crate::works::{checking, matching, streaming, table, towns, trace_files};
 use clap::{Arg, Command};
 use std::alloc::{AllocError, Global};
 
@@ -26,7 +26,7 @@ pub struct Form {
 const FORMS: [Form; 7] = [
     matching::FORM,
     trace_files::FOLLOW,
-    trace_files::STREAMS,
+    streaming::FORM,
     trace_files::PROVE,
     checking::FORM,
     table::FORM,

@@ -5,8 +5,8 @@ ghost use Rattle.command_line.specs.Values.{name_of, range_of};
 
 use cost_model::{Params, ValueRange};
 
-/// A value that is given as a number. An option has the name of its field of `Params`, and an
-/// argument the name in the usage line.
+/// A value that is given as a number. An option of every command has the name of its field of
+/// `Params`, and an argument the name in the usage line.
 #[derive(Clone, Copy, Debug)]
 pub enum ValueName {
     K,
@@ -17,6 +17,8 @@ pub enum ValueName {
     Workers,
     Back,
     Gap,
+    /// After how many seconds without a row a drive of a stream ends.
+    Idle,
     /// How many rows and columns a town has.
     N,
     /// How many traces a town has.
@@ -24,6 +26,12 @@ pub enum ValueName {
     /// The seed of a generated town.
     Seed,
 }
+
+/// In seconds.
+const IDLE_RANGE: ValueRange = ValueRange {
+    least: 1,
+    most: u32::MAX,
+};
 
 impl ValueName {
     /// The options that every command takes, in the order in which they are read.
@@ -51,13 +59,14 @@ impl ValueName {
             ValueName::Workers => "workers",
             ValueName::Back => "back",
             ValueName::Gap => "gap",
+            ValueName::Idle => "idle",
             ValueName::N => "N",
             ValueName::T => "T",
             ValueName::Seed => "SEED",
         }
     }
 
-    /// The range; for an option in the unit of its field of `Params`.
+    /// The range; for an option of every command in the unit of its field of `Params`.
     pub fn range(self) -> ValueRange
         ensures { result ≡ range_of self }
     {
@@ -70,6 +79,7 @@ impl ValueName {
             ValueName::Workers => Params::WORKERS_RANGE,
             ValueName::Back => Params::BACK_RANGE,
             ValueName::Gap => Params::GAP_RANGE,
+            ValueName::Idle => IDLE_RANGE,
             ValueName::N => ValueRange {
                 least: 2,
                 most: 100,

@@ -29,12 +29,14 @@ pub enum Work<'a> {
         traces: &'a str,
     },
     /// Follow interleaved traces: each fragment of a trace continues the previous fragment with the
-    /// same id.
+    /// same id, unless a drive of the id has ended in between.
     Streams {
         /// The name of the network file.
         network: &'a str,
         /// The name of the trace file.
         traces: &'a str,
+        /// A drive ends once the file is more than this many seconds past the drive's newest row.
+        idle: u32,
     },
     /// Write the certificate of the matches of a file's traces on the network of a file.
     Prove {

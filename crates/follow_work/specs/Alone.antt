@@ -12,7 +12,7 @@ use Rattle.road_network.specs.declared.limits.NetworkLimits.TheVariants.{Standar
 abbrev pub followed : PlainWork → Params → Option Plan
 followed (follow_files network traces) options = Some (follow_plan Standard network traces options)
 followed (match_files network traces table) options = None
-followed (stream_files network traces) options = None
+followed (stream_files network traces idle) options = None
 followed (prove_files network traces) options = None
 followed (check_files network traces certificate) options = None
 followed (table_of_network network) options = None

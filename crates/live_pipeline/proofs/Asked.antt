@@ -25,7 +25,7 @@ words_refuse words fault shelf out stop known refuses = inl (frame.words_refuse 
 no_follow : (work : Work) (options : _) → ((network traces : _) → work ≢ Follow network traces) → followed (plain_work work) options ≡ None
 no_follow (Match network traces table) options other = refl
 no_follow (Follow network traces) options other = absurd (other network traces refl)
-no_follow (Streams network traces) options other = refl
+no_follow (Streams network traces idle) options other = refl
 no_follow (Prove network traces) options other = refl
 no_follow (Check network traces certificate) options other = refl
 no_follow (Table network) options other = refl

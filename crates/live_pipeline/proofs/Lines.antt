@@ -32,7 +32,7 @@ work_end (follow_files network traces) options known status line planned refused
     line_of None = ⊥
     line_of (Some p) = IsLineOf p status line
 work_end (match_files network traces table) options known status line planned refused is = absurd cc
-work_end (stream_files network traces) options known status line planned refused is = absurd cc
+work_end (stream_files network traces idle) options known status line planned refused is = absurd cc
 work_end (prove_files network traces) options known status line planned refused is = absurd cc
 work_end (check_files network traces certificate) options known status line planned refused is = absurd cc
 work_end (table_of_network network) options known status line planned refused is = absurd cc

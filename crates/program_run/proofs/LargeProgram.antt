@@ -76,7 +76,7 @@ module _ (files : List ℕ → Option (List ℕ)) where
   work_alike (match_files network traces None) options keeps = loaded_alike network _ (keeps network (inl (refl, refl)))
   work_alike (match_files network traces (Some table)) options keeps = loaded_alike network _ (keeps network (inl (refl, refl)))
   work_alike (follow_files network traces) options keeps = loaded_alike network _ (keeps network (inl (refl, refl)))
-  work_alike (stream_files network traces) options keeps = loaded_alike network _ (keeps network (inl (refl, refl)))
+  work_alike (stream_files network traces idle) options keeps = loaded_alike network _ (keeps network (inl (refl, refl)))
   work_alike (prove_files network traces) options keeps = loaded_alike network _ (keeps network (inl (refl, refl)))
   work_alike (check_files network traces certificate) options keeps = loaded_alike network _ (keeps network (inl (refl, refl)))
   work_alike (table_of_network network) options keeps = loaded_alike network _ (keeps network (inl (refl, refl)))

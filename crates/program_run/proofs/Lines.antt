@@ -5,7 +5,7 @@ use Rattle.std.specs.declared.option.Option.{Option}
 use Rattle.command_line.specs.Work.{PlainCommand, PlainWork}
 use Rattle.command_line.specs.Work.PlainWork.{check_files, follow_files, match_files, match_town, prove_files, stream_files, table_of_network}
 use Rattle.cost_model.specs.declared.params.Params.{Params}
-use Rattle.program_frame.specs.Jobs.{given_by}
+use Rattle.program_frame.specs.Jobs.{JobText, given_by}
 use Rattle.program_frame.specs.Plan.{Plan, IsLineOf, accepts, loads}
 use Rattle.program_frame.specs.Plan.Plan.{ends}
 use Rattle.program_frame.specs.Promises.{Covers}
@@ -32,7 +32,8 @@ use Rattle.check_work.specs.Check.{check_said}
 use Rattle.match_work.specs.Matches.{match_plan, match_text}
 use Rattle.table_work.specs.Preload.{preloads, table_file_said}
 use Rattle.prove_work.specs.Prove.{certificate_too_long, prove_said, text_of_proofs}
-use Rattle.follow_work.specs.Streams.{streams_job, too_long_line}
+use Rattle.follow_work.specs.Drives.{drives_job}
+use Rattle.follow_work.specs.Streams.{never, streams_job, streams_within, too_long_line}
 use Rattle.match_work.specs.TableMatch.{table_match_plan}
 use Rattle.table_work.specs.Table.{table_said, table_too_long, text_of_network}
 
@@ -49,6 +50,12 @@ streams_end : (on : Setting) (texts ending bytes : List ℕ) (full : Option ℕ)
     → IsLineOf (ends (given_by (option_map too_long_line full) (file_fault bytes) texts ending)) status line → run_lines status line
 streams_end on texts ending bytes None status line refused is = inl (traces_end texts ending bytes (file_fault bytes) status line refl refused is)
 streams_end on texts ending bytes (Some id) status line refused is = inr (inl (sym is.0, (id, sym is.1)))
+
+-- no id is too long where drives end
+within_end : (on : Setting) (idle : ℕ) (name : List ℕ) (drives_end : Bool) (status : ℕ) (line : List ℕ) → status ≢ 0
+    → IsLineOf (works_traces name (cond {A = JobText} drives_end (drives_job on idle) (streams_job on))) status line → run_lines status line
+within_end on idle name true status line refused is = inl (traces_end _ _ is.0 (file_fault is.0) status line refl refused is.1)
+within_end on idle name false status line refused is = streams_end on _ _ is.0 (full_id [] (points_in (file_traces is.0))) status line refused is.1
 
 table_end : (network : List ℕ) (options : Params) (said : Result (List ℕ) (List ℕ)) (net : Net) (status : ℕ) (line : List ℕ) → table_said net options.bound ≡ said → status ≢ 0
     → IsLineOf (accepts 8 said (λ text. ends (done_with text))) status line → run_lines status line
@@ -97,9 +104,9 @@ work_end limits (match_files network traces None) options status line refused is
 work_end limits (match_files network traces (Some table)) options status line refused is = table_match_end limits network table traces options status line refused is
 work_end limits (follow_files network traces) options status line refused is =
     network_end run_lines has_refusals limits is.0 (network_said limits is.0) (λ net. works_traces traces (follow_job (record { network = net; params = options }))) status line refl (λ net. follows_end (record { network = net; params = options }) traces status line refused) is.1
-work_end limits (stream_files network traces) options status line refused is =
-    network_end run_lines has_refusals limits is.0 (network_said limits is.0) (λ net. works_traces traces (streams_job (record { network = net; params = options }))) status line refl
-    (λ net more. streams_end (record { network = net; params = options }) _ _ more.0 (full_id [] (points_in (file_traces more.0))) status line refused more.1) is.1
+work_end limits (stream_files network traces idle) options status line refused is =
+    network_end run_lines has_refusals limits is.0 (network_said limits is.0) (λ net. works_traces traces (streams_within (record { network = net; params = options }) idle)) status line refl
+    (λ net. within_end (record { network = net; params = options }) idle traces (nat_lt idle never) status line refused) is.1
 work_end limits (prove_files network traces) options status line refused is =
     network_end run_lines has_refusals limits is.0 (network_said limits is.0) (λ net. loads Traces traces trace_limit 6 traces_said (λ taken. accepts 8 (prove_said (record { network = net; params = options }) taken) (λ text. ends (done_with text)))) status line refl
     (λ net more. loaded_end more.0 (file_fault more.0) (λ taken. accepts 8 (prove_said (record { network = net; params = options }) taken) (λ text. ends (done_with text))) status line refl

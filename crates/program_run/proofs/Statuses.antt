@@ -9,7 +9,7 @@ use Rattle.follow_work.specs.Follow.{follow_job}
 use Rattle.match_work.specs.Matches.{match_text}
 use Rattle.check_work.specs.Check.{check_said}
 use Rattle.prove_work.specs.Prove.{prove_said}
-use Rattle.follow_work.specs.Streams.{streams_job}
+use Rattle.follow_work.specs.Streams.{streams_within}
 use Rattle.table_work.specs.Preload.{preloads, table_file_said}
 use Rattle.table_work.specs.Table.{table_said}
 use Rattle.program_frame.specs.Asked.{asked_of}
@@ -112,9 +112,9 @@ line_tells limits (follow_files network traces) options status line is =
     let said = accepted_end Neither 5 (network_said limits is.0) (λ net. works_traces traces (follow_job (on_net net options))) status line five_neither
     (λ net more. job_end Neither traces (follow_job (on_net net options)) status line zero_neither six_neither more) is.1 in
     record { check = said.0; table = said.1; town = λ no. absurd no }
-line_tells limits (stream_files network traces) options status line is =
-    let said = accepted_end Neither 5 (network_said limits is.0) (λ net. works_traces traces (streams_job (on_net net options))) status line five_neither
-    (λ net more. job_end Neither traces (streams_job (on_net net options)) status line zero_neither six_neither more) is.1 in
+line_tells limits (stream_files network traces idle) options status line is =
+    let said = accepted_end Neither 5 (network_said limits is.0) (λ net. works_traces traces (streams_within (on_net net options) idle)) status line five_neither
+    (λ net more. job_end Neither traces (streams_within (on_net net options) idle) status line zero_neither six_neither more) is.1 in
     record { check = said.0; table = said.1; town = λ no. absurd no }
 line_tells limits (prove_files network traces) options status line is =
     let said = accepted_end Neither 5 (network_said limits is.0) (with_traces traces proves options) status line five_neither
@@ -152,7 +152,7 @@ module _ (limits : NetworkLimits) (work : PlainWork) (options : Params) (shelf s
   town_reads (match_files network traces (Some table)) is town three = town
   town_reads (match_files network traces None) is town three = town
   town_reads (follow_files network traces) is town three = town
-  town_reads (stream_files network traces) is town three = town
+  town_reads (stream_files network traces idle) is town three = town
   town_reads (prove_files network traces) is town three = town
   town_reads (check_files network traces certificate) is town three = town
   town_reads (table_of_network network) is town three = town

@@ -12,7 +12,7 @@ unfolding match_of asks route_of handed items_of verdict
 workers_change_nothing limits (match_files network traces None) options workers = refl
 workers_change_nothing limits (match_files network traces (Some table)) options workers = refl
 workers_change_nothing limits (follow_files network traces) options workers = refl
-workers_change_nothing limits (stream_files network traces) options workers = refl
+workers_change_nothing limits (stream_files network traces idle) options workers = refl
 workers_change_nothing limits (prove_files network traces) options workers = refl
 workers_change_nothing limits (check_files network traces certificate) options workers = refl
 workers_change_nothing limits (table_of_network network) options workers = refl

@@ -29,7 +29,8 @@ abbrev pub work_plan : NetworkLimits → PlainWork → Params → Plan
 work_plan limits (match_files network traces table) options =
     match_files_plan limits network traces table options
 work_plan limits (follow_files network traces) options = follow_plan limits network traces options
-work_plan limits (stream_files network traces) options = streams_plan limits network traces options
+work_plan limits (stream_files network traces idle) options =
+    streams_plan limits network traces idle options
 work_plan limits (prove_files network traces) options = prove_plan limits network traces options
 work_plan limits (check_files network traces certificate) options =
     check_plan limits network traces certificate options

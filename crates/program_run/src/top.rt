@@ -12,7 +12,7 @@ use check_work::check_traces;
 use command_line::{Command, Work, read_command};
 use cost_model::Params;
 use edge_io::{Shelf, Sink};
-use follow_work::{follow_traces, stream_traces};
+use follow_work::{StreamedFile, follow_traces, stream_traces};
 use match_pool::Gate;
 use match_work::{match_town, match_traces, match_with_table};
 use program_frame::{NetworkFile, Refusal, Stop, refuse_fault, report};
@@ -76,9 +76,14 @@ fn perform<R: Threads + Sync, G: Gate, S: Shelf, K: Sink>(
             let file = NetworkFile::new(network, limits);
             follow_traces(alloc, file, traces, options, shelf, out)
         }
-        Work::Streams { network, traces } => {
+        Work::Streams {
+            network,
+            traces,
+            idle,
+        } => {
             let file = NetworkFile::new(network, limits);
-            stream_traces(alloc, file, traces, options, shelf, out)
+            let streamed = StreamedFile { name: traces, idle };
+            stream_traces(alloc, file, streamed, options, shelf, out)
         }
         Work::Prove { network, traces } => {
             let file = NetworkFile::new(network, limits);

@@ -34,6 +34,7 @@ OTHER_TEXTS = {b"fmm-certificate": "a certificate of fmm prove", b"fmm-table": "
 @dataclass
 class MatchText:
     """What a text says. Traces, positions and pieces have the order of the text; in `streams`, that of the first line of each id.
+    With `idle` an id of `streams` has a trace for each of its drives.
 
     A trace is named by its place in `traces`, since an id may come again in a text of match. `first` and `last` count from 0 in
     each trace.

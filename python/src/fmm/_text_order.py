@@ -8,6 +8,7 @@ import numpy as np
 
 TRACE, AT, NONE, PIECE, END, FIX, FINISH = range(7)
 BEGIN = 7  # what comes before the first line
+LAST_OF_FULL = 99_999  # the number of the last position of a drive that takes no more
 FOLLOWERS = {BEGIN: [TRACE], TRACE: [AT, NONE], AT: [AT, PIECE], NONE: [AT, NONE, END], PIECE: [AT, NONE, END], END: [TRACE]}
 ALLOWED = np.zeros((8, 8), bool)
 for _kind, _followers in FOLLOWERS.items():
@@ -90,18 +91,46 @@ def follow_fault(lines: Lines) -> Optional[int]:
 
 
 def streams_fault(lines: Lines, ids: np.ndarray, rank: np.ndarray) -> Optional[int]:
-    """The first line of another id than its place allows. `rank` is the place of the id in the order of first appearance."""
+    """The first line of another id than its place allows. `rank` is the place of the id in the order of first appearance.
+
+    An id has several drives if `idle` ends them before the file does; each has a line `trace`.
+    """
     kind = lines.kind
     same = np.append(False, ids[1:] == ids[:-1])[:len(ids)]
     before = before_each(kind)
-    finishes = np.cumsum(kind == FINISH)
-    ending = finishes > 0
-    wrong = ~same & (kind != TRACE) & (kind != FIX) & (kind != FINISH)
+    open_endings = np.cumsum((kind == FINISH).astype(np.int64) - (kind == END))
+    within_ending = np.append(0, open_endings)[:len(kind)] > 0
+    begins = (kind == TRACE) | (kind == FIX) | (kind == FINISH)
+    wrong = np.where(begins, within_ending, ~same)
     wrong |= (before == TRACE) & ~(same & (kind == FIX))
     wrong |= (kind == TRACE) & (lines.number != ids)
-    wrong |= ending & ((kind == TRACE) | (kind == FIX))
-    wrong |= (kind == FINISH) & ((rank != finishes - 1) | (finishes > 1) & (before != END))
-    again = np.ones(len(kind), bool)
-    again[np.unique(np.where(kind == TRACE, ids, -1), return_index=True)[1]] = False
-    wrong |= again & (kind == TRACE)
+    wrong[traces_of_open_ids(kind, rank)] = True
+    wrong[misplaced_finishes(lines, rank)] = True
     return first_of(lines, wrong)
+
+
+def traces_of_open_ids(kind: np.ndarray, rank: np.ndarray) -> np.ndarray:
+    """The lines `trace` of ids whose drive before has no line `end`."""
+    order = np.argsort(rank, kind="stable")
+    marks = order[(kind[order] == TRACE) | (kind[order] == END)]
+    is_trace = kind[marks] == TRACE
+    return marks[1:][is_trace[1:] & is_trace[:-1] & (rank[marks[1:]] == rank[marks[:-1]])]
+
+
+def misplaced_finishes(lines: Lines, rank: np.ndarray) -> np.ndarray:
+    """The lines `finish` that come too late among those that no other lines of positions part.
+
+    They have the order of the first lines of their drives. But a full drive ends after all others, and its id begins another one.
+    """
+    kind, order = lines.kind, np.argsort(rank, kind="stable")
+    begin, latest = (np.empty(len(kind), np.int64) for _ in range(2))
+    for found, which in ((begin, TRACE), (latest, FIX)):
+        places = np.where(kind[order] == which, np.arange(len(kind)), 0)
+        found[order] = order[np.maximum.accumulate(places)]
+    is_row = (kind == TRACE) | (kind == FIX)
+    rows, finishes = np.flatnonzero(is_row), np.flatnonzero(kind == FINISH)
+    part = np.cumsum(is_row)[finishes]
+    late = np.append(False, (part[1:] == part[:-1]) & (begin[finishes[1:]] < begin[finishes[:-1]]))[:len(finishes)]
+    following = np.append(rows, -1)[part]
+    is_full = (lines.number[latest[finishes]] == LAST_OF_FULL) & (kind[following] == TRACE) & (rank[following] == rank[finishes])
+    return finishes[late & ~is_full]

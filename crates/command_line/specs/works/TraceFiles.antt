@@ -1,8 +1,8 @@
--- `follow NET TRACES`, `streams NET TRACES`, `prove NET TRACES`.
+-- `follow NET TRACES`, `prove NET TRACES`.
 use Rattle.std.specs.Prelude.{ℕ, List, [], ◌∷◌, codes, Option, Some, Result, Ok, Err}
 use Rattle.command_line.specs.Options.{and_then}
 use Rattle.command_line.specs.Work.{PlainWork, WorkKind}
-use Rattle.command_line.specs.Work.PlainWork.{follow_files, prove_files, stream_files}
+use Rattle.command_line.specs.Work.PlainWork.{follow_files, prove_files}
 use Rattle.command_line.specs.declared.fault.WordsFault.{WordsFault}
 use Rattle.command_line.specs.declared.fault.WordsFault.TheVariants.{Usage}
 
@@ -25,9 +25,6 @@ trace_files_kind name make = record {
 
 abbrev pub follow_kind : WorkKind
 follow_kind = trace_files_kind (codes "follow") follow_files
-
-abbrev pub streams_kind : WorkKind
-streams_kind = trace_files_kind (codes "streams") stream_files
 
 abbrev pub prove_kind : WorkKind
 prove_kind = trace_files_kind (codes "prove") prove_files

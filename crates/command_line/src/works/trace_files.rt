@@ -1,10 +1,10 @@
-//! `follow`, `streams` and `prove`, each with `NET TRACES`. Serves `read_work` and `program`; decided
-//! by `trace_files_kind`.
+//! `follow` and `prove`, each with `NET TRACES`. Serves `read_work` and `program`; decided by
+//! `trace_files_kind`.
 ghost use Rattle.std.specs.Prelude.{◌≡◌, IfOk, codes};
 ghost use Rattle.std.specs.Result.{result_map_both};
 ghost use Rattle.command_line.specs.inside.Given.{given_for};
 ghost use Rattle.command_line.specs.Work.{AreNumbersWithin, plain_work};
-ghost use Rattle.command_line.specs.works.TraceFiles.{file_names, follow_kind, prove_kind, streams_kind};
+ghost use Rattle.command_line.specs.works.TraceFiles.{file_names, follow_kind, prove_kind};
 
 use crate::fault::WordsFault;
 use crate::read::text_of;
@@ -15,13 +15,6 @@ use clap::ArgMatches;
 /// The syntax of `follow`.
 pub const FOLLOW: Form = Form {
     name: "follow",
-    options: &[],
-    arguments: &["NET", "TRACES"],
-};
-
-/// The syntax of `streams`.
-pub const STREAMS: Form = Form {
-    name: "streams",
     options: &[],
     arguments: &["NET", "TRACES"],
 };
@@ -58,16 +51,6 @@ pub fn read_follow<'a>(found: &ArgMatches<'a>) -> Result<Work<'a>, WordsFault>
 {
     let FileNames { network, traces } = file_names(found)?;
     Ok(Work::Follow { network, traces })
-}
-
-/// The work of `streams`.
-pub fn read_streams<'a>(found: &ArgMatches<'a>) -> Result<Work<'a>, WordsFault>
-    ensures value { result_map_both plain_work (λ fault. fault) result
-        ≡ streams_kind.work (given_for found.now) }
-    ensures within { IfOk result AreNumbersWithin }
-{
-    let FileNames { network, traces } = file_names(found)?;
-    Ok(Work::Streams { network, traces })
 }
 
 /// The work of `prove`.

@@ -69,7 +69,8 @@ def options_of(words: Sequence[str]) -> Options:
     for name, value in zip(rest[::2], rest[1::2]):
         if not name.startswith("--") or not value.isascii() or not value.isdigit():
             raise OptionError(f"{name} {value}: an option of the match is --NAME and a whole number")
-        values[name[2:]] = int(value) / UNITS.get(name[2:], 100.0)
+        if name != "--idle":  # it ends drives of streams, and is no option of their match
+            values[name[2:]] = int(value) / UNITS.get(name[2:], 100.0)
     return Options.of(**values)
 
 
@@ -81,7 +82,7 @@ def tables(args: Any, options: Options, words: Sequence[str]) -> Matches:
     numbers_of, x, y, time = read_traces(args.traces)
     order = np.argsort(first_ranks(numbers_of), kind="stable") if text.kind == "streams" else np.arange(len(x))
     first, counts = runs(numbers_of[order])
-    compare_traces(text, numbers_of[order][first], counts, args.traces)
+    compare_traces(text, *drives_of(text, numbers_of[order][first], counts), args.traces)
     compare_places(text, network, x[order], y[order], args.traces)
     evidence = {
         "network": {"path": args.network, "sha256": network.checksum, "projection": network.projection.text},
@@ -98,6 +99,16 @@ def tables(args: Any, options: Options, words: Sequence[str]) -> Matches:
     traces = traces_of(args.traces, frame, text, order)
     known = None if args.trust and not words else options
     return Matches.solved(network, positions, traces, text, known, evidence, crs=args.crs)
+
+
+def drives_of(text: MatchText, traces: np.ndarray, counts: np.ndarray) -> Tuple[np.ndarray, np.ndarray]:
+    """The traces of a file and the numbers of their positions, with each id of streams parted into the drives of the text."""
+    found = np.diff(text.position_first)
+    first, _ = runs(text.traces)
+    if text.kind == "streams" and np.array_equal(text.traces[first], traces):
+        if np.array_equal(np.add.reduceat(found, first) if len(first) else found, counts):
+            return text.traces, found
+    return traces, counts
 
 
 def check_side_file(path: str, network: Network) -> None:

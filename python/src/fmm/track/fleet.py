@@ -161,6 +161,8 @@ class Fleet:
                 if self.number_of.get(vehicle) == one.number and one.number not in self.drives.open:
                     del self.number_of[vehicle]
                     self.heard.pop(one.number, None)
+                    if self.ends.idle is not None:
+                        self.intake.end(vehicle, one.number)
         return found
 
     def _lost(self, fault: Exception, is_last: bool) -> None:
