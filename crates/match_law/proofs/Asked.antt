@@ -1,5 +1,5 @@
 -- The rows that traces ask for are those of the definition.
-use Rattle.std.proofs.Common.{IsTrue, ◌≡◌, ◌↔◌, ◌⊎◌, ℕ, zero, suc, ◌+◌, ◌-◌, ◌<◌, ◌≤◌, Bool, true, List, [], ◌∷◌, map, Contains, Option, Some, refl, sym, ap, subst, ◌∙◌, arith, length, reverse, take, drop, get_or, slice_get, ⊎_elim}
+use Rattle.std.proofs.Common.{IsTrue, ◌≡◌, ◌↔◌, ℕ, zero, suc, ◌+◌, ◌-◌, ◌<◌, ◌≤◌, Bool, true, List, [], ◌∷◌, map, Contains, Option, Some, refl, sym, ap, subst, ◌∙◌, arith, length, reverse, take, drop, get_or, slice_get, ⊎_elim}
 use Rattle.std.specs.List.{list_any}
 use Rattle.std.proofs.lemmas.Bool.{or_cases, or_left, or_right}
 use Rattle.std.proofs.lemmas.List.{get_or-map, get_or_default, length-map}
@@ -108,7 +108,7 @@ module _ (n : Net) (p : Params) (lawful : IsLawful n) where
       record {
         after_first = subst (λ (k : ℕ). k ≤ i) (sym first) le;
         to_last = subst (λ (k : ℕ). i ≤ k) (sym last) a.to_last;
-        ranks = a.rank ∷ a.reached.1;
+        ranks_back = a.rank ∷ a.reached.1;
         cost = a.reached.0;
         c = ends.c;
         earlier = ends.earlier;
@@ -150,11 +150,11 @@ module _ (n : Net) (p : Params) (lawful : IsLawful n) where
   asked_at fixes q r i v first last a =
       let part : reverse (from_to r.first i fixes) ≡ reverse (from_to q.first i fixes) = ap (λ (k : ℕ). reverse (from_to k i fixes)) first in
       let back = back_of fixes q.first i a.here (subst (λ (k : ℕ). k ≤ i) first a.after_first) a.here_is in
-      let are = subst (λ (xs : List Fix). AreChosen n p xs a.ranks (a.c ∷ a.earlier)) part a.are in
+      let are = subst (λ (xs : List Fix). AreChosen n p xs a.ranks_back (a.c ∷ a.earlier)) part a.are in
       let costs = subst (λ (xs : List Fix). IsCost n p xs (a.c ∷ a.earlier) a.cost) part a.costs in
-      asked_by_rank fixes q r i v a.ranks a.c a.earlier a.cost a.here a.next first last a.after_first a.to_last
-      (subst (λ (xs : List Fix). AreChosen n p xs a.ranks (a.c ∷ a.earlier)) back are)
-      (layers_back n p (from_to q.first i fixes) a.ranks a.cost lawful (record { chosen = a.c ∷ a.earlier; are = are; costs = costs }))
+      asked_by_rank fixes q r i v a.ranks_back a.c a.earlier a.cost a.here a.next first last a.after_first a.to_last
+      (subst (λ (xs : List Fix). AreChosen n p xs a.ranks_back (a.c ∷ a.earlier)) back are)
+      (layers_back n p (from_to q.first i fixes) a.ranks_back a.cost lawful (record { chosen = a.c ∷ a.earlier; are = are; costs = costs }))
       a.node a.here_is a.next_is a.some a.near
 
   -- ---- one trace

@@ -31,7 +31,7 @@ chosen_append n p (f ∷ fs) gs (r ∷ rs) ss (c ∷ cs) ds one two = (one.0, ch
 turned : {X : Type 0} (x : X) (xs : List X) → reverse xs ++ x ∷ [] ≡ reverse (x ∷ xs)
 turned x xs = sym (reverse-append (x ∷ []) xs)
 
-chosen_turned : (n : Net) (p : Params) (fs : List Fix) (rs : List ℕ) (cs : List Candidate)
+pub chosen_turned : (n : Net) (p : Params) (fs : List Fix) (rs : List ℕ) (cs : List Candidate)
     → AreChosen n p fs rs cs → AreChosen n p (reverse fs) (reverse rs) (reverse cs)
 chosen_turned n p [] [] [] one = tt
 chosen_turned n p [] [] (c ∷ cs) one = absurd one

@@ -1,6 +1,7 @@
 mod Sequences
 mod Pieces
 mod Choices
+mod Unique
 mod Matches
 mod Asked
 mod Texts

@@ -2,11 +2,13 @@
 use Rattle.std.proofs.Common.{◌≡◌, ℕ, suc, ◌+◌, ◌-◌, ◌<◌, ◌≤◌, List, [], ◌∷◌, map, All, Option, Some, None, refl, sym, ap, subst, ◌∙◌, arith, length, reverse, take, drop, get_or}
 use Rattle.std.proofs.lemmas.List.{drop-map, get_or-drop, get_or-take, get_or_default, length-drop, length-map, length-take, take-map, take_all}
 use Rattle.std.proofs.lemmas.List.Elements.{All-head, All-tail}
+use Rattle.cost_model.specs.Options.{IsAccepted}
 use Rattle.cost_model.specs.declared.params.Params.{Params}
-use Rattle.match_law.specs.LeastMatch.{AreChosen, AreLeastPieces, AreMissing, IsLeastPiece, IsLongest, IsRouteOver, from_to}
+use Rattle.match_law.specs.LeastMatch.{AreChosen, AreLeastPieces, AreMissing, IsLeastMatch, IsLeastPiece, IsLongest, IsRouteOver, from_to}
 use Rattle.match_law.specs.Matches.{MatchesAreLeast}
 use Rattle.match_law.proofs.Choices.{added_of, chosen_at_place, chosen_count, chosen_in_order, labels_chosen, labels_part, missing_of}
 use Rattle.match_law.proofs.Pieces.{best_of, longest_of}
+use Rattle.match_law.proofs.Unique.{match-unique}
 use Rattle.match_text.specs.declared.matched.Label.{Label}
 use Rattle.matching.specs.declared.parts.Layer.{Layer}
 use Rattle.matching.specs.declared.parts.Piece.{Piece}
@@ -24,7 +26,9 @@ use Rattle.route_rebuild.proofs.RouteValue.{routes_value}
 use Rattle.trace_match.specs.Match.{labels_of, layer_of, layers_of, match_of, routed_of}
 use Rattle.trace_match.proofs.Lawful.{labels_all}
 use Rattle.trace_match.proofs.TraceLayers.{matchable}
+use Rattle.trace_reader.specs.Trace.{IsLawfulTrace}
 use Rattle.trace_reader.specs.declared.trace.Fix.{Fix}
+use Rattle.trace_reader.specs.declared.trace.Trace.{Trace}
 use Rattle.trellis.specs.declared.parts.Solved.{Solved}
 
 -- ---- parts of a trace
@@ -161,9 +165,9 @@ module _ (n : Net) (p : Params) (fixes : List Fix) (s : Solved) (is : IsMatch (t
 
 -- ---- the match
 
-pub matches_are_least : MatchesAreLeast
+pub match_of-is_least : (n : Net) (p : Params) (trace : Trace) → IsLawful n → IsAccepted p → IsLawfulTrace trace → IsLeastMatch n p trace (match_of n p trace)
 unfolding match_of
-matches_are_least n p trace lawful accepted trace_is =
+match_of-is_least n p trace lawful accepted trace_is =
     let t = trellis n p in
     let layers = layers_of n p trace in
     let v = solution t layers in
@@ -177,3 +181,10 @@ matches_are_least n p trace lawful accepted trace_is =
           (λ k d lt. subst (λ (q : Piece). IsRouteOf n p layers s.ranks q (route_of n p layers s.ranks q)) (get_or_default s.pieces k none d lt)
           ((routes_value n p layers s k _ lawful (record { trace = matchable n p trace layers accepted trace_is refl; matched = is }) lt).1 refl));
     }
+
+pub matches_are_least : MatchesAreLeast
+matches_are_least n p trace matched lawful accepted trace_is =
+    let least = match_of-is_least n p trace lawful accepted trace_is in (
+      λ is. match-unique n p trace matched (match_of n p trace) is least,
+      λ same. subst (IsLeastMatch n p trace) (sym same) least,
+    )

@@ -61,7 +61,7 @@ can_be n p fixes count lawful can =
     let same = take-map (layer_of n p) count fixes in
     record {
       near = near_fixes n p (take count fixes) (subst (λ (ls : List Layer). AreNearLayers (trellis n p) ls) same can.near);
-      ranks = can.sequence.1;
+      ranks_back = can.sequence.1;
       cost = can.sequence.0;
       sequence = fixes_back n p (take count fixes) can.sequence.1 can.sequence.0 lawful
           (ap (λ (ls : List Layer). cost (trellis n p) (reverse ls) can.sequence.1) (sym same) ∙ can.sequence.2);
@@ -75,9 +75,9 @@ can_be_layers n p fixes count lawful can =
       near = subst (λ (ls : List Layer). AreNearLayers (trellis n p) ls) (sym same) (near_layers n p (take count fixes) can.near);
       sequence = (
         can.cost,
-        can.ranks,
-        ap (λ (ls : List Layer). cost (trellis n p) (reverse ls) can.ranks) same
-            ∙ layers_back n p (take count fixes) can.ranks can.cost lawful can.sequence,
+        can.ranks_back,
+        ap (λ (ls : List Layer). cost (trellis n p) (reverse ls) can.ranks_back) same
+            ∙ layers_back n p (take count fixes) can.ranks_back can.cost lawful can.sequence,
       );
     }
 

@@ -1,5 +1,5 @@
 -- A run of `match` over files without a fault.
-use Rattle.std.proofs.Common.{append-nil, ◌≡◌, ◌≢◌, ◌⊎◌, ℕ, ◌+◌, ◌-◌, ◌<◌, ◌≤◌, Bool, true, false, cond, nat_lt, List, [], ◌++◌, take, length, All, Option, Some, None, IsSome, IsSomeAnd, Result, Ok, Err, refl, sym, ap, subst, ◌∙◌, inl, inr, ⊎_elim, arith}
+use Rattle.std.proofs.Common.{append-nil, ◌≡◌, ◌≢◌, ℕ, ◌+◌, ◌<◌, ◌≤◌, Bool, true, false, cond, nat_lt, List, [], ◌++◌, take, length, All, Option, Some, None, IsSome, IsSomeAnd, Result, Ok, Err, refl, sym, ap, subst, ◌∙◌, inl, inr, ⊎_elim, arith}
 use Rattle.std.specs.Io.KnownBytes.{Appends}
 use Rattle.std.proofs.lemmas.Bool.{cases_eq, cases_lt}
 use Rattle.std.proofs.lemmas.Bool.Decides.{nat_tests}
@@ -80,13 +80,13 @@ outcome_is : (words : List (List ℕ)) (files : List ℕ → Option (List ℕ)) 
     → outcome_of (plan_of (asked_by words)) files ≡ Some (done_with (match_text (setting n p) traces))
 outcome_is words files n p traces run =
     let on = setting n p in
-    let next : Net → Plan = λ net. works_traces run.positions (match_job (setting net p)) in
+    let next : Net → Plan = λ net. works_traces run.traces_name (match_job (setting net p)) in
     ap (λ (r : Result PlainCommand WordsFault). outcome_of (plan_of (asked_of (every_work Standard) r)) files) run.words_are
     ∙ ap (λ (held : Option (List ℕ)). and_then held (λ b. outcome_of (accepts 5 (network_said Standard b) next) files))
-    (seen_whole (file_limit Standard) (files run.network) run.network_bytes run.network_held (network_short run.network_bytes n run.network_is))
+    (seen_whole (file_limit Standard) (files run.network_name) run.network_bytes run.network_held (network_short run.network_bytes n run.network_is))
     ∙ ap (λ (r : Result Net NetworkFault). outcome_of (accepts 5 (said r) next) files) run.network_is
     ∙ ap (λ (held : Option (List ℕ)). and_then held (λ b. let o : Option Outcome = Some (bytes_give (match_job on) b) in o))
-    (seen_whole trace_limit (files run.positions) run.trace_bytes run.traces_held (traces_short run.trace_bytes run.faultless))
+    (seen_whole trace_limit (files run.traces_name) run.trace_bytes run.traces_held (traces_short run.trace_bytes run.faultless))
     ∙ ap (λ (o : Outcome). let some : Option Outcome = Some o in some) (given on (file_traces run.trace_bytes) (file_fault run.trace_bytes) run.faultless)
     ∙ ap (λ (ts : List Trace). let some : Option Outcome = Some (done_with (match_text on ts)) in some) run.traces_are
 
@@ -152,18 +152,18 @@ match_is_least words files n p traces shelf out err status run kept =
 -- ---- files that list a network and traces
 
 listed_words : MatchWordsAreRead → (words : List (List ℕ)) (files : List ℕ → Option (List ℕ)) (n : Net) (p : Params) (traces : List Trace) (run : IsListedRun words files n p traces)
-    → command_of words ≡ Ok (record { work = match_files run.network run.positions None; options = p })
+    → command_of words ≡ Ok (record { work = match_files run.network_name run.traces_name None; options = p })
 listed_words words_are_read words files n p traces run =
     ap command_of run.words_are
-    ∙ words_are_read run.network run.positions run.given run.network_named run.traces_named run.in_range
-    ∙ ap (λ (options : Params). let r : Result PlainCommand WordsFault = Ok (record { work = match_files run.network run.positions None; options = options }) in r) (sym run.options_are)
+    ∙ words_are_read run.network_name run.traces_name run.given run.network_named run.traces_named run.in_range
+    ∙ ap (λ (options : Params). let r : Result PlainCommand WordsFault = Ok (record { work = match_files run.network_name run.traces_name None; options = options }) in r) (sym run.options_are)
 
 pub listed_match_is_least : MatchWordsAreRead → NetworksAreRead → TracesAreRead → ListedMatchIsLeast
 listed_match_is_least words_are_read networks_are_read traces_are_read words files n p traces shelf out err status run kept =
     let says = traces_are_read traces run.traces_listed in
     match_is_least words files n p traces shelf out err status (record {
-      network = run.network;
-      positions = run.positions;
+      network_name = run.network_name;
+      traces_name = run.traces_name;
       network_bytes = network_text n;
       trace_bytes = traces_text traces;
       words_are = listed_words words_are_read words files n p traces run;

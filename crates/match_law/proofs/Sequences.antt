@@ -3,7 +3,7 @@ use Rattle.std.proofs.Common.{◌≡◌, ℕ, ◌+◌, ◌<◌, List, [], ◌∷
 use Rattle.std.proofs.lemmas.Option.{get_or_from_slice_get, slice_get-get_or, slice_get_within}
 use Rattle.cost_model.specs.Costs.{emission, transition}
 use Rattle.cost_model.specs.declared.params.Params.{Params}
-use Rattle.match_law.specs.LeastMatch.{AreChosen, IsCost, IsSequence, IsStepCost, candidates_of, place}
+use Rattle.match_law.specs.LeastMatch.{AreChosen, IsCost, IsSequence, IsStepCost, candidates_of}
 use Rattle.matching.specs.Layers.{candidate_of_rank, no_candidate, trellis}
 use Rattle.matching.specs.RouteBetween.{route_between}
 use Rattle.matching.specs.RouteLength.{length_of_route}
@@ -16,6 +16,7 @@ use Rattle.polyline_geometry.specs.Plane.{straight}
 use Rattle.road_network.specs.Net.{Net, IsLawful}
 use Rattle.road_network.specs.declared.Candidate.{Candidate}
 use Rattle.trace_match.specs.Match.{layer_of}
+use Rattle.trace_reader.specs.Trace.{point_of_fix}
 use Rattle.trace_reader.specs.declared.trace.Fix.{Fix}
 
 -- ---- candidates by their rank
@@ -29,7 +30,7 @@ at_rank n p f j lt = slice_get-get_or (candidates_of n p f) j no_candidate lt
 -- ---- steps
 
 abbrev step_over : Params → Fix → Fix → ℕ → ℕ
-step_over p f g length = transition p length (straight (place f) (place g))
+step_over p f g length = transition p length (straight (point_of_fix f) (point_of_fix g))
 
 step_by : (n : Net) (p : Params) (f g : Fix) (a b : Candidate) (move : ℕ) (o : Option Route) → IsLawful n
     → MatchOption o (HasNoRoute n p.bound p.back a b) (IsTheRoute n p.bound p.back a b)

@@ -6,7 +6,7 @@ use Rattle.cost_model.specs.Options.{IsAccepted}
 use Rattle.cost_model.specs.declared.params.Params.{Params}
 use Rattle.match_law.specs.LeastMatch.{IsLeastMatch, IsMatchText, total_line}
 use Rattle.match_law.proofs.Asked.{traces_ask}
-use Rattle.match_law.proofs.Matches.{matches_are_least}
+use Rattle.match_law.proofs.Matches.{match_of-is_least}
 use Rattle.match_text.specs.MatchText.{text_of}
 use Rattle.match_text.specs.declared.matched.MatchedTrace.{MatchedTrace}
 use Rattle.road_network.specs.Net.{Net, IsLawful}
@@ -27,7 +27,7 @@ fold-map count f a (x ∷ xs) = fold-map count f (a + count (f x)) xs
 each_least : (n : Net) (p : Params) (traces : List Trace) → IsLawful n → IsAccepted p → All IsLawfulTrace traces → AllZip (IsLeastMatch n p) traces (map (match_of n p) traces)
 each_least n p [] lawful accepted are = tt
 each_least n p (trace ∷ traces) lawful accepted are = (
-  matches_are_least n p trace lawful accepted (All-head IsLawfulTrace trace traces are),
+  match_of-is_least n p trace lawful accepted (All-head IsLawfulTrace trace traces are),
   each_least n p traces lawful accepted (All-tail IsLawfulTrace trace traces are),
 )
 

@@ -1,4 +1,5 @@
--- The match of traces, and the text that is written of it.
+-- The match of traces, and the text that is written of it. A piece has at least one position, since `AreLeastPieces`
+-- says that its `first` is at most its `last`. So it does not matter what is said here of no positions.
 use Rattle.std.specs.Prelude.{◌≡◌, ◌↔◌, ℕ, ◌+◌, ◌-◌, ◌<◌, ◌≤◌, Bool, true, List, [], ◌∷◌, ◌++◌, Some, codes, count_by, length, map, reverse, take, drop, slice_get}
 use Rattle.std.specs.List.{AllZip, Contains, concat, range_with_len, sum_by}
 use Rattle.cost_model.specs.Costs.{difference, emission, transition}
@@ -12,23 +13,19 @@ use Rattle.match_text.specs.declared.matched.Routed.{Routed}
 use Rattle.matching.specs.Order.{AtMost}
 use Rattle.matching.specs.Routes.{Route, Direct, Over, IsTheRoute, route_length}
 use Rattle.polyline_geometry.specs.Plane.{straight}
-use Rattle.polyline_geometry.specs.declared.plane.Point.{Point}
 use Rattle.road_network.specs.Near.{candidates}
 use Rattle.road_network.specs.Net.{Net, edge_name, target}
 use Rattle.road_network.specs.declared.Candidate.{Candidate}
+use Rattle.trace_reader.specs.Trace.{point_of_fix}
 use Rattle.trace_reader.specs.declared.trace.Fix.{Fix}
 use Rattle.trace_reader.specs.declared.trace.Trace.{Trace}
 
 -- ---- sequences
 
--- where a position was measured
-abbrev pub place : Fix → Point
-place fix = record { x = fix.x; y = fix.y }
-
 -- the candidates of a position: the first k of the edges within the radius, by distance and then by edge
--- number; the rank of a candidate is its place in this list, from 0
+-- number. The rank of a candidate is its place in this list, from 0
 abbrev pub candidates_of : Net → Params → Fix → List Candidate
-candidates_of n p fix = candidates n p.k p.radius (place fix)
+candidates_of n p fix = candidates n p.k p.radius (point_of_fix fix)
 
 -- these are the candidates of these ranks, one for each position
 abbrev pub AreChosen : Net → Params → List Fix → List ℕ → List Candidate → Type 0
@@ -42,10 +39,10 @@ AreChosen n p fixes ranks chosen = ⊥
 abbrev pub IsStepCost : Net → Params → Fix → Candidate → Fix → Candidate → ℕ → Type 0
 IsStepCost n p f a g b cost =
     (r : Route) × IsTheRoute n p.bound p.back a b r
-    × (cost ≡ transition p (route_length n a b r) (straight (place f) (place g)))
+    × (cost ≡ transition p (route_length n a b r) (straight (point_of_fix f) (point_of_fix g)))
 
 -- chosen candidates cost so much: the sum of their emissions and steps. They have no cost where two neighbours are
--- not joined. Here positions and candidates go from the last back to the first
+-- not joined. Here both lists run backwards: positions and candidates go from the last back to the first
 abbrev pub IsCost : Net → Params → List Fix → List Candidate → ℕ → Type 0
 IsCost n p [] [] cost = cost ≡ 0
 IsCost n p (f ∷ []) (a ∷ []) cost = cost ≡ emission p a.d2
@@ -54,19 +51,20 @@ IsCost n p (g ∷ f ∷ fixes) (b ∷ a ∷ chosen) cost =
     × (cost ≡ before + step + emission p b.d2)
 IsCost n p fixes chosen cost = ⊥
 
--- a sequence: a candidate of each position, each two neighbours joined; positions and ranks go from the last back
--- to the first
-pub record IsSequence (n : Net) (p : Params) (fixes : List Fix) (ranks : List ℕ) (cost : ℕ) : Type 0 where
+-- a sequence: a candidate of each position, each two neighbours joined. Positions, ranks and candidates run
+-- backwards, from the last to the first
+pub record IsSequence (n : Net) (p : Params) (fixes_back : List Fix) (ranks_back : List ℕ) (cost : ℕ)
+    : Type 0 where
   pub chosen : List Candidate
-  pub are : AreChosen n p fixes ranks chosen
-  pub costs : IsCost n p fixes chosen cost
+  pub are : AreChosen n p fixes_back ranks_back chosen
+  pub costs : IsCost n p fixes_back chosen cost
 
 -- the best sequence over these positions: of all sequences the least by cost, and then by the ranks from the
--- last position back to the first
+-- last position back to the first. Here positions and `ranks` run forwards, and `others_back` backwards
 pub record IsBest (n : Net) (p : Params) (fixes : List Fix) (ranks : List ℕ) (cost : ℕ) : Type 0 where
   pub is : IsSequence n p (reverse fixes) (reverse ranks) cost
-  pub least : (others : List ℕ) (other : ℕ) → IsSequence n p (reverse fixes) others other
-      → AtMost cost (reverse ranks) other others
+  pub least : (others_back : List ℕ) (other : ℕ) → IsSequence n p (reverse fixes) others_back other
+      → AtMost cost (reverse ranks) other others_back
 
 -- ---- pieces
 
@@ -79,20 +77,21 @@ AreNear p [] = Unit {0}
 AreNear p (f ∷ []) = Unit {0}
 AreNear p (f ∷ g ∷ fixes) = IsNear p f g × AreNear p (g ∷ fixes)
 
--- these positions can be one piece: neighbours are near in time, and there is some sequence
+-- these positions can be one piece: neighbours are near in time, and there is some sequence (of no positions too, but
+-- a piece has at least one)
 pub record CanBePiece (n : Net) (p : Params) (fixes : List Fix) : Type 0 where
   pub near : AreNear p fixes
-  pub ranks : List ℕ
+  pub ranks_back : List ℕ
   pub cost : ℕ
-  pub sequence : IsSequence n p (reverse fixes) ranks cost
+  pub sequence : IsSequence n p (reverse fixes) ranks_back cost
 
--- the number of positions of the piece that begins at the first of these: no more of them can be one piece
+-- the greatest count such that the first `count` of these positions can be one piece
 pub record IsLongest (n : Net) (p : Params) (fixes : List Fix) (count : ℕ) : Type 0 where
   pub within : count ≤ length fixes
   pub can : CanBePiece n p (take count fixes)
   pub longest : (more : ℕ) → count < more → more ≤ length fixes → ¬ CanBePiece n p (take more fixes)
 
--- the edges that a route to candidate b adds; a walk is kept from its last edge to its first
+-- the edges that a route to candidate b adds; a walk is kept backwards, from its last edge to its first
 abbrev pub edges_added : Candidate → Route → List ℕ
 edges_added b Direct = []
 edges_added b (Over walk) = reverse walk ++ b.edge.0 ∷ []
@@ -156,16 +155,17 @@ pub record IsLeastMatch (n : Net) (p : Params) (trace : Trace) (matched : Matche
 
 -- ---- asked rows
 
--- position number i of a piece asks for the row of node v: v is the end of the edge of a candidate in which
--- some sequence ends that begins with the piece, and the next position has a candidate and is near in time
+-- position number i of a piece asks for the row of node v: some sequence from the first position of the piece to
+-- position i ends in a candidate `c` whose edge ends at v, and the next position has a candidate and is near in
+-- time. The ranks run backwards, and so do the candidates from `c` on
 pub record AsksAt (n : Net) (p : Params) (fixes : List Fix) (piece : Routed) (i v : ℕ) : Type 0 where
   pub after_first : piece.first ≤ i
   pub to_last : i ≤ piece.last
-  pub ranks : List ℕ
+  pub ranks_back : List ℕ
   pub cost : ℕ
   pub c : Candidate
   pub earlier : List Candidate
-  pub are : AreChosen n p (reverse (from_to piece.first i fixes)) ranks (c ∷ earlier)
+  pub are : AreChosen n p (reverse (from_to piece.first i fixes)) ranks_back (c ∷ earlier)
   pub costs : IsCost n p (reverse (from_to piece.first i fixes)) (c ∷ earlier) cost
   pub node : target n c.edge.0 ≡ v
   pub here : Fix

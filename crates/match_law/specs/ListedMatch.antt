@@ -15,24 +15,26 @@ use Rattle.program_run.specs.Words.{asked_by}
 use Rattle.road_network.specs.Net.{Net}
 use Rattle.trace_reader.specs.declared.trace.Trace.{Trace}
 
--- the words are `match NETWORK TRACES`, alone or with options in their ranges; the two files list this
--- network and these traces
+-- the words are `match NETWORK TRACES`, alone or with options in their ranges; the two files of these names list
+-- this network and these traces
 pub record IsListedRun (words : List (List ℕ)) (files : List ℕ → Option (List ℕ)) (n : Net) (p : Params)
     (traces : List Trace) : Type 0 where
-  pub network : List ℕ
-  pub positions : List ℕ
+  pub network_name : List ℕ
+  pub traces_name : List ℕ
   pub given : Option Params
-  pub words_are : words ≡ match_words network positions given
-  pub network_named : IsName network
-  pub traces_named : IsName positions
+  pub words_are : words ≡ match_words network_name traces_name given
+  pub network_named : IsName network_name
+  pub traces_named : IsName traces_name
   pub in_range : IfSome given AreInRange
   pub options_are : p ≡ unwrap_or given default_options
-  pub network_held : files network ≡ Some (network_text n)
-  pub traces_held : files positions ≡ Some (traces_text traces)
+  pub network_held : files network_name ≡ Some (network_text n)
+  pub traces_held : files traces_name ≡ Some (traces_text traces)
   pub network_listed : IsListed n
   pub traces_listed : AreListed traces
 
--- whatever keeps the promises of a run of these words, as `run` does, wrote the text of the least matches
+-- whatever keeps the promises of a run of these words, as `run` does, wrote the text of the least matches. It begins
+-- with a new shelf of these files and two new streams, on which nothing is written; `shelf`, `out` and `err` are
+-- their states afterwards
 abbrev pub ListedMatchIsLeast : Type 0
 ListedMatchIsLeast =
     (words : List (List ℕ)) (files : List ℕ → Option (List ℕ)) (n : Net) (p : Params) (traces : List Trace)

@@ -20,18 +20,21 @@ use Rattle.trace_reader.specs.declared.trace.Trace.{Trace}
 -- fault
 pub record IsMatchRun (words : List (List ℕ)) (files : List ℕ → Option (List ℕ)) (n : Net) (p : Params)
     (traces : List Trace) : Type 0 where
-  pub network : List ℕ
-  pub positions : List ℕ
+  pub network_name : List ℕ
+  pub traces_name : List ℕ
   pub network_bytes : List ℕ
   pub trace_bytes : List ℕ
-  pub words_are : command_of words ≡ Ok (record { work = match_files network positions None; options = p })
-  pub network_held : files network ≡ Some network_bytes
-  pub traces_held : files positions ≡ Some trace_bytes
+  pub words_are : command_of words
+      ≡ Ok (record { work = match_files network_name traces_name None; options = p })
+  pub network_held : files network_name ≡ Some network_bytes
+  pub traces_held : files traces_name ≡ Some trace_bytes
   pub network_is : network_of Standard network_bytes ≡ Ok n
   pub traces_are : file_traces trace_bytes ≡ traces
   pub faultless : file_fault trace_bytes ≡ None
 
--- whatever keeps the promises of a run of these words, as `run` does, wrote the text of the least matches
+-- whatever keeps the promises of a run of these words, as `run` does, wrote the text of the least matches. It begins
+-- with a new shelf of these files and two new streams, on which nothing is written; `shelf`, `out` and `err` are
+-- their states afterwards
 abbrev pub MatchIsLeast : Type 0
 MatchIsLeast =
     (words : List (List ℕ)) (files : List ℕ → Option (List ℕ)) (n : Net) (p : Params) (traces : List Trace)

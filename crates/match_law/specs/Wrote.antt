@@ -2,8 +2,8 @@
 use Rattle.std.specs.Prelude.{◌≡◌, ◌≢◌, ◌⊎◌, ℕ, List, [], take, Some}
 use Rattle.edge_io.specs.State.{ShelfState, SinkState}
 
--- the run wrote this text, or it ended early after a part of the text: out of memory (1), after a failed read
--- (3) or after a failed write (4)
+-- the run wrote this text, or it ended early after a beginning of the text, with status 1 (out of memory; no clause
+-- says when), 3 (a read failed) or 4 (a write failed). `shelf`, `out` and `err` are the states after the run
 pub record Wrote (text : List ℕ) (shelf : ShelfState) (out err : SinkState) (status : ℕ) : Type 0 where
   pub done : status ≡ 0 → (out.written ≡ Some text) × (err.written ≡ Some [])
   pub early : status ≢ 0

@@ -2,13 +2,14 @@
 //!
 //! [`listed_match_is_least`] says of every run that keeps its promises (the clause of `run` in `program_run`)
 //! that it writes the least match of each trace, where the two files list a network and traces line by line.
-//! [`match_is_least`] says the same of all files without a fault. The statements are in
-//! `specs/ListedMatch.antt` and `specs/MatchIsLeast.antt`, and their words are in `specs/LeastMatch.antt`.
+//! [`match_is_least`] says the same of all files without a fault. [`match_texts_are_one`] says that there is no
+//! other text. The statements are in `specs/ListedMatch.antt`, `specs/MatchIsLeast.antt` and
+//! `specs/Matches.antt`, and their words are in `specs/LeastMatch.antt`.
 #![tactic(auto)]
 
 ghost use Rattle.match_law.specs.ListedMatch.{ListedMatchIsLeast};
 ghost use Rattle.match_law.specs.MatchIsLeast.{MatchIsLeast};
-ghost use Rattle.match_law.specs.Matches.{MatchesAreLeast};
+ghost use Rattle.match_law.specs.Matches.{MatchTextsAreOne, MatchesAreLeast};
 
 use listed_files::{networks_are_read, traces_are_read};
 use match_words::match_words_are_read;
@@ -29,7 +30,12 @@ pub fn match_is_least()
     ensures { MatchIsLeast }
 {}
 
-/// The match of a trace as a value is its least match.
+/// The match of a trace as a value is its least match, and nothing else is.
 pub fn matches_are_least()
     ensures { MatchesAreLeast }
+{}
+
+/// Two texts of the least matches of the same traces are equal, so a run can write only one.
+pub fn match_texts_are_one()
+    ensures { MatchTextsAreOne }
 {}
