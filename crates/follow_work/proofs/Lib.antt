@@ -6,3 +6,6 @@ pub mod FollowedIds
 pub mod StreamJobs
 pub mod StreamTakes
 pub mod StreamTotals
+pub mod DriveLists
+pub mod DriveTimes
+pub mod DriveCounts

@@ -9,6 +9,8 @@
 //!   `specs/Streams.antt`; `streams_plan` there defines the output for the files.
 #![tactic(auto)]
 
+mod drive_job;
+mod drives;
 mod follow;
 mod job;
 mod laws;
@@ -18,4 +20,4 @@ mod streams;
 pub use follow::follow_traces;
 pub use job::FollowJob;
 pub use laws::streams_follow_each_id;
-pub use streams::stream_traces;
+pub use streams::{StreamedFile, stream_traces};
