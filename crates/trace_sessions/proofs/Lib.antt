@@ -11,6 +11,9 @@ pub mod SessionPairs
 pub mod SessionFixes
 pub mod StreamPoints
 pub mod StreamAlone
+pub mod DrivesKept
+pub mod DrivesAlone
+pub mod NoIdle
 pub mod CallsAlone
 pub mod OnePointTaken
 pub mod StreamTakes

@@ -34,7 +34,8 @@ pub use basis::Basis;
 pub use following::follow_trace;
 pub use items::write_items;
 pub use laws::{
-    committed_is_common_prefix, follow_is_match, ids_are_answered_alone, ids_are_followed_alone,
-    ids_have_follow_texts, written_lines_stay,
+    committed_is_common_prefix, drives_are_followed_alone, drives_have_each_position,
+    follow_is_match, ids_are_answered_alone, ids_are_followed_alone, ids_have_follow_texts,
+    no_drive_is_idle, written_lines_stay,
 };
 pub use sessions::{SessionFault, Sessions};

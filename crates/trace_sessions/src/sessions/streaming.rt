@@ -47,8 +47,10 @@ impl<'n> Sessions<'n> {
         write_step(&by, Some(id), point, items, into)
     }
 
-    // Takes the next position of the id and appends its lines.
-    fn stream_point<R: Rows>(
+    /// Takes the next position of the id, as by [`Sessions::feed`], appends its lines, and returns how many pieces
+    /// it closed. `TooLong` means that the id already has 100,000 positions; then nothing is changed. After `Memory`,
+    /// the sessions have the position or not, and of its lines a prefix may be appended if they have it.
+    pub fn stream_fix<R: Rows>(
         &mut self,
         id: u32,
         fix: Fix,
@@ -91,7 +93,7 @@ impl<'n> Sessions<'n> {
         self.invariants();
         let mut pieces = 0;
         for fix in trace.fixes.as_slice() {
-            let count = self.stream_point(trace.id, *fix, rows, into)?;
+            let count = self.stream_fix(trace.id, *fix, rows, into)?;
             pieces += count;
         }
         Ok(pieces)
