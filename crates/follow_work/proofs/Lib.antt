@@ -9,3 +9,7 @@ pub mod StreamTotals
 pub mod DriveLists
 pub mod DriveTimes
 pub mod DriveCounts
+pub mod DriveSteps
+pub mod DriveEnds
+pub mod DriveRows
+pub mod DriveJobs

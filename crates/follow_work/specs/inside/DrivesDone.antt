@@ -1,5 +1,5 @@
 -- What a job of drives has done.
-use Rattle.std.specs.Prelude.{◌≡◌, ℕ, ◌+◌, ◌<◌, ◌^◌, Bool, List, [], ◌∷◌, ◌++◌, Unit, length, map, max, nat_eq, nat_lt, not, true, unwrap_or}
+use Rattle.std.specs.Prelude.{◌≡◌, ℕ, ◌+◌, ◌<◌, ◌^◌, Bool, List, [], ◌∷◌, ◌++◌, length, map, max, nat_eq, nat_lt, not, true, unwrap_or}
 use Rattle.std.specs.List.{concat, filter}
 use Rattle.std.specs.Map.{keys_of, lookup}
 use Rattle.bounded_table.specs.Rows.{AreRowsOf, RowsState}
