@@ -1,9 +1,8 @@
 -- The lines of an id in a stream whose drives end are the follow texts of its drives.
-use Rattle.std.proofs.Common.{◌≡◌, ℕ, ◌<◌, ◌^◌, Bool, true, false, cond, List, [], ◌∷◌, ◌++◌, Option, Some, None, refl, sym, ap, ◌∙◌, arith, length, map, nat_eq, unwrap_or}
+use Rattle.std.proofs.Common.{◌≡◌, ℕ, ◌<◌, ◌^◌, Bool, true, false, cond, List, [], ◌∷◌, ◌++◌, Option, Some, None, refl, sym, ap, ◌∙◌, length, map, nat_eq, unwrap_or}
 use Rattle.std.specs.Prelude.{not}
 use Rattle.std.specs.List.{All, filter, flat_map}
 use Rattle.std.specs.Map.{lookup}
-use Rattle.std.proofs.lemmas.Bool.Decides.{nat_tests}
 use Rattle.std.proofs.lemmas.List.{append_assoc, append-nil}
 use Rattle.std.proofs.lemmas.List.Concat.{flat_map-append}
 use Rattle.std.proofs.lemmas.List.Elements.{All-head, All-tail, filter-append}
@@ -17,9 +16,9 @@ use Rattle.trace_sessions.specs.Sessions.{Pair, fixes_of, with_fix}
 use Rattle.trace_sessions.specs.StreamText.{Point, closing_lines, fixes_among, led_by, lines_at_end, lines_led_by, lines_of_fix, trace_of}
 use Rattle.trace_sessions.specs.Drives.{Fleet, awake_at, clock_at, drive_lines, ended_among, ended_at, is_full_of, is_idle, no_drives, open_at, with_row, with_rows}
 use Rattle.trace_sessions.specs.DrivesAlone.{DrivesAreFollowedAlone, DrivesHaveEachPosition, drives_with}
-use Rattle.trace_sessions.proofs.StreamPoints.{Once, fixes-with}
+use Rattle.trace_sessions.proofs.StreamPoints.{fixes-with}
 use Rattle.trace_sessions.proofs.StreamAlone.{IsShort, IsSmall, alone-all, alone_step, closing-alone, ends_alone, led-append, lines_alone, part}
-use Rattle.trace_sessions.proofs.DrivesKept.{AreDrives, AreSome, given, lookup-filter, no-drives-are, once-filter, open-are, others, others-are, passed, row-are, two-parts, with-lookup}
+use Rattle.trace_sessions.proofs.DrivesKept.{AreDrives, given, lookup-filter, no-drives-are, once-filter, others, others-are, passed, row-are, two-parts, with-lookup}
 
 -- ---- the lines of an id
 

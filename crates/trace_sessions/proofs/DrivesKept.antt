@@ -6,7 +6,7 @@ use Rattle.std.specs.Map.{lookup}
 use Rattle.std.proofs.lemmas.Bool.Decides.{nat_tests}
 use Rattle.std.proofs.lemmas.List.{append_assoc, length-append}
 use Rattle.trace_reader.specs.declared.trace.Fix.{Fix}
-use Rattle.trace_sessions.specs.Sessions.{Pair, fixes_and, fixes_of, with_fix}
+use Rattle.trace_sessions.specs.Sessions.{Pair, fixes_and, fixes_of}
 use Rattle.trace_sessions.specs.StreamText.{Point}
 use Rattle.trace_sessions.specs.Drives.{Fleet, open_at, with_row}
 use Rattle.trace_sessions.specs.DrivesAlone.{drives_with}

@@ -20,6 +20,7 @@ pub mod StreamTakes
 pub mod FragmentTakes
 pub mod StreamLines
 pub mod StreamEnds
+pub mod TraceEnds
 pub mod ByteLines
 pub mod BestEnds
 pub mod LatestPoint

@@ -1,6 +1,6 @@
 -- Where no drive is idle or full, the lines of a stream whose drives end are those of one whose drives do not.
-use Rattle.std.proofs.Common.{◌≡◌, ℕ, ◌+◌, ◌<◌, ◌≤◌, Bool, true, false, cond, List, [], ◌∷◌, ◌++◌, Option, Some, None, refl, sym, ap, ◌∙◌, subst, arith, length, nat_eq, unwrap_or}
-use Rattle.std.specs.Prelude.{◌&&◌, not, max, nat_le, nat_lt}
+use Rattle.std.proofs.Common.{◌≡◌, ℕ, ◌+◌, ◌<◌, ◌≤◌, Bool, true, false, cond, List, [], ◌∷◌, ◌++◌, Some, None, refl, sym, ap, ◌∙◌, subst, arith, length, nat_eq, unwrap_or}
+use Rattle.std.specs.Prelude.{◌&&◌, not, nat_le}
 use Rattle.std.specs.List.{All, filter}
 use Rattle.std.specs.Map.{lookup}
 use Rattle.std.proofs.lemmas.Bool.{le-ltb, lt-leb}
@@ -8,10 +8,9 @@ use Rattle.std.proofs.lemmas.Bool.Decides.{nat_tests}
 use Rattle.std.proofs.lemmas.List.Elements.{All-head, All-tail}
 use Rattle.cost_model.specs.declared.params.Params.{Params}
 use Rattle.road_network.specs.Net.{Net}
-use Rattle.trace_reader.specs.declared.trace.Fix.{Fix}
 use Rattle.trace_sessions.specs.Sessions.{Pair, fixes_and, fixes_of, with_fix}
 use Rattle.trace_sessions.specs.StreamText.{Point, closing_lines, full_id, has_room, led_by, lines_of_fix, stream_lines, with_points}
-use Rattle.trace_sessions.specs.Drives.{Fleet, awake_at, clock_at, drive_lines, ended_at, is_full_of, is_idle, newest, no_drives, open_at, row_lines, with_row, with_rows}
+use Rattle.trace_sessions.specs.Drives.{Fleet, awake_at, clock_at, drive_lines, ended_at, is_full_of, is_idle, newest, no_drives, open_at, with_row, with_rows}
 use Rattle.trace_sessions.specs.DrivesAlone.{NoDriveIsIdle}
 use Rattle.trace_sessions.proofs.StreamPoints.{Once, once-insert}
 use Rattle.trace_sessions.proofs.DrivesKept.{others}
