@@ -1,14 +1,15 @@
 -- The drives that pass a test end one after the other.
-use Rattle.std.proofs.Common.{◌≡◌, ℕ, ◌+◌, ◌<◌, ◌≤◌, Bool, List, [], ◌∷◌, ◌++◌, Option, Some, refl, sym, ap, ◌∙◌, subst, arith, drop, get_or, length, map, nat_eq, unwrap_or}
-use Rattle.std.specs.Prelude.{IsSome}
-use Rattle.std.specs.List.{concat, filter}
+use Rattle.std.proofs.Common.{◌≡◌, ℕ, ◌+◌, ◌<◌, ◌≤◌, Bool, List, [], ◌∷◌, ◌++◌, Option, Some, None, refl, sym, ap, ◌∙◌, subst, arith, drop, get_or, length, map, nat_eq, unwrap_or}
+use Rattle.std.specs.Prelude.{IsSome, is_some}
+use Rattle.std.specs.List.{IsDistinct, concat, filter}
 use Rattle.std.specs.Map.{keys_of, lookup}
+use Rattle.std.specs.Option.{option_map}
 use Rattle.std.proofs.lemmas.List.{append_assoc, append-nil, drop_all, drop_more}
 use Rattle.std.proofs.lemmas.List.Folds.{concat-append}
 use Rattle.trace_match.specs.Setting.{Setting}
 use Rattle.trace_reader.specs.declared.trace.Fix.{Fix}
 use Rattle.trace_sessions.specs.Drives.{is_full_of, is_idle}
-use Rattle.trace_sessions.specs.Sessions.{HasPair, Pair, fixes_of, without}
+use Rattle.trace_sessions.specs.Sessions.{HasPair, Pair, fixes_of, length_of, without}
 use Rattle.trace_sessions.specs.StreamText.{closing_lines, lines_at_end}
 use Rattle.follow_work.specs.declared.drives.Drives.{Drives}
 use Rattle.follow_work.specs.inside.DrivesDone.{AreAny, Drove, EndsAll, EndsDrive, HasDrives, HaveDriveOf, Stays, idle_ids}
@@ -65,7 +66,7 @@ left-more : (ids : List ℕ) (i id : ℕ) → i < length ids → id ≡ get_or i
 left-more ids i id low is = drop_more ids i id low ∙ ap (λ k. k ∷ drop (i + 1) ids) (sym is)
 
 is-some : (o : Option (List Fix)) (fixes : List Fix) → o ≡ Some fixes → IsSome o
-is-some o fixes is = subst IsSome (sym is) tt
+is-some o fixes is = ap is_some is
 
 pub next-open : (idle : ℕ) (ids : List ℕ) (i id : ℕ) (d0 d : Drives) (t0 t : List ℕ) → i < length ids → id ≡ get_or ids i id → HasDrives d0 AreAny → HasEnded idle (drop i ids) d0 d t0 t → HasDrives d (HaveDriveOf id)
 next-open idle ids i id d0 d t0 t low at some ended =
@@ -103,7 +104,8 @@ next-ended idle ids i id d0 d1 d2 t0 t1 t2 low at has ends on ended drives drove
     let out = out-first test open_drives x next.rest before.drove.stands.different next.is in
     let own : fixes_of open_drives x.0 ≡ x.1 = ap (λ o. unwrap_or o []) out.found in
     let one = subst (λ k. EndsDrive on before.now open_drives k d1 d2 t1 t2) (sym next.id_is) (ends on before.now open_drives before.drove) in
-    let same : ((x.0, fixes_of open_drives x.0) : Pair) ≡ x = ap (λ fs. let q : Pair = (x.0, fs) in q) own in
+    let before_it : Pair = (x.0, fixes_of open_drives x.0) in
+    let same : before_it ≡ x = ap (λ fs. let q : Pair = (x.0, fs) in q) own in
     let passed = out.passed in
     record {
       now = before.now ++ (x.0, fixes_of open_drives x.0) ∷ [];
@@ -147,6 +149,32 @@ all-ended idle ids i d0 d t0 t high has on ended drives drove =
 
 -- ---- the full drive of an id
 
+-- by the number of positions that the sessions have of it
+pub full-absent : (id : ℕ) (drives : List Pair) (count : Option ℕ) → count ≡ None → count ≡ length_of drives id → filter (is_full_of id) drives ≡ []
+full-absent id drives count none is = full-none id drives (no-count (lookup (nat_eq id) drives) (sym is ∙ none))
+  where
+    no-count : (o : Option (List Fix)) → option_map length o ≡ None → o ≡ None
+    no-count None is = refl
+    no-count (Some fixes) is = absurd (cc is)
+
+record Counted (id : ℕ) (drives : List Pair) (count : ℕ) : Type 0 where
+  fixes : List Fix
+  found : lookup (nat_eq id) drives ≡ Some fixes
+  long : length fixes ≡ count
+
+counted-of : (id : ℕ) (drives : List Pair) (told : Option ℕ) (count : ℕ) → told ≡ Some count → told ≡ length_of drives id → Counted id drives count
+counted-of id drives told count some is = step (lookup (nat_eq id) drives) refl (sym is ∙ some)
+  where
+    step : (o : Option (List Fix)) → lookup (nat_eq id) drives ≡ o → option_map length o ≡ Some count → Counted id drives count
+    step None found is = absurd (cc is)
+    step (Some fixes) found is = record { fixes = fixes; found = found; long = cc is }
+
+pub few-found : (id : ℕ) (drives : List Pair) (told : Option ℕ) (count : ℕ) → IsDistinct nat_eq (keys_of drives) → told ≡ Some count → told ≡ length_of drives id → count < 100_000 → filter (is_full_of id) drives ≡ []
+few-found id drives told count different some is low =
+    let c = counted-of id drives told count some is in
+    let long = c.long in
+    full-few id c.fixes drives different c.found (omega (arith, long, low))
+
 -- where none passes, nothing is done
 pub none-full : (on : Setting) (ended drives : List Pair) (test : Pair → Bool) (d : Drives) (t : List ℕ) → Drove on d ended drives → filter test drives ≡ [] → EndsAll on ended drives test d d t t
 none-full on ended drives test d t drove none = record {
@@ -155,7 +183,7 @@ none-full on ended drives test d t drove none = record {
   written = sym (append-nil t) ∙ ap (λ ds. t ++ concat (closing_lines on.network on.params ds)) (sym none);
 }
 
-pub full-ended : (on : Setting) (ended drives : List Pair) (id : ℕ) (fixes : List Fix) (d d' : Drives) (t t' : List ℕ) → Drove on d ended drives → lookup (nat_eq id) drives ≡ Some fixes → 100_000 ≤ length fixes
+full-ended : (on : Setting) (ended drives : List Pair) (id : ℕ) (fixes : List Fix) (d d' : Drives) (t t' : List ℕ) → Drove on d ended drives → lookup (nat_eq id) drives ≡ Some fixes → 100_000 ≤ length fixes
     → EndsDrive on ended drives id d d' t t' → EndsAll on ended drives (is_full_of id) d d' t t'
 full-ended on ended drives id fixes d d' t t' drove found full ends =
     let test = is_full_of id in
@@ -170,3 +198,10 @@ full-ended on ended drives id fixes d d' t t' drove found full ends =
       stays = ends.stays;
       written = ends.written ∙ ap (λ ls. t ++ concat ls) (sym (append-nil (lines_at_end n p (id, fixes_of drives id)))) ∙ ap (λ ds. t ++ concat (closing_lines n p ds)) (sym one);
     }
+
+pub full-found : (on : Setting) (ended drives : List Pair) (id : ℕ) (told : Option ℕ) (count : ℕ) (d d' : Drives) (t t' : List ℕ) → Drove on d ended drives → told ≡ Some count → told ≡ length_of drives id → 100_000 ≤ count
+    → EndsDrive on ended drives id d d' t t' → EndsAll on ended drives (is_full_of id) d d' t t'
+full-found on ended drives id told count d d' t t' drove some is high ends =
+    let c = counted-of id drives told count some is in
+    let long = c.long in
+    full-ended on ended drives id c.fixes d d' t t' drove c.found (omega (arith, long, high)) ends

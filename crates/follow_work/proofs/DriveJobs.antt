@@ -102,9 +102,9 @@ driven-grows on idle d d' before more t t' has takes =
 -- ---- the end
 
 -- the counts of all drives stay in their ranges
-pub few-in-all : (on : Setting) (s : SessionsState) (times : List (ℕ × ℕ)) (rows : RowsState) (tally : Tally) (ended drives : List Pair) (old new : List ℕ) (open pieces : ℕ) → HasDrove on s times rows tally ended drives
-    → EndsPairs s drives old new pieces → open ≡ length drives → (tally.traces + open < 2 ^ 62) × (tally.pieces + pieces < 2 ^ 62)
-few-in-all on s times rows tally ended drives old new open pieces has ends opened =
+pub few-in-all : (on : Setting) (s : SessionsState) (times : List (ℕ × ℕ)) (rows : RowsState) (tally : Tally) (ended drives : List Pair) (old new : List ℕ) (many pieces : ℕ) → HasDrove on s times rows tally ended drives
+    → EndsPairs s drives old new pieces → many ≡ length drives → (tally.traces + many < 2 ^ 62) × (tally.pieces + pieces < 2 ^ 62)
+few-in-all on s times rows tally ended drives old new many pieces has ends opened =
     let counted = at-setting (λ m q. pieces_of_all m q drives ≡ pieces_told m q drives + pieces) on s has.network has.params ends.counted in
     let most = few-pieces on.network on.params drives has.accepted has.lawful in
     let most_before = few-pieces on.network on.params ended has.accepted has.ended_lawful in
@@ -132,15 +132,15 @@ rows-counted on s times rows rows' tally ended drives has asks listed =
     let inside = subst (λ n. IsKnownList n rows'.known) are.network listed in
     count_listed (length on.network.nodes) rows'.known (is_asked_by on (map trace_of (ended ++ drives))) inside.rising inside.nodes (λ v low. knows v)
 
-pub ending-is : (on : Setting) (s : SessionsState) (times : List (ℕ × ℕ)) (rows rows' : RowsState) (tally : Tally) (ended drives : List Pair) (open pieces count : ℕ) (old new : List ℕ) → HasDrove on s times rows tally ended drives
-    → EndsPairs s drives old new pieces → AsksOnly rows rows' (AsksSome s drives) → IsKnownList rows'.network rows'.known → count ≡ length rows'.known → open ≡ length drives
-    → new ++ total_line (tally.traces + open) tally.points (tally.pieces + pieces) count ≡ old ++ ending_of on ended drives
-ending-is on s times rows rows' tally ended drives open pieces count old new has ends asks listed counted opened =
+pub ending-is : (on : Setting) (s : SessionsState) (times : List (ℕ × ℕ)) (rows rows' : RowsState) (tally : Tally) (ended drives : List Pair) (many pieces count : ℕ) (old new : List ℕ) → HasDrove on s times rows tally ended drives
+    → EndsPairs s drives old new pieces → AsksOnly rows rows' (AsksSome s drives) → IsKnownList rows'.network rows'.known → count ≡ length rows'.known → many ≡ length drives
+    → new ++ total_line (tally.traces + many) tally.points (tally.pieces + pieces) count ≡ old ++ ending_of on ended drives
+ending-is on s times rows rows' tally ended drives many pieces count old new has ends asks listed counted opened =
     let whole = map trace_of (ended ++ drives) in
     let lines = concat (closing_lines on.network on.params drives) in
     let written = at-setting (λ m q. new ≡ old ++ concat (closing_lines m q drives)) on s has.network has.params ends.written in
     let told = at-setting (λ m q. pieces_of_all m q drives ≡ pieces_told m q drives + pieces) on s has.network has.params ends.counted in
-    let traces_are : tally.traces + open ≡ length whole = (
+    let traces_are : tally.traces + many ≡ length whole = (
         let both = length-append ended drives in
         let all = length-map (ended ++ drives) trace_of in
         omega (arith, has.traces_are, opened, both, all)) in
@@ -149,7 +149,7 @@ ending-is on s times rows rows' tally ended drives open pieces count old new has
         let all = total-pieces on ended drives in
         omega (arith, has.pieces_are, told, all)) in
     let rows_are : count ≡ rows_of on whole = counted ∙ rows-counted on s times rows rows' tally ended drives has asks listed in
-    ap (λ t. t ++ total_line (tally.traces + open) tally.points (tally.pieces + pieces) count) written
+    ap (λ t. t ++ total_line (tally.traces + many) tally.points (tally.pieces + pieces) count) written
     ∙ ap (λ t. (old ++ lines) ++ t)
     (ap (λ n. total_line n tally.points (tally.pieces + pieces) count) traces_are
     ∙ ap (λ n. total_line (length whole) n (tally.pieces + pieces) count) points_are

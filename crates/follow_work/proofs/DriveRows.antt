@@ -1,22 +1,19 @@
 -- What is left of drives after a position, and after more of them.
 use Rattle.std.proofs.Common.{◌≡◌, ℕ, ◌+◌, ◌<◌, ◌≤◌, ◌^◌, Bool, List, [], ◌∷◌, ◌++◌, refl, sym, ap, ◌∙◌, subst, arith, get_or, length, map, max, take}
 use Rattle.std.specs.List.{concat, filter}
-use Rattle.std.proofs.lemmas.List.{append_assoc, append-nil, length-append, length-map, length-take, map-append, take_more}
+use Rattle.std.proofs.lemmas.List.{append_assoc, append-nil, length-append, length-map, length-take, map-append, take_all, take_more}
 use Rattle.std.proofs.lemmas.List.Concat.{flat_map-append}
-use Rattle.std.proofs.lemmas.List.Elements.{All-get_or}
 use Rattle.std.proofs.lemmas.List.Folds.{concat-append}
 use Rattle.std.proofs.lemmas.List.Sums.{sum_by-cons}
-use Rattle.polyline_geometry.specs.Plane.{InRange}
-use Rattle.program_frame.specs.Jobs.{IsBounded, points_of}
+use Rattle.program_frame.specs.Jobs.{points_of}
 use Rattle.program_frame.proofs.PointCounts.{points-append as counts-append}
 use Rattle.trace_match.specs.Setting.{Setting}
 use Rattle.trace_match.proofs.Traces.{next_trace}
-use Rattle.trace_reader.specs.Trace.{IsLawfulTrace, point_of_fix}
 use Rattle.trace_reader.specs.declared.trace.Fix.{Fix}
 use Rattle.trace_reader.specs.declared.trace.Trace.{Trace}
 use Rattle.trace_sessions.specs.Drives.{Fleet, awake_at, clock_at, drive_lines, ended_among, ended_at, is_full_of, is_idle, open_at, row_lines, with_row, with_rows}
 use Rattle.trace_sessions.specs.Sessions.{Pair, fixes_of}
-use Rattle.trace_sessions.specs.StreamText.{Point, closing_lines, led_by, lines_at_end, lines_of_fix, points_in}
+use Rattle.trace_sessions.specs.StreamText.{Point, closing_lines, fragment_points, led_by, lines_at_end, lines_of_fix, points_in}
 use Rattle.follow_work.specs.DriveTexts.{driven-text, ended-append, rows-append}
 use Rattle.follow_work.specs.declared.drives.Drives.{Drives}
 use Rattle.follow_work.specs.inside.DrivesDone.{AreAny, Drove, EndsAll, HasDrives, HaveRoomFor, IsAt, TakesAll, TakesFix, TakesRows}
@@ -133,38 +130,32 @@ taken-any idle points d0 d t0 t some takes =
 abbrev pub first_points : Trace → ℕ → List Point
 first_points trace i = map (λ (fix : Fix). (trace.id, fix)) (take i trace.fixes)
 
-pub next-point : (trace : Trace) (fixes : List Fix) (i : ℕ) (fix : Fix) → fixes ≡ trace.fixes → i < length fixes → fix ≡ get_or fixes i fix → first_points trace (i + 1) ≡ first_points trace i ++ (trace.id, fix) ∷ []
-next-point trace fixes i fix same low is =
+pub next-point : (trace : Trace) (fixes : List Fix) (i : ℕ) (d : Fix) → fixes ≡ trace.fixes → i < length fixes → first_points trace (i + 1) ≡ first_points trace i ++ (trace.id, get_or fixes i d) ∷ []
+next-point trace fixes i d same low =
     let point : Fix → Point = λ f. (trace.id, f) in
     let low_there : i < length trace.fixes = subst (λ fs. i < length fs) same low in
-    let is_there : fix ≡ get_or trace.fixes i fix = subst (λ fs. fix ≡ get_or fs i fix) same is in
-    ap (map point) (take_more trace.fixes i fix low_there ∙ ap (λ f. take i trace.fixes ++ f ∷ []) (sym is_there))
-    ∙ map-append point (take i trace.fixes) (fix ∷ [])
+    ap (map point) (take_more trace.fixes i d low_there ∙ ap (λ fs. take i trace.fixes ++ get_or fs i d ∷ []) (sym same))
+    ∙ map-append point (take i trace.fixes) (get_or fixes i d ∷ [])
 
-pub count-points : (trace : Trace) (fixes : List Fix) (i : ℕ) → fixes ≡ trace.fixes → i < length fixes → (length (first_points trace i) ≡ i) × (i < length trace.fixes)
-count-points trace fixes i same low =
-    let point : Fix → Point = λ f. (trace.id, f) in
+pub all-points : (trace : Trace) (fixes : List Fix) (i : ℕ) → fixes ≡ trace.fixes → length fixes ≤ i → first_points trace i ≡ fragment_points trace
+all-points trace fixes i same high =
+    let high_there : length trace.fixes ≤ i = subst (λ fs. length fs ≤ i) same high in
+    ap (map (λ (f : Fix). (trace.id, f))) (take_all i trace.fixes high_there)
+
+pub point-few : (trace : Trace) (fixes : List Fix) (i before points : ℕ) → fixes ≡ trace.fixes → i < length fixes → points ≡ before + length (first_points trace i) → before + length trace.fixes < 2 ^ 62 → points + 1 < 2 ^ 62
+point-few trace fixes i before points same low count few =
     let low_there : i < length trace.fixes = subst (λ fs. i < length fs) same low in
     let cut = length-take i trace.fixes in
-    let all = length-map (take i trace.fixes) point in
-    (omega (arith, cut, all, low_there), low_there)
-
-pub fix-place : (trace : Trace) (fixes : List Fix) (i : ℕ) (fix : Fix) → fixes ≡ trace.fixes → i < length fixes → fix ≡ get_or fixes i fix → IsLawfulTrace trace → InRange (point_of_fix fix)
-fix-place trace fixes i fix same low is lawful =
-    let low_there : i < length trace.fixes = subst (λ fs. i < length fs) same low in
-    let is_there : fix ≡ get_or trace.fixes i fix = subst (λ fs. fix ≡ get_or fs i fix) same is in
-    subst (λ (f : Fix). InRange (point_of_fix f)) (sym is_there) (All-get_or (λ (f : Fix). InRange (point_of_fix f)) trace.fixes i fix low_there lawful.in_range)
+    let all = length-map {B = Point} (take i trace.fixes) (λ (f : Fix). (trace.id, f)) in
+    omega (arith, cut, all, low_there, count, few)
 
 -- ---- fragments
 
-pub fragment-few : (traces : List Trace) (i : ℕ) (trace : Trace) (points : ℕ) → i < length traces → trace ≡ get_or traces i trace → points + points_of traces < 2 ^ 62
-    → points + length (points_in (take i traces)) + length trace.fixes < 2 ^ 62
-fragment-few traces i trace points low is few =
+pub fragment-few : (traces : List Trace) (i : ℕ) (trace : Trace) (before points : ℕ) → i < length traces → trace ≡ get_or traces i trace → points ≡ before + length (points_in (take i traces)) → before + points_of traces < 2 ^ 62
+    → points + length trace.fixes < 2 ^ 62
+fragment-few traces i trace before points low is there few =
     let count = points-length (take i traces) in
     let next : points_of (take (i + 1) traces) ≡ points_of (take i traces) + points_of (trace ∷ []) = ap points_of (next_trace traces i trace low is) ∙ counts-append (take i traces) (trace ∷ []) in
     let one = sum_by-cons (λ (t : Trace). length t.fixes) trace [] in
     let most = first-points traces (i + 1) in
-    omega (arith, count, next, one, most, few)
-
-pub fragment-lawful : (traces : List Trace) (i : ℕ) (trace : Trace) → i < length traces → trace ≡ get_or traces i trace → IsBounded traces → IsLawfulTrace trace
-fragment-lawful traces i trace low is bounded = subst IsLawfulTrace (sym is) (All-get_or IsLawfulTrace traces i trace low bounded.lawful)
+    omega (arith, count, next, one, most, there, few)

@@ -1,7 +1,7 @@
 -- What is left of drives where one ends, and where one takes a position.
 use Rattle.std.proofs.Common.{◌≡◌, ⊎_elim, ℕ, ◌+◌, ◌<◌, ◌≤◌, ◌^◌, Bool, true, false, cond, List, [], ◌∷◌, ◌++◌, Option, Some, None, Ok, Err, refl, sym, ap, ◌∙◌, subst, arith, length, map, nat_eq, unwrap_or}
-use Rattle.std.specs.Prelude.{Contains, IsSome}
-use Rattle.std.specs.List.{IsDistinct, sum_by}
+use Rattle.std.specs.Prelude.{Contains, IsSome, is_some}
+use Rattle.std.specs.List.{IsDistinct, concat, sum_by}
 use Rattle.std.specs.Map.{keys_of, lookup, remove_entry}
 use Rattle.std.proofs.lemmas.List.{append_assoc, append-nil, length-append}
 use Rattle.std.proofs.lemmas.List.Elements.{All-cons, All-nil, All-push}
@@ -23,7 +23,7 @@ use Rattle.trace_sessions.specs.declared.sessions.SessionFault.{SessionFault}
 use Rattle.trace_sessions.specs.declared.sessions.SessionFault.TheVariants.{Memory, NotOpen, TooLong}
 use Rattle.trace_sessions.specs.Following.{pieces_among}
 use Rattle.trace_sessions.specs.Sessions.{AsksClosed, HasPair, Keeps, Pair, SessionsState, fixes_of, with_fix, without}
-use Rattle.trace_sessions.specs.StreamText.{Point, full_id, has_room, led_by, lines_of_fix, stream_lines, trace_of, with_points}
+use Rattle.trace_sessions.specs.StreamText.{Point, full_id, has_room, led_by, lines_at_end, lines_of_fix, stream_lines, trace_of}
 use Rattle.trace_sessions.specs.Streaming.{AsksSome, AsksStream, CanStream, EndsId, EndsPair, EndsTrace, Streams, TakesPoints, pieces_told}
 use Rattle.trace_sessions.proofs.StreamPoints.{fixes_in-with, one-full}
 use Rattle.trace_sessions.proofs.StreamTakes.{among-some, asks-grow, lawful-behind}
@@ -68,7 +68,7 @@ counts-few on s times rows tally ended drives has =
 -- ---- a drive ends
 
 found-of : (o : Option (List Fix)) → IsSome o → o ≡ Some (unwrap_or o [])
-found-of None some = absurd some
+found-of None some = absurd (cc some)
 found-of (Some fixes) some = refl
 
 moved : (on : Setting) (v id : ℕ) (fixes : List Fix) (ended drives : List Pair) → lookup (nat_eq id) drives ≡ Some fixes → Asks on (ended ++ drives) v → Asks on ((ended ++ (id, fixes) ∷ []) ++ without drives id) v
@@ -134,11 +134,28 @@ drive-ended on s s' times times' rows rows' tally tally' ended drives id pieces 
       pieces_are = omega (arith, more, has.pieces_are, own, told, all);
     }
 
+-- its pieces fit
+pub end-few : (on : Setting) (s s' : SessionsState) (times : List (ℕ × ℕ)) (rows rows' : RowsState) (tally : Tally) (ended drives : List Pair) (id pieces : ℕ) (text text' : List ℕ)
+    → HasDrove on s times rows tally ended drives → EndsTrace {E = SessionFault} s drives id s' text text' (Ok pieces) → AsksClosed s id rows rows' → tally.pieces + pieces < 2 ^ 62
+end-few on s s' times rows rows' tally ended drives id pieces text text' has ends asks =
+    let after : Tally = record { traces = tally.traces + 1; points = tally.points; pieces = tally.pieces + pieces } in
+    (counts-few on s' (remove_entry (nat_eq id) times) rows' after (ended ++ (id, fixes_of drives id) ∷ []) (without drives id)
+    (drive-ended on s s' times (remove_entry (nat_eq id) times) rows rows' tally after ended drives id pieces text text' has ends asks refl refl refl refl)).pieces
+
+-- and its last lines were written
+pub end-written : (on : Setting) (s s' : SessionsState) (times : List (ℕ × ℕ)) (rows : RowsState) (tally : Tally) (ended drives : List Pair) (id pieces : ℕ) (text text' : List ℕ)
+    → HasDrove on s times rows tally ended drives → EndsTrace {E = SessionFault} s drives id s' text text' (Ok pieces) → text' ≡ text ++ concat (lines_at_end on.network on.params (id, fixes_of drives id))
+end-written on s s' times rows tally ended drives id pieces text text' has ends =
+    let is : EndsPair on.network on.params (id, fixes_of drives id) text text' pieces = at-setting (λ m q. EndsPair m q (id, fixes_of drives id) text text' pieces) on s has.network has.params ends.ended in
+    is.written
+
 -- where it is open, only memory can be wanting
 pub end-memory : (s s' : SessionsState) (drives : List Pair) (id : ℕ) (text text' : List ℕ) (fault : SessionFault) → HasPair drives id → EndsId s drives id s' text text' (Err fault) → fault ≡ Memory
 end-memory s s' drives id text text' Memory some ends = refl
 end-memory s s' drives id text text' (TooLong other) some ends = absurd ends
-end-memory s s' drives id text text' (NotOpen other) some ends = absurd (subst IsSome ends.1.none some)
+end-memory s s' drives id text text' (NotOpen other) some ends =
+    let never : false ≡ true = sym (ap is_some ends.1.none) ∙ some in
+    absurd (cc never)
 
 -- the sessions may end one
 pub can-end : (on : Setting) (s : SessionsState) (times : List (ℕ × ℕ)) (rows : RowsState) (tally : Tally) (ended drives : List Pair) → HasDrove on s times rows tally ended drives → CanStream s 0
@@ -159,7 +176,7 @@ can-take on s times rows tally ended drives has few = record {
   few = (let count = has.points_are in omega (arith, few, count));
 }
 
-pub lines-one : (n : Net) (p : Params) (drives : List Pair) (id : ℕ) (fix : Fix) → full_id drives ((id, fix) ∷ []) ≡ None
+lines-one : (n : Net) (p : Params) (drives : List Pair) (id : ℕ) (fix : Fix) → full_id drives ((id, fix) ∷ []) ≡ None
     → stream_lines n p drives ((id, fix) ∷ []) ≡ led_by id (lines_of_fix n p id (fixes_of drives id) fix)
 lines-one n p drives id fix room = step (has_room drives id) room
   where
@@ -217,6 +234,14 @@ fix-few on s s' times rows tally ended drives id fix pieces text text' has place
     let counted = at-setting (λ m q. pieces_told m q after ≡ pieces_told m q drives + pieces) on s has.network has.params takes.counted in
     let count = fixes_in-with drives id fix in
     omega (arith, few, told, counted, count, has.points_are, has.pieces_are)
+
+-- and its lines were written
+pub fix-written : (on : Setting) (s s' : SessionsState) (times : List (ℕ × ℕ)) (rows : RowsState) (tally : Tally) (ended drives : List Pair) (id : ℕ) (fix : Fix) (pieces : ℕ) (text text' : List ℕ)
+    → HasDrove on s times rows tally ended drives → TakesPoints s drives ((id, fix) ∷ []) s' text text' pieces
+    → text' ≡ text ++ concat (led_by id (lines_of_fix on.network on.params id (fixes_of drives id) fix))
+fix-written on s s' times rows tally ended drives id fix pieces text text' has takes =
+    at-setting (λ m q. text' ≡ text ++ concat (stream_lines m q drives ((id, fix) ∷ []))) on s has.network has.params takes.written
+    ∙ ap (λ ls. text ++ concat ls) (lines-one on.network on.params drives id fix takes.room)
 
 pub fix-taken : (on : Setting) (s s' : SessionsState) (times times' : List (ℕ × ℕ)) (rows rows' : RowsState) (tally tally' : Tally) (ended drives : List Pair) (id : ℕ) (fix : Fix) (pieces : ℕ) (text text' : List ℕ)
     → HasDrove on s times rows tally ended drives → InRange (point_of_fix fix) → TakesPoints s drives ((id, fix) ∷ []) s' text text' pieces

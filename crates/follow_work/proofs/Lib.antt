@@ -13,3 +13,4 @@ pub mod DriveSteps
 pub mod DriveEnds
 pub mod DriveRows
 pub mod DriveJobs
+pub mod StreamsWithin
