@@ -11,12 +11,16 @@ pub mod SessionPairs
 pub mod SessionFixes
 pub mod StreamPoints
 pub mod StreamAlone
+pub mod DrivesKept
+pub mod DrivesAlone
+pub mod NoIdle
 pub mod CallsAlone
 pub mod OnePointTaken
 pub mod StreamTakes
 pub mod FragmentTakes
 pub mod StreamLines
 pub mod StreamEnds
+pub mod TraceEnds
 pub mod ByteLines
 pub mod BestEnds
 pub mod LatestPoint

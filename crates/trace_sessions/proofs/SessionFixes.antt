@@ -209,7 +209,7 @@ asks-none s id fix rows told failed = record {
 
 -- ---- close
 
-of_case : (n : Net) (p : Params) (s : Session) (a : Option Session) (b : Option (List Fix)) → Both n p a b → a ≡ Some s → (IsSome b) × IsSessionOf n p s (unwrap_or b [])
+pub of_case : (n : Net) (p : Params) (s : Session) (a : Option Session) (b : Option (List Fix)) → Both n p a b → a ≡ Some s → (IsSome b) × IsSessionOf n p s (unwrap_or b [])
 of_case n p s None b h e = absurd (cc)
 of_case n p s (Some t) None h e = absurd h
 of_case n p s (Some t) (Some f) h e =
@@ -238,7 +238,7 @@ closes n p id es new (Ok items) at =
     }
 closes n p id es new (Err e) at = tt
 
-none_case : (n : Net) (p : Params) (a : Option Session) (b : Option (List Fix)) → Both n p a b → a ≡ None → b ≡ None
+pub none_case : (n : Net) (p : Params) (a : Option Session) (b : Option (List Fix)) → Both n p a b → a ≡ None → b ≡ None
 none_case n p None None h e = refl
 none_case n p None (Some f) h e = absurd h
 none_case n p (Some s) b h e = absurd (cc)

@@ -71,7 +71,7 @@ others-lines id k (text ∷ lines) small small' other =
     ∙ others-lines id k lines small small' other
 
 -- the lines of one part, where those of the rest are known
-part : (id k : ℕ) (lines more rest : List (List ℕ)) (b : Bool) → id < 2 ^ 32 → k < 2 ^ 32 → nat_eq id k ≡ b → lines_led_by id more ≡ rest
+pub part : (id k : ℕ) (lines more rest : List (List ℕ)) (b : Bool) → id < 2 ^ 32 → k < 2 ^ 32 → nat_eq id k ≡ b → lines_led_by id more ≡ rest
     → lines_led_by id (led_by k lines ++ more) ≡ cond b (lines ++ rest) rest
 part id k lines more rest true small small' same is =
     let e : id ≡ k = grind (arith, nat_tests) in
@@ -83,11 +83,11 @@ part id k lines more rest false small small' other is =
 -- ---- the lines of points
 
 -- the lines of fixes behind others of their id
-abbrev lines_alone : Net → Params → ℕ → List Fix → List Fix → List (List ℕ)
+abbrev pub lines_alone : Net → Params → ℕ → List Fix → List Fix → List (List ℕ)
 lines_alone n p id fixes [] = []
 lines_alone n p id fixes (fix ∷ more) = lines_of_fix n p id fixes fix ++ lines_alone n p id (fixes ++ fix ∷ []) more
 
-alone_step : (n : Net) (p : Params) (id : ℕ) (fixes now : List Fix) (x : Point) (more : List Point) (lines : List (List ℕ)) (b : Bool) → nat_eq id x.0 ≡ b
+pub alone_step : (n : Net) (p : Params) (id : ℕ) (fixes now : List Fix) (x : Point) (more : List Point) (lines : List (List ℕ)) (b : Bool) → nat_eq id x.0 ≡ b
     → now ≡ fixes ++ map (λ (y : Point). y.1) (cond b (x ∷ []) [])
     → (id ≡ x.0 → lines ≡ lines_of_fix n p id fixes x.1)
     → cond b (lines ++ lines_alone n p id now (map (λ (y : Point). y.1) more)) (lines_alone n p id now (map (λ (y : Point). y.1) more))
@@ -98,7 +98,7 @@ alone_step n p id fixes now x more lines true same is own =
 alone_step n p id fixes now x more lines false other is own =
     ap (λ fs. lines_alone n p id fs (map (λ (y : Point). y.1) more)) (is ∙ append-nil fixes)
 
-abbrev IsSmall : Point → Type 0
+abbrev pub IsSmall : Point → Type 0
 IsSmall x = x.0 < 2 ^ 32
 
 stream-alone : (n : Net) (p : Params) (id : ℕ) (pairs : List Pair) (points : List Point) → id < 2 ^ 32 → All IsSmall points → full_id pairs points ≡ None
@@ -156,7 +156,7 @@ alone-behind n p id front (fix ∷ more) some =
     length_two : (fixes : List Fix) → length (map (layer_of n p) fixes ++ map (layer_of n p) (fix ∷ [])) ≡ length fixes + 1
     length_two fixes = length-append (map (layer_of n p) fixes) (layer_of n p fix ∷ []) ∙ ap (λ k. k + 1) (length-map fixes (layer_of n p))
 
-alone-all : (n : Net) (p : Params) (id : ℕ) (fixes : List Fix) → 0 < length fixes → lines_alone n p id [] fixes ≡ lines_so_far n p (record { id = id; fixes = fixes })
+pub alone-all : (n : Net) (p : Params) (id : ℕ) (fixes : List Fix) → 0 < length fixes → lines_alone n p id [] fixes ≡ lines_so_far n p (record { id = id; fixes = fixes })
 alone-all n p id [] some = absurd (omega (arith, some))
 alone-all n p id (fix ∷ more) some =
     let all = map (layer_of n p) (fix ∷ more) in
@@ -169,7 +169,7 @@ alone-all n p id (fix ∷ more) some =
 
 -- ---- the lines at the end
 
-abbrev IsShort : ℕ → Type 0
+abbrev pub IsShort : ℕ → Type 0
 IsShort id = id < 2 ^ 32
 
 once-behind : (pairs : List Pair) (points : List Point) → All IsSmall points → Once IsShort pairs → Once IsShort (with_points pairs points)
@@ -177,11 +177,11 @@ once-behind pairs [] are once = once
 once-behind pairs (x ∷ more) are once =
     once-behind (with_fix pairs x.0 x.1) more (All-tail IsSmall x more are) (once-insert IsShort x.0 (fixes_and pairs x.0 x.1) pairs (All-head IsSmall x more are) once)
 
-abbrev ends_alone : Net → Params → ℕ → Option (List Fix) → List (List ℕ)
+abbrev pub ends_alone : Net → Params → ℕ → Option (List Fix) → List (List ℕ)
 ends_alone n p id None = []
 ends_alone n p id (Some fixes) = last_lines n p (map (layer_of n p) fixes) ++ end_line id ∷ []
 
-closing-alone : (n : Net) (p : Params) (id : ℕ) (pairs : List Pair) → id < 2 ^ 32 → Once IsShort pairs → lines_led_by id (closing_lines n p pairs) ≡ ends_alone n p id (lookup (nat_eq id) pairs)
+pub closing-alone : (n : Net) (p : Params) (id : ℕ) (pairs : List Pair) → id < 2 ^ 32 → Once IsShort pairs → lines_led_by id (closing_lines n p pairs) ≡ ends_alone n p id (lookup (nat_eq id) pairs)
 closing-alone n p id [] small once = refl
 closing-alone n p id (e ∷ es) small once =
     part id e.0 (ends_alone n p e.0 (Some e.1)) (closing_lines n p es) (ends_alone n p id (lookup (nat_eq id) es)) (nat_eq id e.0) small once.0 refl (closing-alone n p id es small once.2)

@@ -85,7 +85,7 @@ next-pair : (s : SessionsState) (pairs : List Pair) (whole left : List (ℕ × S
 next-pair s pairs whole left id session t0 t r0 r pieces is has =
     next_case s pairs has.front has.back id session left (subst (λ es. KeepsEach s.network s.params es has.back) is has.each)
 
-own-params : (n : Net) (p : Params) (s : Session) (fixes : List Fix) → IsSessionOf n p s fixes → IsSessionOf n s.params s fixes
+pub own-params : (n : Net) (p : Params) (s : Session) (fixes : List Fix) → IsSessionOf n p s fixes → IsSessionOf n s.params s fixes
 own-params n p s fixes is = record { network = is.network; params = refl; stands = subst (λ q. StandsFor s (map (layer_of n q) fixes)) (sym is.params) is.stands }
 
 lawful-there : (front back : List Pair) (x : Pair) → AreLawful (front ++ x ∷ back) → IsLawfulTrace (trace_of x)
@@ -93,7 +93,7 @@ lawful-there front back x are =
     let behind = subst AreLawful (drop_at front (x ∷ back) (length front) refl) (All-drop (λ (q : Pair). IsLawfulTrace (trace_of q)) (length front) (front ++ x ∷ back) are) in
     All-head (λ (q : Pair). IsLawfulTrace (trace_of q)) x back behind
 
-same_trace : (a b : ℕ) (fixes : List Fix) → IsLawfulTrace (trace_of (a, fixes)) → IsLawfulTrace (trace_of (b, fixes))
+pub same_trace : (a b : ℕ) (fixes : List Fix) → IsLawfulTrace (trace_of (a, fixes)) → IsLawfulTrace (trace_of (b, fixes))
 same_trace a b fixes is = record { some = is.some; few = is.few; in_range = is.in_range }
 
 pub ended-can : (s : SessionsState) (net : Net) (more : ℕ) (whole left : List (ℕ × Session)) (id : ℕ) (session : Session) (t0 t : List ℕ) (r0 r : RowsState) (pieces : ℕ) → net ≡ s.network

@@ -4,6 +4,7 @@ pub mod Following
 pub mod Sessions
 pub mod StreamText
 pub mod Drives
+pub mod DrivesAlone
 pub mod Calls
 pub mod Streaming
 pub mod CommonLabels

@@ -14,7 +14,7 @@ use Rattle.trace_sessions.specs.declared.sessions.SessionFault.{SessionFault}
 use Rattle.trace_sessions.specs.declared.sessions.SessionFault.TheVariants.{Memory, NotOpen, TooLong}
 use Rattle.trace_sessions.specs.Following.{pieces_among}
 use Rattle.trace_sessions.specs.ItemText.{AddsPrefix}
-use Rattle.trace_sessions.specs.Sessions.{AsksFixes, IsSessionOf, Keeps, Pair, SessionsState, fixes_of}
+use Rattle.trace_sessions.specs.Sessions.{AsksFixes, HasNoPair, HasPair, IsSessionOf, Keeps, Pair, SessionsState, fixes_of, without}
 use Rattle.trace_sessions.specs.StreamText.{Point, closing_lines, fixes_among, full_id, lines_at_end, stream_lines, trace_of, with_points, with_taken}
 
 -- how many fixes the ids have
@@ -136,3 +136,32 @@ pub record EndsPair (n : Net) (p : Params) (pair : Pair) (text text' : List ℕ)
 abbrev pub EndsOne : {E : Type 0} → Net → Params → Pair → List ℕ → List ℕ → Result ℕ E → Type 0
 EndsOne n p pair text text' (Ok pieces) = EndsPair n p pair text text' pieces
 EndsOne n p pair text text' (Err refused) = AddsPrefix text (concat (lines_at_end n p pair)) text'
+
+-- ---- one id of the sessions at its end
+
+-- the id had a pair, which is gone, and its last lines were written, or a prefix of them
+pub record EndsTrace {E : Type 0} (old : SessionsState) (pairs : List Pair) (id : ℕ)
+    (new : SessionsState) (text text' : List ℕ) (result : Result ℕ E) : Type 0 where
+  pub network : new.network ≡ old.network
+  pub params : new.params ≡ old.params
+  pub was_open : HasPair pairs id
+  pub stands : Keeps new (without pairs id)
+  pub ended : EndsOne old.network old.params (id, fixes_of pairs id) text text' result
+
+-- the id had no pair, and nothing was done
+pub record EndsNone (old : SessionsState) (pairs : List Pair) (id : ℕ)
+    (new : SessionsState) (text text' : List ℕ) : Type 0 where
+  pub none : HasNoPair pairs id
+  pub unchanged : new ≡ old
+  pub written : text' ≡ text
+
+-- its trace was ended, or it had none, or memory ran out in its lines
+abbrev pub EndsId : SessionsState → List Pair → ℕ → SessionsState → List ℕ → List ℕ
+    → Result ℕ SessionFault → Type 0
+EndsId old pairs id new text text' (Ok pieces) =
+    EndsTrace {E = SessionFault} old pairs id new text text' (Ok pieces)
+EndsId old pairs id new text text' (Err (NotOpen other)) =
+    (other ≡ id) × EndsNone old pairs id new text text'
+EndsId old pairs id new text text' (Err (TooLong other)) = ⊥
+EndsId old pairs id new text text' (Err Memory) =
+    EndsTrace old pairs id new text text' (Err Memory)

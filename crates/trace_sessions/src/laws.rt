@@ -1,6 +1,7 @@
 //! Laws of the lines of traces and of calls on sessions. Each function exists for its clause and does nothing.
 ghost use Rattle.trace_sessions.specs.Calls.{IdsAreAnsweredAlone};
 ghost use Rattle.trace_sessions.specs.CommonLabels.{CommittedIsCommonPrefix};
+ghost use Rattle.trace_sessions.specs.DrivesAlone.{DrivesAreFollowedAlone, DrivesHaveEachPosition, NoDriveIsIdle};
 ghost use Rattle.trace_sessions.specs.FollowText.{FollowIsMatch, WrittenLinesStay};
 ghost use Rattle.trace_sessions.specs.StreamText.{IdsAreFollowedAlone, IdsHaveFollowTexts};
 
@@ -24,6 +25,23 @@ pub fn ids_are_followed_alone()
 /// positions alone, if no id is full and all ids are below 2^32.
 pub fn ids_have_follow_texts()
     ensures { IdsHaveFollowTexts }
+{}
+
+/// In a stream whose drives end, the lines of an id, without the id, are the follow texts of its drives alone, one after
+/// the other, if all ids are below 2^32.
+pub fn drives_are_followed_alone()
+    ensures { DrivesAreFollowedAlone }
+{}
+
+/// The positions of the drives of an id, one drive after the other, are those of the id in the file.
+pub fn drives_have_each_position()
+    ensures { DrivesHaveEachPosition }
+{}
+
+/// With the greatest number of seconds, and if no time is greater and no id is full, the lines of a stream whose drives
+/// end are those of a stream whose drives do not.
+pub fn no_drive_is_idle()
+    ensures { NoDriveIsIdle }
 {}
 
 /// If all calls of `feed` and `close` in a list are `Ok`, and those of one id are `Ok` without the others,

@@ -20,8 +20,15 @@
 //! positions alone: [`ids_are_followed_alone`] says so, and [`ids_have_follow_texts`] of the bytes.
 //! [`ids_are_answered_alone`] compares the calls of an id among others and alone, if all of them are `Ok`.
 //!
+//! In a stream whose drives end, an id has one drive after the other. `ended_at` in `specs/Drives.antt` says which drives
+//! end before a position, and `all_drive_lines` what is written. [`Sessions::stream_fix`] takes one position, and
+//! [`Sessions::end_trace`] ends the trace of one id. The lines of an id are the follow texts of its drives
+//! ([`drives_are_followed_alone`]), which have each of its positions ([`drives_have_each_position`]). With the greatest
+//! number of seconds no drive ends before the file ([`no_drive_is_idle`]).
+//!
 //! Read first: `item_lines` in `specs/ItemText.antt`, then `follow_lines` and `FollowIsMatch`; and
-//! `Keeps`, `TakesFix` and `Closes`; `stream_lines` and `closing_lines` in `specs/StreamText.antt`.
+//! `Keeps`, `TakesFix` and `Closes`; `stream_lines` and `closing_lines` in `specs/StreamText.antt`;
+//! `drives_of` and `all_drive_lines` in `specs/Drives.antt`.
 #![tactic(auto)]
 
 mod basis;
@@ -34,7 +41,8 @@ pub use basis::Basis;
 pub use following::follow_trace;
 pub use items::write_items;
 pub use laws::{
-    committed_is_common_prefix, follow_is_match, ids_are_answered_alone, ids_are_followed_alone,
-    ids_have_follow_texts, written_lines_stay,
+    committed_is_common_prefix, drives_are_followed_alone, drives_have_each_position,
+    follow_is_match, ids_are_answered_alone, ids_are_followed_alone, ids_have_follow_texts,
+    no_drive_is_idle, written_lines_stay,
 };
 pub use sessions::{SessionFault, Sessions};

@@ -27,8 +27,8 @@ use trace_reader::Fix;
 
 mod streaming;
 
-/// Why a call of [`Sessions`] did not do all of its work. `feed` and `close` changed nothing then; `stream` may
-/// have taken some positions.
+/// Why a call of [`Sessions`] did not do all of its work. `feed` and `close` changed nothing then; `stream` and
+/// `stream_fix` may have taken positions, and `end_trace` has removed a session if memory ran out.
 #[derive(Clone, Copy, Debug, PartialEq, Eq)]
 pub enum SessionFault {
     /// The id already has 100,000 positions.

@@ -8,9 +8,9 @@ ghost use Rattle.online_commit.specs.Session.{AsksFinished};
 ghost use Rattle.trace_reader.specs.Trace.{IsLawfulTrace, point_of_fix};
 ghost use Rattle.trace_sessions.specs.Calls.{IsEmpty};
 ghost use Rattle.trace_sessions.specs.ItemText.{AddsPrefix, AreItemsOf};
-ghost use Rattle.trace_sessions.specs.Sessions.{IsSessionOf, Keeps, Pair};
+ghost use Rattle.trace_sessions.specs.Sessions.{AsksClosed, IsSessionOf, Keeps, Pair};
 ghost use Rattle.trace_sessions.specs.StreamText.{fragment_points, led_by};
-ghost use Rattle.trace_sessions.specs.Streaming.{AsksSome, AsksStream, CanEnd, CanStream, Ends, EndsOne, Streams};
+ghost use Rattle.trace_sessions.specs.Streaming.{AsksSome, AsksStream, CanEnd, CanStream, Ends, EndsId, EndsOne, Streams};
 ghost use Rattle.trace_sessions.specs.inside.StreamingInside.{heading, lines_of_items};
 
 use super::{SessionFault, Sessions};
@@ -47,8 +47,10 @@ impl<'n> Sessions<'n> {
         write_step(&by, Some(id), point, items, into)
     }
 
-    // Takes the next position of the id and appends its lines.
-    fn stream_point<R: Rows>(
+    /// Takes the next position of the id, as by [`Sessions::feed`], appends its lines, and returns how many pieces
+    /// it closed. `TooLong` means that the id already has 100,000 positions; then nothing is changed. After `Memory`,
+    /// either nothing is changed, or the position is taken and a prefix of its lines is appended.
+    pub fn stream_fix<R: Rows>(
         &mut self,
         id: u32,
         fix: Fix,
@@ -91,9 +93,38 @@ impl<'n> Sessions<'n> {
         self.invariants();
         let mut pieces = 0;
         for fix in trace.fixes.as_slice() {
-            let count = self.stream_point(trace.id, *fix, rows, into)?;
+            let count = self.stream_fix(trace.id, *fix, rows, into)?;
             pieces += count;
         }
+        Ok(pieces)
+    }
+
+    /// Ends the trace of the id: appends its last lines, removes its session, and returns how many pieces it closed; the
+    /// others keep their order. `NotOpen` means that the id has no session; then nothing is changed. After `Memory`, the
+    /// session is gone, and a prefix of the lines is appended. Takes time for each session after that of the id.
+    ///
+    /// Rows become known as by [`Online::finish`] on the positions of this id.
+    pub fn end_trace<R: Rows>(
+        &mut self,
+        id: u32,
+        rows: &mut R,
+        into: &mut List<u8>,
+    ) -> Result<u64, SessionFault>
+        requires rows { AreRowsOf (R.state rows.old) self.old.network self.old.params.bound }
+        requires can { CanStream self.old 0 }
+        ensures ends { (pairs : ListOf Pair) → Keeps self.old pairs
+            → EndsId self.old pairs id self.new into.old into.new result }
+        ensures asks { AsksClosed self.old id (R.state rows.old) (R.state rows.new) }
+    {
+        self.invariants();
+        let Some(session) = self.sessions.shift_remove(&id) else {
+            return Err(SessionFault::NotOpen(id));
+        };
+        let by = Writer {
+            alloc: self.alloc,
+            net: self.net,
+        };
+        let pieces = end_session(&by, id, session, rows, into)?;
         Ok(pieces)
     }
 

@@ -8,32 +8,32 @@ use Rattle.trace_sessions.proofs.sessions.Sessions.stream.Goals as goal
 pub loop-fix-init : goal.loop-fix-init
 loop-fix-init g c = none-streamed c.args.self.now c.args.trace.now c.args.into.now (g.R.Rows.state c.args.rows.now)
 
-pub stream_point-requires-clause-rows : goal.stream_point-requires-clause-rows
-stream_point-requires-clause-rows g c = streamed-rows _ _ _ _ _ _ _ _ _ _ c.requires.can c.requires.rows c.loop-fix.invariant
+pub stream_fix-requires-clause-rows : goal.stream_fix-requires-clause-rows
+stream_fix-requires-clause-rows g c = streamed-rows _ _ _ _ _ _ _ _ _ _ c.requires.can c.requires.rows c.loop-fix.invariant
 
-pub stream_point-requires-clause-can : goal.stream_point-requires-clause-can
-stream_point-requires-clause-can g c =
+pub stream_fix-requires-clause-can : goal.stream_fix-requires-clause-can
+stream_fix-requires-clause-can g c =
     streamed-can _ _ _ c.as_slice-fix-items.result.now c.loop-fix.fix-index _ _ _ _ _ c.as_slice-fix-items.ensures c.loop-fix-test.true c.requires.trace c.requires.can c.loop-fix.invariant
 
 pub returns-in_err-count-clause-streams : goal.returns-in_err-count-clause-streams
 returns-in_err-count-clause-streams g c =
     let p = err_from_is_err_and c.from_residual.result c.from_residual.ensures.1 in
-    rw (p.1, p.2) (streamed-refused _ _ c.stream_point.new.self _ c.as_slice-fix-items.result.now c.loop-fix.fix-index _ _ _ _ _ _ _ _ c.as_slice-fix-items.ensures c.loop-fix-test.true c.loop-fix.invariant c.in_err-count.ensures.streams)
+    rw (p.1, p.2) (streamed-refused _ _ c.stream_fix.new.self _ c.as_slice-fix-items.result.now c.loop-fix.fix-index _ _ _ _ _ _ _ _ c.as_slice-fix-items.ensures c.loop-fix-test.true c.loop-fix.invariant c.in_err-count.ensures.streams)
 
 pub returns-in_err-count-clause-asks : goal.returns-in_err-count-clause-asks
 returns-in_err-count-clause-asks g c =
     refused-asks _ _ _ c.as_slice-fix-items.result.now c.loop-fix.fix-index _ _ _ _ _ _ _ _ _ c.from_residual.result c.as_slice-fix-items.ensures c.loop-fix-test.true c.requires.can c.loop-fix.invariant
-    c.stream_point.ensures.asks c.from_residual.ensures.0
+    c.stream_fix.ensures.asks c.from_residual.ensures.0
 
 pub overflow_add-pieces : goal.overflow_add-pieces
 overflow_add-pieces g c =
-    let next = streamed-next _ _ _ _ _ _ _ _ _ _ _ _ _ _ _ _ _ c.as_slice-fix-items.ensures c.loop-fix-test.true c.requires.can c.loop-fix.invariant c.stream_point.ensures.streams c.stream_point.ensures.asks c.in_ok-count.was in
+    let next = streamed-next _ _ _ _ _ _ _ _ _ _ _ _ _ _ _ _ _ c.as_slice-fix-items.ensures c.loop-fix-test.true c.requires.can c.loop-fix.invariant c.stream_fix.ensures.streams c.stream_fix.ensures.asks c.in_ok-count.was in
     let few = streamed-few _ _ _ _ _ _ _ _ _ _ c.as_slice-fix-items.ensures c.loop-fix-test.true c.invariants.ensures.accepted c.requires.trace c.requires.can next in
     omega (arith, few)
 
 pub loop-fix-preserved : goal.loop-fix-preserved
 loop-fix-preserved g c =
-    streamed-next _ _ _ _ _ _ _ _ _ _ _ _ _ _ _ _ _ c.as_slice-fix-items.ensures c.loop-fix-test.true c.requires.can c.loop-fix.invariant c.stream_point.ensures.streams c.stream_point.ensures.asks c.in_ok-count.was
+    streamed-next _ _ _ _ _ _ _ _ _ _ _ _ _ _ _ _ _ c.as_slice-fix-items.ensures c.loop-fix-test.true c.requires.can c.loop-fix.invariant c.stream_fix.ensures.streams c.stream_fix.ensures.asks c.in_ok-count.was
 
 pub returns-clause-streams : goal.returns-clause-streams
 returns-clause-streams g c pairs keeps =

@@ -8,7 +8,7 @@ use Rattle.trace_sessions.specs.inside.StreamingInside.{lines_of_items}
 use Rattle.trace_sessions.proofs.SessionFixes.{no-ok}
 use Rattle.trace_sessions.proofs.OnePointTaken.{items-lie, point-cut, point-refused, point-taken}
 use Rattle.trace_sessions.proofs.StreamTakes.{point-asks, points-in}
-use Rattle.trace_sessions.proofs.sessions.Sessions.stream_point.Goals as goal
+use Rattle.trace_sessions.proofs.sessions.Sessions.stream_fix.Goals as goal
 
 pub returns-in_err-items-clause-asks : goal.returns-in_err-items-clause-asks
 returns-in_err-items-clause-asks g c =
