@@ -6,3 +6,11 @@ pub mod FollowedIds
 pub mod StreamJobs
 pub mod StreamTakes
 pub mod StreamTotals
+pub mod DriveLists
+pub mod DriveTimes
+pub mod DriveCounts
+pub mod DriveSteps
+pub mod DriveEnds
+pub mod DriveRows
+pub mod DriveJobs
+pub mod StreamsWithin

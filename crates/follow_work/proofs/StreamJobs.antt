@@ -43,14 +43,14 @@ places-in (trace ∷ traces) lawful =
     All-append (λ (x : Point). InRange (point_of_fix x.1)) (fragment_points trace) (points_in traces) own (places-in traces (All-tail IsLawfulTrace trace traces lawful))
 
 -- the first of them have no more points
-first-points : (traces : List Trace) (i : ℕ) → points_of (take i traces) ≤ points_of traces
+pub first-points : (traces : List Trace) (i : ℕ) → points_of (take i traces) ≤ points_of traces
 first-points traces i =
     let all = ap points_of (take-append-drop i traces) in
     let parts = points-append (take i traces) (drop i traces) in
     omega (arith, all, parts)
 
 -- one fragment more
-next-fragment : (traces : List Trace) (i : ℕ) (trace : Trace) → i < length traces → trace ≡ get_or traces i trace → points_in (take (i + 1) traces) ≡ points_in (take i traces) ++ fragment_points trace
+pub next-fragment : (traces : List Trace) (i : ℕ) (trace : Trace) → i < length traces → trace ≡ get_or traces i trace → points_in (take (i + 1) traces) ≡ points_in (take i traces) ++ fragment_points trace
 next-fragment traces i trace low is =
     ap points_in (take_more traces i trace low ∙ ap (λ t. take i traces ++ t ∷ []) (sym is))
     ∙ flat_map-append fragment_points (take i traces) (trace ∷ [])

@@ -35,7 +35,7 @@ use Rattle.follow_work.proofs.StreamTakes.{at-setting, nothing-asked, pairs-coun
 
 -- ---- sums over whole traces
 
-whole-sum : (f : Trace → ℕ) (pairs : List Pair) → sum_by f (map trace_of pairs) ≡ sum_by (λ (q : Pair). f (trace_of q)) pairs
+pub whole-sum : (f : Trace → ℕ) (pairs : List Pair) → sum_by f (map trace_of pairs) ≡ sum_by (λ (q : Pair). f (trace_of q)) pairs
 whole-sum f [] = refl
 whole-sum f (x ∷ pairs) =
     sum_by-cons f (trace_of x) (map trace_of pairs)
@@ -50,7 +50,7 @@ whole-pieces on traces = whole-sum (λ trace. length (match_of on.network on.par
 
 -- ---- what whole traces ask for
 
-tells : (on : Setting) (trace : Trace) (v : ℕ) → AsksPoints on.network on.params (layers_of on.network on.params trace) v ↔ (asks on.network on.params trace v ≡ true)
+pub tells : (on : Setting) (trace : Trace) (v : ℕ) → AsksPoints on.network on.params (layers_of on.network on.params trace) v ↔ (asks on.network on.params trace v ≡ true)
 unfolding asks
 tells on trace v =
     let n = on.network in
@@ -59,15 +59,15 @@ tells on trace v =
     is_asked_node-tells (trellis n p) (end_of n) layers (solution (trellis n p) layers).pieces v
 
 -- the match of these fixes asks for the row
-abbrev Ask : Setting → ℕ → List Fix → Type 0
+abbrev pub Ask : Setting → ℕ → List Fix → Type 0
 Ask on v fixes = AsksPoints on.network on.params (map (layer_of on.network on.params) fixes) v
 
 -- an id that differs from all has no pair
-absent : (k : ℕ) (pairs : List Pair) → AllByRecursion (λ y. nat_eq k y ≡ false) (keys_of pairs) → lookup (nat_eq k) pairs ≡ None
+pub absent : (k : ℕ) (pairs : List Pair) → AllByRecursion (λ y. nat_eq k y ≡ false) (keys_of pairs) → lookup (nat_eq k) pairs ≡ None
 absent k [] all = refl
 absent k (x ∷ pairs) all = ap (λ b. cond b (Some x.1) (lookup (nat_eq k) pairs)) all.0 ∙ absent k pairs all.1
 
-some-asks : (on : Setting) (v : ℕ) (pairs : List Pair) (id : ℕ) → Ask on v (fixes_of pairs id) → is_asked_by on (map trace_of pairs) v ≡ true
+pub some-asks : (on : Setting) (v : ℕ) (pairs : List Pair) (id : ℕ) → Ask on v (fixes_of pairs id) → is_asked_by on (map trace_of pairs) v ≡ true
 some-asks on v [] id asked = nothing-asked on v _ asked
 some-asks on v (x ∷ pairs) id asked = step (nat_eq id x.0) asked (some-asks on v pairs id)
   where
@@ -79,7 +79,7 @@ some-asks on v (x ∷ pairs) id asked = step (nat_eq id x.0) asked (some-asks on
     step true here rest = or_left own (is_asked_by on (map trace_of pairs) v) ((tells on (trace_of x) v).0 here)
     step false here rest = or_right own (is_asked_by on (map trace_of pairs) v) (rest here)
 
-asked-some : (on : Setting) (v : ℕ) (pairs : List Pair) → IsDistinct nat_eq (keys_of pairs) → is_asked_by on (map trace_of pairs) v ≡ true → (id : ℕ) × Ask on v (fixes_of pairs id)
+pub asked-some : (on : Setting) (v : ℕ) (pairs : List Pair) → IsDistinct nat_eq (keys_of pairs) → is_asked_by on (map trace_of pairs) v ≡ true → (id : ℕ) × Ask on v (fixes_of pairs id)
 asked-some on v [] different is = absurd cc
 asked-some on v (x ∷ pairs) different is =
     ⊎_elim

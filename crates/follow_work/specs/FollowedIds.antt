@@ -16,7 +16,7 @@ use Rattle.trace_reader.specs.Reading.{file_fault, file_traces}
 use Rattle.trace_reader.specs.declared.trace.Trace.{Trace}
 use Rattle.trace_sessions.specs.FollowText.{follow_text}
 use Rattle.trace_sessions.specs.StreamText.{fixes_among, points_in, text_led_by}
-use Rattle.follow_work.specs.Streams.{streams_plan}
+use Rattle.follow_work.specs.Streams.{never, streams_plan}
 
 -- the trace of an id: all its positions in the trace file, in the order of the file
 abbrev pub trace_in : List ℕ → ℕ → Trace
@@ -57,10 +57,10 @@ pub record IsStreamOf (limits : NetworkLimits) (network traces : List ℕ) (opti
   pub bytes_are : seen trace_limit (files traces) ≡ Some bytes
   pub follows : FollowsEachId (record { network = net; params = options }) bytes text
 
--- what `streams` writes with status 0
+-- what `streams` writes with status 0, where no drive ends before the file does
 abbrev pub StreamsFollowEachId : Type 0
 StreamsFollowEachId =
     (limits : NetworkLimits) (network traces : List ℕ) (options : Params)
     (files : List ℕ → Option (List ℕ)) (o : Outcome)
-    → outcome_of (streams_plan limits network traces options) files ≡ Some o → o.status ≡ 0
+    → outcome_of (streams_plan limits network traces never options) files ≡ Some o → o.status ≡ 0
     → IsStreamOf limits network traces options files o.out

@@ -1,5 +1,5 @@
 -- `streams NET TRACES`: what the bytes of a trace file give, where its traces are fragments of ids.
-use Rattle.std.specs.Prelude.{ℕ, List, [], ◌∷◌, ◌++◌, codes, map, option_map}
+use Rattle.std.specs.Prelude.{ℕ, List, [], ◌∷◌, ◌++◌, if◌then◌else◌, codes, map, nat_lt, option_map}
 use Rattle.std.specs.declared.option.Option.{Option}
 use Rattle.std.specs.List.{concat}
 use Rattle.std.proofs.Common.{refl}
@@ -17,6 +17,7 @@ use Rattle.trace_sessions.specs.Sessions.{Pair}
 use Rattle.trace_sessions.specs.StreamText.{closing_lines, full_id, points_in, stream_lines, trace_of, with_points}
 use Rattle.trace_match.specs.Setting.{Setting}
 use Rattle.program_frame.specs.Counts.{total_of}
+use Rattle.follow_work.specs.Drives.{drives_job}
 use Rattle.follow_work.specs.StreamTexts.{refusal-stays, texts-begin}
 use Rattle.trace_match.specs.Totals.{pieces_of, rows_of}
 
@@ -55,8 +56,16 @@ streams_job on = record {
   stays = λ front back line is. refusal-stays on.network on.params too_long_line front back line is;
 }
 
+-- the greatest number of seconds, by which no drive ends before the file does
+abbrev pub never : ℕ
+never = 4_294_967_295
+
+-- drives end after this many seconds, or each id has one drive
+abbrev pub streams_within : Setting → (idle : ℕ) → JobText
+streams_within on idle = if nat_lt idle never then drives_job on idle else streams_job on
+
 -- the network is read and accepted, and then the positions of the traces are taken in their order
-abbrev pub streams_plan : NetworkLimits → (network traces : List ℕ) (options : Params) → Plan
-streams_plan limits network traces options =
+abbrev pub streams_plan : NetworkLimits → (network traces : List ℕ) (idle : ℕ) (options : Params) → Plan
+streams_plan limits network traces idle options =
     loads Network network (file_limit limits) 5 (network_said limits)
-    (λ net. works_traces traces (streams_job (record { network = net; params = options })))
+    (λ net. works_traces traces (streams_within (record { network = net; params = options }) idle))

@@ -1,2 +1,3 @@
+pub mod DrivesDone
 pub mod FollowDone
 pub mod StreamsDone

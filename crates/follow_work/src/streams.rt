@@ -3,12 +3,14 @@ ghost use Rattle.std.specs.Prelude.{◌≡◌, ◌++◌, [], true, List as ListO
 ghost use Rattle.bounded_table.specs.Rows.{AreRowsOf};
 ghost use Rattle.cost_model.specs.Options.{IsAccepted};
 ghost use Rattle.program_frame.specs.Performs.{Performs};
+ghost use Rattle.program_frame.specs.Stream.{works_traces};
 ghost use Rattle.trace_sessions.specs.Sessions.{Keeps, Pair};
 ghost use Rattle.trace_sessions.specs.StreamText.{points_in};
 ghost use Rattle.trace_sessions.specs.Streaming.{AsksStream, Streams};
-ghost use Rattle.follow_work.specs.Streams.{streams_job, streams_plan, too_long_line};
+ghost use Rattle.follow_work.specs.Streams.{streams_job, streams_plan, streams_within, too_long_line};
 ghost use Rattle.follow_work.specs.inside.StreamsDone.{CanTakeFragments, HasStreamed};
 
+use crate::drive_job::DriveJob;
 use crate::rows::open_rows;
 use cost_model::Params;
 use decimal_text::write_unsigned;
@@ -136,21 +138,51 @@ impl<'m> Job for StreamJob<'m> {
     }
 }
 
+/// A file of positions, whose drives end once a position is this many seconds and more newer than theirs. At the
+/// greatest number none ends before the file does.
+#[derive(Clone, Copy)]
+pub struct StreamedFile<'a> {
+    pub name: &'a str,
+    pub idle: u32,
+}
+
+// Reads the traces, whose positions it takes in order.
+fn work_streams<S: Shelf, K: Sink>(
+    alloc: Global,
+    matcher: &Matcher<'_>,
+    traces: StreamedFile<'_>,
+    shelf: &mut S,
+    out: &mut K,
+) -> Result<(), Stop>
+    requires { IsAccepted matcher.now.params }
+    ensures { Performs
+        (Ok (works_traces traces.entry.name.now (streams_within matcher.now traces.entry.idle)))
+        (S.state shelf.old) (S.state shelf.new) (K.state out.old) (K.state out.new) result }
+{
+    if traces.idle < u32::MAX {
+        let job = DriveJob::open(alloc, matcher, traces.idle)?;
+        work_traces(alloc, job, shelf, traces.name, out)
+    } else {
+        let job = StreamJob::open(alloc, matcher)?;
+        work_traces(alloc, job, shelf, traces.name, out)
+    }
+}
+
 /// Reads the network, and then the traces, whose positions it takes in order.
 pub fn stream_traces<S: Shelf, K: Sink>(
     alloc: Global,
     network: NetworkFile<'_>,
-    traces: &str,
+    traces: StreamedFile<'_>,
     options: Params,
     shelf: &mut S,
     out: &mut K,
 ) -> Result<(), Stop>
     requires { IsAccepted options }
-    ensures { Performs (Ok (streams_plan network.entry.limits network.entry.name.now traces.now options))
+    ensures { Performs (Ok (streams_plan network.entry.limits network.entry.name.now
+        traces.entry.name.now traces.entry.idle options))
         (S.state shelf.old) (S.state shelf.new) (K.state out.old) (K.state out.new) result }
 {
     let roads = load_network(alloc, shelf, network)?;
     let matcher = Matcher::open(alloc, &roads, options)?;
-    let job = StreamJob::open(alloc, &matcher)?;
-    work_traces(alloc, job, shelf, traces, out)
+    work_streams(alloc, &matcher, traces, shelf, out)
 }
