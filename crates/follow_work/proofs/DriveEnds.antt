@@ -1,5 +1,5 @@
 -- The drives that pass a test end one after the other.
-use Rattle.std.proofs.Common.{◌≡◌, ℕ, ◌+◌, ◌<◌, ◌≤◌, Bool, List, [], ◌∷◌, ◌++◌, Option, Some, None, refl, sym, ap, ◌∙◌, subst, arith, drop, get_or, length, map, nat_eq, unwrap_or}
+use Rattle.std.proofs.Common.{◌≡◌, ℕ, ◌+◌, ◌<◌, ◌≤◌, Bool, List, [], ◌∷◌, ◌++◌, Option, Some, None, refl, sym, ap, ◌∙◌, subst, arith, drop, get_or, length, nat_eq, unwrap_or}
 use Rattle.std.specs.Prelude.{IsSome, is_some}
 use Rattle.std.specs.List.{IsDistinct, concat, filter}
 use Rattle.std.specs.Map.{keys_of, lookup}
@@ -13,7 +13,7 @@ use Rattle.trace_sessions.specs.Sessions.{HasPair, Pair, fixes_of, length_of, wi
 use Rattle.trace_sessions.specs.StreamText.{closing_lines, lines_at_end}
 use Rattle.follow_work.specs.declared.drives.Drives.{Drives}
 use Rattle.follow_work.specs.inside.DrivesDone.{AreAny, Drove, EndsAll, EndsDrive, HasDrives, HaveDriveOf, Stays, idle_ids}
-use Rattle.follow_work.proofs.DriveLists.{IsOut, full-few, full-none, full-one, none-out, others, out-first}
+use Rattle.follow_work.proofs.DriveLists.{full-few, full-none, full-one, none-out, others, out-first}
 use Rattle.follow_work.proofs.DriveTimes.{idle-found}
 
 stays-still : (d : Drives) → Stays d d
@@ -62,17 +62,17 @@ next-out : (test : Pair → Bool) (drives passed : List Pair) (id : ℕ) (left :
 next-out test drives [] id left is keys = absurd (cc keys)
 next-out test drives (x ∷ rest) id left is keys = record { x = x; rest = rest; is = is; id_is = cc keys; left_are = cc keys }
 
-left-more : (ids : List ℕ) (i id : ℕ) → i < length ids → id ≡ get_or ids i id → drop i ids ≡ id ∷ drop (i + 1) ids
-left-more ids i id low is = drop_more ids i id low ∙ ap (λ k. k ∷ drop (i + 1) ids) (sym is)
+left-more : (ids : List ℕ) (i id e : ℕ) → i < length ids → id ≡ get_or ids i e → drop i ids ≡ id ∷ drop (i + 1) ids
+left-more ids i id e low is = drop_more ids i e low ∙ ap (λ k. k ∷ drop (i + 1) ids) (sym is)
 
 is-some : (o : Option (List Fix)) (fixes : List Fix) → o ≡ Some fixes → IsSome o
 is-some o fixes is = ap is_some is
 
-pub next-open : (idle : ℕ) (ids : List ℕ) (i id : ℕ) (d0 d : Drives) (t0 t : List ℕ) → i < length ids → id ≡ get_or ids i id → HasDrives d0 AreAny → HasEnded idle (drop i ids) d0 d t0 t → HasDrives d (HaveDriveOf id)
-next-open idle ids i id d0 d t0 t low at some ended =
+pub next-open : (idle : ℕ) (ids : List ℕ) (i id e : ℕ) (d0 d : Drives) (t0 t : List ℕ) → i < length ids → id ≡ get_or ids i e → HasDrives d0 AreAny → HasEnded idle (drop i ids) d0 d t0 t → HasDrives d (HaveDriveOf id)
+next-open idle ids i id e d0 d t0 t low at some ended =
     let before = ended some.on some.ended some.drives some.drove in
     let test = is_idle idle d0.clock in
-    let next = next-out test before.open_drives (filter test before.open_drives) id (drop (i + 1) ids) refl (before.left_are ∙ left-more ids i id low at) in
+    let next = next-out test before.open_drives (filter test before.open_drives) id (drop (i + 1) ids) refl (before.left_are ∙ left-more ids i id e low at) in
     let out = out-first test before.open_drives next.x next.rest before.drove.stands.different next.is in
     record {
       on = some.on;
@@ -90,16 +90,16 @@ one-more n-lines t0 t1 t2 x rest all before written =
     ∙ ap (λ t. t1 ++ t) (sym (concat-append (n-lines x) rest))
     ∙ before
 
-pub next-ended : (idle : ℕ) (ids : List ℕ) (i id : ℕ) (d0 d1 d2 : Drives) (t0 t1 t2 : List ℕ) → i < length ids → id ≡ get_or ids i id → HasEnded idle (drop i ids) d0 d1 t0 t1
+pub next-ended : (idle : ℕ) (ids : List ℕ) (i id e : ℕ) (d0 d1 d2 : Drives) (t0 t1 t2 : List ℕ) → i < length ids → id ≡ get_or ids i e → HasEnded idle (drop i ids) d0 d1 t0 t1
     → ((on : Setting) (ended drives : List Pair) → Drove on d1 ended drives → EndsDrive on ended drives id d1 d2 t1 t2)
     → HasEnded idle (drop (i + 1) ids) d0 d2 t0 t2
-next-ended idle ids i id d0 d1 d2 t0 t1 t2 low at has ends on ended drives drove =
+next-ended idle ids i id e d0 d1 d2 t0 t1 t2 low at has ends on ended drives drove =
     let before = has on ended drives drove in
     let test = is_idle idle d0.clock in
     let open_drives = before.open_drives in
     let n = on.network in
     let p = on.params in
-    let next = next-out test open_drives (filter test open_drives) id (drop (i + 1) ids) refl (before.left_are ∙ left-more ids i id low at) in
+    let next = next-out test open_drives (filter test open_drives) id (drop (i + 1) ids) refl (before.left_are ∙ left-more ids i id e low at) in
     let x = next.x in
     let out = out-first test open_drives x next.rest before.drove.stands.different next.is in
     let own : fixes_of open_drives x.0 ≡ x.1 = ap (λ o. unwrap_or o []) out.found in

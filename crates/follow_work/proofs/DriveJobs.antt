@@ -1,6 +1,6 @@
 -- A job of drives, before its first trace and after more, and its end.
-use Rattle.std.proofs.Common.{◌≡◌, ◌↔◌, ⊎_elim, ℕ, ◌+◌, ◌<◌, ◌^◌, List, [], ◌++◌, Ok, refl, sym, ap, ◌∙◌, subst, arith, length, map, inl}
-use Rattle.std.specs.Prelude.{Contains, true}
+use Rattle.std.proofs.Common.{◌≡◌, ◌↔◌, ⊎_elim, ℕ, ◌+◌, ◌<◌, ◌^◌, List, [], ◌++◌, sym, ap, ◌∙◌, subst, arith, length, map}
+use Rattle.std.specs.Prelude.{Contains}
 use Rattle.std.specs.List.{concat}
 use Rattle.std.proofs.lemmas.List.{append_assoc, length-append, length-map}
 use Rattle.std.proofs.lemmas.List.Elements.{All-nil}
@@ -11,17 +11,16 @@ use Rattle.bounded_table.proofs.Asking.{still_of}
 use Rattle.bounded_table.proofs.Counting.{count_listed}
 use Rattle.cost_model.specs.Options.{IsAccepted}
 use Rattle.program_frame.specs.Counts.{total_of}
-use Rattle.program_frame.specs.Jobs.{CanTake, Grows, HasTaken, IsBounded, TakesTraces, points_of}
+use Rattle.program_frame.specs.Jobs.{Grows, IsBounded, points_of}
 use Rattle.program_frame.specs.Total.{total_line}
 use Rattle.program_frame.specs.declared.total.Tally.{Tally}
-use Rattle.program_frame.proofs.Bounds.{bounded_back}
 use Rattle.program_frame.proofs.PointCounts.{points-append as counts-append}
 use Rattle.trace_match.specs.Match.{match_of}
 use Rattle.trace_match.specs.Setting.{Setting}
 use Rattle.trace_match.specs.Totals.{is_asked_by, pieces_of, rows_of}
 use Rattle.trace_reader.specs.Trace.{IsLawfulTrace}
 use Rattle.trace_reader.specs.declared.trace.Trace.{Trace}
-use Rattle.trace_sessions.specs.Drives.{Fleet, drive_lines, ended_among, no_drives, with_rows}
+use Rattle.trace_sessions.specs.Drives.{drive_lines, ended_among, no_drives, with_rows}
 use Rattle.trace_sessions.specs.Sessions.{Keeps, Pair, SessionsState}
 use Rattle.trace_sessions.specs.StreamText.{closing_lines, points_in, trace_of}
 use Rattle.trace_sessions.specs.Streaming.{AsksSome, EndsPairs, fixes_in, pieces_of_all, pieces_told}
@@ -30,7 +29,7 @@ use Rattle.follow_work.specs.DriveTexts.{driven-text, ended-append, rows-append}
 use Rattle.follow_work.specs.Drives.{drives_job, fleet_of}
 use Rattle.follow_work.specs.StreamTexts.{points-append}
 use Rattle.follow_work.specs.declared.drives.Drives.{Drives}
-use Rattle.follow_work.specs.inside.DrivesDone.{AreAny, Drove, HasDriven, HasDrives, HasDrove, IsAt, TakesAll, ending_of}
+use Rattle.follow_work.specs.inside.DrivesDone.{AreAny, HasDriven, HasDrives, HasDrove, IsAt, TakesAll, ending_of}
 use Rattle.follow_work.proofs.StreamJobs.{points-length}
 use Rattle.follow_work.proofs.StreamTakes.{at-setting, no-node}
 use Rattle.follow_work.proofs.StreamTotals.{whole-sum}

@@ -1,12 +1,12 @@
 -- Drives of different ids: those that pass a test are taken out one after the other, and an id's full drive.
-use Rattle.std.proofs.Common.{◌≡◌, ℕ, ◌<◌, ◌≤◌, ◌&&◌, Bool, true, false, cond, not, nat_le, nat_lt, List, [], ◌∷◌, Option, Some, None, refl, sym, ap, ◌∙◌, subst, arith, length, nat_eq, unwrap_or}
+use Rattle.std.proofs.Common.{◌≡◌, ℕ, ◌<◌, ◌≤◌, ◌&&◌, Bool, true, false, cond, not, nat_le, nat_lt, List, [], ◌∷◌, Some, None, refl, sym, ap, ◌∙◌, subst, arith, length, nat_eq, unwrap_or}
 use Rattle.std.specs.List.{AllByRecursion, IsDistinct, filter}
 use Rattle.std.specs.Map.{keys_of, lookup}
 use Rattle.std.proofs.lemmas.Bool.Decides.{nat_tests}
 use Rattle.std.proofs.lemmas.Map.Keys.{IsDistinct-head, IsDistinct-tail}
 use Rattle.trace_reader.specs.declared.trace.Fix.{Fix}
 use Rattle.trace_sessions.specs.Drives.{is_full_of}
-use Rattle.trace_sessions.specs.Sessions.{Pair, fixes_of, without}
+use Rattle.trace_sessions.specs.Sessions.{Pair, without}
 use Rattle.trace_sessions.specs.StreamText.{has_room}
 use Rattle.follow_work.proofs.StreamTotals.{absent}
 

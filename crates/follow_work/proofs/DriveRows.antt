@@ -18,7 +18,7 @@ use Rattle.follow_work.specs.DriveTexts.{driven-text, ended-append, rows-append}
 use Rattle.follow_work.specs.declared.drives.Drives.{Drives}
 use Rattle.follow_work.specs.inside.DrivesDone.{AreAny, Drove, EndsAll, HasDrives, HaveRoomFor, IsAt, TakesAll, TakesFix, TakesRows}
 use Rattle.follow_work.proofs.DriveLists.{others, room-left}
-use Rattle.follow_work.proofs.StreamJobs.{first-points, next-fragment, points-length}
+use Rattle.follow_work.proofs.StreamJobs.{first-points, points-length}
 
 -- ---- one position
 

@@ -1,5 +1,5 @@
 -- What is left of drives where one ends, and where one takes a position.
-use Rattle.std.proofs.Common.{◌≡◌, ⊎_elim, ℕ, ◌+◌, ◌<◌, ◌≤◌, ◌^◌, Bool, true, false, cond, List, [], ◌∷◌, ◌++◌, Option, Some, None, Ok, Err, refl, sym, ap, ◌∙◌, subst, arith, length, map, nat_eq, unwrap_or}
+use Rattle.std.proofs.Common.{◌≡◌, ⊎_elim, ℕ, ◌+◌, ◌<◌, ◌^◌, Bool, true, false, cond, List, [], ◌∷◌, ◌++◌, Option, Some, None, Ok, Err, refl, sym, ap, ◌∙◌, subst, arith, length, map, nat_eq, unwrap_or}
 use Rattle.std.specs.Prelude.{Contains, IsSome, is_some}
 use Rattle.std.specs.List.{IsDistinct, concat, sum_by}
 use Rattle.std.specs.Map.{keys_of, lookup, remove_entry}
@@ -27,7 +27,7 @@ use Rattle.trace_sessions.specs.StreamText.{Point, full_id, has_room, led_by, li
 use Rattle.trace_sessions.specs.Streaming.{AsksSome, AsksStream, CanStream, EndsId, EndsPair, EndsTrace, Streams, TakesPoints, pieces_told}
 use Rattle.trace_sessions.proofs.StreamPoints.{fixes_in-with, one-full}
 use Rattle.trace_sessions.proofs.StreamTakes.{among-some, asks-grow, lawful-behind}
-use Rattle.follow_work.specs.inside.DrivesDone.{HasDrove, time_with, times_of}
+use Rattle.follow_work.specs.inside.DrivesDone.{HasDrove, time_with}
 use Rattle.follow_work.proofs.StreamTakes.{at-setting}
 use Rattle.follow_work.proofs.StreamTotals.{asked-some, some-asks}
 use Rattle.follow_work.proofs.DriveTimes.{times-with, times-without}

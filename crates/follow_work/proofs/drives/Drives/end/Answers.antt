@@ -1,5 +1,5 @@
 use Rattle.std.proofs.Common.{refl, arith}
-use Rattle.follow_work.proofs.DriveSteps.{can-end, counts-few, drive-ended, end-few, end-memory, end-written}
+use Rattle.follow_work.proofs.DriveSteps.{counts-few, drive-ended, end-few, end-written}
 use Rattle.follow_work.proofs.drives.Drives.end.Goals as goal
 
 pub overflow_add-self : goal.overflow_add-self

@@ -1,6 +1,6 @@
 use Rattle.std.proofs.Common.{refl, arith}
 use Rattle.std.proofs.lemmas.Result.{on_ok_weaker}
-use Rattle.follow_work.proofs.DriveSteps.{can-take, fix-few, fix-memory, fix-taken, fix-written}
+use Rattle.follow_work.proofs.DriveSteps.{fix-few, fix-taken, fix-written}
 use Rattle.follow_work.proofs.drives.Drives.take_fix.Goals as goal
 
 pub overflow_add-self-in-Ok : goal.overflow_add-self-in-Ok
