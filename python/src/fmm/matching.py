@@ -58,5 +58,5 @@ def check_crs(network: Network, positions: Positions) -> None:
     """Whether places of the two can be compared."""
     if positions.crs is not None and network.projection.crs is None:
         name = positions.sources[0].path if positions.sources else "the table"
-        there = f"the projection of the network {network.path} is not known"
+        there = f"the projection of the network {network.name} is not known"
         raise MismatchError(f"its positions are in {crs_name(positions.crs)}, and {there}: open the network with its crs", name)
