@@ -27,10 +27,11 @@ import dataclasses
 import math
 import os
 import shutil
+import warnings
 from pathlib import Path
 from typing import TYPE_CHECKING, Any, Optional
 
-from ..errors import MissingLibraryError, OptionError, one_line
+from ..errors import FmmWarning, MissingLibraryError, OptionError, one_line
 from ._parser import Parser, above_zero
 
 if TYPE_CHECKING:
@@ -59,7 +60,9 @@ def main(words: list[str]) -> int:
                                crs=values.positions_crs, layer=values.layer)
     network, notes = read_map(values, positions)
     means = {name: getattr(values, name) for name in ("engine", "jobs", "memory", "folder")}
-    matches = match(network, positions, crs=values.result_crs, **means, **options)
+    with warnings.catch_warnings():
+        warnings.simplefilter("ignore", FmmWarning)  # the report begins with them
+        matches = match(network, positions, crs=values.result_crs, **means, **options)
     with Outputs([values.map, *(source.path for source in positions.sources)]) as outputs:
         write_all(matches, outputs.files_of(values.into), values, notes)
     print(Path(values.into, "report.txt").read_text(encoding="utf-8"), end="")

@@ -76,7 +76,7 @@ def network_of(matches: Matches, path: Optional[PathText] = None) -> Network:
     if not path:
         raise InputError("the network of the match was not saved: give its file as network (--network)")
     if not Path(path).is_file():
-        raise InputError("there is no such file, and it is the network of the match: give its file as network (--network)", path)
+        raise InputError("the network of the match is not there: give its file as network (--network)", path)
     network = Network.open(path, crs=about.get("projection"))
     compare("the checksum", network.checksum, about.get("sha256"), path, "the match")
     return network
