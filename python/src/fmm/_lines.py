@@ -5,7 +5,6 @@ from dataclasses import dataclass, field
 from typing import Optional
 
 import numpy as np
-import pandas as pd
 
 from ._ragged import offsets_of, spread
 
@@ -97,18 +96,6 @@ class Parts:
         """The points of the edges with the links moved from their true place (sign 1), or back to it (-1)."""
         links = np.repeat(self.links(lines), np.diff(lines.first))
         return lines.xy + sign * links[:, None] * np.array(self.away, np.int64)
-
-    def on_streets(self, lines: EdgeLines, edges: np.ndarray, offsets: np.ndarray) -> tuple[np.ndarray, np.ndarray]:
-        """Street ids and offsets in cm of places on edges, which are given by their indices."""
-        return self.street[edges], self.begin[edges] + offsets
-
-    def along_streets(self, lines: EdgeLines, route: np.ndarray, first: np.ndarray) -> tuple[np.ndarray, np.ndarray]:
-        """Routes over streets in place of edges: route r goes over the edges (by their indices) route[first[r]:first[r + 1]].
-        Returns the ids of streets, and where each route begins. A street comes as often as it was entered."""
-        last = self.end == pd.Series(self.end).groupby(self.street).transform("max").to_numpy()
-        kept = last[route]
-        kept[first[1:][first[1:] > first[:-1]] - 1] = True
-        return self.street[route[kept]], offsets_of(kept)[first]
 
     def streets(self, lines: EdgeLines) -> EdgeLines:
         """The streets: one line for each street id, from its begin to its end. The nodes are those of its first and last part."""

@@ -199,11 +199,7 @@ class Network:
 
     @property
     def streets(self) -> EdgeLines:
-        """The lines of the streets as they were before turn restrictions split some. Without such splits they are `lines`.
-
-        `parts.on_streets(lines, edges, offsets)` turns places on edges into places on streets, and
-        `parts.along_streets(lines, route, first)` turns routes over edges into routes over streets.
-        """
+        """The lines of the streets as they were before turn restrictions split some. Without such splits they are `lines`."""
         if self._streets is None:
             self._streets = self.parts.streets(self.lines)
         return self._streets
