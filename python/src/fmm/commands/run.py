@@ -169,8 +169,9 @@ def around(positions: Positions) -> Optional[tuple[float, float, float, float]]:
     wide = AROUND / (111_320 * math.cos(math.radians(max(abs(south), abs(north)))))
     if west - wide < -180 or east + wide > 180:
         return None
-    low, high_end = (west - wide, south - high), (east + wide, north + high)
-    return (*(math.floor(1e4 * value) / 1e4 for value in low), *(math.ceil(1e4 * value) / 1e4 for value in high_end))
+    west, south = (math.floor(1e4 * value) / 1e4 for value in (west - wide, south - high))  # as the report prints them
+    east, north = (math.ceil(1e4 * value) / 1e4 for value in (east + wide, north + high))
+    return west, south, east, north
 
 
 # ---- the results

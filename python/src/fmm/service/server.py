@@ -37,7 +37,7 @@ def listen(host: str, port: int) -> socket.socket:
         except (OSError, OverflowError) as fault:
             raise FmmError(f"cannot listen on {host}:{port}: {getattr(fault, 'strerror', None) or fault}") from None
         opened.pop_all()  # the caller closes it
-        return made
+    return made
 
 
 def serve(network: Network, settings: Settings, host: str, port: int) -> None:
