@@ -160,7 +160,7 @@ def test_a_map_without_the_network_says_so(top: Path, tmp_path: Path, capsys: py
     assert "note: no margins and no candidates" in capsys.readouterr().err
     about, arrays, candidates = opened((tmp_path / "map.html").read_text())
     assert about["notes"][0].startswith("no margins and no candidates") and not candidates and not about["margins"]
-    assert main([*words, "--margins"]) == 1 and "is not there" in capsys.readouterr().err
+    assert main([*words, "--margins"]) == 1 and "is not there: give its file" in capsys.readouterr().err
     assert main([*words, "--network", str(tmp_path / "moved.csv")]) == 0
     again = opened((tmp_path / "map.html").read_text())
     assert all(np.array_equal(again[2][name], whole[2][name]) for name in whole[2])

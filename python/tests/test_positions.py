@@ -82,6 +82,40 @@ def test_decimal_commas(tmp_path: Path) -> None:
     refused("lon 9,43 is not a number: a decimal comma?", table(tmp_path, '7,"9,43","54,31",5', header="id,lon,lat,time"))
 
 
+@pytest.mark.parametrize("separator", [";", "\t"])
+def test_a_table_as_a_spreadsheet_writes_it(tmp_path: Path, separator: str) -> None:
+    rows = ["Kennzeichen;Längengrad;Breitengrad;Zeitpunkt;Tempo", 'HH 7;9,43;54,31;01.12.2026 14:03:22;"12,5"',
+            "HH 7;9,44;54,32;1.12.2026 9:03;", "HH 7;9,45;1.054,3;01/12/2026 14:03;"]
+    path = tmp_path / "excel.csv"
+    path.write_bytes("".join(f"{row}\r\n" for row in rows).replace(";", separator).encode("utf-8-sig"))
+    positions = read_positions(path)
+    frame = positions.frame
+    assert frame["x"].tolist()[:2] == [9.43, 9.44] and frame["y"].tolist()[:2] == [54.31, 54.32]
+    assert frame["time"].tolist()[:2] == [1796133802, 1796115780] and frame["Tempo"].tolist() == ["12,5", "", ""]
+    assert frame["id"].tolist() == ["HH 7"] * 3 and positions.crs.to_epsg() == 4326
+    assert reasons(positions) == ["Breitengrad 1.054,3 is not a number"]
+    assert positions.notes == [f"{path}: id from Kennzeichen, x from Längengrad, y from Breitengrad, time from Zeitpunkt"]
+
+
+def test_a_comma_in_a_quoted_name_separates_nothing(tmp_path: Path) -> None:
+    frame = read_positions(table(tmp_path, "7;9,4;54,3;5", header='"id";"lon";"lat";"a, b, c, d, e"'), time="a, b, c, d, e").frame
+    assert frame[["id", "x", "y", "time"]].iloc[0].tolist() == ["7", 9.4, 54.3, 5.0]
+    refused("a stray quote in the header", table(tmp_path, "7;9,4;54,3;5", header='id;lon;lat;a"b'))
+    refused("table.csv line 2: 3 fields, and the header has 4", table(tmp_path, "7;9,4;54,3", header="id;lon;lat;time"))
+
+
+def test_columns_that_were_not_found_are_named(tmp_path: Path) -> None:
+    path = table(tmp_path, "a,9.4,54.3,5", header="car,lon,lat,moment")
+    assert read_positions(path).notes == [f"{path}: x from lon, y from lat, no id, no time; its other columns are car,moment"]
+
+
+def test_the_only_column_of_times_is_that_of_the_time() -> None:
+    frame = pd.DataFrame({"id": ["a"], "lon": [9.4], "lat": [54.3], "moment": pd.to_datetime(["2024-05-06 08:00"])})
+    assert read_positions(frame).frame["time"].tolist() == [1714982400]
+    frame["other"] = frame["moment"]
+    assert read_positions(frame).frame["time"].isna().all()
+
+
 def test_a_table_that_is_cut(tmp_path: Path) -> None:
     path = table(tmp_path, "7,9.43,54.31,5", "7,9.44,54.32,1714978802")
     whole = path.read_bytes()
@@ -100,7 +134,11 @@ def test_a_table_that_is_cut(tmp_path: Path) -> None:
     ("7,190,54.3,5", "190 54.3 is not a longitude and a latitude in degrees"),
     ("7,0,0,5", "longitude 0 and latitude 0: a receiver without a fix"),
     (",9.4,54.3,5", "no id"),
-    ("7,9.4,54.3,2024-02-31", "time 2024-02-31 is neither an ISO time nor seconds since 1970"),
+    ("7,9.4,54.3,2024-02-31", "time 2024-02-31 is neither an ISO time nor seconds since 1970: write the date and the time of day "
+     "into one column"),
+    ("7,9.4,54.3,05/06/2024 10:00", "time 05/06/2024 10:00 is neither an ISO time nor seconds since 1970: is the day or the "
+     "month first? Write 2026-12-24 or 24.12.2026"),
+    ("7,9.4,54.3,31.04.2024 10:00", "time 31.04.2024 10:00 is neither an ISO time nor seconds since 1970"),
     ("7,9.4,54.3,2024-02-30 10:00", "time 2024-02-30 10:00 is neither an ISO time nor seconds since 1970"),
     ("7,9.4,54.3,2024-02-03T24:59:60+99:99", "time 2024-02-03T24:59:60+99:99 is neither an ISO time nor seconds since 1970"),
     ("7,9.4,54.3,1_0", "time 1_0 is neither an ISO time nor seconds since 1970"),
@@ -121,7 +159,7 @@ def test_columns_by_name(tmp_path: Path) -> None:
     frame = read_positions(path, id="car", x="lambda", y="phi", time="sec", crs=4326).frame
     assert frame.iloc[0].to_dict() == {"id": "a", "x": 9.4, "y": 54.3, "time": 5.0, "car": "a", "id_input": "b", "sec": "5"}
     refused("has no column lamda (did you mean lambda?)", path, x="lamda", y="phi", crs=4326)
-    refused("name the columns of the place by x and y; its columns are car,id,lambda,phi,sec", path)
+    refused("name the columns of the place by x and y (--x and --y); its columns are car,id,lambda,phi,sec", path)
 
 
 def test_without_ids_a_file_is_a_vehicle(tmp_path: Path) -> None:
@@ -153,10 +191,11 @@ def test_degrees_and_metres(tmp_path: Path) -> None:
 def test_times() -> None:
     texts = ["2024-05-06T08:00:00Z", "2024-05-06 10:00:00+02:00", "2024-05-06T08:00", "2024-05-06T08:00:00.25Z", "1714982400.5",
              "2024-05-06T03:30:00-0430", "2024-05-06T09:00:00,125+01", "2024-05-06t08:00:00z", "2024-12-31T23:59:60Z",
-             "1714982400"]
+             "1714982400", "06.05.2024 08:00:00", "6.5.2024, 8:00", "06.05.2024 10:00:00.5+02:00", "2024/05/06 08:00:00"]
     found, faults = seconds(pd.Series(texts, dtype=object))
     begin = 1714982400
-    assert found.tolist() == [begin, begin, begin, begin + .25, begin + .5, begin, begin + .125, begin, 1735689600, begin]
+    assert found.tolist() == [begin, begin, begin, begin + .25, begin + .5, begin, begin + .125, begin, 1735689600, begin,
+                              begin, begin, begin + .5, begin]
     assert (faults == "").all()
 
 
@@ -182,7 +221,7 @@ def test_a_time_has_a_value_or_a_fault(texts: List[str]) -> None:
     found, faults = seconds(pd.Series(texts, dtype=object))
     for text, value, fault in zip(texts, found, faults):
         assert (fault == "") == (not math.isnan(value) or not text.strip())
-        if not math.isnan(value) and "-" in text:
+        if not math.isnan(value) and re.match(r"\s*\d{4}-", text):
             assert value == pytest.approx(pd.Timestamp(text.strip().replace("24:00", "00:00"), tz=None).timestamp()
                                           + 86400 * ("24:00" in text), abs=86400)
 

@@ -41,9 +41,14 @@ def match(network: Network, folder: Path, top: Path, *drives: list[tuple[float, 
 
 
 def routes(network: Network, found: MatchText) -> list[list[str]]:
-    """The ways of the streets that each piece goes over."""
-    route, first = network.parts.along_streets(network.lines, network.lines.position_of(found.route), found.route_first)
-    return [network.edges.way.loc[route[a:b]].tolist() for a, b in zip(first, first[1:])]
+    """The ways of the streets that each piece goes over: of those whose last part it drives over, and that of its end."""
+    parts, edges, first = network.parts, network.lines.position_of(found.route), found.route_first.tolist()
+    ends: dict[int, int] = {}
+    for street_id, end in zip(parts.street.tolist(), parts.end.tolist()):
+        ends[street_id] = max(end, ends.get(street_id, 0))
+    streets = [[int(parts.street[edge]) for edge in edges[a:b]
+                if edge == edges[b - 1] or parts.end[edge] == ends[int(parts.street[edge])]] for a, b in zip(first, first[1:])]
+    return [network.edges.way.loc[route].tolist() for route in streets]
 
 
 def drive_from_south_to_east(shift: float = 0.0) -> list[tuple[float, float]]:
@@ -89,7 +94,8 @@ def test_permitted_drives_cost_the_same(tmp_path: Path, top: Path, shift: float)
     a, b = match(free, tmp_path, top, *drives), match(bound, tmp_path, top, *drives)
     assert len(a.cost) == len(drives) and b.cost.tolist() == pytest.approx(a.cost.tolist(), abs=3)
     assert np.sqrt(b.d2).tolist() == pytest.approx(np.sqrt(a.d2).tolist(), abs=1)
-    streets, offsets = bound.parts.on_streets(bound.lines, bound.lines.position_of(b.edge), b.offset)
+    edges = bound.lines.position_of(b.edge)
+    streets, offsets = bound.parts.street[edges], bound.parts.begin[edges] + b.offset
     places = Places(free.lines).at(free.lines.position_of(a.edge), a.offset)
     assert Places(bound.streets).at(bound.streets.position_of(streets), offsets) == pytest.approx(places, abs=2)
     same = [drive for drive in range(len(drives)) if (streets == a.edge)[a.trace_of == drive].all()]  # not at the crossing itself

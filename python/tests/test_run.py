@@ -5,12 +5,14 @@ import csv
 import dataclasses
 import json
 import os
+import re
 import shutil
 import subprocess
 import sys
 from pathlib import Path
 
 import geopandas
+import pandas as pd
 import pytest
 
 import fmm
@@ -164,6 +166,8 @@ def test_output_that_is_an_input(place: Path, capsys: pytest.CaptureFixture[str]
     (["village.osm", "monday.gpx", "--bbox", "9,54"], "9,54 is not west,south,east,north in degrees, or all"),
     (["village.osm", "monday.gpx", "--standing", "0"], "--standing is a number above 0, not 0"),
     (["village.osm", "monday.gpx", "--crs", "61N"], "61 is no UTM zone"),
+    (["village.osm", "monday.gpx", "--zone", "Europa/Berlin"], "zone Europa/Berlin is no time zone; write a name such as"),
+    (["village.osm", "monday.gpx", "--zone", ""], "is no time zone"),
     (["village.osm", "monday.gpx", "--profile", "boat"], "invalid choice: 'boat'"),
     (["village.osm"], "the following arguments are required: POSITIONS"),
 ])
@@ -206,6 +210,7 @@ POSITIONS = [
     ("packed", "t.csv", b"\x1f\x8b\x08\x00\x00\x00", "t.csv: is compressed with gzip"),
     ("a spreadsheet", "t.csv", b"PK\3\4sheet", "t.csv: is a ZIP file or a spreadsheet"),
     ("UTF-16", "t.csv", b"\xff\xfev\0e\0h\0", "t.csv: is UTF-16"),
+    ("a map", "t.csv", b"\0\0\0\x0d\n\x09OSMHeader\x18", "t.csv: is an OpenStreetMap file, not a table"),
     ("no rows", "t.csv", b"vehicle,longitude,latitude,time\n", "t.csv"),
     ("a stray quote", "t.csv", TABLE.format('7,9.43,"54.31,5').encode(), "t.csv line 2"),
     ("decimal commas", "t.csv", TABLE.format("7,9,43,54,31,5").encode(), "t.csv line 2"),
@@ -257,6 +262,29 @@ def test_wrong_points(place: Path, what: str, point: str, reason: None, capsys: 
         first = rows("points.csv")[0]
         assert len(rows("points.csv")) == 6 and first["edge"] == "" and first["reason"] != ""
         assert first["reason"] in said.out
+
+
+def test_the_network_of_a_result_can_be_made_again(place: Path, capsys: pytest.CaptureFixture[str]) -> None:
+    """The map of a result has candidates if it gets the network, which is that of the box in the report."""
+    assert run("village.osm", "monday.gpx") == 0
+    found = re.search(r"from (\S+), (\S+) to (\S+), (\S+) degrees was read", capsys.readouterr().out)
+    assert found and json.loads(Path("out/result.json").read_text())["network"]["path"] is None
+    assert commands.main(["network", "village.osm", "--into", "network.csv", "--bbox", ",".join(found.groups())]) == 0
+    capsys.readouterr()
+    assert commands.main(["map", "out/result.gpkg", "--into", "map.html"]) == 0
+    assert "the network of the match was not saved: give its file as network (--network)" in capsys.readouterr().err
+    assert commands.main(["map", "out/result.gpkg", "--into", "map.html", "--network", "network.csv"]) == 0
+    assert capsys.readouterr().err == ""
+
+
+def test_what_to_look_at_is_a_warning(place: Path, capsys: pytest.CaptureFixture[str]) -> None:
+    far = pd.DataFrame({"id": ["a"], "lon": [9.6], "lat": [54.4]})
+    with pytest.warns(fmm.FmmWarning, match="1 of 1 positions have no edge"):
+        fmm.match(fmm.Network.from_osm("village.osm"), far)
+    far.to_csv("far.csv", index=False)
+    assert run("village.osm", "far.csv", "--bbox", "all") == 0
+    said = capsys.readouterr()
+    assert said.out.startswith("warning: 1 of 1 positions have no edge") and said.err == ""
 
 
 def test_front(place: Path, top: Path) -> None:

@@ -52,8 +52,11 @@ def test_a_gpx_file_is_answered_by_positions_and_roads(service: Service) -> None
 def test_it_is_the_match_of_the_package(service: Service, monkeypatch: pytest.MonkeyPatch) -> None:
     import fmm
     network = fmm.Network.from_osm(SMALL / "village.osm")
-    matches = fmm.match(network, fmm.read_positions(SMALL / "fleet.csv"), options=fmm.Options(gap=300))
-    answer = posted(service, (SMALL / "fleet.csv").read_bytes(), "text/csv")
+    positions = fmm.read_positions(SMALL / "fleet.csv")
+    thin = fmm.suggest(positions).options.thin
+    assert thin and posted(service, (SMALL / "fleet.csv").read_bytes(), "text/csv")["report"]["options"]["thin"] == thin
+    matches = fmm.match(network, positions, options=fmm.Options(gap=300, thin=0))
+    answer = posted(service, (SMALL / "fleet.csv").read_bytes(), "text/csv", "?thin=0")
     routes = [route["properties"] for route in layer(answer, "routes")]
     assert [(route["id"], route["edges"], route["cost"]) for route in routes] == \
         list(zip(matches.routes["id"], matches.routes["edges"], matches.routes["cost"]))

@@ -53,6 +53,7 @@ def test_a_header_alone_has_no_records(tmp_path: Path) -> None:
     (b"a,a\n1,2\n", "line 1: the header names a twice"),
     (b"a;b\n1;2\n", "line 1: the fields are separated by semicolons, not by commas: a;b"),
     (b"a\tb\n1\t2\n", "separated by tabs"),
+    (b"a;b\n1,5;2,5\n", "line 1: the fields are separated by semicolons, not by commas: a;b"),
     (b"b,c\n1,2\n", "has no column a; its header is b,c"),
     (b"a,b\n1,2\n1,3\n", "line 3 column a: 1 comes a second time"),
     (b"\x1f\x8b\x08", "is compressed with gzip; unpack it first: gunzip -k"),

@@ -7,12 +7,13 @@ import numpy as np
 import pandas as pd
 import pyproj
 
-from ._layers import GOOD_ENOUGH, RESERVED
+from ._layers import RESERVED
 from ._lines import EdgeLines
 from ._network_report import NetworkReport
 from ._osm.profiles import speed_of
+from ._ragged import offsets_of
 from ._streets import Streets, edges_of
-from .errors import InputError, OptionError, shown
+from .errors import InputError, shown
 from .projection import DEGREES, NOWHERE, Projection, extent_of
 
 NAMES = {"way": "osmid", "class": "highway", "name": "name", "ref": "ref"}
@@ -41,7 +42,7 @@ def read(graph: Any, crs: Any = None) -> tuple[EdgeLines, pd.DataFrame, Projecti
     if not edges:
         raise InputError("has no edges", name)
     lines = [line_of(u, v, about, places, name) for u, v, about in edges]
-    first = np.concatenate([[0], np.cumsum([len(line) for line in lines])]).astype(np.int64)
+    first = offsets_of(np.array([len(line) for line in lines], np.int64))
     xy = np.concatenate(lines)
     source = source_crs(graph, xy, name)
     projection = Projection.of(crs) if crs is not None else fitting(source, xy)
@@ -117,14 +118,7 @@ def source_crs(graph: Any, xy: np.ndarray, name: str) -> pyproj.CRS:
 
 def fitting(source: pyproj.CRS, xy: np.ndarray) -> Projection:
     x, y = pyproj.Transformer.from_crs(source, DEGREES, always_xy=True).transform(xy[:, 0], xy[:, 1])
-    extent = extent_of(x, y)
-    try:
-        own = Projection.of(source)
-        if own.scale_error(extent) <= GOOD_ENOUGH:
-            return own
-    except OptionError:
-        pass  # degrees or feet
-    return Projection.fitting(*extent)
+    return Projection.own_or_fitting(source, extent_of(x, y))
 
 
 def table_of(edges: list[tuple[Any, Any, dict[str, Any]]], kept: bool, report: NetworkReport) -> pd.DataFrame:

@@ -1,7 +1,7 @@
 """Networks from layers of lines."""
 from __future__ import annotations
 
-from dataclasses import dataclass
+from dataclasses import dataclass, fields
 from typing import Any, Iterable, Mapping, Optional
 
 import geopandas
@@ -11,6 +11,7 @@ import pyproj
 
 from ._lines import EdgeLines, gathered
 from ._network_report import NetworkReport
+from ._ragged import offsets_of, spread
 from ._streets import Streets, edges_of
 from .errors import InputError, OptionError, shown
 from .projection import DEGREES, NOWHERE, Projection, extent_of
@@ -22,7 +23,6 @@ KNOWN = {
     "ref": ("ref",), "maxspeed": ("maxspeed",),
 }
 ONEWAY = ("oneway", "one_way", "direction", "dir_travel")
-GOOD_ENOUGH = 0.0025  # a layer's own projection is kept if no length is wrong by more
 RESERVED = frozenset({
     "edge", "street", "part_from", "part_to", "direction", "length", "geometry", "from_node", "to_node", "oneway",
     "maxspeed_backward", *KNOWN,
@@ -30,7 +30,7 @@ RESERVED = frozenset({
 
 
 @dataclass
-class Options:
+class LayerOptions:
     """See `read`."""
 
     oneway: Optional[str] = None
@@ -69,10 +69,11 @@ def read(roads: geopandas.GeoDataFrame, **words: Any) -> tuple[EdgeLines, pd.Dat
     Records that are no lines, or have no length, are left out and counted in the report. Refused with InputError: a layer
     without lines, a missing column, coordinates that are not finite, degrees without a CRS; with OptionError: unknown options.
     """
-    unknown = set(words) - set(Options.__annotations__)
+    known = [field.name for field in fields(LayerOptions)]
+    unknown = set(words) - set(known)
     if unknown:
-        raise OptionError.unknown(min(unknown), Options.__annotations__)
-    options, report = Options(**words), NetworkReport()
+        raise OptionError.unknown(min(unknown), known)
+    options, report = LayerOptions(**words), NetworkReport()
     name = str(roads.attrs.get("path", "the layer"))
     records, first, xy = lines_of(roads, name, report)
     projection, crs = projection_of(roads, xy, options.crs, name)
@@ -104,7 +105,7 @@ def lines_of(roads: geopandas.GeoDataFrame, name: str, report: NetworkReport) ->
     report.leave_out("records", "are no lines", others)
     if not points:
         raise InputError("has no lines", name)
-    first = np.concatenate([[0], np.cumsum([len(line) for line in points])]).astype(np.int64)
+    first = offsets_of(np.array([len(line) for line in points], np.int64))
     xy = np.concatenate(points)
     wrong = ~np.isfinite(xy).all(axis=1)
     if wrong.any():
@@ -154,16 +155,10 @@ def projection_of(roads: geopandas.GeoDataFrame, xy: np.ndarray, wanted: Any,
     extent = extent_of(x[good], y[good])
     if np.abs(extent[1::2]).max() > 90 or np.abs(extent[::2]).max() > 360:
         raise InputError(f"its coordinates are no places in {crs.name}; is its CRS right?", name)
-    try:
-        own = Projection.of(crs)
-        if own.scale_error(extent) <= GOOD_ENOUGH:
-            return own, crs
-    except OptionError:
-        pass  # degrees or feet
-    return Projection.fitting(*extent), crs
+    return Projection.own_or_fitting(crs, extent), crs
 
 
-def attributes(roads: geopandas.GeoDataFrame, options: Options, name: str,
+def attributes(roads: geopandas.GeoDataFrame, options: LayerOptions, name: str,
                report: NetworkReport) -> tuple[pd.DataFrame, tuple[np.ndarray, np.ndarray]]:
     """The table of the records, and whether each is open along its line and against it."""
     table = pd.DataFrame(roads.drop(columns=roads.geometry.name)) if isinstance(roads, geopandas.GeoDataFrame) else pd.DataFrame()
@@ -229,8 +224,7 @@ def joined(places: np.ndarray, first: np.ndarray, records: np.ndarray, about: pd
     starts = cuts[:-1][line[cuts[:-1]] == line[cuts[1:]]]
     ends = cuts[1:][line[cuts[:-1]] == line[cuts[1:]]]
     count = ends - starts + 1
-    firsts = np.concatenate([[0], np.cumsum(count)]).astype(np.int64)
-    xy = places[np.arange(firsts[-1]) + np.repeat(starts - firsts[:-1], count)]
+    firsts, xy = offsets_of(count), places[spread(starts, count)]
     of = records[line[starts]]
     forward, backward = open_ways
     return Streets(node[starts], node[ends], firsts, xy, forward[of], backward[of], about.iloc[of].reset_index(drop=True))

@@ -5,7 +5,8 @@ from dataclasses import dataclass, field
 from typing import Optional
 
 import numpy as np
-import pandas as pd
+
+from ._ragged import offsets_of, spread
 
 DENSE = 8  # a table by id is faster than a search, and small if ids are at most so many times the number of edges
 
@@ -96,18 +97,6 @@ class Parts:
         links = np.repeat(self.links(lines), np.diff(lines.first))
         return lines.xy + sign * links[:, None] * np.array(self.away, np.int64)
 
-    def on_streets(self, lines: EdgeLines, edges: np.ndarray, offsets: np.ndarray) -> tuple[np.ndarray, np.ndarray]:
-        """Street ids and offsets in cm of places on edges, which are given by their indices."""
-        return self.street[edges], self.begin[edges] + offsets
-
-    def along_streets(self, lines: EdgeLines, route: np.ndarray, first: np.ndarray) -> tuple[np.ndarray, np.ndarray]:
-        """Routes over streets in place of edges: route r goes over the edges (by their indices) route[first[r]:first[r + 1]].
-        Returns the ids of streets, and where each route begins. A street comes as often as it was entered."""
-        last = self.end == pd.Series(self.end).groupby(self.street).transform("max").to_numpy()
-        kept = last[route]
-        kept[first[1:][first[1:] > first[:-1]] - 1] = True
-        return self.street[route[kept]], np.concatenate([[0], np.cumsum(kept)])[first].astype(np.int64)
-
     def streets(self, lines: EdgeLines) -> EdgeLines:
         """The streets: one line for each street id, from its begin to its end. The nodes are those of its first and last part."""
         if (self.street == lines.ids).all():
@@ -124,7 +113,7 @@ class Parts:
         joint = np.zeros(len(xy), bool)
         joint[first[:-1][~opens]] = True
         count: np.ndarray = np.diff(first) - ~opens
-        firsts = np.concatenate([[0], np.cumsum(count)]).astype(np.int64)
+        firsts = offsets_of(count)
         bounds = np.append(firsts[:-1][opens], firsts[-1])
         found = EdgeLines(self.street[order][last], bounds, xy[~joint], lines.from_node[order][opens], lines.to_node[order][last])
         return found.take(found.position_of(lines.ids[self.street == lines.ids]))
@@ -147,13 +136,7 @@ def lengths_so_far(xy: np.ndarray, first: np.ndarray) -> np.ndarray:
     return total - np.repeat(total[first[:-1]], np.diff(first))
 
 
-def ranges(begin: np.ndarray, count: np.ndarray) -> np.ndarray:
-    """begin[0], begin[0] + 1, .. (count[0] numbers), begin[1], .."""
-    ends = np.cumsum(count)
-    return np.arange(ends[-1] if len(ends) else 0) + np.repeat(begin - (ends - count), count)
-
-
 def gathered(xy: np.ndarray, first: np.ndarray, index: np.ndarray) -> tuple[np.ndarray, np.ndarray]:
     """The points of some lines one after another, and where each line begins."""
     count = np.diff(first)[index]
-    return xy[ranges(first[index], count)], np.concatenate([[0], np.cumsum(count)]).astype(np.int64)
+    return xy[spread(first[index], count)], offsets_of(count)

@@ -8,6 +8,7 @@ import numpy as np
 import pandas as pd
 
 from ._lines import EdgeLines, Parts
+from ._ragged import offsets_of
 from ._tables import read_table
 from .errors import InputError, PathText, shown
 from .projection import FARTHEST
@@ -81,7 +82,7 @@ def points_of(frame: pd.DataFrame) -> tuple[np.ndarray, np.ndarray]:
         if wrong.any():
             refuse(frame, wrong, "line", "is not a line of two or more points in whole centimetres, such as 0 40000;5000 42000")
         values = np.array(joined.replace(";", " ").split(), dtype=np.float64)
-    first = np.concatenate([[0], np.cumsum(count)]).astype(np.int64)
+    first = offsets_of(count)
     xy = values.reshape(-1, 2).astype(np.int64)
     line = np.repeat(np.arange(len(texts)), count)
     far = ((values > FARTHEST) | (values < -FARTHEST)).reshape(-1, 2).any(axis=1)

@@ -53,7 +53,8 @@ def solve(network: Network, traces: Traces, options: Options, means: Means, fold
     program = _programs.program(network.needs_large)
     evidence = {
         "program": _programs.about(program),
-        "network": {"path": str(network.path), "sha256": network.checksum, "projection": network.projection.text},
+        "network": {"path": network.saved_path and str(network.saved_path), "sha256": network.checksum,
+                    "projection": network.projection.text},
         "traces": {"sha256": checksum_of(traces.path), "traces": len(traces.drives), "positions": len(traces.row)},
         "options": {"words": options.arguments(), "values": asdict(options)},
     }
@@ -71,7 +72,7 @@ def solve(network: Network, traces: Traces, options: Options, means: Means, fold
 
 def in_one_run(program: Path, network: Network, traces: Traces, options: Options, out: Path,
                evidence: dict[str, Any]) -> MatchText:
-    names = {"network": str(network.path), "traces": "the positions"}
+    names = {"network": network.name, "traces": "the positions"}
     words = _programs.words_of("match", network.path, traces.path, options.arguments())
     _programs.run(program, words, out, len(traces.row), names)
     return read_text(out, evidence)

@@ -85,11 +85,6 @@ class Solution:
         """The row of each street in the network's table of edges."""
         return self.network.lines.position_of(self.network.streets.ids)
 
-    @property
-    def timed(self) -> np.ndarray:
-        """Whether each piece has times."""
-        return ~np.isnan(self.passing.times[self.along.first[:-1]])
-
     def measured(self, rows: np.ndarray) -> np.ndarray:
         """The measured places of some rows in centimetres of the network's plane, float64[n, 2]."""
         if len(self.traces.places):

@@ -7,6 +7,7 @@ import numpy as np
 import pandas as pd
 
 from ._lines import EdgeLines, gathered
+from ._ragged import offsets_of
 from .errors import InputError
 from .projection import FARTHEST
 
@@ -37,12 +38,12 @@ def without_repeats(xy: np.ndarray, first: np.ndarray) -> tuple[np.ndarray, np.n
     same[first[:-1]] = False
     count = np.diff(first) - np.add.reduceat(same, first[:-1]) if len(first) > 1 else np.diff(first)
     kept = xy[~same]
-    starts = np.concatenate([[0], np.cumsum(count)]).astype(np.int64)
+    starts = offsets_of(count)
     points = np.flatnonzero(count == 1)
     if len(points):
         kept = np.insert(kept, starts[points] + 1, kept[starts[points]] + [1, 0], axis=0)
         count[points] += 1
-        starts = np.concatenate([[0], np.cumsum(count)]).astype(np.int64)
+        starts = offsets_of(count)
     return kept, starts
 
 

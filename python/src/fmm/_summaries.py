@@ -10,12 +10,11 @@ import pandas as pd
 
 from . import _geometry
 from ._stops import Standing, Track, overlaps, standing
-from .errors import OptionError
+from .errors import OptionError, shown
 from .options import FASTEST
 
 ABOUT = ["way", "class", "name", "ref"]
 TIMES = ("hour", "day", "weekday")
-WEEKDAYS = np.array(["Monday", "Tuesday", "Wednesday", "Thursday", "Friday", "Saturday", "Sunday"], object)
 LEAST_NOISE, MOST_NOISE = 1.0, 25.0  # metres
 By = Union[None, str, Sequence[str]]
 
@@ -92,7 +91,7 @@ def usual(edges: np.ndarray) -> int:
 def keys_of(edges: pd.DataFrame, points: pd.DataFrame, by: By, zone: str) -> Dict[str, Any]:
     """The columns to group by."""
     names: List[str] = [] if by is None else [by] if isinstance(by, str) else list(by)
-    local = edges["entry"].dt.tz_convert(zone) if any(name in TIMES for name in names) else None
+    local = edges["entry"].dt.tz_convert(checked_zone(zone)) if any(name in TIMES for name in names) else None
     keys: Dict[str, Any] = {}
     for name in names:
         if local is not None and name in TIMES:
@@ -108,6 +107,15 @@ def keys_of(edges: pd.DataFrame, points: pd.DataFrame, by: By, zone: str) -> Dic
         else:
             raise OptionError.unknown(name, [*TIMES, "vehicle", *edges.columns, *points.columns], "column")
     return keys
+
+
+def checked_zone(zone: str) -> str:
+    """The name of a time zone; an OptionError if there is none of this name."""
+    try:
+        pd.Timestamp(0, unit="s", tz=zone)
+    except (LookupError, ValueError, TypeError, OSError):  # those of pytz and zoneinfo are kinds of these
+        raise OptionError(f"zone {shown(zone)} is no time zone; write a name such as Europe/Berlin or UTC") from None
+    return zone
 
 
 def travel_times(edges: pd.DataFrame, stood: np.ndarray, keys: Dict[str, Any]) -> pd.DataFrame:

@@ -7,30 +7,20 @@ import math
 import os
 import re
 import sys
-from pathlib import Path
 from typing import IO, Any, Iterator, Optional, Sequence
 
 import numpy as np
 import pandas as pd
 
 from ._output import Outputs
+from ._text_files import read_text
 from .errors import InputError, OutputError, PathText, shown
 
-MARK = b"\xef\xbb\xbf"
-PACKED = (
-    (b"\x1f\x8b", "compressed with gzip; unpack it first: gunzip -k {}"),
-    (b"BZh", "compressed with bzip2; unpack it first: bunzip2 -k {}"),
-    (b"\xfd7zXZ\0", "compressed with xz; unpack it first: unxz -k {}"),
-    (b"\x28\xb5\x2f\xfd", "compressed with zstd; unpack it first: unzstd {}"),
-    (b"PK\x03\x04", "a ZIP file or a spreadsheet; unpack it, or save it as CSV"),
-    (b"SQLite format 3\0", "a database such as a GeoPackage, not a table of comma-separated values"),
-    (b"\xff\xfe", "UTF-16 text; convert it first: iconv -f UTF-16 -t UTF-8 {}"),
-    (b"\xfe\xff", "UTF-16 text; convert it first: iconv -f UTF-16 -t UTF-8 {}"),
-    (b"<?xml", "XML, not a table of comma-separated values"),
-    (b"%PDF", "a PDF file, not a table of comma-separated values"),
-)
+QUOTED = re.compile(r'"[^"]*"')
 CONTROL = re.compile(r"[\x00-\x1f\x7f-\x9f\u2028\u2029\ud800-\udfff]")
-HEADER = re.compile(r'((?:"(?:[^"]|"")*"|[^",]*)(?:,|$))+')  # a quote stands only around a name, or twice within such a name
+SEPARATORS = {",": "commas", ";": "semicolons", "\t": "tabs"}
+# A quote is only around a name, or twice within such a name.
+HEADERS = {mark: re.compile(rf'((?:"(?:[^"]|"")*"|[^"{mark}]*)(?:{mark}|$))+') for mark in SEPARATORS}
 BATCH = 1 << 16
 NUMBER = re.compile(r"\s*[+-]?(\d+\.?\d*|\.\d+)([eE][+-]?\d+)?\s*", re.ASCII)
 
@@ -54,18 +44,19 @@ class LineNumbers:
         return self
 
 
-def read_table(path: PathText, *, required: Sequence[str] = (), unique: Sequence[str] = (),
-               name: Optional[str] = None) -> pd.DataFrame:
+def read_table(path: PathText, *, required: Sequence[str] = (), unique: Sequence[str] = (), name: Optional[str] = None,
+               separators: str = ",") -> pd.DataFrame:
     """Reads a table whose first line names the columns. `-` is standard input; `name` replaces the path in messages.
 
-    Each column is text (dtype object), as it stands in the file. `frame.attrs` has `path` and `lines`, the number of the
-    line of each record. Blank lines are no records. Refused with InputError (path, line, column): records with another
+    Of `separators`, that which the header has most often separates the fields. Each column is text (dtype object), as it stands
+    in the file. `frame.attrs` has `path`, `separator`, and `lines`, the number of the line of each record. Blank lines are no
+    records. Refused with InputError (path, line, column): fields that are separated by semicolons or tabs, records with another
     number of fields than the header, a quoted field that does not end in its line, a last line without LF, NUL, invalid
     UTF-8, CR without LF, an empty or doubled name in the header or a quote within one, a missing column of `required`, and a
     value that comes twice in a column of `unique`. A byte-order mark is dropped. A million records of 5 fields take about 1 s.
     """
     name = name or ("standard input" if os.fspath(path) == "-" else os.fspath(path))
-    text = decoded(read_bytes(path, name), name)
+    text = read_text(path, name)
     lines, quotes = text.split("\n"), '"' in text
     lines.pop()
     del text
@@ -75,53 +66,35 @@ def read_table(path: PathText, *, required: Sequence[str] = (), unique: Sequence
         numbers, lines = numbers[kept], [line for line in lines if line]
     if not lines:
         raise InputError("has no header", name)
-    header, columns = split_records(lines, numbers, name, quotes)
-    check_header(header, lines[0], name, int(numbers[0]), required)
+    separator = separator_of(lines[0], separators, name, int(numbers[0]))
+    header, columns = split_records(lines, numbers, name, separator, quotes)
+    check_header(header, lines[0], name, int(numbers[0]), separator)
+    for column in required:
+        if column not in header:
+            raise InputError(f"has no column {shown(column)}; its header is {shown(lines[0], 80)}", name)
     frame = pd.DataFrame(dict(zip(header, columns)), columns=header, dtype=object)
-    frame.attrs.update(path=name, lines=LineNumbers(numbers[1:]))
+    frame.attrs.update(path=name, separator=separator, lines=LineNumbers(numbers[1:]))
     for column in unique:
         check_unique(frame, column)
     return frame
 
 
-def read_bytes(path: PathText, name: str) -> bytes:
-    """All bytes of a file, or of standard input for `-`."""
-    try:
-        return sys.stdin.buffer.read() if os.fspath(path) == "-" else Path(path).read_bytes()
-    except OSError as fault:
-        raise InputError(fault.strerror or fault, name) from None
+def separator_of(header: str, separators: str, name: str, line: int) -> str:
+    """The separator of a table by its header. Refuses a table with one that is not among `separators`."""
+    names = QUOTED.sub("", header)
+    found, other = max(separators, key=names.count), max(SEPARATORS, key=names.count)
+    if found not in names and other in names:
+        raise InputError(f"the fields are separated by {SEPARATORS[other]}, not by {SEPARATORS[found]}: {shown(header)}", name,
+                         line)
+    return found
 
 
-def decoded(data: bytes, name: str) -> str:
-    """The text of a table with LF line ends, if its bytes are such text."""
-    if data.startswith(MARK):
-        data = data[len(MARK):]
-    if not data:
-        raise InputError("is empty", name)
-    for begin, what in PACKED:
-        if data.startswith(begin):
-            raise InputError(f"is {what.format(name)}", name)
-    if b"\0" in data:
-        raise InputError("is not text (NUL)", name, data.count(b"\n", 0, data.index(b"\0")) + 1)
-    try:
-        text = data.decode()
-    except UnicodeDecodeError as fault:
-        raise InputError(f"is not UTF-8 text; convert it first: iconv -f LATIN1 -t UTF-8 {name}", name,
-                         data.count(b"\n", 0, fault.start) + 1) from None
-    if "\r" in text:
-        text = text.replace("\r\n", "\n")
-        if "\r" in text:
-            raise InputError("a carriage return without a line feed", name, text.count("\n", 0, text.index("\r")) + 1)
-    if not text.endswith("\n"):
-        raise InputError("the last line does not end with a line feed, so the file may be cut", name, text.count("\n") + 1)
-    return text
-
-
-def split_records(lines: list[str], numbers: np.ndarray, name: str, quotes: bool) -> tuple[list[str], list[list[str]]]:
+def split_records(lines: list[str], numbers: np.ndarray, name: str, separator: str,
+                  quotes: bool) -> tuple[list[str], list[list[str]]]:
     """The header and the columns. Refuses records with another number of fields than the header."""
     rows: Iterator[list[str]]
     if quotes:
-        rows = quoted_records(lines, numbers, name)
+        rows = quoted_records(lines, numbers, name, separator)
         header = next(rows)
         fields: list[str] = []
         for number, row in zip(numbers[1:].tolist(), rows):
@@ -129,18 +102,18 @@ def split_records(lines: list[str], numbers: np.ndarray, name: str, quotes: bool
                 raise InputError(unequal(len(row), len(header)), name, number)
             fields += row
     else:
-        header = lines[0].split(",")
-        commas = np.fromiter((line.count(",") for line in lines), np.int64, len(lines))
-        wrong = np.flatnonzero(commas != commas[0])
+        header = lines[0].split(separator)
+        counts = np.fromiter((line.count(separator) for line in lines), np.int64, len(lines))
+        wrong = np.flatnonzero(counts != counts[0])
         if len(wrong):
-            raise InputError(unequal(int(commas[wrong[0]]) + 1, len(header)), name, int(numbers[wrong[0]]))
-        fields = ",".join(lines[1:]).split(",") if len(lines) > 1 else []
+            raise InputError(unequal(int(counts[wrong[0]]) + 1, len(header)), name, int(numbers[wrong[0]]))
+        fields = separator.join(lines[1:]).split(separator) if len(lines) > 1 else []
     return header, [fields[column::len(header)] for column in range(len(header))]
 
 
-def quoted_records(lines: list[str], numbers: np.ndarray, name: str) -> Iterator[list[str]]:
+def quoted_records(lines: list[str], numbers: np.ndarray, name: str, separator: str) -> Iterator[list[str]]:
     """The fields of each line, where quoted fields occur. A record is a line."""
-    rows = csv.reader(lines, strict=True)
+    rows = csv.reader(lines, delimiter=separator, strict=True)
     limit = csv.field_size_limit(sys.maxsize)
     try:
         for count in itertools.count(1):
@@ -163,20 +136,14 @@ def unequal(found: int, wanted: int) -> str:
     return f"{found} fields, and the header has {wanted}{hint}"
 
 
-def check_header(header: list[str], text: str, name: str, line: int, required: Sequence[str]) -> None:
-    if len(header) == 1 and (";" in text or "\t" in text):
-        raise InputError(f"the fields are separated by {'semicolons' if ';' in text else 'tabs'}, not by commas: {shown(text)}",
-                         name, line)
-    if not HEADER.fullmatch(text):
+def check_header(header: list[str], text: str, name: str, line: int, separator: str) -> None:
+    if not HEADERS[separator].fullmatch(text):
         raise InputError("a stray quote in the header", name, line)
     for place, column in enumerate(header, 1):
         if not column.strip():
             raise InputError(f"name {place} of the header is empty", name, line)
         if header.index(column) != place - 1:
             raise InputError(f"the header names {shown(column)} twice", name, line)
-    for column in required:
-        if column not in header:
-            raise InputError(f"has no column {shown(column)}; its header is {shown(text, 80)}", name)
 
 
 def check_unique(frame: pd.DataFrame, column: str) -> None:

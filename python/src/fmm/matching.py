@@ -2,12 +2,13 @@
 from __future__ import annotations
 
 import tempfile
+import warnings
 from pathlib import Path
 from typing import Any, Optional, Union
 
 from ._runs import Means, solve
 from ._traces import write_traces
-from .errors import MismatchError, PathText
+from .errors import FmmWarning, MismatchError, PathText
 from .matches import Matches
 from .network import Network
 from .options import Options
@@ -34,7 +35,8 @@ def match(network: NetworkSource, positions: Any, *, options: Optional[Options] 
     Runs `fmm`, or `fmm_large` if the network needs it, on all processors, and shows its progress on a terminal. If one run may
     need more than the free memory, or than `memory`, the positions are matched in groups, and the result is the same. Each row
     of the input is in `matches.points`, with its road or the reason why it has none. MismatchError: positions with a CRS and a
-    network without one. ProgramError: the program ended with an error. OptionError: a wrong option.
+    network without one. ProgramError: the program ended with an error. OptionError: a wrong option. FmmWarning: a warning of the
+    report.
     """
     means = Means(engine, jobs, memory, folder)
     network = network if isinstance(network, Network) else Network.open(network)
@@ -51,12 +53,15 @@ def match(network: NetworkSource, positions: Any, *, options: Optional[Options] 
         text, evidence = solve(network, traces, options, means, Path(own))
     evidence["positions_crs"] = None if positions.crs is None else positions.crs.to_wkt()
     evidence["sources"] = [{"path": source.path, "sha256": source.sha256, "rows": source.rows} for source in positions.sources]
-    return Matches.solved(network, positions, traces, text, options, evidence, suggestion=suggestion, given=words, crs=crs)
+    matches = Matches.solved(network, positions, traces, text, options, evidence, suggestion=suggestion, given=words, crs=crs)
+    for warning in matches.report.warnings:
+        warnings.warn(warning, FmmWarning, stacklevel=2)
+    return matches
 
 
 def check_crs(network: Network, positions: Positions) -> None:
     """Whether places of the two can be compared."""
     if positions.crs is not None and network.projection.crs is None:
         name = positions.sources[0].path if positions.sources else "the table"
-        there = f"the projection of the network {network.path} is not known"
+        there = f"the projection of the network {network.name} is not known"
         raise MismatchError(f"its positions are in {crs_name(positions.crs)}, and {there}: open the network with its crs", name)

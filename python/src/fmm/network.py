@@ -4,7 +4,7 @@ from __future__ import annotations
 import os
 import tempfile
 from pathlib import Path
-from typing import Any, Optional, Union
+from typing import Any, Optional
 
 import geopandas
 import numpy as np
@@ -31,6 +31,7 @@ class Network:
         self.lines, self.table, self.projection, self.report = lines, table, projection, report
         self.parts = Parts.whole(lines) if parts is None else parts
         self._path: Optional[Path] = None
+        self._is_saved = False
         self._folder: Optional[tempfile.TemporaryDirectory[str]] = None
         self._checksum: Optional[str] = None
         self._edges: Optional[geopandas.GeoDataFrame] = None
@@ -98,7 +99,7 @@ class Network:
             network = cls._with_side_files(path, lines, table_path, side_path)
             if given is not None and not given.matches(network.projection):
                 compare("the projection", network.projection.name, given.name, path, "the projection that was asked for")
-        network._path, network._checksum = Path(path), checksum_of(path)
+        network._path, network._checksum, network._is_saved = Path(path), checksum_of(path), True
         return network
 
     @classmethod
@@ -126,7 +127,7 @@ class Network:
                 file.flush()
             checksums = [checksum_of(output.unfinished) for output in outputs.outputs]
             write_side_file(outputs, side_path, "network", self.evidence(*checksums))
-        self._path, self._checksum = Path(path), None
+        self._path, self._checksum, self._is_saved = Path(path), None, True
         return self._path
 
     def evidence(self, network: str, table: str) -> dict[str, Any]:
@@ -150,6 +151,16 @@ class Network:
         return self._path
 
     @property
+    def saved_path(self) -> Optional[Path]:
+        """The network file; None while it is only in a temporary folder."""
+        return self._path if self._is_saved else None
+
+    @property
+    def name(self) -> str:
+        """What messages call the network: its file or, until it is saved, what it was made of."""
+        return os.fspath(self.saved_path or self.report.source.get("path") or "the network")
+
+    @property
     def checksum(self) -> str:
         """The SHA-256 of the network file, in hexadecimal digits."""
         if self._checksum is None:
@@ -158,14 +169,17 @@ class Network:
 
     @property
     def edge_count(self) -> int:
+        """How many directed edges the network has."""
         return len(self.lines)
 
     @property
     def node_count(self) -> int:
+        """How many nodes its edges have."""
         return len(np.unique(np.concatenate([self.lines.from_node, self.lines.to_node])))
 
     @property
     def point_count(self) -> int:
+        """How many points the lines of its edges have."""
         return len(self.lines.xy)
 
     @property
@@ -185,11 +199,7 @@ class Network:
 
     @property
     def streets(self) -> EdgeLines:
-        """The lines of the streets as they were before turn restrictions split some. Without such splits they are `lines`.
-
-        `parts.on_streets(lines, edges, offsets)` turns places on edges into places on streets, and
-        `parts.along_streets(lines, route, first)` turns routes over edges into routes over streets.
-        """
+        """The lines of the streets as they were before turn restrictions split some. Without such splits they are `lines`."""
         if self._streets is None:
             self._streets = self.parts.streets(self.lines)
         return self._streets
@@ -282,6 +292,3 @@ def read_edges(path: Path, lines: EdgeLines, away: tuple[int, int]) -> tuple[pd.
     table["maxspeed"] = numbers(frame, "maxspeed", 0, empty=np.nan)
     table["oneway"] = whole_numbers(frame, "oneway", 0, 1).astype(bool)
     return table[[*COLUMNS, *(name for name in table if name not in COLUMNS)]], Parts(street, begin, end, away)
-
-
-NetworkSource = Union[Network, PathText]

@@ -19,6 +19,7 @@ DEGREES = pyproj.CRS.from_epsg(4326)
 FARTHEST = 1_000_000_000  # centimetres: the range of the proved programs
 NOWHERE = int(np.iinfo(np.int64).min)
 UTM_ERROR = 0.001  # UTM has 0.0004 in the middle of a zone and 0.001 at its borders on the equator
+OWN_ERROR = 0.0025  # the projection of the data themselves is kept if no length is wrong by more
 
 Extent = tuple[float, float, float, float]
 Places = Union[np.ndarray, list[float]]
@@ -67,6 +68,16 @@ class Projection:
         if not found:
             raise OptionError(f"{west:g}, {south:g}, {east:g}, {north:g} is too wide for one plane; cut the data into parts")
         return min(found, key=lambda plane: plane.scale_error(extent))
+
+    @classmethod
+    def own_or_fitting(cls, crs: pyproj.CRS, extent: Extent) -> Projection:
+        """The CRS of the data, if it is a plane in metres in which no length of the extent is wrong by more than 0.25 %; else
+        one that fits."""
+        try:
+            own = cls.of(crs)
+        except OptionError:  # degrees or feet
+            return cls.fitting(*extent)
+        return own if own.scale_error(extent) <= OWN_ERROR else cls.fitting(*extent)
 
     def to_centimetres(self, x: Places, y: Places, crs: object) -> tuple[np.ndarray, np.ndarray]:
         """Whole centimetres (int64) of places in any CRS, x to the east or longitude first. With `crs` None the places are

@@ -10,6 +10,7 @@ import pandas as pd
 from .._evidence import checksum_of
 from .._lines import EdgeLines, Parts
 from .._network_report import EXAMPLES, LeftOut, NetworkReport
+from .._ragged import offsets_of
 from .._streets import edges_of
 from ..errors import InputError, OptionError, PathText
 from ..projection import Extent, Projection
@@ -74,7 +75,7 @@ def report_ways(report: NetworkReport, ways: Ways, nodes: Nodes, source: Source)
     report.leave_out("nodes", "marked as deleted; their ways are cut there", nodes.ids[deleted])
     report.leave_out("nodes", "the file lacks their places; their ways are cut there", nodes.ids[~nodes.known & ~deleted])
     at = np.searchsorted(nodes.ids, ways.refs)
-    missing = np.concatenate([[0], np.cumsum(~nodes.known[at])])
+    missing = offsets_of(~nodes.known[at])
     lacking, count = missing[ways.first[1:]] - missing[ways.first[:-1]], np.diff(ways.first)
     report.leave_out("ways", "fewer than two of their nodes have places", ways.ids[count - lacking < 2])
     report.leave_out("parts of ways", "some of their nodes have no places", ways.ids[(lacking > 0) & (count - lacking >= 2)])

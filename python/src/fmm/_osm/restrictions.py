@@ -14,6 +14,7 @@ from typing import Iterable, NamedTuple, Optional
 import numpy as np
 
 from .._lines import EdgeLines, Parts, whole_root
+from .._ragged import offsets_of
 from ..projection import FARTHEST
 from .turns import Turn
 
@@ -179,7 +180,7 @@ def replaced(lines: EdgeLines, tails: dict[int, np.ndarray], further: list[np.nd
     count = np.concatenate([np.diff(lines.first), [len(line) for line in further]]).astype(np.int64)
     for edge, tail in tails.items():
         count[edge] = len(tail)
-    first = np.concatenate([[0], np.cumsum(count)]).astype(np.int64)
+    first = offsets_of(count)
     pieces, done = [], 0
     for edge, tail in sorted(tails.items()):
         pieces += [lines.xy[done:lines.first[edge]], tail]

@@ -7,6 +7,7 @@ from typing import Optional
 import numpy as np
 import pandas as pd
 
+from .._ragged import offsets_of, spread
 from .._streets import Streets
 from ..errors import InputError
 from ..projection import DEGREES, NOWHERE, Extent, Projection, extent_of
@@ -62,8 +63,7 @@ def split(ways: Ways, nodes: Nodes, kept: np.ndarray, projection: Projection, pa
     cuts = np.flatnonzero(cut)
     ends = cuts[np.searchsorted(cuts, starts) + 1]
     count = ends - starts + 1
-    first = np.concatenate([[0], np.cumsum(count)]).astype(np.int64)
-    inner = np.arange(first[-1]) + np.repeat(starts - first[:-1], count)
+    first, inner = offsets_of(count), spread(starts, count)
     xy = projected(nodes, at[inner], projection, path)
     of = way[starts]
     return Streets(nodes.ids[at[starts]], nodes.ids[at[ends]], first, xy, ways.forward[of], ways.backward[of], about(ways, of))

@@ -2,18 +2,24 @@
 from __future__ import annotations
 
 import difflib
+import unicodedata
 from typing import List, NamedTuple, Optional, Sequence
 
 from ..errors import InputError, shown
 from .rows import Wanted
 
+# Usual names in English, German, French, Spanish, Italian and Dutch; the first that a table has counts.
 IDS = ("id", "vehicle", "vehicle_id", "vehicleid", "plate", "track", "track_id", "trackid", "trace", "trace_id", "trip",
-       "trip_id", "device", "device_id", "deviceid", "unit", "driver", "tid")
-LONGITUDES = ("longitude", "lon", "lng", "long")
-LATITUDES = ("latitude", "lat")
-XS = ("x", "easting", "east")
-YS = ("y", "northing", "north")
-TIMES = ("time", "timestamp", "datetime", "date_time", "when", "utc", "recorded_at", "gps_time", "ts", "t", "epoch", "date")
+       "trip_id", "device", "device_id", "deviceid", "unit", "driver", "tid", "fahrzeug", "fahrzeug_id", "kennzeichen",
+       "véhicule", "vehicule", "immatriculation", "vehículo", "vehiculo", "matrícula", "matricula", "veicolo", "targa",
+       "voertuig", "kenteken")
+LONGITUDES = ("longitude", "lon", "lng", "long", "längengrad", "laengengrad", "longitud", "longitudine", "lengtegraad")
+LATITUDES = ("latitude", "lat", "breitengrad", "latitud", "latitudine", "breedtegraad")
+XS = ("x", "easting", "east", "rechtswert", "ostwert")
+YS = ("y", "northing", "north", "hochwert", "nordwert")
+TIMES = ("time", "timestamp", "datetime", "date_time", "when", "utc", "recorded_at", "gps_time", "ts", "t", "epoch", "date",
+         "zeitstempel", "zeitpunkt", "zeit", "datum_zeit", "datum", "horodatage", "date_heure", "heure", "fecha_hora", "fecha",
+         "hora", "data_ora", "ora", "tijdstip", "tijd")
 
 
 class Columns(NamedTuple):
@@ -25,11 +31,13 @@ class Columns(NamedTuple):
     time: Optional[str]
     degrees: bool
 
-    def note(self, name: str) -> str:
-        """A line for the report."""
+    def note(self, name: str, header: Sequence[str]) -> str:
+        """A line for the report, with all columns if some were not found."""
         has = [f"{what} from {shown(column)}" for what, column in zip(("id", "x", "y", "time"), self) if column is not None]
         lacks = [f"no {what}" for what, column in (("id", self.id), ("time", self.time)) if column is None]
-        return f"{name}: {', '.join(has + lacks)}"
+        others = [column for column in header if column not in self]
+        known = f"; its other columns are {listed(others)}" if lacks and others else ""
+        return f"{name}: {', '.join(has + lacks)}{known}"
 
 
 def find_columns(header: Sequence[str], wanted: Wanted, name: str, places: bool = True) -> Columns:
@@ -40,7 +48,7 @@ def find_columns(header: Sequence[str], wanted: Wanted, name: str, places: bool 
     x = wanted.x or usual(header, LONGITUDES + XS)
     y = wanted.y or usual(header, LATITUDES + YS)
     if places and (x is None or y is None):
-        raise InputError(f"name the columns of the place by x and y; its columns are {listed(header)}", name)
+        raise InputError(f"name the columns of the place by x and y (--x and --y); its columns are {listed(header)}", name)
     return Columns(wanted.id or usual(header, IDS), x, y, wanted.time or usual(header, TIMES),
                    plain(x) in LONGITUDES or plain(y) in LATITUDES)
 
@@ -52,7 +60,7 @@ def usual(header: Sequence[str], names: Sequence[str]) -> Optional[str]:
 
 
 def plain(column: Optional[str]) -> str:
-    return str(column).strip().lower().replace(" ", "_").replace("-", "_")
+    return unicodedata.normalize("NFC", str(column)).strip().lower().replace(" ", "_").replace("-", "_")
 
 
 def similar(column: str, header: Sequence[str]) -> str:

@@ -23,22 +23,24 @@ def rows_of_frame(frame: pd.DataFrame, wanted: Wanted, name: str, lines: Optiona
     header = [str(column) for column in frame.columns]
     if len(set(header)) < len(header):
         raise InputError("two columns have the same name", name)
+    decimal_comma = frame.attrs.get("separator", ",") != ","
     frame = frame.set_axis(header, axis=1) if header != list(frame.columns) else frame
     geometry = geometry_of(frame) if wanted.x is None and wanted.y is None else None
-    columns = find_columns([column for column in header if column != geometry], wanted, name, geometry is None)
+    others = [column for column in header if column != geometry]
+    columns = with_time(find_columns(others, wanted, name, geometry is None), frame)
     if geometry is not None:
         columns = columns._replace(x=None, y=None)
         x, y, faults = places_of_points(frame[geometry])
         crs = wanted.crs or frame.crs
     else:
         refuse_other_header(frame, columns, name, lines)
-        x, x_faults = coordinates(frame[columns.x], str(columns.x))
-        y, y_faults = coordinates(frame[columns.y], str(columns.y))
+        x, x_faults = coordinates(frame[columns.x], str(columns.x), decimal_comma)
+        y, y_faults = coordinates(frame[columns.y], str(columns.y), decimal_comma)
         faults, crs = first_fault(x_faults, y_faults), wanted.crs
     crs = crs_of(x, y, columns, wanted, crs, name)
     faults = first_fault(faults, place_faults(x, y, crs))
     ids, id_faults = ids_of(frame, columns, name)
-    times, time_faults = seconds(frame[columns.time]) if columns.time else (np.full(len(frame), np.nan), id_faults)
+    times, time_faults = times_of(frame, columns, decimal_comma)
     faults = first_fault(first_fault(faults, id_faults), time_faults)
     usable = faults == ""
     own = {own_name(column): frame[column].to_numpy() if frame[column].dtype == object else frame[column].array
@@ -49,7 +51,20 @@ def rows_of_frame(frame: pd.DataFrame, wanted: Wanted, name: str, lines: Optiona
     lines = np.full(len(frame), -1, dtype=np.int64) if lines is None else lines
     if len(frame) and not usable.any():
         raise InputError(f"no row can be used: {faults[0]}", name, int(lines[0]) if lines[0] >= 0 else None)
-    return Rows(name, rows, faults, lines, np.zeros(len(frame), dtype=np.int64), crs, [columns.note(name)])
+    return Rows(name, rows, faults, lines, np.zeros(len(frame), dtype=np.int64), crs, [columns.note(name, others)])
+
+
+def with_time(columns: Columns, frame: pd.DataFrame) -> Columns:
+    """The columns; without one of a usual name, the only column of times is that of the time."""
+    dated = [column for column in frame.columns if pd.api.types.is_datetime64_any_dtype(frame[column].dtype)]
+    return columns._replace(time=dated[0]) if columns.time is None and len(dated) == 1 else columns
+
+
+def times_of(frame: pd.DataFrame, columns: Columns, decimal_comma: bool) -> Tuple[np.ndarray, np.ndarray]:
+    """The times in seconds since 1970, NaN where there is none, and what is wrong with them."""
+    if columns.time is None:
+        return np.full(len(frame), np.nan), np.full(len(frame), "", dtype=object)
+    return seconds(frame[columns.time], decimal_comma)
 
 
 def refuse_other_header(frame: pd.DataFrame, columns: Columns, name: str, lines: Optional[np.ndarray]) -> None:
@@ -110,8 +125,8 @@ def crs_of(x: np.ndarray, y: np.ndarray, columns: Columns, wanted: Wanted, crs: 
         crs = DEGREES
     if crs is None:
         if small:
-            raise InputError("the positions look like degrees: give the crs, 4326 for longitude and latitude, or \"metres\" for "
-                             "metres of the network's projection", name)
+            raise InputError("the positions look like degrees: give the crs (--positions-crs of fmm run, --crs of others), 4326 "
+                             "for longitude and latitude, or \"metres\" for metres of the network's projection", name)
         return None
     crs = pyproj.CRS.from_user_input(crs)
     if crs.is_geographic and known.any() and (np.abs(x[known]) > 360).all() and (np.abs(y[known]) > 360).all():

@@ -12,7 +12,7 @@ from xml.parsers import expat
 import numpy as np
 import pandas as pd
 
-from .._tables import PACKED
+from .._text_files import PACKED
 from ..errors import InputError, PathText, shown
 from .frames import DEGREES, place_faults
 from .numbers import coordinates

@@ -11,6 +11,7 @@ from ..errors import shown
 
 CHARACTERS = frozenset("0123456789+-.eE")
 NUMBER = re.compile(r"[+-]?(\d+\.?\d*|\.\d+)([eE][+-]?\d+)?", re.ASCII)
+DECIMAL_COMMA = re.compile(r"[+-]?\d+,\d+", re.ASCII)
 
 
 def texts_of(values: Any) -> List[str]:
@@ -57,8 +58,16 @@ def plain_numbers(texts: List[str]) -> Tuple[np.ndarray, np.ndarray]:
     return np.where(good, numbers, np.nan), good
 
 
-def coordinates(column: Any, name: str) -> Tuple[np.ndarray, np.ndarray]:
-    """The numbers of a column (float64, NaN if there is none), and for each row its fault ("" if there is none)."""
+def with_points(texts: List[str]) -> List[str]:
+    """The texts with a decimal point in place of a decimal comma."""
+    return [text.replace(",", ".") if DECIMAL_COMMA.fullmatch(text) else text for text in texts]
+
+
+def coordinates(column: Any, name: str, decimal_comma: bool = False) -> Tuple[np.ndarray, np.ndarray]:
+    """The numbers of a column (float64, NaN if there is none), and for each row its fault ("" if there is none).
+
+    A decimal comma is a fault unless `decimal_comma` says that the column may have some.
+    """
     values = np.asarray(column)
     faults = np.full(len(values), "", dtype=object)
     texts: List[str] = []
@@ -66,7 +75,7 @@ def coordinates(column: Any, name: str) -> Tuple[np.ndarray, np.ndarray]:
         numbers = values.astype(np.float64)
         good = np.isfinite(numbers)
     else:
-        texts = texts_of(values)
+        texts = with_points(texts_of(values)) if decimal_comma else texts_of(values)
         numbers, good = plain_numbers(texts)
     for place in np.flatnonzero(~good):
         text = texts[place] if texts else "" if np.isnan(numbers[place]) else str(values[place])
@@ -76,4 +85,4 @@ def coordinates(column: Any, name: str) -> Tuple[np.ndarray, np.ndarray]:
 
 def comma(text: str) -> str:
     """A hint at a decimal comma."""
-    return ": a decimal comma? Write points" if re.fullmatch(r"[+-]?\d+,\d+", text) else ""
+    return ": a decimal comma? Write points" if DECIMAL_COMMA.fullmatch(text) else ""

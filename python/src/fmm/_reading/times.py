@@ -9,20 +9,28 @@ import numpy as np
 import pandas as pd
 
 from ..errors import shown
-from .numbers import as_bytes, digits_at, plain_numbers, texts_of
+from .numbers import as_bytes, digits_at, plain_numbers, texts_of, with_points
 
 LAST = 4_294_967_295
-TIME = re.compile(rb"(\d{4})-(\d\d)-(\d\d)[Tt ](\d\d):(\d\d)(?::(\d\d)(?:[.,](\d+))?)? ?(?:([Zz])|([+-]\d\d)(?::?(\d\d))?)?")
+REST = (rb":(?P<minute>\d\d)(?::(?P<second>\d\d)(?:[.,](?P<part>\d+))?)?"
+        rb" ?(?:[Zz]|(?P<zone>[+-]\d\d)(?::?(?P<zone_minute>\d\d))?)?")
+FORMS = (  # the year comes first, or dots are between the day, the month and the year
+    re.compile(rb"(?P<year>\d{4})(?P<mark>[-/.])(?P<month>\d\d)(?P=mark)(?P<day>\d\d)[Tt ](?P<hour>\d\d)" + REST),
+    re.compile(rb"(?P<day>\d\d?)\.(?P<month>\d\d?)\.(?P<year>\d{4}),? (?P<hour>\d\d?)" + REST),
+)
+SLASHES = re.compile(r"\d\d?[/-]\d\d?[/-]\d{4}\b.*", re.ASCII)
+HALF = re.compile(r"\d{4}-\d\d-\d\d|\d\d?\.\d\d?\.\d{2,4}|\d\d?:\d\d(:\d\d)?([.,]\d+)?", re.ASCII)
 SECONDS = re.compile(r"\d{1,20}(\.\d*)?", re.ASCII)
 DIGIT = np.zeros(256, dtype=bool)
 DIGIT[ord("0"):ord("9") + 1] = True
 
 
-def seconds(column: Any) -> Tuple[np.ndarray, np.ndarray]:
+def seconds(column: Any, decimal_comma: bool = False) -> Tuple[np.ndarray, np.ndarray]:
     """The seconds since 1970 of a column (float64, NaN if there is none), and for each row its fault ("" if there is none).
 
-    Text is an ISO time, in UTC if it names no zone, or a number of seconds. Numbers are seconds. Columns of times with a zone
-    keep their instant; without one they are in UTC. An empty field is no time and no fault.
+    Text is an ISO time or one like 24.12.2026 14:03:22, in UTC if it names no zone, or a number of seconds, which has a decimal
+    comma only if `decimal_comma` says so. Numbers are seconds. Columns of times with a zone keep their instant; without one they
+    are in UTC. An empty field is no time and no fault.
     """
     if isinstance(column, pd.Series) and pd.api.types.is_datetime64_any_dtype(column.dtype):
         return _of_datetimes(column)
@@ -36,14 +44,22 @@ def seconds(column: Any) -> Tuple[np.ndarray, np.ndarray]:
     faults = np.full(len(texts), "", dtype=object)
     found, known = _of_texts(texts)
     rest = np.flatnonzero(~known)
-    numbers, good = plain_numbers([texts[place] for place in rest])
-    good &= np.array([SECONDS.fullmatch(texts[place]) is not None for place in rest], dtype=bool)
+    others = with_points([texts[place] for place in rest]) if decimal_comma else [texts[place] for place in rest]
+    numbers, good = plain_numbers(others)
+    good &= np.array([SECONDS.fullmatch(text) is not None for text in others], dtype=bool)
     found[rest[good]], known[rest[good]] = numbers[good], True
     for place in np.flatnonzero(~known):
         if texts[place]:
-            faults[place] = f"time {shown(texts[place], 40)} is neither an ISO time nor seconds since 1970"
+            faults[place] = f"time {shown(texts[place], 40)} is neither an ISO time nor seconds since 1970{_hint(texts[place])}"
     ranged, outside = _in_range(found, known, texts)
     return ranged, np.where(faults == "", outside, faults)
+
+
+def _hint(text: str) -> str:
+    """What is likely wrong with a text that is no time."""
+    if HALF.fullmatch(text):
+        return ": write the date and the time of day into one column"
+    return ": is the day or the month first? Write 2026-12-24 or 24.12.2026" if SLASHES.fullmatch(text) else ""
 
 
 def _texts(values: np.ndarray) -> List[str]:
@@ -73,7 +89,7 @@ def _in_range(found: np.ndarray, known: np.ndarray, texts: Any) -> Tuple[np.ndar
 
 
 def _of_texts(texts: List[str]) -> Tuple[np.ndarray, np.ndarray]:
-    """The seconds of ISO times, and which texts are some.
+    """The seconds of times with a date, and which texts are some.
 
     Texts of one shape, where a shape is the text with 0 for each digit, have their fields at the same places and are read
     together. There are few shapes in a file.
@@ -86,7 +102,8 @@ def _of_texts(texts: List[str]) -> Tuple[np.ndarray, np.ndarray]:
         first = int(np.argmax(rest))
         same = rest & (shapes == shapes[first]).all(axis=1)
         rest &= ~same
-        match = TIME.fullmatch(bytes(shapes[first]).rstrip(b"\0"))
+        shape = bytes(shapes[first]).rstrip(b"\0")
+        match = next(filter(None, (form.fullmatch(shape) for form in FORMS)), None)
         if match:
             rows = np.flatnonzero(same)
             found[rows], good[rows] = _of_shape(matrix[rows], match)
@@ -95,11 +112,11 @@ def _of_texts(texts: List[str]) -> Tuple[np.ndarray, np.ndarray]:
 
 def _of_shape(matrix: np.ndarray, match: "re.Match[bytes]") -> Tuple[np.ndarray, np.ndarray]:
     """The seconds of texts whose fields lie where those of the match lie, and which of them exist."""
-    def field(number: int) -> np.ndarray:
-        begin, end = match.span(number)
+    def field(name: str) -> np.ndarray:
+        begin, end = match.span(name)
         return digits_at(matrix, begin, end) if begin >= 0 else np.zeros(len(matrix), dtype=np.int64)
 
-    year, month, day, hour, minute, second = (field(number) for number in range(1, 7))
+    year, month, day, hour, minute, second = map(field, ("year", "month", "day", "hour", "minute", "second"))
     # A leap second is the first second of the next minute; hour 24 is midnight.
     good = (month >= 1) & (month <= 12) & (day >= 1) & (minute < 60) & (second <= 60) & (year >= 1)
     good &= (hour < 24) | (hour == 24) & (minute == 0) & (second == 0)
@@ -108,12 +125,13 @@ def _of_shape(matrix: np.ndarray, match: "re.Match[bytes]") -> Tuple[np.ndarray,
     after = (months + 1).astype("datetime64[M]").astype("datetime64[D]").astype(np.int64)
     good &= day <= after - begin
     whole = 86400 * (begin + day - 1) + 3600 * hour + 60 * minute + second
-    if match[9] is not None:
-        away_hours, away_minutes = digits_at(matrix, match.start(9) + 1, match.end(9)), field(10)
-        good &= (away_hours <= 18) & (away_minutes < 60)
-        shift = 3600 * away_hours + 60 * away_minutes
-        whole = whole - np.where(matrix[:, match.start(9)] == ord("-"), -shift, shift)
-    begin_of, end_of = match.span(7)
+    if match["zone"] is not None:
+        sign = match.start("zone")
+        zone_hour, zone_minute = digits_at(matrix, sign + 1, match.end("zone")), field("zone_minute")
+        good &= (zone_hour <= 18) & (zone_minute < 60)
+        shift = 3600 * zone_hour + 60 * zone_minute
+        whole = whole - np.where(matrix[:, sign] == ord("-"), -shift, shift)
+    begin_of, end_of = match.span("part")
     end_of = min(end_of, begin_of + 9)  # nanoseconds
     part = digits_at(matrix, begin_of, end_of) / 10.0 ** (end_of - begin_of) if begin_of >= 0 else 0.0
     return np.where(good, whole + part, np.nan), good

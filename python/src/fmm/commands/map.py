@@ -1,4 +1,4 @@
-"""Makes a map of a match: one HTML file that shows why each road was chosen.
+"""Make a map of a match: one HTML file that shows why each road was chosen.
 
 RESULT is a result.gpkg or a folder of tables, as `fmm run`, `fmm tables` or `Matches.to_file` wrote it. The map needs no network
 connection. It shows positions, driven roads and the streets around them, plays drives in time, and marks what is in doubt: a

@@ -1,8 +1,8 @@
 """Match a map and tracks into tables, a GeoPackage, a map and a report.
 
 MAP is an OpenStreetMap file (.osm.pbf, .osm, .osm.gz, .osm.bz2), a network that `fmm network` made, or a layer of lines in any
-format that geopandas reads. POSITIONS are GPX files, tables of comma-separated values, or layers of points: one or several files,
-with rows in any order.
+format that geopandas reads. POSITIONS are GPX files, tables (.csv, with commas, semicolons or tabs between the fields), or layers
+of points: one or several files, with rows in any order.
 
 FOLDER gets
   result.gpkg                        the layers points, routes, edges, network and stops
@@ -27,10 +27,11 @@ import dataclasses
 import math
 import os
 import shutil
+import warnings
 from pathlib import Path
 from typing import TYPE_CHECKING, Any, Optional
 
-from ..errors import MissingLibraryError, OptionError, one_line
+from ..errors import FmmWarning, MissingLibraryError, OptionError, one_line
 from ._parser import Parser, above_zero
 
 if TYPE_CHECKING:
@@ -59,7 +60,9 @@ def main(words: list[str]) -> int:
                                crs=values.positions_crs, layer=values.layer)
     network, notes = read_map(values, positions)
     means = {name: getattr(values, name) for name in ("engine", "jobs", "memory", "folder")}
-    matches = match(network, positions, crs=values.result_crs, **means, **options)
+    with warnings.catch_warnings():
+        warnings.simplefilter("ignore", FmmWarning)  # the report begins with them
+        matches = match(network, positions, crs=values.result_crs, **means, **options)
     with Outputs([values.map, *(source.path for source in positions.sources)]) as outputs:
         write_all(matches, outputs.files_of(values.into), values, notes)
     print(Path(values.into, "report.txt").read_text(encoding="utf-8"), end="")
@@ -104,7 +107,7 @@ def parser() -> Parser:
     result.add_argument("--no-margins", dest="margins", action="store_false", default=None,
                         help="no margins, and no candidates in the map")
     result.add_argument("--standing", metavar="SECONDS", type=float, default=120.0, help="least length of a stop (%(default)g)")
-    result.add_argument("--zone", default="UTC", help="the time zone of hours and days (%(default)s)")
+    result.add_argument("--zone", default="UTC", help="the time zone of hours and days, such as Europe/Berlin (%(default)s)")
     return made
 
 
@@ -121,12 +124,14 @@ def extent(text: str) -> Any:
 
 def option_words(values: Any) -> dict[str, Any]:
     """The options of matching that were given. `none` switches off gap, thin and fastest."""
+    from .._summaries import checked_zone
     from ..options import Options
     given = {field.name: getattr(values, field.name) for field in dataclasses.fields(Options)}
     words = {name: None if value == "none" else value for name, value in given.items() if value is not None}
     Options.of(**words)
     if not values.standing > 0:
         raise OptionError(f"--standing is a number above 0, not {values.standing:g}")
+    checked_zone(values.zone)
     return words
 
 
@@ -164,7 +169,9 @@ def around(positions: Positions) -> Optional[tuple[float, float, float, float]]:
     wide = AROUND / (111_320 * math.cos(math.radians(max(abs(south), abs(north)))))
     if west - wide < -180 or east + wide > 180:
         return None
-    return west - wide, south - high, east + wide, north + high
+    west, south = (math.floor(1e4 * value) / 1e4 for value in (west - wide, south - high))  # as the report prints them
+    east, north = (math.ceil(1e4 * value) / 1e4 for value in (east + wide, north + high))
+    return west, south, east, north
 
 
 # ---- the results
@@ -182,7 +189,8 @@ def write_all(matches: Matches, folder: Path, values: Any, notes: list[str]) -> 
         write_picture(matches, folder / "picture.png")
     except (ImportError, MissingLibraryError):
         notes.append("there is no picture.png, since this Python has no matplotlib: apt-get install python3-matplotlib")
-    network = "\n".join(f"  {line}" for line in str(matches.network.report).splitlines()) if matches.network else ""
+    about = str(matches.network.report).splitlines() if matches.network else []
+    network = "\n".join(f"  {line}" for line in about if line not in report.text.splitlines())  # notes are in both
     text = report.text + "".join(f"note: {one_line(note)}\n" for note in notes) + (f"network:\n{network}\n" if network else "")
     with Outputs() as outputs:
         outputs.open(folder / "report.txt").write(text)

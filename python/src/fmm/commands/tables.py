@@ -1,4 +1,4 @@
-"""Turn a network, a trace file and the text of their match into tables
+"""Turn a network, a trace file and the text of their match into tables.
 
     fmm tables network.csv traces.csv match.txt --into out/          points.csv, routes.csv, edges.csv, report.txt
     fmm tables network.csv traces.csv match.txt --into out.gpkg -- --back 2000 --gap 120
@@ -45,8 +45,8 @@ def main(words: Sequence[str]) -> int:
     words = list(words)
     given = words[words.index("--") + 1:] if "--" in words else []
     parser = Parser("tables", __doc__ or "")
-    for name in ("network", "traces", "match"):
-        parser.add_argument(name)
+    for name, text in (("network", "the network file"), ("traces", "the trace file"), ("match", "the text of their match")):
+        parser.add_argument(name, metavar=name.upper(), help=text)
     parser.add_argument("--into", required=True, metavar="OUT", help="a folder for .csv files, or a name that ends in .gpkg")
     parser.add_argument("--ids", metavar="IDS", help="a table with the columns trace and id")
     parser.add_argument("--crs", help="of the geometries, such as EPSG:4326; by default that of the network")

@@ -4,6 +4,7 @@ from __future__ import annotations
 import os
 import shlex
 import time
+from collections.abc import Callable
 from pathlib import Path
 
 from ..errors import FmmError, InputError, OutputError
@@ -75,7 +76,7 @@ class Array:
             return ["UNKNOWN " + why]
         return text.splitlines() if not status else []
 
-    def wait_for_answers(self, job: str, look: object) -> None:
+    def wait_for_answers(self, job: str, look: Callable[[], None]) -> None:
         """Waits until the job has ended. Calls `look` between; a task that Slurm holds ends the job."""
         silent_since = None
         while tasks := self.waiting(job):
@@ -89,8 +90,7 @@ class Array:
                 silent_since = None
             if all(task.startswith("PENDING") and "held" in task.lower() for task in tasks):
                 self.cancel(job)
-            if callable(look):
-                look()
+            look()
             time.sleep(min(2, 0.3 + len(self.numbers) / 200))
 
     def submit(self) -> str:

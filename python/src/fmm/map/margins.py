@@ -73,8 +73,10 @@ def network_of(matches: Matches, path: Optional[PathText] = None) -> Network:
         return matches.network
     about = matches.evidence.get("network", {})
     path = path or about.get("path")
-    if not path or not Path(path).is_file():
-        raise InputError("the network of the match is not there", path or None)
+    if not path:
+        raise InputError("the network of the match was not saved: give its file as network (--network)")
+    if not Path(path).is_file():
+        raise InputError("the network of the match is not there: give its file as network (--network)", path)
     network = Network.open(path, crs=about.get("projection"))
     compare("the checksum", network.checksum, about.get("sha256"), path, "the match")
     return network

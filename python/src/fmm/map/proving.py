@@ -86,7 +86,7 @@ class Prover:
             path, out = Path(folder) / "traces.csv", Path(folder) / "certificate.txt"
             traces.write(path)
             words = _programs.words_of("prove", self.network.path, path, self.words)
-            _programs.run(self.program, words, out, 0, {"network": str(self.network.path), "traces": "the positions"})
+            _programs.run(self.program, words, out, 0, {"network": self.network.name, "traces": "the positions"})
             return out.read_bytes()
 
 

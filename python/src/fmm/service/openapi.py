@@ -41,7 +41,7 @@ POSTED: List[Words] = [
     parameter("layers", "which tables come back, separated by commas: points, routes, edges", {"type": "string"}),
     parameter("gap", "seconds without a position that end a drive", {"type": "number"}),
     parameter("sigma", "the accuracy of positions in metres", {"type": "number"}),
-    parameter("thin", "metres that a vehicle has to move for its next position to be matched", {"type": "number"}),
+    parameter("thin", "metres that a vehicle has to move for its next position to be matched; 0: all are", {"type": "number"}),
 ]
 
 

@@ -23,6 +23,7 @@ from ..errors import InputError
 from ..matches import Matches
 from ..network import Network
 from ..positions import Positions, Source, joined
+from ..suggestions import suggest
 from .matcher import Matcher, read
 from .refusals import Refused
 from .requests import one_of, options_of, too_many
@@ -68,6 +69,8 @@ def match(matcher: Matcher, network: Network, settings: Settings, posted: Posted
             raise Refused("InvalidOptions", f"{name[:40]!r} is no option; known: {', '.join(OPTIONS)} and, of /match, layers")
     options = settings.options.but(**words)
     positions = read_posted(posted, settings.limits.positions)
+    if "thin" not in words:  # else each jump of a vehicle that stands would be a drive round the block
+        options = options.but(thin=suggest(positions).options.thin)
     with tempfile.TemporaryDirectory(prefix="fmm-") as folder:
         traces = write_traces(positions, network, options, Path(folder))
         table = pd.read_csv(traces.path)

@@ -4,6 +4,7 @@ from __future__ import annotations
 import asyncio
 import signal
 import socket
+from contextlib import ExitStack
 from dataclasses import asdict
 from typing import Any, Coroutine, Dict, List, Optional
 
@@ -26,21 +27,23 @@ BACKLOG = 256
 
 def listen(host: str, port: int) -> socket.socket:
     """A socket that listens. FmmError: the address cannot be used."""
-    try:
-        family, kind, _, _, address = socket.getaddrinfo(host, port, type=socket.SOCK_STREAM, flags=socket.AI_PASSIVE)[0]
-        made = socket.socket(family, kind)
-        made.setsockopt(socket.SOL_SOCKET, socket.SO_REUSEADDR, 1)
-        made.bind(address)
-        made.listen(BACKLOG)
-    except (OSError, OverflowError) as fault:
-        raise FmmError(f"cannot listen on {host}:{port}: {getattr(fault, 'strerror', None) or fault}") from None
+    with ExitStack() as opened:
+        try:
+            family, kind, _, _, address = socket.getaddrinfo(host, port, type=socket.SOCK_STREAM, flags=socket.AI_PASSIVE)[0]
+            made = opened.enter_context(socket.socket(family, kind))
+            made.setsockopt(socket.SOL_SOCKET, socket.SO_REUSEADDR, 1)
+            made.bind(address)
+            made.listen(BACKLOG)
+        except (OSError, OverflowError) as fault:
+            raise FmmError(f"cannot listen on {host}:{port}: {getattr(fault, 'strerror', None) or fault}") from None
+        opened.pop_all()  # the caller closes it
     return made
 
 
 def serve(network: Network, settings: Settings, host: str, port: int) -> None:
     """Serves until a signal ends the process."""
     if network.projection.crs is None:
-        raise MismatchError("its projection is not known, so degrees cannot be placed on it: give --crs", network.path)
+        raise MismatchError("its projection is not known, so degrees cannot be placed on it: give --crs", network.name)
     listening = listen(host, port)
     worker = Worker(network, settings)
 
