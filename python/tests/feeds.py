@@ -4,6 +4,7 @@ from __future__ import annotations
 import os
 import sys
 from pathlib import Path
+from typing import Any
 
 import forks
 
@@ -11,7 +12,8 @@ import fmm.commands.feed  # noqa: F401  so that a fork has all modules
 import fmm.feed.reading  # noqa: F401
 
 SOURCES = Path(__file__).parents[1] / "src"
-FEED = [sys.executable, "-m", "fmm", "feed", "--crs", "metres"]
+WORDS = ["feed", "--crs", "metres"]
+FEED = [sys.executable, "-m", "fmm", *WORDS]
 
 
 def environment() -> dict[str, str]:
@@ -21,7 +23,12 @@ def environment() -> dict[str, str]:
 def feed(text: str, *words: str) -> forks.Done:
     """Runs a feed over a text. Its state is state.db unless the words name another."""
     state = () if "--state" in words else ("--state", "state.db")
-    return forks.run("feed", "--crs", "metres", *state, *words, given=text)
+    return forks.run(*WORDS, *state, *words, given=text)
+
+
+def start(*words: str, **more: Any) -> forks.Process:
+    """Starts a feed in a fork, with the state state.db."""
+    return forks.Process([*WORDS, "--state", "state.db", *words], **more)
 
 
 def rows(text: str) -> list[tuple[int, ...]]:

@@ -13,12 +13,13 @@ from contextlib import contextmanager
 from pathlib import Path
 from typing import Any, Optional
 
+import forks
 import geopandas
 import numpy as np
 import pytest
 from shapely.geometry import LineString
 
-from fmm import Network
+from fmm import Network, _programs
 from fmm._match_text import MatchText, read_match
 
 httpx = pytest.importorskip("httpx", reason="python3-httpx is not installed")
@@ -74,10 +75,18 @@ def is_python(pid: int) -> bool:
 
 
 @contextmanager
-def running(network: Path, *words: str, given: Optional[int] = None) -> Iterator[Service]:
-    """A service of a network, until the end of the block. `given` is its standard input."""
-    command = [str(TOP / "fmm"), "serve", str(network), "--port", "0", *words]
-    process = subprocess.Popen(command, stdin=given, stderr=subprocess.PIPE, text=True)
+def running(network: Path, *words: str, given: Optional[int] = None, front: bool = False) -> Iterator[Service]:
+    """A service of a network, until the end of the block. `given` is its standard input. With `front` it is started by ./fmm in a
+    new Python, as a user does it, and else in a fork."""
+    command = ["serve", str(network), "--port", "0", *words]
+    process: subprocess.Popen[str]
+    if front:
+        process = subprocess.Popen([str(TOP / "fmm"), *command], stdin=given, stderr=subprocess.PIPE, text=True)
+    else:
+        import fmm.commands.serve
+        import fmm.service.server  # noqa: F401  so that each fork has all modules
+        _programs.program(False)
+        process = forks.Process(command, stdin=given, stderr=subprocess.PIPE, text=True)
     try:
         yield Service(process, url_of(process))
     finally:
@@ -93,7 +102,7 @@ def running(network: Path, *words: str, given: Optional[int] = None) -> Iterator
 def url_of(process: subprocess.Popen[str]) -> str:
     """The address that the service says when it is ready."""
     assert process.stderr
-    until, said = time.monotonic() + 60, ""
+    until, said = time.monotonic() + 180, ""  # on a machine that does much else
     while time.monotonic() < until:
         if select.select([process.stderr], [], [], 0.1)[0]:
             line = process.stderr.readline()

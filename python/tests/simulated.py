@@ -149,17 +149,24 @@ def drive(rng: random.Random, town: Town, slow: float) -> Drive:
     return Drive(np.array(times), np.array(edges), np.array(places), np.array(stood))
 
 
+@functools.lru_cache(maxsize=None)
+def driven(seed: int) -> Tuple[Town, List[Tuple[str, float, Drive]]]:
+    """The town, and the drives of all vehicles, each with its vehicle and its begin. They are the same for each interval."""
+    rng = random.Random(seed)
+    town = Town(rng)
+    return town, [(vehicle, begin + 97 * number, drive(rng, town, 1 + 0.2 * (number % 3)))
+                  for begin in DAYS for number, vehicle in enumerate(VEHICLES)]
+
+
 @functools.lru_cache(maxsize=1)
 def made(seed: int, interval: int, silent: bool) -> Tuple[Town, pd.DataFrame, Truth]:
-    rng = random.Random(seed)
-    town, truth = Town(rng), Truth()
+    town, drives = driven(seed)
+    errors, truth = random.Random(seed), Truth()
     rows: List[Tuple[float, str, float, float]] = []
-    for begin in DAYS:
-        for number, vehicle in enumerate(VEHICLES):
-            start, one = begin + 97 * number, drive(rng, town, 1 + 0.2 * (number % 3))
-            found = follow(rng, town, one, interval, silent)
-            rows += [(start + second, vehicle, x, y) for second, x, y in found]
-            add_truth(truth, town, one, vehicle, start, found[-1][0])
+    for vehicle, start, one in drives:
+        found = follow(errors, town, one, interval, silent)
+        rows += [(start + second, vehicle, x, y) for second, x, y in found]
+        add_truth(truth, town, one, vehicle, start, found[-1][0])
     rows.sort(key=lambda row: row[0])
     return town, pd.DataFrame(rows, columns=["time", "vehicle", "x", "y"])[["vehicle", "x", "y", "time"]], truth
 

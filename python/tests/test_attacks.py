@@ -13,6 +13,7 @@ from collections.abc import Iterator
 from pathlib import Path
 from typing import Callable
 
+import forks
 import numpy as np
 import pytest
 from feeds import feed
@@ -210,15 +211,16 @@ def test_a_feed_on_a_full_disk_names_the_file_and_goes_on_later(tmp_path: Path) 
     file(tmp_path, "".join(lines))
     words = ["feed", "--crs", "metres", "--format", "rows", "--state", "s.db", "--into", "out.csv"]
 
-    def run(size: int) -> subprocess.CompletedProcess[str]:
+    def run(size: int) -> tuple[int, str]:
         with open(tmp_path / "rows.csv") as rows:
-            return subprocess.run([sys.executable, "-m", "fmm", *words], cwd=tmp_path, stdin=rows, stderr=subprocess.PIPE,
-                                  text=True, env={**os.environ, "PYTHONPATH": str(SOURCES)},
-                                  preexec_fn=lambda: resource.setrlimit(resource.RLIMIT_FSIZE, (size, size)))
+            started = forks.Process(words, cwd=tmp_path, stdin=rows, stderr=subprocess.PIPE, text=True,
+                                    preexec_fn=lambda: resource.setrlimit(resource.RLIMIT_FSIZE, (size, size)))
+            said = started.communicate()[1]
+        return started.returncode, said
 
-    done = run(65_536)
-    assert done.returncode == 1 and done.stderr.count("\n") == 1 and ("File too large" in done.stderr or "disk" in done.stderr)
-    assert run(1 << 30).returncode == 0
+    status, said = run(65_536)
+    assert status == 1 and said.count("\n") == 1 and ("File too large" in said or "disk" in said)
+    assert run(1 << 30)[0] == 0
     written = (tmp_path / "out.csv").read_text().splitlines()[1:]
     assert [int(line.split(",")[3]) for line in written] == [1000 + at for at in range(9000)]
 

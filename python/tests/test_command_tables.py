@@ -1,6 +1,7 @@
 """The command `tables`: texts that exist become tables, and texts of other files are refused."""
 from __future__ import annotations
 
+import shutil
 import subprocess
 from pathlib import Path
 from typing import List
@@ -33,13 +34,22 @@ def program(*words: str, cwd: Path) -> str:
     return subprocess.run([TOP / "fmm", *words], check=True, stdout=subprocess.PIPE, cwd=cwd, text=True).stdout
 
 
-@pytest.fixture
-def folder(tmp_path: Path, monkeypatch: pytest.MonkeyPatch) -> Path:
-    monkeypatch.chdir(tmp_path)
-    Path("n.csv").write_text(RING)
-    Path("t.csv").write_text(ROUND)
+@pytest.fixture(scope="module")
+def made(tmp_path_factory: pytest.TempPathFactory) -> Path:
+    """A network, traces, and the three texts of them."""
+    made = tmp_path_factory.mktemp("made")
+    (made / "n.csv").write_text(RING)
+    (made / "t.csv").write_text(ROUND)
     for command in ("match", "follow", "streams"):
-        Path(f"{command}.txt").write_text(program(command, "n.csv", "t.csv", "--back", "2000", cwd=tmp_path))
+        (made / f"{command}.txt").write_text(program(command, "n.csv", "t.csv", "--back", "2000", cwd=made))
+    return made
+
+
+@pytest.fixture
+def folder(made: Path, tmp_path: Path, monkeypatch: pytest.MonkeyPatch) -> Path:
+    """A copy of them, in which the test runs."""
+    shutil.copytree(made, tmp_path, dirs_exist_ok=True)
+    monkeypatch.chdir(tmp_path)
     return tmp_path
 
 

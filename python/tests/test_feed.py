@@ -9,6 +9,7 @@ import time
 
 import pytest
 from feeds import FEED, environment, feed, rows
+from feeds import start as start_feed
 
 from fmm.feed.intake import Clock
 
@@ -20,7 +21,7 @@ def folder(tmp_path, monkeypatch):
 
 
 def start(*words, **more):
-    return subprocess.Popen([*FEED, "--state", "state.db", "--format", "rows", *words], env=environment(), **more)
+    return start_feed("--format", "rows", *words, **more)
 
 
 def test_rows_are_numbered_by_vehicle():
@@ -140,7 +141,8 @@ def test_a_pipe_that_does_not_block_gets_all_rows():
 def test_a_full_or_closed_standard_error_stops_nothing(error):
     close = (lambda: os.close(2)) if error is None else None
     with open(error or os.devnull, "w") as file:
-        run = start(stdin=subprocess.PIPE, stdout=subprocess.PIPE, stderr=file, preexec_fn=close)
+        run = subprocess.Popen([*FEED, "--state", "state.db", "--format", "rows"], env=environment(), stdin=subprocess.PIPE,
+                               stdout=subprocess.PIPE, stderr=file, preexec_fn=close)
         found, _ = run.communicate(b"a,1\n" * 50 + b"a,1,1,1\n", timeout=30)
     assert rows(found.decode()) == [(1, 100, 100, 1)] and run.returncode == 0
 

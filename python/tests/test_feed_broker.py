@@ -2,16 +2,19 @@
 import json
 import os
 import random
-import subprocess
 import time
 
+import forks
 import pytest
 from brokers import Broker, needs_mosquitto
-from feeds import FEED, environment, rows
+from feeds import WORDS, rows
+from feeds import start as start_feed
+
+import fmm.feed.broker  # noqa: F401  so that a fork has all modules
 
 pytestmark = needs_mosquitto
 VEHICLES = 20
-KILLS = int(os.environ.get("FMM_KILLS", "5"))  # each start of a feed takes a second
+KILLS = int(os.environ.get("FMM_KILLS", "5"))
 
 
 @pytest.fixture
@@ -23,9 +26,8 @@ def broker(tmp_path):
 
 def start(broker, folder, *words):
     more = ["--columns", "vehicle,x,y,time", "--mqtt", f"127.0.0.1:{broker.port}", "--topic", "fleet/+/position"]
-    run = subprocess.Popen([*FEED, "--state", "state.db", "--into", "rows.csv", *more, *words], cwd=folder, env=environment(),
-                           stderr=open(folder / "said.txt", "a"))
-    return run
+    with open(folder / "said.txt", "a") as said:
+        return start_feed("--into", "rows.csv", *more, *words, cwd=folder, stderr=said)
 
 
 def positions(count, first=0):
@@ -113,5 +115,5 @@ def test_the_topic_names_the_vehicle_and_bad_payloads_are_named(broker, tmp_path
 
 def test_a_broker_that_is_not_there_is_an_error(tmp_path):
     words = ["--state", "state.db", "--mqtt", "127.0.0.1:1", "--topic", "a/+"]
-    done = subprocess.run([*FEED, *words], cwd=tmp_path, env=environment(), capture_output=True, text=True, timeout=60)
+    done = forks.run(*WORDS, *words, folder=tmp_path)
     assert done.returncode == 1 and "the broker 127.0.0.1:1 cannot be reached" in done.stderr and "Traceback" not in done.stderr

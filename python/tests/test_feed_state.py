@@ -53,3 +53,16 @@ def test_a_changed_value_in_a_state_of_track_is_noticed(tmp_path: Path, change: 
     with contextlib.closing(State(path)) as state, pytest.raises(FmmError, match="state.db is damaged"):
         journal = Journal(state)
         print(list(journal.rows()), journal.vehicles(), journal.delivered())
+
+
+def test_a_state_appears_when_it_is_complete(tmp_path: Path, monkeypatch: pytest.MonkeyPatch) -> None:
+    """A feed that is killed while it makes its state leaves none that cannot be used."""
+    def stop(*words: object) -> None:
+        raise KeyboardInterrupt
+
+    with monkeypatch.context() as patch, pytest.raises(KeyboardInterrupt):
+        patch.setattr(State, "set", stop)
+        State(tmp_path / "state.db")
+    assert not list(tmp_path.iterdir())
+    State(tmp_path / "state.db").close()
+    assert [path.name for path in tmp_path.iterdir()] == ["state.db"]

@@ -34,7 +34,7 @@ def network(tmp_path_factory: pytest.TempPathFactory) -> Network:
 
 @pytest.fixture(scope="module")
 def service(network: Network) -> Iterator[Service]:
-    with running(network.path, "--processes", "2", "--positions", "500", "--megabytes", "1") as made:
+    with running(network.path, "--processes", "2", "--positions", "500", "--megabytes", "1", front=True) as made:
         yield made
 
 

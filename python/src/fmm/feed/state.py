@@ -1,8 +1,10 @@
 """The durable state of a feed: one SQLite file that one feed uses at a time."""
 from __future__ import annotations
 
+import contextlib
 import os
 import sqlite3
+import tempfile
 import zlib
 from collections import OrderedDict
 from collections.abc import Iterable, Iterator
@@ -52,10 +54,13 @@ class State:
         self.path = path
         self.vehicles: OrderedDict[str, Vehicle] = OrderedDict()
         self.changed: set[str] = set()
-        is_new = not path.exists()
         try:
+            if not path.exists():
+                self._make()
             self.connection = sqlite3.connect(str(path), isolation_level=None, timeout=0)
-            self._begin(is_new)
+            self._begin()
+        except OSError as fault:
+            raise OutputError(f"{path}: {fault.strerror or fault}") from None
         except sqlite3.OperationalError as fault:
             if "locked" in str(fault):
                 raise FmmError(f"{path}: another feed uses this state") from None
@@ -64,7 +69,21 @@ class State:
             raise FmmError(f"{path} is not the state of a feed: {fault}") from None
         self.file = os.stat(path)
 
-    def _begin(self, is_new: bool) -> None:
+    def _make(self) -> None:
+        """Makes the file, which appears under its name only when it is complete. If another feed was faster, its file stays."""
+        with tempfile.TemporaryDirectory(dir=self.path.parent, prefix=".fmm-") as folder:
+            whole = os.path.join(folder, self.path.name)
+            self.connection = sqlite3.connect(whole, isolation_level=None)
+            with contextlib.closing(self.connection):
+                self.connection.execute("BEGIN")
+                for statement in TABLES.strip().split(";\n"):
+                    self.connection.execute(statement.rstrip(";"))
+                self.set("form", FORM)
+                self.connection.execute("COMMIT")
+            with contextlib.suppress(FileExistsError):
+                os.link(whole, self.path)
+
+    def _begin(self) -> None:
         execute = self.connection.execute
         execute("PRAGMA locking_mode = EXCLUSIVE")
         execute("PRAGMA journal_mode = WAL")
@@ -73,14 +92,9 @@ class State:
         if execute("PRAGMA quick_check(1)").fetchone()[0] != "ok":
             raise self.damaged()
         found = {name for name, in execute("SELECT name FROM sqlite_master WHERE type = 'table'")}
-        if not found and is_new:
-            for statement in TABLES.strip().split(";\n"):
-                execute(statement.rstrip(";"))
-            self.set("form", FORM)
-        elif "setting" not in found or self.get("form") != FORM:
+        if "setting" not in found or self.get("form") != FORM:
             raise FmmError(f"{self.path} is not the state of a feed of this version")
         execute("COMMIT")
-        self.is_new = is_new
         execute("BEGIN")
 
     def get(self, name: str) -> Optional[str]:
