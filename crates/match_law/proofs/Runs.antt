@@ -155,7 +155,7 @@ listed_words : MatchWordsAreRead → (words : List (List ℕ)) (files : List ℕ
     → command_of words ≡ Ok (record { work = match_files run.network_name run.traces_name None; options = p })
 listed_words words_are_read words files n p traces run =
     ap command_of run.words_are
-    ∙ words_are_read run.network_name run.traces_name run.given run.network_named run.traces_named run.in_range
+    ∙ words_are_read run.network_name run.traces_name run.given run.network_named run.traces_named run.are_given
     ∙ ap (λ (options : Params). let r : Result PlainCommand WordsFault = Ok (record { work = match_files run.network_name run.traces_name None; options = options }) in r) (sym run.options_are)
 
 pub listed_match_is_least : MatchWordsAreRead → NetworksAreRead → TracesAreRead → ListedMatchIsLeast

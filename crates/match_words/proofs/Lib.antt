@@ -1,2 +1,5 @@
 mod Turns
+mod Names
+mod Rows
+mod Given
 pub mod MatchWords

@@ -1,4 +1,4 @@
-//! The words `match NETWORK TRACES`, alone or with all options.
+//! The words `match NETWORK TRACES`, and then any of the options in any order.
 //!
 //! `match_words` in `specs/MatchWords.antt` writes them out. The law says that they ask for the match of
 //! these two files with these options.
