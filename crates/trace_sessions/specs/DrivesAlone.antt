@@ -5,7 +5,7 @@ use Rattle.cost_model.specs.declared.params.Params.{Params}
 use Rattle.road_network.specs.Net.{Net}
 use Rattle.trace_sessions.specs.FollowText.{follow_lines}
 use Rattle.trace_sessions.specs.Sessions.{Pair}
-use Rattle.trace_sessions.specs.StreamText.{Point, all_lines, fixes_among, full_id, lines_led_by, trace_of}
+use Rattle.trace_sessions.specs.StreamText.{Point, all_lines, fixes_among, full_id, lines_led_by, trace_of, with_points}
 use Rattle.trace_sessions.specs.Drives.{all_drive_lines, drives_of}
 
 -- those of an id
@@ -32,3 +32,10 @@ NoDriveIsIdle =
     (n : Net) (p : Params) (points : List Point)
     → All (λ (x : Point). x.1.time ≤ 4_294_967_295) points → full_id [] points ≡ None
     → all_drive_lines n p 4_294_967_295 points ≡ all_lines n p points
+
+-- and each id has one drive
+abbrev pub IdsHaveOneDrive : Type 0
+IdsHaveOneDrive =
+    (points : List Point)
+    → All (λ (x : Point). x.1.time ≤ 4_294_967_295) points → full_id [] points ≡ None
+    → drives_of 4_294_967_295 points ≡ with_points [] points

@@ -1,7 +1,7 @@
 //! Laws of the lines of traces and of calls on sessions. Each function exists for its clause and does nothing.
 ghost use Rattle.trace_sessions.specs.Calls.{IdsAreAnsweredAlone};
 ghost use Rattle.trace_sessions.specs.CommonLabels.{CommittedIsCommonPrefix};
-ghost use Rattle.trace_sessions.specs.DrivesAlone.{DrivesAreFollowedAlone, DrivesHaveEachPosition, NoDriveIsIdle};
+ghost use Rattle.trace_sessions.specs.DrivesAlone.{DrivesAreFollowedAlone, DrivesHaveEachPosition, IdsHaveOneDrive, NoDriveIsIdle};
 ghost use Rattle.trace_sessions.specs.FollowText.{FollowIsMatch, WrittenLinesStay};
 ghost use Rattle.trace_sessions.specs.StreamText.{IdsAreFollowedAlone, IdsHaveFollowTexts};
 
@@ -42,6 +42,12 @@ pub fn drives_have_each_position()
 /// end are those of a stream whose drives do not.
 pub fn no_drive_is_idle()
     ensures { NoDriveIsIdle }
+{}
+
+/// With the greatest number of seconds, and if no time is greater and no id is full, the drives are the ids in order of
+/// first appearance, each with all of its positions.
+pub fn ids_have_one_drive()
+    ensures { IdsHaveOneDrive }
 {}
 
 /// If all calls of `feed` and `close` in a list are `Ok`, and those of one id are `Ok` without the others,

@@ -24,7 +24,7 @@
 //! end before a position, and `all_drive_lines` what is written. [`Sessions::stream_fix`] takes one position, and
 //! [`Sessions::end_trace`] ends the trace of one id. The lines of an id are the follow texts of its drives
 //! ([`drives_are_followed_alone`]), which have each of its positions ([`drives_have_each_position`]). With the greatest
-//! number of seconds no drive ends before the file ([`no_drive_is_idle`]).
+//! number of seconds no drive ends before the file ([`no_drive_is_idle`]), and an id has one ([`ids_have_one_drive`]).
 //!
 //! Read first: `item_lines` in `specs/ItemText.antt`, then `follow_lines` and `FollowIsMatch`; and
 //! `Keeps`, `TakesFix` and `Closes`; `stream_lines` and `closing_lines` in `specs/StreamText.antt`;
@@ -43,6 +43,6 @@ pub use items::write_items;
 pub use laws::{
     committed_is_common_prefix, drives_are_followed_alone, drives_have_each_position,
     follow_is_match, ids_are_answered_alone, ids_are_followed_alone, ids_have_follow_texts,
-    no_drive_is_idle, written_lines_stay,
+    ids_have_one_drive, no_drive_is_idle, written_lines_stay,
 };
 pub use sessions::{SessionFault, Sessions};
