@@ -6,13 +6,15 @@ use Rattle.std.specs.Map.{keys_of, lookup}
 use Rattle.std.specs.Option.{option_map}
 use Rattle.std.proofs.lemmas.List.{append_assoc, append-nil, drop_all, drop_more}
 use Rattle.std.proofs.lemmas.List.Folds.{concat-append}
+use Rattle.program_frame.specs.declared.total.Tally.{Tally}
 use Rattle.trace_match.specs.Setting.{Setting}
 use Rattle.trace_reader.specs.declared.trace.Fix.{Fix}
 use Rattle.trace_sessions.specs.Drives.{is_full_of, is_idle}
 use Rattle.trace_sessions.specs.Sessions.{HasPair, Pair, fixes_of, length_of, without}
 use Rattle.trace_sessions.specs.StreamText.{closing_lines, lines_at_end}
 use Rattle.follow_work.specs.declared.drives.Drives.{Drives}
-use Rattle.follow_work.specs.inside.DrivesDone.{AreAny, Drove, EndsAll, EndsDrive, HasDrives, HaveDriveOf, Stays, idle_ids}
+use Rattle.follow_work.specs.inside.DrivesDone.{AreAny, Drove, EndsAll, EndsDrive, HasDrives, HaveDriveOf, Stays, times_of}
+use Rattle.follow_work.specs.inside.Times.{idle_ids}
 use Rattle.follow_work.proofs.DriveLists.{full-few, full-none, full-one, none-out, others, out-first}
 use Rattle.follow_work.proofs.DriveTimes.{idle-found}
 
@@ -38,7 +40,7 @@ pub record EndsSome (on : Setting) (ended drives : List Pair) (test : Pair → B
 abbrev pub HasEnded : (idle : ℕ) → List ℕ → (d0 d : Drives) → (t0 t : List ℕ) → Type 0
 HasEnded idle left d0 d t0 t = (on : Setting) (ended drives : List Pair) → Drove on d0 ended drives → EndsSome on ended drives (is_idle idle d0.clock) left d0 d t0 t
 
-pub none-ended : (idle : ℕ) (ids : List ℕ) (d : Drives) (t : List ℕ) → ids ≡ idle_ids idle d.clock d.times.entries → HasEnded idle (drop 0 ids) d d t t
+pub none-ended : (idle : ℕ) (ids : List ℕ) (d : Drives) (t : List ℕ) → ids ≡ idle_ids idle d.clock d.times → HasEnded idle (drop 0 ids) d d t t
 none-ended idle ids d t are on ended drives has = record {
   now = ended;
   open_drives = drives;
@@ -46,7 +48,7 @@ none-ended idle ids d t are on ended drives has = record {
   stays = stays-still d;
   all = refl;
   kept = refl;
-  left_are = sym (are ∙ idle-found idle d.clock d.times.entries drives has.times_are);
+  left_are = sym (are ∙ idle-found idle d.clock d.times drives has.times_are);
   written = refl;
 }
 
@@ -146,6 +148,19 @@ all-ended idle ids i d0 d t0 t high has on ended drives drove =
       stays = after.stays;
       written = sym (append-nil t) ∙ ap (λ ds. t ++ concat (closing_lines n p ds)) (sym none) ∙ after.written;
     }
+
+-- none is idle
+pub no-idle : (idle : ℕ) (d : Drives) (drives : List Pair) → d.times ≡ times_of drives → idle_ids idle d.clock d.times ≡ [] → filter (is_idle idle d.clock) drives ≡ []
+no-idle idle d drives are none = none-of (filter (is_idle idle d.clock) drives) (sym (idle-found idle d.clock d.times drives are) ∙ none)
+
+-- the times are the same
+pub same-times : (on : Setting) (ended drives : List Pair) (test : Pair → Bool) (d d1 d2 : Drives) (t t' : List ℕ) → EndsAll on ended drives test d d1 t t' → d2.sessions ≡ d1.sessions → d2.rows ≡ d1.rows → d2.tally ≡ d1.tally
+    → d2.clock ≡ d1.clock → d2.times ≡ d1.times → EndsAll on ended drives test d d2 t t'
+same-times on ended drives test d d1 d2 t t' ends sessions rows tally clock times = record {
+  drove = rw (sessions, rows, tally, times) ends.drove;
+  stays = record { clock = clock ∙ ends.stays.clock; points = ap (λ (y : Tally). y.points) tally ∙ ends.stays.points };
+  written = ends.written;
+}
 
 -- ---- the full drive of an id
 

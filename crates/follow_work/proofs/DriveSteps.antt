@@ -27,7 +27,8 @@ use Rattle.trace_sessions.specs.StreamText.{Point, full_id, has_room, led_by, li
 use Rattle.trace_sessions.specs.Streaming.{AsksSome, AsksStream, CanStream, EndsId, EndsPair, EndsTrace, Streams, TakesPoints, pieces_told}
 use Rattle.trace_sessions.proofs.StreamPoints.{fixes_in-with, one-full}
 use Rattle.trace_sessions.proofs.StreamTakes.{among-some, asks-grow, lawful-behind}
-use Rattle.follow_work.specs.inside.DrivesDone.{HasDrove, time_with}
+use Rattle.follow_work.specs.inside.DrivesDone.{HasDrove}
+use Rattle.follow_work.specs.inside.Times.{time_with}
 use Rattle.follow_work.proofs.StreamTakes.{at-setting}
 use Rattle.follow_work.proofs.StreamTotals.{asked-some, some-asks}
 use Rattle.follow_work.proofs.DriveTimes.{times-with, times-without}

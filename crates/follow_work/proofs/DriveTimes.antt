@@ -6,7 +6,8 @@ use Rattle.indexmap.specs.IndexMap.{insert_entry}
 use Rattle.trace_reader.specs.declared.trace.Fix.{Fix}
 use Rattle.trace_sessions.specs.Drives.{is_idle, newest}
 use Rattle.trace_sessions.specs.Sessions.{Pair, fixes_and, fixes_of, with_fix, without}
-use Rattle.follow_work.specs.inside.DrivesDone.{idle_ids, time_with, times_of}
+use Rattle.follow_work.specs.inside.DrivesDone.{times_of}
+use Rattle.follow_work.specs.inside.Times.{idle_ids, time_with}
 
 max-none : (t : ℕ) → max t 0 ≡ max 0 t
 max-none t = grind arith

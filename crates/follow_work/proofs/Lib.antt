@@ -14,3 +14,4 @@ pub mod DriveEnds
 pub mod DriveRows
 pub mod DriveJobs
 pub mod StreamsWithin
+pub mod TimeBounds

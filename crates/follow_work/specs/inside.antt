@@ -1,3 +1,4 @@
 pub mod DrivesDone
 pub mod FollowDone
 pub mod StreamsDone
+pub mod Times

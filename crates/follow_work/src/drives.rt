@@ -1,7 +1,6 @@
 //! The open drives of a stream, and the counts of all of them. Serves `streams`; decided by `drive_lines`.
-ghost use Rattle.std.specs.Prelude.{◌≡◌, ◌+◌, ◌++◌, ◌∷◌, ◌<◌, ◌^◌, [], List as ListOf, IfOk, OnOk, length, nat_eq};
+ghost use Rattle.std.specs.Prelude.{◌≡◌, ◌+◌, ◌++◌, ◌∷◌, ◌<◌, ◌^◌, [], List as ListOf, IfOk, OnOk, length};
 ghost use Rattle.cost_model.specs.Options.{IsAccepted};
-ghost use Rattle.indexmap.specs.IndexMap.{insert_entry};
 ghost use Rattle.polyline_geometry.specs.Plane.{InRange};
 ghost use Rattle.program_frame.specs.Jobs.{IsBounded, points_of};
 ghost use Rattle.trace_match.specs.Setting.{Setting};
@@ -10,10 +9,10 @@ ghost use Rattle.trace_sessions.specs.Drives.{is_full_of, is_idle, no_drives};
 ghost use Rattle.trace_sessions.specs.Sessions.{Pair};
 ghost use Rattle.trace_sessions.specs.StreamText.{fragment_points, points_in};
 ghost use Rattle.trace_sessions.specs.declared.sessions.SessionFault.TheVariants.{Memory};
-ghost use Rattle.follow_work.specs.inside.DrivesDone.{AreAny, Drove, EndsAll, EndsDrive, HasDrives, HaveDriveOf, HaveRoomFor, IsAt, TakesAll, TakesFix, ending_of, idle_ids, time_with};
+ghost use Rattle.follow_work.specs.inside.DrivesDone.{AreAny, Drove, EndsAll, EndsDrive, HasDrives, HaveDriveOf, HaveRoomFor, IsAt, TakesAll, TakesFix, ending_of};
 
 use crate::rows::open_rows;
-use indexmap::IndexMap;
+use crate::times::Times;
 use plain_list::List;
 use program_frame::Tally;
 use row_search::NearRows;
@@ -29,7 +28,7 @@ pub(crate) struct Drives<'m> {
     alloc: Global,
     clock: u32,
     sessions: Sessions<'m>,
-    times: IndexMap<u32, u32>,
+    times: Times,
     rows: NearRows<'m>,
     tally: Tally,
 }
@@ -44,19 +43,6 @@ fn memory_fault(fault: SessionFault) -> AllocError
     }
 }
 
-// Notes the time of a position of the id.
-fn note_time(times: &mut IndexMap<u32, u32>, id: u32, time: u32) -> Result<(), AllocError>
-    ensures { OnOk result (times.new.entries
-        ≡ insert_entry nat_eq times.old.entries id (time_with times.old.entries id time)) }
-{
-    let newest = match times.get(&id) {
-        Some(before) => time.max(*before),
-        None => time,
-    };
-    times.insert(id, newest)?;
-    Ok(())
-}
-
 impl<'m> Drives<'m> {
     // No drives yet.
     pub(crate) fn open(alloc: Global, matcher: &'m Matcher<'m>) -> Result<Self, AllocError>
@@ -69,7 +55,7 @@ impl<'m> Drives<'m> {
             alloc,
             clock: 0,
             sessions,
-            times: IndexMap::new(alloc),
+            times: Times::new(alloc),
             rows,
             tally: Tally::NONE,
         })
@@ -84,7 +70,7 @@ impl<'m> Drives<'m> {
     {
         match self.sessions.end_trace(id, &mut self.rows, into) {
             Ok(pieces) => {
-                self.times.shift_remove(&id);
+                self.times.remove(id);
                 self.tally.traces += 1;
                 self.tally.pieces += pieces;
                 Ok(())
@@ -93,30 +79,32 @@ impl<'m> Drives<'m> {
         }
     }
 
-    // The ids whose newest position is more than this many seconds older than the clock.
-    fn idle_ids(&self, idle: u32) -> Result<List<u32>, AllocError>
-        ensures { IfOk result (λ ids. ids ≡ idle_ids idle self.now.clock self.now.times.entries) }
+    // Ends the drives whose newest position is more than this many seconds older than the clock. Looks at all.
+    fn end_each_idle(&mut self, idle: u32, into: &mut List<u8>) -> Result<(), AllocError>
+        requires { HasDrives self.old AreAny }
+        ensures { OnOk result ((on : Setting) (ended drives : ListOf Pair)
+            → Drove on self.old ended drives
+            → EndsAll on ended drives (is_idle idle self.old.clock) self.old self.new into.old into.new) }
     {
-        let mut ids = List::new(self.alloc);
-        for (id, time) in self.times.iter() {
-            if u64::from(*time) + u64::from(idle) < u64::from(self.clock) {
-                ids.push(*id)?;
-            }
+        let ids = self.times.idle_ids(self.alloc, idle, self.clock)?;
+        for id in ids.as_slice() {
+            self.end(*id, into)?;
         }
-        Ok(ids)
+        Ok(())
     }
 
-    // Ends the drives whose newest position is more than this many seconds older than the clock.
+    // The same, but looks at none while none can be idle.
     fn end_idle(&mut self, idle: u32, into: &mut List<u8>) -> Result<(), AllocError>
         requires { HasDrives self.old AreAny }
         ensures { OnOk result ((on : Setting) (ended drives : ListOf Pair)
             → Drove on self.old ended drives
             → EndsAll on ended drives (is_idle idle self.old.clock) self.old self.new into.old into.new) }
     {
-        let ids = self.idle_ids(idle)?;
-        for id in ids.as_slice() {
-            self.end(*id, into)?;
+        if !self.times.may_be_idle(idle, self.clock) {
+            return Ok(());
         }
+        self.end_each_idle(idle, into)?;
+        self.times.find_oldest();
         Ok(())
     }
 
@@ -149,7 +137,7 @@ impl<'m> Drives<'m> {
             Ok(pieces) => {
                 self.tally.points += 1;
                 self.tally.pieces += pieces;
-                note_time(&mut self.times, id, fix.time)
+                self.times.note(id, fix.time)
             }
             Err(fault) => Err(memory_fault(fault)),
         }

@@ -19,6 +19,7 @@ mod job;
 mod laws;
 mod rows;
 mod streams;
+mod times;
 
 pub use follow::follow_traces;
 pub use job::FollowJob;

@@ -1,7 +1,6 @@
 -- What a job of drives has done.
-use Rattle.std.specs.Prelude.{◌≡◌, ℕ, ◌+◌, ◌<◌, ◌^◌, Bool, List, [], ◌∷◌, ◌++◌, length, map, max, nat_eq, nat_lt, not, true, unwrap_or}
+use Rattle.std.specs.Prelude.{◌≡◌, ℕ, ◌+◌, ◌<◌, ◌^◌, Bool, List, [], ◌∷◌, ◌++◌, length, map, not, true}
 use Rattle.std.specs.List.{concat, filter}
-use Rattle.std.specs.Map.{keys_of, lookup}
 use Rattle.bounded_table.specs.Rows.{AreRowsOf, RowsState}
 use Rattle.cost_model.specs.Options.{IsAccepted}
 use Rattle.program_frame.specs.Jobs.{points_of}
@@ -23,14 +22,6 @@ use Rattle.follow_work.specs.inside.FollowDone.{KnowsAsked}
 abbrev pub times_of : List Pair → List (ℕ × ℕ)
 times_of drives = map (λ drive. (drive.0, newest drive.1)) drives
 
--- the ids whose newest time is more than this many seconds before the clock
-abbrev pub idle_ids : (idle clock : ℕ) → List (ℕ × ℕ) → List ℕ
-idle_ids idle clock times = keys_of (filter (λ entry. nat_lt (entry.1 + idle) clock) times)
-
--- the newest time of an id after one more position
-abbrev pub time_with : List (ℕ × ℕ) → (id time : ℕ) → ℕ
-time_with times id time = max (unwrap_or (lookup (nat_eq id) times) 0) time
-
 -- some drives ended and were counted, the sessions stand for those that are open, and exactly what all of them ask
 -- for is known
 pub record HasDrove (on : Setting) (s : SessionsState) (times : List (ℕ × ℕ)) (rows : RowsState)
@@ -51,7 +42,7 @@ pub record HasDrove (on : Setting) (s : SessionsState) (times : List (ℕ × ℕ
       ≡ pieces_of_all on.network on.params ended + pieces_told on.network on.params drives
 
 abbrev pub Drove : Setting → Drives → (ended drives : List Pair) → Type 0
-Drove on d ended drives = HasDrove on d.sessions d.times.entries d.rows d.tally ended drives
+Drove on d ended drives = HasDrove on d.sessions d.times d.rows d.tally ended drives
 
 -- some drives ended, and some that are open have this property
 pub record HasDrives (d : Drives) (P : List Pair → Type 0) : Type 0 where

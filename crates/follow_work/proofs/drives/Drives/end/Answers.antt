@@ -17,7 +17,7 @@ pub returns-in-Ok : goal.returns-in-Ok
 returns-in-Ok c on ended drives drove =
     let ends = c.in-Ok.ensures.ends drives drove.stands in
     record {
-      drove = drive-ended on c.args.self.now.sessions _ _ _ _ _ _ _ ended drives _ _ _ _ drove ends c.in-Ok.ensures.asks c.shift_remove.ensures.entries refl refl refl;
+      drove = drive-ended on c.args.self.now.sessions _ _ _ _ _ _ _ ended drives _ _ _ _ drove ends c.in-Ok.ensures.asks c.remove.ensures refl refl refl;
       stays = record { clock = refl; points = refl };
       written = end-written on c.args.self.now.sessions _ _ _ _ ended drives _ _ _ _ drove ends;
     }

@@ -11,7 +11,7 @@ overflow_add-self-in-Ok c =
 
 pub returns-in-Ok : goal.returns-in-Ok
 returns-in-Ok c =
-    on_ok_weaker c.note_time.result
+    on_ok_weaker c.note.result
     (λ noted on ended drives drove.
     let takes = c.in-Ok.ensures.streams drives drove.stands in
     record {
@@ -20,4 +20,4 @@ returns-in-Ok c =
       points = refl;
       written = fix-written on c.args.self.now.sessions _ _ _ _ ended drives _ _ _ _ _ drove takes;
     })
-    c.note_time.ensures
+    c.note.ensures
