@@ -36,7 +36,7 @@ class Texts:
 
     def case(self, draw: Draw) -> str:
         """See Kind."""
-        clean = data = draw.one(self.texts)
+        clean = data = with_great_ids(draw, draw.one(self.texts)) if draw.coin(4) else draw.one(self.texts)
         for _ in range(1 + draw.below(3)):
             if draw.coin():
                 data = b"\n".join(line_fault(draw, data.split(b"\n")))
@@ -51,6 +51,18 @@ class Texts:
         else:
             hold(lines_of(written(text)) == lines_of(data), "the text says something that the arrays do not have")
         return AS_CLEAN if data == clean else NAMED
+
+
+def with_great_ids(draw: Draw, data: bytes) -> bytes:
+    """The text with ids of traces up to the greatest one, 4,294,967,295, in place of small ones."""
+    greatest = draw.one([4_294_967_295, 4_000_000_200])
+    draw.say(f"ids below {greatest}")
+
+    def great(found: re.Match[bytes]) -> bytes:
+        return found[1] + b"%d" % (greatest - int(found[2]))
+
+    data = re.sub(rb"(?m)^((?:[0-9]+ )?(?:trace|end) )([0-9]+)$", great, data)
+    return re.sub(rb"(?m)^()([0-9]+)(?= )", great, data)
 
 
 def written(text: MatchText) -> bytes:

@@ -16,12 +16,20 @@ from dataclasses import dataclass
 from pathlib import Path
 
 PYTHON = Path(__file__).resolve().parents[2] / "python"
-LIBRARIES = ("fmm.commands", "fmm.matches", "fmm.network", "fmm.positions", "fmm.report", "fmm.suggestions", "geopandas",
-             "hypothesis.strategies", "matplotlib.figure", "numpy.random", "pyproj", "pytest", "shapely", "sqlite3", "tqdm")
+LIBRARIES = (
+    "fiona", "fmm.commands", "fmm.commands.run", "fmm.map", "fmm.matches", "fmm.matching", "fmm.network", "fmm.positions",
+    "fmm.report", "fmm.suggestions", "fmm._exports", "fmm._osm", "fmm._picture", "fmm._runs", "geopandas",
+    "hypothesis.strategies", "matplotlib.backends.backend_agg", "matplotlib.figure", "numpy.random", "pyproj", "pytest",
+    "shapely", "sqlite3", "tqdm", *(f"_pytest.{name}" for name in (
+        "doctest", "faulthandler", "junitxml", "logging", "pastebin", "runner", "skipping", "stepwise", "terminal",
+        "threadexception", "tmpdir", "unittest", "unraisableexception")))
 NO_TESTS = 5  # the status of pytest if it ran none, since all were left out or there are none
-# These take longest, so they are started first.
-FIRST = ("test_types.py", "test_service.py", "test_map_browser.py", "test_qgis.py", "test_stops.py", "test_service_files.py",
-         "test_run.py", "test_attacks.py", "test_style.py")
+# These take longest, of processors or by waiting, so they are started first.
+FIRST = (
+    "test_types.py", "test_qgis.py", "test_run.py", "test_service.py", "test_stops.py", "test_map_browser.py", "test_track.py",
+    "test_track_broker.py", "test_feed_broker.py", "test_service_live.py", "test_service_files.py", "test_attacks.py",
+    "test_map.py", "test_exports.py", "test_groups.py", "test_matches.py", "test_feed.py", "test_extract.py",
+    "test_suggestions.py", "test_pages.py", "test_track_postgis.py", "test_restrictions.py", "test_osm.py")
 
 
 @dataclass
