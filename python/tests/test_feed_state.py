@@ -66,3 +66,13 @@ def test_a_state_appears_when_it_is_complete(tmp_path: Path, monkeypatch: pytest
     assert not list(tmp_path.iterdir())
     State(tmp_path / "state.db").close()
     assert [path.name for path in tmp_path.iterdir()] == ["state.db"]
+
+
+def test_a_state_is_made_where_there_are_no_hard_links(tmp_path: Path, monkeypatch: pytest.MonkeyPatch) -> None:
+    def refused(*words: object) -> None:
+        raise PermissionError(1, "Operation not permitted")
+
+    monkeypatch.setattr("os.link", refused)
+    for _ in range(2):
+        State(tmp_path / "state.db").close()
+    assert [path.name for path in tmp_path.iterdir()] == ["state.db"]

@@ -80,8 +80,13 @@ class State:
                     self.connection.execute(statement.rstrip(";"))
                 self.set("form", FORM)
                 self.connection.execute("COMMIT")
-            with contextlib.suppress(FileExistsError):
+            try:
                 os.link(whole, self.path)
+            except FileExistsError:
+                pass
+            except OSError:  # no hard links on this file system
+                if not self.path.exists():
+                    os.rename(whole, self.path)
 
     def _begin(self) -> None:
         execute = self.connection.execute
