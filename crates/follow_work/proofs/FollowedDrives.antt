@@ -66,10 +66,10 @@ follows idle on bytes whole none =
 pub streams_follow_each_drive : StreamsFollowEachDrive
 streams_follow_each_drive limits network traces idle options files o low is done =
     let plan_of : (Setting → JobText) → Option Outcome = λ job.
-        outcome_of (loads Network network (file_limit limits) 5 (network_said limits) (λ net. works_traces traces (job (record { network = net; params = options })))) files in
+    outcome_of (loads Network network (file_limit limits) 5 (network_said limits) (λ net. works_traces traces (job (record { network = net; params = options })))) files in
     let e : nat_lt idle never ≡ true = grind (arith, nat_tests) in
     let driven : plan_of (λ on. drives_job on idle) ≡ Some o =
-        subst (λ b. plan_of (λ on. let job : JobText = cond b (drives_job on idle) (streams_job on) in job) ≡ Some o) e is in
+    subst (λ b. plan_of (λ on. let job : JobText = cond b (drives_job on idle) (streams_job on) in job) ≡ Some o) e is in
     let r = outcome-says (λ on. drives_job on idle) (FollowsEachDrive idle) (follows idle) limits network traces options files o driven done in
     record {
       roads = r.roads;

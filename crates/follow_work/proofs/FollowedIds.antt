@@ -1,32 +1,24 @@
 -- Where `streams` is done, each id has what `follow` writes of its trace.
-use Rattle.std.proofs.Common.{◌≡◌, ℕ, ◌<◌, ◌^◌, not, Bool, true, false, cond, List, [], ◌∷◌, ◌++◌, Option, Some, None, Result, Ok, Err, refl, sym, ap, ◌∙◌, subst, arith, codes, length, map, nat_eq}
+use Rattle.std.proofs.Common.{◌≡◌, ℕ, ◌<◌, ◌^◌, not, Bool, true, false, cond, List, [], ◌∷◌, ◌++◌, Option, Some, None, refl, sym, ap, ◌∙◌, arith, codes, length, map, nat_eq}
 use Rattle.std.specs.List.{All, concat, filter, list_all}
 use Rattle.std.specs.Prelude.{option_map}
 use Rattle.std.proofs.lemmas.Bool.Decides.{nat_tests}
 use Rattle.std.proofs.lemmas.List.{append_assoc}
 use Rattle.std.proofs.lemmas.List.Elements.{All-append, All-cons, All-head, All-nil, All-tail}
 use Rattle.std.proofs.lemmas.List.Folds.{concat-append}
-use Rattle.cost_model.specs.declared.params.Params.{Params}
 use Rattle.decimal_text.specs.Number.{decimal, unsigned_within}
 use Rattle.match_text.specs.Reading.{number_at}
 use Rattle.program_frame.specs.Counts.{total_of}
-use Rattle.program_frame.specs.Jobs.{bytes_give, given_by, points_of}
-use Rattle.program_frame.specs.Outcome.{Outcome, refused_with, seen}
-use Rattle.program_frame.specs.Plan.{accepts, and_then, outcome_of}
-use Rattle.program_frame.specs.Refusals.{network_said, trace_limit}
-use Rattle.program_frame.specs.Stream.{works_traces}
+use Rattle.program_frame.specs.Jobs.{points_of}
 use Rattle.program_frame.specs.Total.{total_line, worded}
-use Rattle.road_network.specs.Limits.{file_limit}
-use Rattle.road_network.specs.Net.{Net}
 use Rattle.trace_match.specs.Setting.{Setting}
 use Rattle.trace_match.specs.Totals.{pieces_of, rows_of}
 use Rattle.trace_reader.specs.Reading.{file_fault, file_traces}
-use Rattle.trace_reader.specs.declared.fault.TraceFault.{TraceFault}
 use Rattle.trace_reader.specs.declared.trace.Fix.{Fix}
 use Rattle.trace_reader.specs.declared.trace.Trace.{Trace}
 use Rattle.trace_sessions.specs.StreamText.{Point, all_lines, closing_lines, fixes_among, full_id, points_in, stream_lines, text_led_by}
 use Rattle.trace_sessions.proofs.ByteLines.{IsOneLine, IsPlain, decimal-plain, ids_have_follow_texts_before, none-leads, plain-word}
-use Rattle.follow_work.specs.FollowedIds.{FollowsEachId, IsStreamOf, StreamsFollowEachId}
+use Rattle.follow_work.specs.FollowedIds.{FollowsEachId, StreamsFollowEachId}
 use Rattle.follow_work.specs.Streams.{pairs_of, streamed_of, stream_ending, stream_refusal, streams_job, too_long_line, whole_traces}
 use Rattle.follow_work.proofs.IdTraces.{traces-of_ids}
 use Rattle.follow_work.proofs.ReadIds.{HasShortId, read_ids}

@@ -50,7 +50,7 @@ drives_have_follow_texts_before n p idle points id last small own one other =
     let whole : concat (lines ++ last ∷ []) ≡ concat lines ++ last = concat-append lines (last ∷ []) ∙ ap (λ t. concat lines ++ t) (append-nil last) in
     let none : lines_led_by id (last ∷ []) ≡ [] = ap (λ b. map (drop (length lead)) (cond b (last ∷ []) [])) other in
     let led : lines_led_by id (lines ++ last ∷ []) ≡ lines_led_by id lines =
-        led-append id lines (last ∷ []) ∙ ap (λ ls. lines_led_by id lines ++ ls) none ∙ append-nil (lines_led_by id lines) in
+    led-append id lines (last ∷ []) ∙ ap (λ ls. lines_led_by id lines ++ ls) none ∙ append-nil (lines_led_by id lines) in
     ap (text_led_by id) (sym whole)
     ∙ parts-are-lines lead (lines ++ last ∷ []) (omega (arith, count)) plain are
     ∙ ap concat (led ∙ drives_are_followed_alone n p idle points id small own)
