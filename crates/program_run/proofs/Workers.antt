@@ -22,8 +22,8 @@ abbrev streamed : NetworkLimits → (network traces : List ℕ) (idle : ℕ) (en
 streamed limits network traces idle ends options =
     loads Network network (file_limit limits) 5 (network_said limits)
     (λ net. works_traces traces (if ends
-        then drives_job (record { network = net; params = options }) idle
-        else streams_job (record { network = net; params = options })))
+    then drives_job (record { network = net; params = options }) idle
+    else streams_job (record { network = net; params = options })))
 
 streams_alike : (limits : NetworkLimits) (network traces : List ℕ) (idle : ℕ) (options : Params) (workers : ℕ) (ends : Bool)
     → streamed limits network traces idle ends (with_workers workers options) ≡ streamed limits network traces idle ends options
