@@ -12,7 +12,7 @@ use Rattle.clap.proofs.OnLiterals.{clap_on_literals}
 use Rattle.command_line.specs.Syntax.{program}
 use Rattle.command_line.specs.Values.{name_of}
 use Rattle.command_line.specs.declared.value.ValueName.{ValueName}
-use Rattle.command_line.specs.declared.value.ValueName.TheVariants.{K, Radius, Sigma, Beta, Bound, Workers, Back, Gap, N, T, Seed}
+use Rattle.command_line.specs.declared.value.ValueName.TheVariants.{K, Radius, Sigma, Beta, Bound, Workers, Back, Gap, Idle, N, T, Seed}
 use Rattle.decimal_text.specs.Number.{decimal}
 use Rattle.match_words.specs.MatchWords.{AreGiven, IsOption, OptionValue, option_words}
 use Rattle.match_words.proofs.Names.{names-differ, ranges-fit}
@@ -63,6 +63,7 @@ is-flag Bound is = record { walks = λ rows pending. refl; free = λ rows pendin
 is-flag Workers is = record { walks = λ rows pending. refl; free = λ rows pending. refl; plain = λ rows v. refl; settles = λ rows v. refl; fault = λ rows v. refl }
 is-flag Back is = record { walks = λ rows pending. refl; free = λ rows pending. refl; plain = λ rows v. refl; settles = λ rows v. refl; fault = λ rows v. refl }
 is-flag Gap is = record { walks = λ rows pending. refl; free = λ rows pending. refl; plain = λ rows v. refl; settles = λ rows v. refl; fault = λ rows v. refl }
+is-flag Idle is = absurd is
 is-flag N is = absurd is
 is-flag T is = absurd is
 is-flag Seed is = absurd is

@@ -19,7 +19,7 @@ use Rattle.command_line.specs.works.Match.{match_of}
 use Rattle.command_line.specs.declared.fault.WordsFault.{WordsFault}
 use Rattle.command_line.specs.declared.fault.WordsFault.TheVariants.{BadValue}
 use Rattle.command_line.specs.declared.value.ValueName.{ValueName}
-use Rattle.command_line.specs.declared.value.ValueName.TheVariants.{K, Radius, Sigma, Beta, Bound, Workers, Back, Gap, N, T, Seed}
+use Rattle.command_line.specs.declared.value.ValueName.TheVariants.{K, Radius, Sigma, Beta, Bound, Workers, Back, Gap, Idle, N, T, Seed}
 use Rattle.cost_model.specs.Options.{IsWithin, default_options}
 use Rattle.cost_model.specs.declared.params.Params.{Params}
 use Rattle.decimal_text.specs.Number.{decimal}
@@ -67,6 +67,7 @@ no-table Bound is = refl
 no-table Workers is = refl
 no-table Back is = refl
 no-table Gap is = refl
+no-table Idle is = absurd is
 no-table N is = absurd is
 no-table T is = absurd is
 no-table Seed is = absurd is
@@ -120,6 +121,7 @@ module _ (net tra : Text) (given : List OptionValue) where
   not-arguments Workers is = refl
   not-arguments Back is = refl
   not-arguments Gap is = refl
+  not-arguments Idle is = absurd is
   not-arguments N is = absurd is
   not-arguments T is = absurd is
   not-arguments Seed is = absurd is

@@ -5,7 +5,7 @@ use Rattle.std.proofs.lemmas.Bool.{false_from_ne_true}
 use Rattle.std.proofs.lemmas.Slice.Eq.{bytes_eq-Decides}
 use Rattle.command_line.specs.Values.{name_of, range_of}
 use Rattle.command_line.specs.declared.value.ValueName.{ValueName}
-use Rattle.command_line.specs.declared.value.ValueName.TheVariants.{K, Radius, Sigma, Beta, Bound, Workers, Back, Gap, N, T, Seed}
+use Rattle.command_line.specs.declared.value.ValueName.TheVariants.{K, Radius, Sigma, Beta, Bound, Workers, Back, Gap, Idle, N, T, Seed}
 
 -- the value of this name
 named : List ℕ → ValueName
@@ -18,8 +18,9 @@ named name =
     (cond (bytes_eq name (codes "workers")) Workers
     (cond (bytes_eq name (codes "back")) Back
     (cond (bytes_eq name (codes "gap")) Gap
+    (cond (bytes_eq name (codes "idle")) Idle
     (cond (bytes_eq name (codes "N")) N
-    (cond (bytes_eq name (codes "T")) T Seed)))))))))
+    (cond (bytes_eq name (codes "T")) T Seed))))))))))
 
 named-is : (name : ValueName) → named (name_of name) ≡ name
 unfolding named
@@ -31,6 +32,7 @@ named-is Bound = refl
 named-is Workers = refl
 named-is Back = refl
 named-is Gap = refl
+named-is Idle = refl
 named-is N = refl
 named-is T = refl
 named-is Seed = refl
@@ -50,6 +52,7 @@ ranges-fit Bound = omega arith
 ranges-fit Workers = omega arith
 ranges-fit Back = omega arith
 ranges-fit Gap = omega arith
+ranges-fit Idle = omega arith
 ranges-fit N = omega arith
 ranges-fit T = omega arith
 ranges-fit Seed = omega arith

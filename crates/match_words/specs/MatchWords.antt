@@ -6,7 +6,7 @@ use Rattle.command_line.specs.Values.{name_of, range_of}
 use Rattle.command_line.specs.Work.PlainWork.{match_files}
 use Rattle.command_line.specs.Words.{command_of}
 use Rattle.command_line.specs.declared.value.ValueName.{ValueName}
-use Rattle.command_line.specs.declared.value.ValueName.TheVariants.{K, Radius, Sigma, Beta, Bound, Workers, Back, Gap, N, T, Seed}
+use Rattle.command_line.specs.declared.value.ValueName.TheVariants.{K, Radius, Sigma, Beta, Bound, Workers, Back, Gap, Idle, N, T, Seed}
 use Rattle.cost_model.specs.Options.{IsWithin, default_options}
 use Rattle.cost_model.specs.declared.params.Params.{Params}
 use Rattle.decimal_text.specs.Number.{decimal}
@@ -30,8 +30,9 @@ option_words (o ∷ given) = (codes "--" ++ name_of o.name) ∷ decimal o.value 
 abbrev pub match_words : (network traces : List ℕ) → List OptionValue → List (List ℕ)
 match_words network traces given = codes "match" ∷ network ∷ traces ∷ option_words given
 
--- an option, and not a number that `town` takes
+-- an option of `match`, and neither that of `streams` nor a number that `town` takes
 abbrev pub IsOption : ValueName → Type 0
+IsOption Idle = ⊥
 IsOption N = ⊥
 IsOption T = ⊥
 IsOption Seed = ⊥
