@@ -1,7 +1,6 @@
 """`fmm streams --idle`: its text is that of a plain account of the drives, each of which is followed by `fmm follow`."""
 from __future__ import annotations
 
-import os
 import subprocess
 from collections.abc import Sequence
 from dataclasses import dataclass, field
@@ -202,17 +201,11 @@ def test_without_times_no_drive_ends_early(folder: Path, rows: list[Row], idle: 
     assert run(folder, "streams", text, ["--idle", str(idle)]) == run(folder, "streams", text, [])
 
 
-def peak(folder: Path, ids: int, words: Sequence[str]) -> int:
-    """The most memory in KiB of `streams` for this many ids that report once each, a second apart."""
-    (folder / "once.csv").write_text(trace_text([Row(i, 500, 5000, i) for i in range(ids)]))
-    with subprocess.Popen([str(PROGRAM), "streams", "net.csv", "once.csv", *words], cwd=folder, stdout=subprocess.DEVNULL) as started:
-        _, status, usage = os.wait4(started.pid, 0)
-        started.returncode = os.waitstatus_to_exitcode(status)
-    assert started.returncode == 0
-    return usage.ru_maxrss
-
-
-def test_memory_follows_the_open_drives(folder: Path) -> None:
-    few, many = (peak(folder, ids, ["--idle", "60"]) for ids in (20_000, 100_000))
-    assert many < few + 1024
-    assert peak(folder, 100_000, []) > many + 8 * 1024
+@pytest.mark.parametrize("words, status", [(["--idle", "60"], 0), ([], 1)])
+def test_drives_that_ended_take_no_memory(folder: Path, words: list[str], status: int) -> None:
+    """30 MB are enough for 100,000 ids that report once each, a second apart, exactly if their drives end."""
+    (folder / "once.csv").write_text(trace_text([Row(i, 500, 5000, i) for i in range(100_000)]))
+    within = ["sh", "-c", 'ulimit -v 30000 && exec "$@"', "sh"]
+    done = subprocess.run([*within, str(PROGRAM), "streams", "net.csv", "once.csv", *words], cwd=folder, capture_output=True,
+                          check=False)
+    assert (done.returncode, done.stderr) == (status, b"fmm: out of memory\n" if status else b"")
