@@ -80,7 +80,7 @@ driven-more on idle d d' before more t t' has takes =
     let rows = takes on (ended_among idle no_drives front) (fleet_of idle before) has.at in
     let all = points-append before more in
     let joined = subst (λ f. IsAt on d' (ended_among idle no_drives (front ++ back)) f) (sym (rows-append idle no_drives front back))
-        (subst (λ ds. IsAt on d' ds (with_rows idle (fleet_of idle before) back)) (sym (ended-append idle no_drives front back)) rows.at) in
+    (subst (λ ds. IsAt on d' ds (with_rows idle (fleet_of idle before) back)) (sym (ended-append idle no_drives front back)) rows.at) in
     record {
       at = subst (λ ps. IsAt on d' (ended_among idle no_drives ps) (with_rows idle no_drives ps)) (sym all) joined;
       count = (
@@ -140,13 +140,13 @@ ending-is on s times rows rows' tally ended drives many pieces count old new has
     let written = at-setting (λ m q. new ≡ old ++ concat (closing_lines m q drives)) on s has.network has.params ends.written in
     let told = at-setting (λ m q. pieces_of_all m q drives ≡ pieces_told m q drives + pieces) on s has.network has.params ends.counted in
     let traces_are : tally.traces + many ≡ length whole = (
-        let both = length-append ended drives in
-        let all = length-map (ended ++ drives) trace_of in
-        omega (arith, has.traces_are, opened, both, all)) in
+    let both = length-append ended drives in
+    let all = length-map (ended ++ drives) trace_of in
+    omega (arith, has.traces_are, opened, both, all)) in
     let points_are : tally.points ≡ points_of whole = has.points_are ∙ sym (total-points ended drives) in
     let pieces_are : tally.pieces + pieces ≡ pieces_of on whole = (
-        let all = total-pieces on ended drives in
-        omega (arith, has.pieces_are, told, all)) in
+    let all = total-pieces on ended drives in
+    omega (arith, has.pieces_are, told, all)) in
     let rows_are : count ≡ rows_of on whole = counted ∙ rows-counted on s times rows rows' tally ended drives has asks listed in
     ap (λ t. t ++ total_line (tally.traces + many) tally.points (tally.pieces + pieces) count) written
     ∙ ap (λ t. (old ++ lines) ++ t)

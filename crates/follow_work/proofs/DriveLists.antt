@@ -102,7 +102,7 @@ full-few id fixes (e ∷ drives) different found few =
         let low : nat_le 100_000 (length e.1) ≡ false = grind (arith, nat_tests) in
         let is_own : id ≡ e.0 = grind (arith, nat_tests) in
         let none : lookup (nat_eq id) drives ≡ None =
-            ap (λ j. lookup (nat_eq j) drives) is_own ∙ absent e.0 drives (IsDistinct-head nat_eq e.0 (keys_of drives) different) in
+        ap (λ j. lookup (nat_eq j) drives) is_own ∙ absent e.0 drives (IsDistinct-head nat_eq e.0 (keys_of drives) different) in
         ap (λ b. cond b (e ∷ rest) rest) low ∙ full-none id drives none
     step false is found later = later found few
 
@@ -122,7 +122,7 @@ full-one id fixes (e ∷ drives) different found full =
         let high : nat_le 100_000 (length e.1) ≡ true = grind (arith, nat_tests) in
         let is_own : id ≡ e.0 = grind (arith, nat_tests) in
         let none : lookup (nat_eq id) drives ≡ None =
-            ap (λ j. lookup (nat_eq j) drives) is_own ∙ absent e.0 drives (IsDistinct-head nat_eq e.0 (keys_of drives) different) in
+        ap (λ j. lookup (nat_eq j) drives) is_own ∙ absent e.0 drives (IsDistinct-head nat_eq e.0 (keys_of drives) different) in
         ap (λ b. cond b (e ∷ rest) rest) high ∙ ap (λ ds. e ∷ ds) (full-none id drives none)
         ∙ ap (λ k. (k, e.1) ∷ []) (sym is_own) ∙ ap (λ fs. (id, fs) ∷ []) same
     step false is found later = later found full
@@ -146,6 +146,6 @@ room-left id (e ∷ drives) different =
     step true is later =
         let is_own : id ≡ e.0 = grind (arith, nat_tests) in
         let none : lookup (nat_eq id) drives ≡ None =
-            ap (λ j. lookup (nat_eq j) drives) is_own ∙ absent e.0 drives (IsDistinct-head nat_eq e.0 (keys_of drives) different) in
+        ap (λ j. lookup (nat_eq j) drives) is_own ∙ absent e.0 drives (IsDistinct-head nat_eq e.0 (keys_of drives) different) in
         by-length (nat_le 100_000 (length e.1)) refl is (none-out (is_full_of id) drives (full-none id drives none)) none
     step false is later = ap (λ b. nat_lt (length (unwrap_or (cond b (Some e.1) (lookup (nat_eq id) rest)) [])) 100_000) is ∙ later

@@ -70,8 +70,8 @@ row-taken on idle id fix ended fleet clock d0 d1 d2 d3 d4 t0 t1 t2 t3 clock_is c
     let one = subst (λ c. EndsAll on ended fleet.drives (is_idle idle c) d1 d2 t0 t1) same first in
     let two = subst (λ c. EndsAll on (ended ++ filter (is_idle idle c) fleet.drives) (others (is_idle idle c) fleet.drives) (is_full_of id) d2 d3 t1 t2) same second in
     let three = subst
-        (λ c. TakesFix on ((ended ++ filter (is_idle idle c) fleet.drives) ++ filter (is_full_of id) (others (is_idle idle c) fleet.drives)) (others (is_full_of id) (others (is_idle idle c) fleet.drives)) id fix d3 d4 t2 t3)
-        same third in
+    (λ c. TakesFix on ((ended ++ filter (is_idle idle c) fleet.drives) ++ filter (is_full_of id) (others (is_idle idle c) fleet.drives)) (others (is_full_of id) (others (is_idle idle c) fleet.drives)) id fix d3 d4 t2 t3)
+    same third in
     let front = filter (is_idle idle (clock_at fleet x)) fleet.drives in
     let back = filter (is_full_of id) (awake_at idle fleet x) in
     let parts : (ended ++ front) ++ back ≡ ended ++ ((front ++ back) ++ []) = append_assoc ended front back ∙ ap (λ ds. ended ++ ds) (sym (append-nil (front ++ back))) in
@@ -102,7 +102,7 @@ rows-then idle front back d0 d1 d2 t0 t1 t2 first second on ended fleet at =
     let gone = ended_among idle fleet front in
     let two = second on (ended ++ gone) next one.at in
     let parts : (ended ++ gone) ++ ended_among idle next back ≡ ended ++ ended_among idle fleet (front ++ back) =
-        append_assoc ended gone (ended_among idle next back) ∙ ap (λ ds. ended ++ ds) (sym (ended-append idle fleet front back)) in
+    append_assoc ended gone (ended_among idle next back) ∙ ap (λ ds. ended ++ ds) (sym (ended-append idle fleet front back)) in
     let a = concat (drive_lines n p idle fleet front) in
     let b = concat (drive_lines n p idle next back) in
     record {

@@ -1,35 +1,28 @@
 -- Where `streams` is done, each id has what `follow` writes of its trace.
-use Rattle.std.proofs.Common.{◌≡◌, ℕ, ◌<◌, ◌^◌, not, Bool, true, false, cond, List, [], ◌∷◌, ◌++◌, Option, Some, None, Result, Ok, Err, refl, sym, ap, ◌∙◌, subst, arith, codes, length, map, nat_eq}
+use Rattle.std.proofs.Common.{◌≡◌, ℕ, ◌<◌, ◌^◌, not, Bool, true, false, cond, List, [], ◌∷◌, ◌++◌, Option, Some, None, refl, sym, ap, ◌∙◌, arith, codes, length, map, nat_eq}
 use Rattle.std.specs.List.{All, concat, filter, list_all}
 use Rattle.std.specs.Prelude.{option_map}
 use Rattle.std.proofs.lemmas.Bool.Decides.{nat_tests}
 use Rattle.std.proofs.lemmas.List.{append_assoc}
 use Rattle.std.proofs.lemmas.List.Elements.{All-append, All-cons, All-head, All-nil, All-tail}
 use Rattle.std.proofs.lemmas.List.Folds.{concat-append}
-use Rattle.cost_model.specs.declared.params.Params.{Params}
 use Rattle.decimal_text.specs.Number.{decimal, unsigned_within}
 use Rattle.match_text.specs.Reading.{number_at}
 use Rattle.program_frame.specs.Counts.{total_of}
-use Rattle.program_frame.specs.Jobs.{bytes_give, given_by, points_of}
-use Rattle.program_frame.specs.Outcome.{Outcome, refused_with, seen}
-use Rattle.program_frame.specs.Plan.{accepts, and_then, outcome_of}
-use Rattle.program_frame.specs.Refusals.{network_said, trace_limit}
-use Rattle.program_frame.specs.Stream.{works_traces}
+use Rattle.program_frame.specs.Jobs.{points_of}
 use Rattle.program_frame.specs.Total.{total_line, worded}
-use Rattle.road_network.specs.Limits.{file_limit}
-use Rattle.road_network.specs.Net.{Net}
 use Rattle.trace_match.specs.Setting.{Setting}
 use Rattle.trace_match.specs.Totals.{pieces_of, rows_of}
 use Rattle.trace_reader.specs.Reading.{file_fault, file_traces}
-use Rattle.trace_reader.specs.declared.fault.TraceFault.{TraceFault}
 use Rattle.trace_reader.specs.declared.trace.Fix.{Fix}
 use Rattle.trace_reader.specs.declared.trace.Trace.{Trace}
 use Rattle.trace_sessions.specs.StreamText.{Point, all_lines, closing_lines, fixes_among, full_id, points_in, stream_lines, text_led_by}
 use Rattle.trace_sessions.proofs.ByteLines.{IsOneLine, IsPlain, decimal-plain, ids_have_follow_texts_before, none-leads, plain-word}
-use Rattle.follow_work.specs.FollowedIds.{FollowsEachId, IsStreamOf, StreamsFollowEachId}
+use Rattle.follow_work.specs.FollowedIds.{FollowsEachId, StreamsFollowEachId}
 use Rattle.follow_work.specs.Streams.{pairs_of, streamed_of, stream_ending, stream_refusal, streams_job, too_long_line, whole_traces}
 use Rattle.follow_work.proofs.IdTraces.{traces-of_ids}
 use Rattle.follow_work.proofs.ReadIds.{HasShortId, read_ids}
+use Rattle.follow_work.proofs.StreamOutcomes.{outcome-says}
 
 -- ---- ids below 2^32
 
@@ -40,7 +33,7 @@ small-fixes : (id : ℕ) (fixes : List Fix) → id < 2 ^ 32 → All IsSmall (map
 small-fixes id [] small = All-nil IsSmall
 small-fixes id (fix ∷ fixes) small = All-cons IsSmall (id, fix) (map (λ (f : Fix). (id, f)) fixes) small (small-fixes id fixes small)
 
-small-points : (traces : List Trace) → All HasShortId traces → All IsSmall (points_in traces)
+pub small-points : (traces : List Trace) → All HasShortId traces → All IsSmall (points_in traces)
 small-points [] are = All-nil IsSmall
 small-points (trace ∷ traces) are =
     All-append IsSmall (map (λ (fix : Fix). (trace.id, fix)) trace.fixes) (points_in traces)
@@ -65,7 +58,7 @@ small-id id (x ∷ more) are some = step (nat_eq id x.0) refl some (small-id id 
 worded-plain : (word : List ℕ) (n : ℕ) → list_all (λ b. not (nat_eq b 10)) word ≡ true → All IsPlain (worded word n)
 worded-plain word n plain = All-append IsPlain word (decimal n) (plain-word word plain) (decimal-plain n)
 
-total-one : (traces points pieces rows : ℕ) → IsOneLine (total_line traces points pieces rows)
+pub total-one : (traces points pieces rows : ℕ) → IsOneLine (total_line traces points pieces rows)
 total-one traces points pieces rows =
     let first = worded (codes "total traces ") traces in
     let second = worded (codes " points ") points in
@@ -79,7 +72,7 @@ total-one traces points pieces rows =
       is = refl;
     }
 
-no-number : (traces points pieces rows : ℕ) → number_at (2 ^ 32) (total_line traces points pieces rows) ≡ None
+pub no-number : (traces points pieces rows : ℕ) → number_at (2 ^ 32) (total_line traces points pieces rows) ≡ None
 unfolding number_at unsigned_within
 no-number traces points pieces rows = refl
 
@@ -122,63 +115,15 @@ follows on bytes whole none =
 
 -- ---- the outcome
 
-record IsDone (refusal : Option (List ℕ)) (fault : Option TraceFault) (texts ending : List ℕ) (o : Outcome) : Type 0 where
-  none : refusal ≡ None
-  whole : fault ≡ None
-  out_is : o.out ≡ texts ++ ending
-
-done-of : (refusal : Option (List ℕ)) (fault : Option TraceFault) (texts ending : List ℕ) (o : Outcome) → given_by refusal fault texts ending ≡ o → o.status ≡ 0 → IsDone refusal fault texts ending o
-done-of (Some line) fault texts ending o is done =
-    let status : 6 ≡ o.status = ap (λ (x : Outcome). x.status) is in absurd (omega (arith, status, done))
-done-of None (Some fault) texts ending o is done =
-    let status : 6 ≡ o.status = ap (λ (x : Outcome). x.status) is in absurd (omega (arith, status, done))
-done-of None None texts ending o is done = record { none = refl; whole = refl; out_is = sym (ap (λ (x : Outcome). x.out) is) }
-
-by-bytes : (on : Setting) (bytes : List ℕ) (o : Outcome) → bytes_give (streams_job on) bytes ≡ o → o.status ≡ 0 → FollowsEachId on bytes o.out
-by-bytes on bytes o is done =
-    let traces = file_traces bytes in
-    let d = done-of (stream_refusal traces) (file_fault bytes) (streamed_of on traces) (stream_ending on traces) o is done in
-    subst (λ (text : List ℕ). FollowsEachId on bytes text) (sym d.out_is) (follows on bytes d.whole d.none)
-
--- what was read on the way to the outcome
-record AreRead (on : Setting) (held : Option (List ℕ)) (text : List ℕ) : Type 0 where
-  bytes : List ℕ
-  held_is : held ≡ Some bytes
-  follows_is : FollowsEachId on bytes text
-
-by-held : (on : Setting) (held : Option (List ℕ)) (o : Outcome) → and_then held (λ bytes. let r : Option Outcome = Some (bytes_give (streams_job on) bytes) in r) ≡ Some o → o.status ≡ 0 → AreRead on held o.out
-by-held on None o is done = absurd (cc is)
-by-held on (Some bytes) o is done = record { bytes = bytes; held_is = refl; follows_is = by-bytes on bytes o (cc is) done }
-
-record IsAcceptedNet (options : Params) (said : Result Net (List ℕ)) (held : Option (List ℕ)) (text : List ℕ) : Type 0 where
-  net : Net
-  said_is : said ≡ Ok net
-  read : AreRead (record { network = net; params = options }) held text
-
-by-said : (traces : List ℕ) (options : Params) (files : List ℕ → Option (List ℕ)) (said : Result Net (List ℕ)) (o : Outcome)
-    → outcome_of (accepts 5 said (λ net. works_traces traces (streams_job (record { network = net; params = options })))) files ≡ Some o → o.status ≡ 0
-    → IsAcceptedNet options said (seen trace_limit (files traces)) o.out
-by-said traces options files (Ok net) o is done =
-    record { net = net; said_is = refl; read = by-held (record { network = net; params = options }) (seen trace_limit (files traces)) o is done }
-by-said traces options files (Err line) o is done =
-    let same : refused_with 5 line ≡ o = cc is in
-    let status : 5 ≡ o.status = ap (λ (x : Outcome). x.status) same in
-    absurd (omega (arith, status, done))
-
 pub streams_follow_each_id : StreamsFollowEachId
-streams_follow_each_id limits network traces options files o = step (seen (file_limit limits) (files network)) refl
-  where
-    step : (held : Option (List ℕ)) → seen (file_limit limits) (files network) ≡ held
-        → and_then held (λ roads. outcome_of (accepts 5 (network_said limits roads) (λ net. works_traces traces (streams_job (record { network = net; params = options })))) files) ≡ Some o
-        → o.status ≡ 0 → IsStreamOf limits network traces options files o.out
-    step None held_is is done = absurd (cc is)
-    step (Some roads) held_is is done =
-        let a = by-said traces options files (network_said limits roads) o is done in record {
-          roads = roads;
-          net = a.net;
-          bytes = a.read.bytes;
-          roads_are = held_is;
-          accepted = a.said_is;
-          bytes_are = a.read.held_is;
-          follows = a.read.follows_is;
-        }
+streams_follow_each_id limits network traces options files o is done =
+    let r = outcome-says streams_job FollowsEachId follows limits network traces options files o is done in
+    record {
+      roads = r.roads;
+      net = r.accepted.net;
+      bytes = r.accepted.read.bytes;
+      roads_are = r.roads_are;
+      accepted = r.accepted.said_is;
+      bytes_are = r.accepted.read.held_is;
+      follows = r.accepted.read.holds;
+    }

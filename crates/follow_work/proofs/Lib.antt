@@ -15,3 +15,5 @@ pub mod DriveRows
 pub mod DriveJobs
 pub mod StreamsWithin
 pub mod TimeBounds
+pub mod StreamOutcomes
+pub mod FollowedDrives

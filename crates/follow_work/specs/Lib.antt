@@ -5,4 +5,5 @@ pub mod Drives
 pub mod StreamTexts
 pub mod Streams
 pub mod FollowedIds
+pub mod FollowedDrives
 pub mod inside

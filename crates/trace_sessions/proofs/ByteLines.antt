@@ -141,7 +141,7 @@ items-one n [] = All-nil IsOneLine
 items-one n (item ∷ items) = All-cons IsOneLine (item_line n item) (item_lines n None items) (item-one n item) (items-one n items)
 
 -- with the id before each
-led-one : (id : ℕ) (lines : List (List ℕ)) → All IsOneLine lines → All IsOneLine (led_by id lines)
+pub led-one : (id : ℕ) (lines : List (List ℕ)) → All IsOneLine lines → All IsOneLine (led_by id lines)
 led-one id [] are = All-nil IsOneLine
 led-one id (text ∷ lines) are =
     let lead = All-append IsPlain (decimal id) (32 ∷ []) (decimal-plain id) (All-cons IsPlain 32 [] refl (All-nil IsPlain)) in
@@ -156,7 +156,7 @@ first-one id (fix ∷ fixes) = All-nil IsOneLine
 point-one : (n : Net) (p : Params) (layers : List Layer) (i : ℕ) → All IsOneLine (point_lines n p layers i)
 point-one n p layers i = All-cons IsOneLine (fix_line i) (item_lines n None (handed_at n p layers i)) (numbered (codes "fix") i refl) (items-one n (handed_at n p layers i))
 
-fix-one : (n : Net) (p : Params) (id : ℕ) (fixes : List Fix) (fix : Fix) → All IsOneLine (lines_of_fix n p id fixes fix)
+pub fix-one : (n : Net) (p : Params) (id : ℕ) (fixes : List Fix) (fix : Fix) → All IsOneLine (lines_of_fix n p id fixes fix)
 fix-one n p id fixes fix =
     let layers = map (layer_of n p) (fixes ++ fix ∷ []) in
     All-append IsOneLine (first_line id fixes) (point_lines n p layers (length fixes)) (first-one id fixes) (point-one n p layers (length fixes))
@@ -182,7 +182,7 @@ end-one n p pair =
     led-one pair.0 (last_lines n p layers ++ end_line pair.0 ∷ [])
     (All-append IsOneLine (last_lines n p layers) (end_line pair.0 ∷ []) last (All-cons IsOneLine (end_line pair.0) [] (numbered (codes "end") pair.0 refl) (All-nil IsOneLine)))
 
-closing-one : (n : Net) (p : Params) (pairs : List Pair) → All IsOneLine (closing_lines n p pairs)
+pub closing-one : (n : Net) (p : Params) (pairs : List Pair) → All IsOneLine (closing_lines n p pairs)
 closing-one n p [] = All-nil IsOneLine
 closing-one n p (pair ∷ pairs) = All-append IsOneLine (lines_at_end n p pair) (closing_lines n p pairs) (end-one n p pair) (closing-one n p pairs)
 
@@ -229,7 +229,7 @@ none-begins : (lead : List ℕ) → 0 < length lead → begins lead [] ≡ false
 none-begins [] some = absurd (omega (arith, some))
 none-begins (y ∷ lead) some = refl
 
-parts-are-lines : (lead : List ℕ) (lines : List (List ℕ)) → 0 < length lead → All IsPlain lead → All IsOneLine lines
+pub parts-are-lines : (lead : List ℕ) (lines : List (List ℕ)) → 0 < length lead → All IsPlain lead → All IsOneLine lines
     → in_parts lead (slice_split (λ b. nat_eq b 10) (concat lines)) ≡ in_lines lead lines
 parts-are-lines lead [] some plain are =
     ap (λ b. concat (map (λ part. drop (length lead) part ++ 10 ∷ []) (cond b ([] ∷ []) []))) (none-begins lead some)

@@ -25,3 +25,4 @@ pub mod ByteLines
 pub mod BestEnds
 pub mod LatestPoint
 pub mod CommonLabels
+pub mod DriveBytes
