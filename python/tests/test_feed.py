@@ -27,7 +27,7 @@ def start(*words, **more):
 def test_rows_are_numbered_by_vehicle():
     done = feed("a,1,2,100\n007,3,4,100\n7,5,6,100\na,2,2,105\n", "--format", "rows", "--ids", "ids.csv")
     assert done.returncode == 0
-    assert rows(done.stdout) == [(1, 100, 200, 100), (1, 200, 200, 105), (2, 300, 400, 100), (3, 500, 600, 100)]
+    assert rows(done.stdout) == [(1, 100, 200, 100), (2, 300, 400, 100), (3, 500, 600, 100), (1, 200, 200, 105)]
     assert open("ids.csv").read() == "trace,id\n1,a\n2,007\n3,7\n"
     assert open("ids.csvt").read() == '"Integer64","String"\n'
     assert done.stderr == "fmm feed: positions: 4, left out: 0, drives: 3\n"

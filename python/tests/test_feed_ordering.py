@@ -44,3 +44,12 @@ def test_earlier_positions_go_with_one_that_is_due():
     waiting.add(Position(98, "a", 0, 0, 1003))
     assert [p.time for p in waiting.due({"a"}, 1005)] == [98, 100]
     assert waiting.due({"a"}, 2000) == []
+
+
+def test_positions_of_all_vehicles_come_in_the_order_of_their_times():
+    """So that `streams --idle` ends no drive because another vehicle was read first."""
+    waiting = Waiting(5)
+    for vehicle, time in (("a", 100), ("a", 200), ("b", 103), ("a", 300), ("b", 203), ("b", 303)):
+        waiting.add(Position(time, vehicle, 0, 0, 1000))
+    assert [(p.time, p.vehicle) for p in waiting.due({"a", "b"}, 1000)] == [(100, "a"), (103, "b"), (200, "a"), (203, "b")]
+    assert [(p.time, p.vehicle) for p in waiting.all()] == [(300, "a"), (303, "b")]

@@ -207,7 +207,7 @@ def test_the_program_ends_drives_if_it_can(made, tmp_path):
     help_text = subprocess.run([str(TOP / "fmm"), "streams", "--help"], capture_output=True, text=True, check=True).stdout
     can = "--idle" in help_text
     assert knows(_programs.program(False), "--idle") is can
-    run = Run(made.network.path, tmp_path, "--idle", "100")
+    run = Run(made.network.path, tmp_path, "--idle", "100", "--wait", "0")
     run.give(made.lines())
     if can:
         assert run.end() == 0

@@ -52,7 +52,8 @@ class Waiting:
         return self.dues[0][0] if self.count else float("inf")
 
     def due(self, vehicles: set[str], now: float) -> list[Position]:
-        """Takes out the positions that are due now. `vehicles` are those that got positions since the last call."""
+        """Takes out the positions that are due now, in the order of their times. `vehicles` are those that got positions since the
+        last call."""
         found: list[Position] = []
         for vehicle in sorted(vehicles):
             held = self.of_vehicle.get(vehicle)
@@ -61,13 +62,13 @@ class Waiting:
         while self.dues and self.dues[0][0] <= now:
             _, time, vehicle = heapq.heappop(self.dues)
             found += self._take(vehicle, time)
-        return found
+        return sorted(found)
 
     def all(self) -> list[Position]:
-        """Takes out all positions."""
+        """Takes out all positions, in the order of their times."""
         found = [position for vehicle in list(self.of_vehicle) for position in self._take(vehicle, float("inf"))]
         self.dues = []
-        return found
+        return sorted(found)
 
     def _take(self, vehicle: str, until: float) -> list[Position]:
         """Takes out the positions of a vehicle up to a time."""
