@@ -52,8 +52,10 @@ class Waiting:
         return self.dues[0][0] if self.count else float("inf")
 
     def due(self, vehicles: set[str], now: float) -> list[Position]:
-        """Takes out the positions that are due now, in the order of their times. `vehicles` are those that got positions since the
-        last call."""
+        """Takes out the positions that are due now, in the order of their times.
+
+        `vehicles` are those that got positions since the last call.
+        """
         found: list[Position] = []
         for vehicle in sorted(vehicles):
             held = self.of_vehicle.get(vehicle)
