@@ -55,6 +55,17 @@ def test_a_shuffled_feed_is_put_in_order():
         assert mine == sorted(mine)
 
 
+def test_times_without_a_zone_are_said_once():
+    text = "a,1,2,1970-01-02T00:00:00\na,1,3,1970-01-02T00:00:05\na,1,4,1970-01-02T00:00:10Z\n"
+    done = feed(text, "--format", "rows")
+    assert [row[3] for row in rows(done.stdout)] == [86400, 86405, 86410]
+    assert done.stderr.count("times that name no time zone count as UTC; --timezone says theirs") == 1
+    done = feed(text, "--format", "rows", "--state", "other.db", "--timezone", "Asia/Tokyo")
+    assert [row[3] for row in rows(done.stdout)] == [86400 - 9 * 3600, 86405 - 9 * 3600, 86410] and "UTC" not in done.stderr
+    done = feed(text, "--format", "rows", "--timezone", "Mars")
+    assert done.returncode == 2 and "zone Mars is no time zone" in done.stderr
+
+
 def test_what_came_before_is_left_out_also_after_a_restart():
     feed("a,1,2,100\na,1,2,105\n", "--format", "rows")
     done = feed("a,1,2,105\na,1,2,100\na,1,2,110\na,1,2,110\n", "--format", "rows")

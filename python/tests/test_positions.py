@@ -17,7 +17,6 @@ from hypothesis import strategies as st
 from shapely.geometry import LineString, Point
 
 import fmm
-from fmm._reading.times import seconds
 from fmm.errors import InputError, MismatchError, OptionError
 from fmm.positions import Positions, read_positions
 
@@ -135,7 +134,7 @@ def test_a_table_that_is_cut(tmp_path: Path) -> None:
     ("7,0,0,5", "longitude 0 and latitude 0: a receiver without a fix"),
     (",9.4,54.3,5", "no id"),
     ("7,9.4,54.3,2024-02-31", "time 2024-02-31 is neither an ISO time nor seconds since 1970: write the date and the time of day "
-     "into one column"),
+     "into one column, or call their columns date and time"),
     ("7,9.4,54.3,05/06/2024 10:00", "time 05/06/2024 10:00 is neither an ISO time nor seconds since 1970: is the day or the "
      "month first? Write 2026-12-24 or 24.12.2026"),
     ("7,9.4,54.3,31.04.2024 10:00", "time 31.04.2024 10:00 is neither an ISO time nor seconds since 1970"),
@@ -184,46 +183,6 @@ def test_degrees_and_metres(tmp_path: Path) -> None:
     refused("centimetres in place of metres?", table(tmp_path, "7,56500000,601800000,5", header="id,x,y,time"))
     with pytest.raises(OptionError, match="crs=32Q is no coordinate reference system"):
         read_positions(metres, crs="32Q")
-
-
-# ---- times
-
-def test_times() -> None:
-    texts = ["2024-05-06T08:00:00Z", "2024-05-06 10:00:00+02:00", "2024-05-06T08:00", "2024-05-06T08:00:00.25Z", "1714982400.5",
-             "2024-05-06T03:30:00-0430", "2024-05-06T09:00:00,125+01", "2024-05-06t08:00:00z", "2024-12-31T23:59:60Z",
-             "1714982400", "06.05.2024 08:00:00", "6.5.2024, 8:00", "06.05.2024 10:00:00.5+02:00", "2024/05/06 08:00:00"]
-    found, faults = seconds(pd.Series(texts, dtype=object))
-    begin = 1714982400
-    assert found.tolist() == [begin, begin, begin, begin + .25, begin + .5, begin, begin + .125, begin, 1735689600, begin,
-                              begin, begin, begin + .5, begin]
-    assert (faults == "").all()
-
-
-def test_times_of_pandas() -> None:
-    naive = pd.Series(pd.to_datetime(["2024-05-06 08:00", None]))
-    assert seconds(naive)[0].tolist()[0] == 1714982400 and math.isnan(seconds(naive)[0][1])
-    zoned = pd.Series(pd.to_datetime(["2024-05-06 08:00"])).dt.tz_localize("Europe/Berlin")
-    assert seconds(zoned)[0].tolist() == [1714975200]
-    mixed = pd.Series([pd.Timestamp("2024-05-06 08:00", tz="Asia/Tokyo"), 17, "18", None], dtype=object)
-    assert seconds(mixed)[0].tolist()[:3] == [1714950000, 17, 18]
-
-
-@given(st.datetimes(min_value=pd.Timestamp(1970, 1, 2), max_value=pd.Timestamp(2105, 12, 31)), st.integers(-14 * 60, 14 * 60))
-def test_any_time_is_read_as_python_does(when: pd.Timestamp, minutes: int) -> None:
-    zone = f"{'-' if minutes < 0 else '+'}{abs(minutes) // 60:02}:{abs(minutes) % 60:02}"
-    text = when.isoformat() + zone
-    found, _ = seconds(pd.Series([text], dtype=object))
-    assert found[0] == pytest.approx(pd.Timestamp(text).timestamp(), abs=1e-5)
-
-
-@given(st.lists(st.text("0123456789-T:Z+. eE_", max_size=26), min_size=1, max_size=8))
-def test_a_time_has_a_value_or_a_fault(texts: List[str]) -> None:
-    found, faults = seconds(pd.Series(texts, dtype=object))
-    for text, value, fault in zip(texts, found, faults):
-        assert (fault == "") == (not math.isnan(value) or not text.strip())
-        if not math.isnan(value) and re.match(r"\s*\d{4}-", text):
-            assert value == pytest.approx(pd.Timestamp(text.strip().replace("24:00", "00:00"), tz=None).timestamp()
-                                          + 86400 * ("24:00" in text), abs=86400)
 
 
 # ---- tracks

@@ -103,6 +103,21 @@ def test_columns_of_a_table(place: Path) -> None:
     assert [row["speed"] for row in points] == [row["speed"] for row in given]
 
 
+def test_local_times(place: Path, capsys: pytest.CaptureFixture[str]) -> None:
+    """A logger's table: a date and a time of day apart, in local time. Hours and days are of the same zone."""
+    with open("fleet.csv", newline="") as file:
+        given = list(csv.DictReader(file))[:10]
+    Path("box.csv").write_text("Kennzeichen;Längengrad;Breitengrad;Datum;Uhrzeit\n" + "".join(
+        f"{row['plate']};{row['lon']};{row['lat']};06.05.2024;00:00:{5 * at:02}\n" for at, row in enumerate(given)))
+    assert run("village.osm", "box.csv", "--timezone", "Europe/Zurich") == 0
+    report = capsys.readouterr().out
+    assert "warning" not in report and "time from Datum and Uhrzeit" in report
+    assert rows("points.csv")[0]["time"] == "2024-05-05T22:00:00Z"
+    assert {row["day"] for row in rows("distances.csv")} == {"2024-05-06"}
+    assert run("village.osm", "box.csv") == 0
+    assert capsys.readouterr().out.startswith("warning: 10 times name no time zone and count as UTC; timezone (--timezone)")
+
+
 def test_network_as_map(place: Path) -> None:
     fmm.Network.from_osm("village.osm").save("network.csv")
     assert run("network.csv", "monday.gpx") == 0
@@ -168,6 +183,7 @@ def test_output_that_is_an_input(place: Path, capsys: pytest.CaptureFixture[str]
     (["village.osm", "monday.gpx", "--crs", "61N"], "61 is no UTM zone"),
     (["village.osm", "monday.gpx", "--zone", "Europa/Berlin"], "zone Europa/Berlin is no time zone; write a name such as"),
     (["village.osm", "monday.gpx", "--zone", ""], "is no time zone"),
+    (["village.osm", "monday.gpx", "--timezone", "Mars"], "zone Mars is no time zone"),
     (["village.osm", "monday.gpx", "--profile", "boat"], "invalid choice: 'boat'"),
     (["village.osm"], "the following arguments are required: POSITIONS"),
 ])

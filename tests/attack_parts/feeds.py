@@ -132,7 +132,7 @@ class Feeds:
 
     def __init__(self, room: Path) -> None:
         self.room = room
-        self.placing, self.timing = placing_of(None, "metres"), timing_of(False)
+        self.placing, self.timing = placing_of(None, "metres"), timing_of(False, "UTC", Notices("fmm feed"))
 
     def case(self, draw: Draw) -> str:
         """See Kind."""

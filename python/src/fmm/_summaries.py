@@ -9,8 +9,9 @@ import numpy as np
 import pandas as pd
 
 from . import _geometry
+from ._reading.zones import checked_zone
 from ._stops import Standing, Track, overlaps, standing
-from .errors import OptionError, shown
+from .errors import OptionError
 from .options import FASTEST
 
 ABOUT = ["way", "class", "name", "ref"]
@@ -107,15 +108,6 @@ def keys_of(edges: pd.DataFrame, points: pd.DataFrame, by: By, zone: str) -> Dic
         else:
             raise OptionError.unknown(name, [*TIMES, "vehicle", *edges.columns, *points.columns], "column")
     return keys
-
-
-def checked_zone(zone: str) -> str:
-    """The name of a time zone; an OptionError if there is none of this name."""
-    try:
-        pd.Timestamp(0, unit="s", tz=zone)
-    except (LookupError, ValueError, TypeError, OSError):  # those of pytz and zoneinfo are kinds of these
-        raise OptionError(f"zone {shown(zone)} is no time zone; write a name such as Europe/Berlin or UTC") from None
-    return zone
 
 
 def travel_times(edges: pd.DataFrame, stood: np.ndarray, keys: Dict[str, Any]) -> pd.DataFrame:

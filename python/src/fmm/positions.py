@@ -17,6 +17,7 @@ from ._reading.frames import DEGREES, rows_of_frame
 from ._reading.gpx import read_gpx
 from ._reading.layers import read_layer, read_query
 from ._reading.rows import Rows, Wanted
+from ._reading.zones import checked_zone
 from ._tables import escaped
 from .errors import InputError, MismatchError, OptionError, shown
 
@@ -43,6 +44,7 @@ class Positions:
     left_out  the rows that cannot be used: row, file, line (-1 if unknown), id, reason. They stay in `frame`
     sources   what was read
     notes     lines for a report: which columns were taken for what, traces without times
+    warnings  lines for a report: what to look at first
     parts     int64 for each row: rows of one id are joined only if their parts are equal, such as the segments of a track
     origin    for each row the number of its source and its line there (-1 if unknown): columns source, line
     """
@@ -54,6 +56,7 @@ class Positions:
     notes: List[str] = field(default_factory=list)
     parts: np.ndarray = field(default_factory=lambda: np.zeros(0, dtype=np.int64))
     origin: pd.DataFrame = field(default_factory=pd.DataFrame)
+    warnings: List[str] = field(default_factory=list)
 
     def __len__(self) -> int:
         return len(self.frame)
@@ -77,7 +80,7 @@ class Positions:
 
 def read_positions(sources: Any, *, id: Optional[str] = None, x: Optional[str] = None, y: Optional[str] = None,
                    time: Optional[str] = None, crs: Any = None, layer: Optional[str] = None,
-                   query: Optional[str] = None) -> Positions:
+                   query: Optional[str] = None, timezone: Optional[str] = None) -> Positions:
     """Reads positions.
 
     sources   a path, a glob pattern, a DataFrame or GeoDataFrame, an SQLAlchemy engine or the URL of a database (with
@@ -90,13 +93,15 @@ def read_positions(sources: Any, *, id: Optional[str] = None, x: Optional[str] =
               columns that are called longitude or latitude, the CRS of a layer, otherwise metres of the network's projection
     layer     the layer of a file that has several; with `query` the column of geometries ("geom" by default)
     query     the SQL query
+    timezone  of times that name none, such as "Europe/Zurich". By default they are in UTC, and `warnings` says so
 
-    Times are seconds since 1970, ISO times (in UTC if they name no zone), or times of pandas. Rows may come in any order, several
-    vehicles mixed. A row that cannot be used is in `left_out` with its reason. InputError: a file that cannot be read, has no
-    usable row, or is given twice; positions that look like degrees where metres are expected, or the reverse.
+    Times are seconds since 1970, ISO times, or times of pandas; a date and a time of day may stand in two columns, such as date
+    and time. Rows may come in any order, several vehicles mixed. A row that cannot be used is in `left_out` with its reason, such
+    as a local time that comes twice. InputError: a file that cannot be read, has no usable row, or is given twice; positions that
+    look like degrees where metres are expected, or the reverse. OptionError: a wrong crs or timezone.
     """
     wanted = Wanted(id, x, y, time, None if crs is None or crs == "metres" else crs_given(crs), isinstance(crs, str)
-                    and crs == "metres", layer)
+                    and crs == "metres", layer, None if timezone is None else checked_zone(timezone))
     listed = list(sources) if isinstance(sources, (list, tuple, set)) else [sources]
     items = [item for source in listed for item in expanded(source, query)]
     if not items:
@@ -200,7 +205,7 @@ def read_source(item: Any, wanted: Wanted, query: Optional[str], stems: Dict[Pat
         return read_query(item, query, wanted, "query")
     name, ending = shown_path(item), item.suffix.lower()
     if ending == ".gpx" or ending not in TABLES + LAYERS and begins_as_xml(item):
-        return read_gpx(item, name, stems[item])
+        return read_gpx(item, name, stems[item], wanted.zone)
     if ending in LAYERS:
         return read_layer(item, wanted, name)
     rows = read_csv(item, wanted, name)
@@ -232,8 +237,15 @@ def joined(rows: List[Rows], sources: List[Source]) -> Positions:
     names = np.array([part.name for part in rows], dtype=object)
     positions = Positions(frame, crs, left_out_of(frame, faults, names[source], lines), sources,
                           [note for part in rows for note in part.notes], np.concatenate([part.parts for part in rows]),
-                          pd.DataFrame({"source": source, "line": lines}))
+                          pd.DataFrame({"source": source, "line": lines}), unzoned_warnings(rows))
     return positions
+
+
+def unzoned_warnings(rows: Sequence[Rows]) -> List[str]:
+    """A line about times that count as UTC, since neither they nor the caller name a zone."""
+    count = sum(part.unzoned for part in rows)
+    return [f"{count:,} times name no time zone and count as UTC; timezone (--timezone) says theirs, such as Europe/Berlin"
+            ] if count else []
 
 
 def left_out_of(frame: pd.DataFrame, faults: np.ndarray, files: np.ndarray, lines: np.ndarray) -> pd.DataFrame:

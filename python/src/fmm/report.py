@@ -75,7 +75,8 @@ def report_of(matches: Matches, suggestion: Any, given: Dict[str, Any]) -> Repor
         positions=len(places.street), matched=int((places.street >= 0).sum()), vehicles=len(set(solution.ids.tolist())),
         drives=len(solution.text.traces), pieces=len(solution.text.cost), metres=float(solution.driven.metres.sum()),
         projection=solution.network.projection.name, left_out=dict(zip(reasons[order].tolist(), counts[order].tolist())),
-        broken=broken_of(matches), notes=[*solution.positions.notes, *solution.traces.notes])
+        broken=broken_of(matches), warnings=list(solution.positions.warnings),
+        notes=[*solution.positions.notes, *solution.traces.notes])
     if matches.options is not None:
         report.options = {name: value for name, value in asdict(matches.options).items() if name != "workers"}
     if suggestion is not None:

@@ -23,17 +23,20 @@ TIMES = ("time", "timestamp", "datetime", "date_time", "when", "utc", "recorded_
 
 
 class Columns(NamedTuple):
-    """Names of columns. `degrees`: the names of x and y say that they are longitude and latitude."""
+    """Names of columns. `degrees`: the names of x and y say that they are longitude and latitude. `date`: the column of the date,
+    if `time` has times of day only."""
 
     id: Optional[str]
     x: Optional[str]
     y: Optional[str]
     time: Optional[str]
     degrees: bool
+    date: Optional[str] = None
 
     def note(self, name: str, header: Sequence[str]) -> str:
         """A line for the report, with all columns if some were not found."""
-        has = [f"{what} from {shown(column)}" for what, column in zip(("id", "x", "y", "time"), self) if column is not None]
+        has = [f"{what} from {shown(column)}" for what, column in zip(("id", "x", "y"), self) if column is not None]
+        has += [f"time from {' and '.join(shown(part) for part in (self.date, self.time) if part)}"] if self.time else []
         lacks = [f"no {what}" for what, column in (("id", self.id), ("time", self.time)) if column is None]
         others = [column for column in header if column not in self]
         known = f"; its other columns are {listed(others)}" if lacks and others else ""

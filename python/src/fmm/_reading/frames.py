@@ -9,9 +9,10 @@ import pyproj
 
 from ..errors import InputError
 from .columns import LATITUDES, LONGITUDES, XS, YS, Columns, find_columns, plain
+from .dates import pair_of, read_pair
 from .numbers import coordinates
 from .rows import Rows, Wanted, first_fault, own_name
-from .times import seconds
+from .times import Times, read_times
 
 DEGREES = pyproj.CRS.from_epsg(4326)
 NAMES = frozenset(LONGITUDES + LATITUDES + XS + YS)  # that show a header among the rows
@@ -27,7 +28,7 @@ def rows_of_frame(frame: pd.DataFrame, wanted: Wanted, name: str, lines: Optiona
     frame = frame.set_axis(header, axis=1) if header != list(frame.columns) else frame
     geometry = geometry_of(frame) if wanted.x is None and wanted.y is None else None
     others = [column for column in header if column != geometry]
-    columns = with_time(find_columns(others, wanted, name, geometry is None), frame)
+    columns = with_time(find_columns(others, wanted, name, geometry is None), frame, wanted)
     if geometry is not None:
         columns = columns._replace(x=None, y=None)
         x, y, faults = places_of_points(frame[geometry])
@@ -40,31 +41,38 @@ def rows_of_frame(frame: pd.DataFrame, wanted: Wanted, name: str, lines: Optiona
     crs = crs_of(x, y, columns, wanted, crs, name)
     faults = first_fault(faults, place_faults(x, y, crs))
     ids, id_faults = ids_of(frame, columns, name)
-    times, time_faults = times_of(frame, columns, decimal_comma)
-    faults = first_fault(first_fault(faults, id_faults), time_faults)
+    times = times_of(frame, columns, decimal_comma, wanted.zone)
+    faults = first_fault(first_fault(faults, id_faults), times.faults)
     usable = faults == ""
     own = {own_name(column): frame[column].to_numpy() if frame[column].dtype == object else frame[column].array
            for column in header if column not in (columns.x, columns.y, geometry) and (column not in ("id", "time") or column
            not in (columns.id, columns.time))}
-    rows = pd.DataFrame({"id": ids, "x": x, "y": y, "time": times, **own})
+    rows = pd.DataFrame({"id": ids, "x": x, "y": y, "time": times.seconds, **own})
     rows.loc[~np.isfinite(x) | ~np.isfinite(y), ["x", "y"]] = np.nan
     lines = np.full(len(frame), -1, dtype=np.int64) if lines is None else lines
     if len(frame) and not usable.any():
         raise InputError(f"no row can be used: {faults[0]}", name, int(lines[0]) if lines[0] >= 0 else None)
-    return Rows(name, rows, faults, lines, np.zeros(len(frame), dtype=np.int64), crs, [columns.note(name, others)])
+    return Rows(name, rows, faults, lines, np.zeros(len(frame), dtype=np.int64), crs, [columns.note(name, others)],
+                0 if wanted.zone else times.unzoned)
 
 
-def with_time(columns: Columns, frame: pd.DataFrame) -> Columns:
-    """The columns; without one of a usual name, the only column of times is that of the time."""
+def with_time(columns: Columns, frame: pd.DataFrame, wanted: Wanted) -> Columns:
+    """The columns with those of the time, if the caller names none: a date and a time of day in two columns; without a usual name
+    the only column of times."""
+    pair = pair_of(frame) if wanted.time is None else None
+    if pair is not None:
+        return columns._replace(date=pair[0], time=pair[1])
     dated = [column for column in frame.columns if pd.api.types.is_datetime64_any_dtype(frame[column].dtype)]
     return columns._replace(time=dated[0]) if columns.time is None and len(dated) == 1 else columns
 
 
-def times_of(frame: pd.DataFrame, columns: Columns, decimal_comma: bool) -> Tuple[np.ndarray, np.ndarray]:
+def times_of(frame: pd.DataFrame, columns: Columns, decimal_comma: bool, zone: Optional[str]) -> Times:
     """The times in seconds since 1970, NaN where there is none, and what is wrong with them."""
     if columns.time is None:
-        return np.full(len(frame), np.nan), np.full(len(frame), "", dtype=object)
-    return seconds(frame[columns.time], decimal_comma)
+        return Times(np.full(len(frame), np.nan), np.full(len(frame), "", dtype=object))
+    if columns.date is not None:
+        return read_pair(frame[columns.date], frame[columns.time], zone)
+    return read_times(frame[columns.time], decimal_comma, zone)
 
 
 def refuse_other_header(frame: pd.DataFrame, columns: Columns, name: str, lines: Optional[np.ndarray]) -> None:

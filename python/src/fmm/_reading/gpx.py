@@ -6,7 +6,7 @@ from __future__ import annotations
 
 from bisect import bisect_right
 from pathlib import Path
-from typing import Any, Dict, List, Tuple
+from typing import Any, Dict, List, Optional, Tuple
 from xml.parsers import expat
 
 import numpy as np
@@ -17,7 +17,7 @@ from ..errors import InputError, PathText, shown
 from .frames import DEGREES, place_faults
 from .numbers import coordinates
 from .rows import Rows, first_fault
-from .times import seconds
+from .times import read_times
 
 
 class TrackReader:
@@ -66,10 +66,11 @@ class TrackReader:
         self.text.clear()
 
 
-def read_gpx(path: PathText, name: str, stem: str) -> Rows:
+def read_gpx(path: PathText, name: str, stem: str, zone: Optional[str] = None) -> Rows:
     """The track points of a file. The id is `stem`, the name of the file, with the number of the track if there are several.
 
-    Own columns: file, track, track_name, segment, elevation. Segments are never joined.
+    Own columns: file, track, track_name, segment, elevation. Segments are never joined. GPX has times in UTC; `zone` is that of a
+    receiver that writes others, without a zone.
     """
     reader = parsed(path, name)
     if not reader.points:
@@ -77,7 +78,7 @@ def read_gpx(path: PathText, name: str, stem: str) -> Rows:
     points = pd.DataFrame(reader.points, columns=["line", "track", "segment", "longitude", "latitude"])
     x, x_faults = coordinates(points["longitude"], "lon")
     y, y_faults = coordinates(points["latitude"], "lat")
-    times, time_faults = seconds(np.array(reader.times, dtype=object))
+    times, time_faults, _ = read_times(np.array(reader.times, dtype=object), zone=zone)
     faults = first_fault(first_fault(x_faults, y_faults), place_faults(x, y, DEGREES))
     faults = first_fault(faults, time_faults)
     lines = points["line"].to_numpy(dtype=np.int64)

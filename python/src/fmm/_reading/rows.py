@@ -22,6 +22,7 @@ class Wanted:
     crs: Optional[pyproj.CRS] = None
     plane: bool = False  # metres of the network's own projection, whatever they look like
     layer: Optional[str] = None
+    zone: Optional[str] = None  # of times that name none
 
 
 @dataclass
@@ -30,7 +31,7 @@ class Rows:
 
     `frame` has the columns id (text), x, y, time and the source's own. `faults` has for each row why it cannot be used, or "".
     `lines` is the line of each row, or -1. Rows of one id with different `parts` are never joined, such as the segments of a
-    track.
+    track. `unzoned` times name no time zone, and none was given for them.
     """
 
     name: str
@@ -40,6 +41,7 @@ class Rows:
     parts: np.ndarray
     crs: Optional[pyproj.CRS]
     notes: List[str] = field(default_factory=list)
+    unzoned: int = 0
 
 
 def own_name(name: Any) -> str:

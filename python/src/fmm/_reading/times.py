@@ -3,17 +3,17 @@ from __future__ import annotations
 
 import datetime
 import re
-from typing import Any, List, Tuple
+from typing import Any, List, NamedTuple, Optional, Tuple
 
 import numpy as np
 import pandas as pd
 
 from ..errors import shown
 from .numbers import as_bytes, digits_at, plain_numbers, texts_of, with_points
+from .zones import LAST, from_local
 
-LAST = 4_294_967_295
 REST = (rb":(?P<minute>\d\d)(?::(?P<second>\d\d)(?:[.,](?P<part>\d+))?)?"
-        rb" ?(?:[Zz]|(?P<zone>[+-]\d\d)(?::?(?P<zone_minute>\d\d))?)?")
+        rb" ?(?:(?P<utc>[Zz])|(?P<zone>[+-]\d\d)(?::?(?P<zone_minute>\d\d))?)?")
 FORMS = (  # the year comes first, or dots are between the day, the month and the year
     re.compile(rb"(?P<year>\d{4})(?P<mark>[-/.])(?P<month>\d\d)(?P=mark)(?P<day>\d\d)[Tt ](?P<hour>\d\d)" + REST),
     re.compile(rb"(?P<day>\d\d?)\.(?P<month>\d\d?)\.(?P<year>\d{4}),? (?P<hour>\d\d?)" + REST),
@@ -25,40 +25,55 @@ DIGIT = np.zeros(256, dtype=bool)
 DIGIT[ord("0"):ord("9") + 1] = True
 
 
-def seconds(column: Any, decimal_comma: bool = False) -> Tuple[np.ndarray, np.ndarray]:
-    """The seconds since 1970 of a column (float64, NaN if there is none), and for each row its fault ("" if there is none).
+class Times(NamedTuple):
+    """Seconds since 1970 (float64, NaN if there is no time), for each row its fault ("" if there is none), and how many times
+    name no time zone."""
 
-    Text is an ISO time or one like 24.12.2026 14:03:22, in UTC if it names no zone, or a number of seconds, which has a decimal
-    comma only if `decimal_comma` says so. Numbers are seconds. Columns of times with a zone keep their instant; without one they
-    are in UTC. An empty field is no time and no fault.
+    seconds: np.ndarray
+    faults: np.ndarray
+    unzoned: int = 0
+
+
+def read_times(column: Any, decimal_comma: bool = False, zone: Optional[str] = None) -> Times:
+    """The times of a column. `zone` is the time zone of those that name none, UTC by default.
+
+    Text is an ISO time or one like 24.12.2026 14:03:22, or a number of seconds, which has a decimal comma only if `decimal_comma`
+    says so. Numbers are seconds. Columns of times with a zone keep their instant. An empty field is no time and no fault.
     """
     if isinstance(column, pd.Series) and pd.api.types.is_datetime64_any_dtype(column.dtype):
-        return _of_datetimes(column)
+        return _of_datetimes(column, zone)
     values = np.asarray(column)
     if values.dtype.kind in "iuf":
         numbers = values.astype(np.float64)
-        return _in_range(numbers, ~np.isnan(numbers), values)
+        return Times(*_in_range(numbers, ~np.isnan(numbers), values))
     if values.dtype.kind == "M":
-        return _of_datetimes(pd.Series(values))
+        return _of_datetimes(pd.Series(values), zone)
     texts = _texts(values)
-    faults = np.full(len(texts), "", dtype=object)
-    found, known = _of_texts(texts)
+    found, known, unzoned = _of_texts(texts)
+    found[unzoned], faults = _local(found[unzoned], zone, [texts[place] for place in np.flatnonzero(unzoned)])
     rest = np.flatnonzero(~known)
     others = with_points([texts[place] for place in rest]) if decimal_comma else [texts[place] for place in rest]
     numbers, good = plain_numbers(others)
     good &= np.array([SECONDS.fullmatch(text) is not None for text in others], dtype=bool)
     found[rest[good]], known[rest[good]] = numbers[good], True
+    ranged, out_of_range = _in_range(found, known & ~np.isnan(found), texts)
+    out_of_range[unzoned] = np.where(faults == "", out_of_range[unzoned], faults)
     for place in np.flatnonzero(~known):
         if texts[place]:
-            faults[place] = f"time {shown(texts[place], 40)} is neither an ISO time nor seconds since 1970{_hint(texts[place])}"
-    ranged, outside = _in_range(found, known, texts)
-    return ranged, np.where(faults == "", outside, faults)
+            out_of_range[place] = (f"time {shown(texts[place], 40)} is neither an ISO time nor seconds since 1970"
+                                   f"{_hint(texts[place])}")
+    return Times(ranged, out_of_range, int(unzoned.sum()))
+
+
+def _local(clocks: np.ndarray, zone: Optional[str], texts: Any) -> Tuple[np.ndarray, np.ndarray]:
+    """The seconds since 1970 of times without a zone, and their faults."""
+    return from_local(clocks, zone, texts) if zone else (clocks, np.full(len(clocks), "", dtype=object))
 
 
 def _hint(text: str) -> str:
     """What is likely wrong with a text that is no time."""
     if HALF.fullmatch(text):
-        return ": write the date and the time of day into one column"
+        return ": write the date and the time of day into one column, or call their columns date and time"
     return ": is the day or the month first? Write 2026-12-24 or 24.12.2026" if SLASHES.fullmatch(text) else ""
 
 
@@ -70,11 +85,14 @@ def _texts(values: np.ndarray) -> List[str]:
     return texts_of(values)
 
 
-def _of_datetimes(column: pd.Series) -> Tuple[np.ndarray, np.ndarray]:
-    zoned = column.dt.tz_convert("UTC").dt.tz_localize(None) if getattr(column.dtype, "tz", None) is not None else column
-    stamps = zoned.to_numpy().astype("datetime64[us]")
-    missing = np.isnat(stamps)
-    return _in_range(np.where(missing, np.nan, stamps.astype(np.int64) / 1e6), ~missing, column.astype(str).to_numpy())
+def _of_datetimes(column: pd.Series, zone: Optional[str]) -> Times:
+    has_zone = getattr(column.dtype, "tz", None) is not None
+    stamps = (column.dt.tz_convert("UTC").dt.tz_localize(None) if has_zone else column).to_numpy().astype("datetime64[us]")
+    texts, missing = column.astype(str).to_numpy(), np.isnat(stamps)
+    found = np.where(missing, np.nan, stamps.astype(np.int64) / 1e6)
+    found, faults = _local(found, None if has_zone else zone, texts)
+    ranged, outside = _in_range(found, ~np.isnan(found), texts)
+    return Times(ranged, np.where(faults == "", outside, faults), 0 if has_zone else int((~missing).sum()))
 
 
 def _in_range(found: np.ndarray, known: np.ndarray, texts: Any) -> Tuple[np.ndarray, np.ndarray]:
@@ -88,13 +106,14 @@ def _in_range(found: np.ndarray, known: np.ndarray, texts: Any) -> Tuple[np.ndar
     return np.where(outside, np.nan, found), faults
 
 
-def _of_texts(texts: List[str]) -> Tuple[np.ndarray, np.ndarray]:
-    """The seconds of times with a date, and which texts are some.
+def _of_texts(texts: List[str]) -> Tuple[np.ndarray, np.ndarray, np.ndarray]:
+    """The seconds of times with a date, which texts are some, and which of these name no zone.
 
     Texts of one shape, where a shape is the text with 0 for each digit, have their fields at the same places and are read
     together. There are few shapes in a file.
     """
     found, good = np.full(len(texts), np.nan), np.zeros(len(texts), dtype=bool)
+    unzoned = good.copy()
     matrix, rest = as_bytes(texts, 40)
     digit = DIGIT[matrix]
     shapes = np.where(digit, np.uint8(ord("0")), matrix)
@@ -107,7 +126,8 @@ def _of_texts(texts: List[str]) -> Tuple[np.ndarray, np.ndarray]:
         if match:
             rows = np.flatnonzero(same)
             found[rows], good[rows] = _of_shape(matrix[rows], match)
-    return found, good
+            unzoned[rows] = good[rows] & (match["utc"] is None and match["zone"] is None)
+    return found, good, unzoned
 
 
 def _of_shape(matrix: np.ndarray, match: "re.Match[bytes]") -> Tuple[np.ndarray, np.ndarray]:

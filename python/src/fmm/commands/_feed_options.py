@@ -22,6 +22,7 @@ def add_reading(options: Parser) -> None:
         help="the columns or fields, vehicle,longitude,latitude,time by default; payload.lon leads into an object; "
              "without the fourth the time is that of arrival")
     add("--crs", metavar="CRS", help="the CRS of the positions (default: EPSG:4326, degrees); metres means those of the network")
+    add("--timezone", metavar="ZONE", help="of times that name none, such as Europe/Berlin (default: UTC)")
     add("--milliseconds", action="store_true", help="times that are numbers are milliseconds since 1970")
     add("--wait", type=seconds, default=5.0, metavar="S", help="how late a position may come and be put in order (default: 5)")
     add("--ahead", type=seconds, default=300.0, metavar="S", help="how far a time may be ahead of the clock (default: 300)")

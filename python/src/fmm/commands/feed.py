@@ -63,7 +63,7 @@ def main(words: Sequence[str]) -> int:
 def run(args: argparse.Namespace) -> int:
     """Runs the feed of these options."""
     notices = Notices("fmm feed")
-    reading = _reading(args)
+    reading = _reading(args, notices)
     state = State(args.state)
     try:
         state.claim("feed")
@@ -88,9 +88,10 @@ def run(args: argparse.Namespace) -> int:
     return 0
 
 
-def _reading(args: argparse.Namespace) -> Reading:
+def _reading(args: argparse.Namespace, notices: Notices) -> Reading:
     from ..feed.reading import placing_of, timing_of
-    return Reading(Reader(form_of(args), args.columns), placing_of(args.network, args.crs), timing_of(args.milliseconds))
+    return Reading(Reader(form_of(args), args.columns), placing_of(args.network, args.crs),
+                   timing_of(args.milliseconds, args.timezone, notices))
 
 
 def _write_ids(path: Path, state: State) -> None:

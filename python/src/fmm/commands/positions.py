@@ -40,7 +40,7 @@ def main(words: Sequence[str]) -> int:
     args = parsed(words)
     network = Network.open(args.network)
     positions = read_positions(args.sources, id=args.id, x=args.x, y=args.y, time=args.time, crs=args.crs, layer=args.layer,
-                               query=args.query)
+                               query=args.query, timezone=args.timezone)
     if positions.crs is not None and network.projection.crs is None:
         raise MismatchError("its projection is not known, and the positions have one", args.network)
     extents = compare_extents(network, positions)
@@ -67,6 +67,7 @@ def parsed(words: Sequence[str]) -> argparse.Namespace:
     for name, what in (("id", "id of the vehicle"), ("x", "longitude or x"), ("y", "latitude or y"), ("time", "time")):
         parser.add_argument(f"--{name}", metavar="COLUMN", help=f"the column of the {what}")
     parser.add_argument("--crs", help="of x and y, such as 4326; `metres` for metres of the network's projection")
+    parser.add_argument("--timezone", metavar="ZONE", help="of times that name none, such as Europe/Berlin (UTC)")
     parser.add_argument("--layer", help="the layer of a file that has several; the column of geometries of a query")
     parser.add_argument("--query", help="the SQL query, if the source is the URL of a database")
     parser.add_argument("--gap", metavar="SECONDS", help="a drive ends before a longer pause (never)")
@@ -118,7 +119,7 @@ def known(numbers: np.ndarray) -> Any:
 
 def report(positions: Positions, traces: Traces, extents: Extents) -> str:
     """What was read, what was left out and why, and whether the boxes meet; the worst first."""
-    lines: List[str] = [f"warning: {extents.verdict}"] if extents.verdict else []
+    lines: List[str] = [f"warning: {text}" for text in (extents.verdict, *positions.warnings) if text]
     lines.append(f"rows: {len(positions)}, sources: {len(positions.sources)}, positions in the trace file: {len(traces.row)}, "
                  f"traces: {len(traces.drives)}")
     for reason, number in traces.reasons.map(kind).value_counts().items():
@@ -129,7 +130,8 @@ def report(positions: Positions, traces: Traces, extents: Extents) -> str:
 def kind(reason: str) -> str:
     """A reason without the value that it names, so that rows are counted together."""
     for what in ("is not a number", "is neither an ISO time nor seconds since 1970", "is not between the years 1970 and 2106",
-                 "is not a longitude and a latitude in degrees", "is farther away than the program takes"):
+                 "is not a longitude and a latitude in degrees", "is farther away than the program takes",
+                 "comes twice in", "does not exist in"):
         if what in reason:
             return f"a value {what}"
     return reason

@@ -57,7 +57,7 @@ def main(words: list[str]) -> int:
     from .._output import Outputs
     options = option_words(values)
     positions = read_positions(values.positions, id=values.id, x=values.x, y=values.y, time=values.time,
-                               crs=values.positions_crs, layer=values.layer)
+                               crs=values.positions_crs, layer=values.layer, timezone=values.timezone)
     network, notes = read_map(values, positions)
     means = {name: getattr(values, name) for name in ("engine", "jobs", "memory", "folder")}
     with warnings.catch_warnings():
@@ -70,14 +70,25 @@ def main(words: list[str]) -> int:
 
 
 def parser() -> Parser:
-    from .._osm.profiles import PROFILES
-    from .._runs import ENGINES
-    from ..options import Options
-    from .network import listed
     made = Parser("run", __doc__ or "")
     made.add_argument("map", metavar="MAP", help="the map")
     made.add_argument("positions", metavar="POSITIONS", nargs="+", help="the positions")
     made.add_argument("--into", metavar="FOLDER", required=True, help="the folder of the results")
+    add_inputs(made)
+    add_matching(made)
+    result = made.add_argument_group("result")
+    result.add_argument("--result-crs", metavar="CRS", help="of the geometries (that of the positions)")
+    result.add_argument("--no-margins", dest="margins", action="store_false", default=None,
+                        help="no margins, and no candidates in the map")
+    result.add_argument("--standing", metavar="SECONDS", type=float, default=120.0, help="least length of a stop (%(default)g)")
+    result.add_argument("--zone", help="the time zone of hours and days (that of --timezone, or UTC)")
+    return made
+
+
+def add_inputs(made: Parser) -> None:
+    """The options about the map and the positions."""
+    from .._osm.profiles import PROFILES
+    from .network import listed
     maps = made.add_argument_group("map")
     maps.add_argument("--profile", choices=list(PROFILES), help="whose streets and directions (car)")
     maps.add_argument("--bbox", metavar="W,S,E,N", type=extent,
@@ -92,7 +103,14 @@ def parser() -> Parser:
     for name, text in (("id", "vehicles"), ("x", "x or longitude"), ("y", "y or latitude"), ("time", "times")):
         inputs.add_argument(f"--{name}", metavar="COLUMN", help=f"the column of {text} (guessed from usual names)")
     inputs.add_argument("--positions-crs", metavar="CRS", help="of x and y, or `metres` for the projection of the network")
+    inputs.add_argument("--timezone", metavar="ZONE", help="of times that name none, such as Europe/Berlin (UTC)")
     inputs.add_argument("--layer", metavar="NAME", help="the layer of a file of positions that has several")
+
+
+def add_matching(made: Parser) -> None:
+    """The options of the match."""
+    from .._runs import ENGINES
+    from ..options import Options
     matching = made.add_argument_group("matching")
     for field in dataclasses.fields(Options):
         matching.add_argument(f"--{field.name}", metavar=UNITS.get(field.name, "METRES"), help=TEXTS.get(field.name))
@@ -102,13 +120,6 @@ def parser() -> Parser:
     means.add_argument("--memory", metavar="MB", type=above_zero,
                        help="memory of a run or of a job (what is free; 2000 on a cluster)")
     means.add_argument("--folder", help="for the groups; all machines need it under one path (the current folder for a cluster)")
-    result = made.add_argument_group("result")
-    result.add_argument("--result-crs", metavar="CRS", help="of the geometries (that of the positions)")
-    result.add_argument("--no-margins", dest="margins", action="store_false", default=None,
-                        help="no margins, and no candidates in the map")
-    result.add_argument("--standing", metavar="SECONDS", type=float, default=120.0, help="least length of a stop (%(default)g)")
-    result.add_argument("--zone", default="UTC", help="the time zone of hours and days, such as Europe/Berlin (%(default)s)")
-    return made
 
 
 def extent(text: str) -> Any:
@@ -124,14 +135,14 @@ def extent(text: str) -> Any:
 
 def option_words(values: Any) -> dict[str, Any]:
     """The options of matching that were given. `none` switches off gap, thin and fastest."""
-    from .._summaries import checked_zone
+    from .._reading.zones import checked_zone
     from ..options import Options
     given = {field.name: getattr(values, field.name) for field in dataclasses.fields(Options)}
     words = {name: None if value == "none" else value for name, value in given.items() if value is not None}
     Options.of(**words)
     if not values.standing > 0:
         raise OptionError(f"--standing is a number above 0, not {values.standing:g}")
-    checked_zone(values.zone)
+    values.zone = checked_zone(next(zone for zone in (values.zone, values.timezone, "UTC") if zone is not None))
     return words
 
 

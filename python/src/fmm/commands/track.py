@@ -120,7 +120,8 @@ def _parts(args: argparse.Namespace, notices: Notices) -> Parts:
         raise OptionError("--idle: fmm streams does not have this option yet; leave it out, and --gap ends drives")
     gap = float(args.idle or (600.0 if args.gap is None else args.gap))
     given = {name: getattr(args, name) for name in OPTIONS if getattr(args, name) is not None}
-    placing, timing = placing_on(network.projection, args.crs), timing_of(args.milliseconds)
+    placing = placing_on(network.projection, args.crs)
+    timing = timing_of(args.milliseconds, args.timezone, notices)
     reading = Reading(Reader(form_of(args), args.columns), placing, timing)
     rules, ends = Rules(gap, args.most, args.wait, args.ahead), Ends(gap, args.idle, args.memory)
     return Parts(network, program, Options.of(**{"back": 20.0, **given}), args.lookup, reading, rules, ends,

@@ -19,6 +19,8 @@ MOST_POSITIONS = 100_000  # of a trace
 SMALLEST_STEP = 1e-6  # seconds
 CLOSING = 4_000_000_001  # the first number of the traces that close fragments
 Place = tuple[int, int]  # whole centimetres
+Placing = Callable[[Sequence[float], Sequence[float]], Sequence[Optional[Place]]]
+Timing = Callable[[Sequence[Optional[str]]], Sequence[tuple[Optional[float], str]]]
 
 
 @dataclass(frozen=True)
@@ -39,8 +41,8 @@ class Reading:
     times in seconds since 1970 (None for that of arrival) with what is wrong with them."""
 
     reader: Reader
-    placing: Callable[[Sequence[float], Sequence[float]], Sequence[Optional[Place]]]
-    timing: Callable[[Sequence[Optional[str]]], Sequence[tuple[Optional[float], str]]]
+    placing: Placing
+    timing: Timing
 
 
 class Clock:

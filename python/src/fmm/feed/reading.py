@@ -1,19 +1,19 @@
 """Places and times of reports, a batch at a time."""
 from __future__ import annotations
 
-from collections.abc import Callable, Sequence
+from collections.abc import Sequence
 from pathlib import Path
 from typing import Optional
 
 import numpy as np
 
-from .._reading.times import seconds
+from .._reading.times import read_times
+from .._reading.zones import checked_zone
 from ..errors import FmmError
 from ..projection import NOWHERE, Projection
+from .intake import Place, Placing, Timing
+from .notices import Notices
 from .reports import NUMBER
-
-Placing = Callable[[Sequence[float], Sequence[float]], list[Optional[tuple[int, int]]]]
-Timing = Callable[[Sequence[Optional[str]]], list[tuple[Optional[float], str]]]
 
 
 def placing_of(network: Optional[Path], crs: Optional[str]) -> Placing:
@@ -31,7 +31,7 @@ def placing_on(projection: Projection, crs: Optional[str]) -> Placing:
     """Projects places to whole centimetres of a projection that is known, or of metres."""
     known = None if crs == "metres" else crs or "EPSG:4326"
 
-    def places(x: Sequence[float], y: Sequence[float]) -> list[Optional[tuple[int, int]]]:
+    def places(x: Sequence[float], y: Sequence[float]) -> list[Optional[Place]]:
         with np.errstate(over="ignore"):
             found = projection.to_centimetres(np.array(x), np.array(y), known)
         return [None if place[0] == NOWHERE else place for place in zip(found[0].tolist(), found[1].tolist())]
@@ -39,14 +39,22 @@ def placing_on(projection: Projection, crs: Optional[str]) -> Placing:
     return places
 
 
-def timing_of(milliseconds: bool) -> Timing:
-    """Reads times: ISO texts or seconds since 1970, or milliseconds if so wanted."""
+def timing_of(milliseconds: bool, zone: Optional[str], notices: Notices) -> Timing:
+    """Reads times: ISO texts or seconds since 1970, or milliseconds if so wanted. Texts that name no zone are in `zone`, or in
+    UTC, which is said once."""
+    known = zone and checked_zone(zone)
+    is_said = bool(known)
+
     def scaled(text: str) -> str:
         return f"{float(text) / 1000:.3f}" if milliseconds and NUMBER.fullmatch(text.strip()) else text
 
     def times(texts: Sequence[Optional[str]]) -> list[tuple[Optional[float], str]]:
+        nonlocal is_said
         given = np.array(["" if text is None else scaled(text) for text in texts], dtype=object)
-        stamps, faults = seconds(given)
+        stamps, faults, unzoned = read_times(given, zone=known)
+        if unzoned and not is_said:
+            is_said = True
+            notices.say("times that name no time zone count as UTC; --timezone says theirs")
         return [(None, "") if text is None else (stamp, fault or ("no time" if stamp != stamp else ""))
                 for text, stamp, fault in zip(texts, stamps.tolist(), faults.tolist())]
 
