@@ -197,6 +197,27 @@ def test_rows_in_a_file_are_written_once_over_kills():
     assert {row[1] // 100 for row in found} == set(range(7000))
 
 
+@pytest.mark.parametrize("ids", ["rows.csv", "./rows.csv", "state.db", "state.db-wal", "rows.csvt"])
+def test_the_table_of_ids_never_replaces_the_rows(ids):
+    rows_path = "rows.csvt" if ids == "rows.csvt" else "rows.csv"
+    ids = "rows.csv" if ids == "rows.csvt" else ids
+    done = feed("a,1,1,1\n", "--format", "rows", "--into", rows_path, "--ids", ids)
+    assert (done.returncode, done.stdout) == (2, "") and done.stderr.count("\n") == 1
+    assert f"--ids {os.path.normpath(ids)} would replace" in done.stderr and os.listdir() == []
+
+
+def test_a_feed_outlives_its_terminal_under_nohup():
+    run = start(stdin=subprocess.PIPE, stdout=subprocess.PIPE, stderr=subprocess.PIPE,
+                preexec_fn=lambda: signal.signal(signal.SIGHUP, signal.SIG_IGN))
+    assert run.stdout.readline() == b"trace,x,y,time\n"
+    os.write(run.stdin.fileno(), b"a,1,1,1\n")
+    time.sleep(0.5)
+    run.send_signal(signal.SIGHUP)
+    time.sleep(1.5)  # longer than the feed waits for its input at once
+    found, _ = run.communicate(b"a,1,1,2\n", timeout=30)
+    assert rows("trace,x,y,time\n" + found.decode()) == [(1, 100, 100, 1), (1, 100, 100, 2)]
+
+
 def test_rows_that_the_state_does_not_know_are_refused():
     feed("a,1,1,1\n", "--format", "rows", "--into", "rows.csv")
     done = feed("a,1,1,2\n", "--format", "rows", "--into", "rows.csv", "--state", "new.db")

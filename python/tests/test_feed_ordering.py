@@ -1,3 +1,5 @@
+import time
+
 from hypothesis import given
 from hypothesis import strategies as st
 
@@ -53,3 +55,15 @@ def test_positions_of_all_vehicles_come_in_the_order_of_their_times():
         waiting.add(Position(time, vehicle, 0, 0, 1000))
     assert [(p.time, p.vehicle) for p in waiting.due({"a", "b"}, 1000)] == [(100, "a"), (103, "b"), (200, "a"), (203, "b")]
     assert [(p.time, p.vehicle) for p in waiting.all()] == [(300, "a"), (303, "b")]
+
+
+def test_a_long_wait_costs_no_more_for_each_position():
+    """A day of one vehicle that comes late: the work for a position may not grow with those that wait."""
+    waiting, count = Waiting(1e9), 20_000
+    begin = time.process_time()
+    for at in range(count):
+        assert not waiting.has("a", float(at))
+        waiting.add(Position(float(at), "a", 0, 0, float(at)))
+    assert waiting.has("a", 5.0) and not waiting.has("a", 5.5)
+    assert waiting.due({"a"}, 0.0) == [] and len(waiting.due(set(), 2e9)) == count
+    assert time.process_time() - begin < 3  # it was a minute

@@ -3,14 +3,16 @@ from __future__ import annotations
 
 import contextlib
 import sqlite3
+import time
 from pathlib import Path
 
 import pytest
 from feeds import feed
 
 from fmm.errors import FmmError
+from fmm.feed import state as state_module
 from fmm.feed.ordering import Position
-from fmm.feed.state import State
+from fmm.feed.state import State, Vehicle
 from fmm.track.journal import Journal, Row
 
 
@@ -76,3 +78,29 @@ def test_a_state_is_made_where_there_are_no_hard_links(tmp_path: Path, monkeypat
     for _ in range(2):
         State(tmp_path / "state.db").close()
     assert [path.name for path in tmp_path.iterdir()] == ["state.db"]
+
+
+def test_a_commit_costs_what_has_changed(tmp_path: Path) -> None:
+    """And not what is remembered of a large fleet."""
+    with contextlib.closing(State(tmp_path / "state.db")) as state:
+        for number in range(state_module.REMEMBERED):
+            state.keep(f"van {number}", Vehicle(number, 1.0, 1))
+        state.commit()
+        begin = time.process_time()
+        for second in range(100):
+            state.keep("van 7", Vehicle(7, float(second), second))
+            state.commit()
+        assert time.process_time() - begin < 0.5  # it was ten times as long
+        assert state.vehicle("van 7") == Vehicle(7, 99.0, 99)
+
+
+def test_a_state_that_is_refused_is_let_go(tmp_path: Path) -> None:
+    """So that another program may use the file at once."""
+    path = tmp_path / "other.db"
+    with contextlib.closing(sqlite3.connect(path)) as database:
+        database.execute("CREATE TABLE a (b)")
+    with pytest.raises(FmmError, match="is not the state of a feed") as refused:
+        State(path)
+    with contextlib.closing(sqlite3.connect(path, timeout=0)) as database:
+        database.execute("INSERT INTO a VALUES (1)")
+    assert refused.traceback  # which keeps the refused state alive

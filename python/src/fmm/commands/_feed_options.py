@@ -3,6 +3,8 @@ from __future__ import annotations
 
 import argparse
 import os
+import signal
+from collections.abc import Callable
 from typing import Any, Optional
 
 from ..errors import FmmError
@@ -77,3 +79,10 @@ def source_of(args: argparse.Namespace, notices: Notices) -> Source:
         raise FmmError(str(fault)) from None
     password: Optional[str] = os.environ.get("FMM_MQTT_PASSWORD")
     return Broker(Address(host, args.topic, port, args.client, args.user, password, args.tls), notices)
+
+
+def on_end(stop: Callable[[], None]) -> None:
+    """Calls `stop` when a signal asks the process to end. A signal that is ignored, as SIGHUP under nohup, stays so."""
+    for number in (signal.SIGTERM, signal.SIGINT, signal.SIGHUP):
+        if signal.getsignal(number) != signal.SIG_IGN:
+            signal.signal(number, lambda *_: stop())

@@ -13,7 +13,7 @@ clock. Standard error has a line about each of them.
 from __future__ import annotations
 
 import argparse
-import signal
+import contextlib
 import sqlite3
 from collections.abc import Sequence
 from pathlib import Path
@@ -24,7 +24,7 @@ from ..feed.notices import Notices
 from ..feed.outlet import outlet_of
 from ..feed.reports import Reader
 from ..feed.state import State
-from ._feed_options import add_broker, add_reading, check_broker, form_of, seconds, source_of, whole
+from ._feed_options import add_broker, add_reading, check_broker, form_of, on_end, seconds, source_of, whole
 from ._parser import Parser
 
 
@@ -54,34 +54,37 @@ def main(words: Sequence[str]) -> int:
     check_broker(options, args)
     if args.network is None and args.crs != "metres":
         options.error("--network is wanted, which has the projection; or --crs metres, for positions in metres of the network")
+    check_ids(options, args)
     try:
         return run(args)
     except sqlite3.Error as fault:
         raise FmmError(f"{args.state}: {fault}") from None
 
 
+def check_ids(options: Parser, args: argparse.Namespace) -> None:
+    """Refuses a table of ids in place of the rows, of the state or of what SQLite has beside that."""
+    if args.ids is None:
+        return
+    kept = [args.state, *(Path(f"{args.state}{ending}") for ending in ("-wal", "-shm", "-journal")), *filter(None, [args.into])]
+    for made in (args.ids, args.ids.with_suffix(".csvt")):
+        for path in kept:
+            if made.resolve() == path.resolve():
+                options.error(f"--ids {args.ids} would replace {path}")
+
+
 def run(args: argparse.Namespace) -> int:
     """Runs the feed of these options."""
     notices = Notices("fmm feed")
     reading = _reading(args, notices)
-    state = State(args.state)
-    try:
+    with contextlib.closing(State(args.state)) as state:
         state.claim("feed")
-        rules = Rules(args.gap, args.most, args.wait, args.ahead, args.close)
-        intake = Intake(reading, state, rules, notices)
-        outlet = outlet_of(args.into, state)
-        feed = Feed(source_of(args, notices), intake, outlet)
-        for number in (signal.SIGTERM, signal.SIGINT, signal.SIGHUP):
-            signal.signal(number, lambda *_: feed.stop())
-        try:
+        intake = Intake(reading, state, Rules(args.gap, args.most, args.wait, args.ahead, args.close), notices)
+        with contextlib.closing(outlet_of(args.into, state)) as outlet, contextlib.closing(source_of(args, notices)) as source:
+            feed = Feed(source, intake, outlet)
+            on_end(feed.stop)
             feed.run()
-        finally:
-            feed.source.close()
-            outlet.close()
         if args.ids:
             _write_ids(args.ids, state)
-    finally:
-        state.close()
     notices.summary(f"positions: {intake.positions}, left out: {intake.left_out}, drives: {intake.number}")
     if not intake.positions and not args.mqtt and not feed.is_stopped:
         raise FmmError("the feed has no good row")

@@ -12,7 +12,6 @@ with all open drives: after a stop by a signal, or a kill, the next run goes on 
 from __future__ import annotations
 
 import argparse
-import signal
 import sqlite3
 from collections.abc import Sequence
 from pathlib import Path
@@ -23,7 +22,7 @@ from ..feed.intake import Reading, Rules
 from ..feed.notices import Notices
 from ..feed.reports import Reader
 from ..feed.state import State
-from ._feed_options import add_broker, add_reading, check_broker, form_of, seconds, source_of, whole
+from ._feed_options import add_broker, add_reading, check_broker, form_of, on_end, seconds, source_of, whole
 from ._parser import Parser
 
 if TYPE_CHECKING:
@@ -85,9 +84,7 @@ def run(args: argparse.Namespace) -> int:
         sinks = sinks_of(args.to or ["-"], state, stop, notices)
         try:
             tracker = parts.tracker(state, source_of(args, notices), sinks, stop)
-            for number in (signal.SIGTERM, signal.SIGINT, signal.SIGHUP):
-                if signal.getsignal(number) != signal.SIG_IGN:
-                    signal.signal(number, lambda *_: stop.set())
+            on_end(stop.set)
             try:
                 unwritten = tracker.run()
             finally:

@@ -20,6 +20,7 @@ from .sources import Payload
 
 AT_ONCE = 1000  # messages that are read before the state is written
 FIRST_PAUSE, LONGEST_PAUSE = 1.0, 60.0  # seconds between attempts to reach the broker
+NOT_READY = 3  # the code of a broker that takes no connections yet
 
 
 @dataclass(frozen=True)
@@ -49,10 +50,15 @@ class Address:
         return "/".join(found.groups()) if found and found.groups() else None
 
 
-def _client(address: Address) -> Any:
+def plain_client(**words: Any) -> Any:
+    """A client of paho with the callbacks of its first version, which each version has."""
     versions = getattr(mqtt, "CallbackAPIVersion", None)
-    before = () if versions is None else (versions.VERSION1,)
-    client = mqtt.Client(*before, client_id=address.client, clean_session=False)
+    return mqtt.Client(*(() if versions is None else (versions.VERSION1,)), **words)
+
+
+def client_of(address: Address) -> Any:
+    """A client whose session the broker keeps."""
+    client = plain_client(client_id=address.client, clean_session=False)
     if address.user is not None:
         client.username_pw_set(address.user, address.password)
     if address.tls:
@@ -67,7 +73,7 @@ class Broker:
         self.address, self.notices = address, notices
         self.found: list[Payload] = []
         self.pause, self.retry_at, self.is_up, self.refusal = FIRST_PAUSE, 0.0, False, ""
-        self.client = _client(address)
+        self.client = client_of(address)
         self.client.on_connect = self._connected
         self.client.on_message = self._take
         self.client.on_subscribe = self._subscribed
@@ -80,6 +86,8 @@ class Broker:
         self._write()
 
     def _connected(self, client: Any, _: Any, __: Any, code: int, *___: Any) -> None:
+        if int(code) == NOT_READY:
+            return  # the broker ends the connection, and is asked again
         if int(code):
             where = f"{self.address.host}:{self.address.port}"
             self.refusal = f"the broker {where} refuses the connection: {mqtt.connack_string(int(code))}"
@@ -90,6 +98,8 @@ class Broker:
         if int(granted[0]) == 128:
             self.refusal = f"the broker refuses the topic {self.address.topic}"
         else:
+            if int(granted[0]) == 0:
+                self.notices.say("the broker grants quality of service 0 only: it keeps no messages while no feed runs")
             self.notices.say(f"takes messages of {self.address.topic} from {self.address.host}:{self.address.port}")
             self.is_up, self.pause = True, FIRST_PAUSE
 
@@ -110,7 +120,7 @@ class Broker:
             if socket is None:
                 self._reconnect(timeout)
                 continue
-            if select.select([socket], [], [], timeout)[0]:
+            if _has_data(socket, timeout):
                 self._read(socket)
             self.client.loop_misc()
             if not self.found:
@@ -121,11 +131,10 @@ class Broker:
 
     def _read(self, socket: Any) -> None:
         """Reads the messages that are there."""
-        pending = getattr(socket, "pending", lambda: 0)
         while len(self.found) < AT_ONCE:
             if self.client.loop_read(1) != mqtt.MQTT_ERR_SUCCESS or self.client.socket() is None:
                 return
-            if not pending() and not select.select([socket], [], [], 0)[0]:
+            if not _has_data(socket, 0):
                 return
 
     def _write(self) -> None:
@@ -141,12 +150,14 @@ class Broker:
         if now < self.retry_at:
             time.sleep(min(timeout, self.retry_at - now))
             return
+        # also after a connection that the other end takes and ends at once
+        self.retry_at = now + self.pause
+        self.pause = min(2 * self.pause, LONGEST_PAUSE)
         try:
             self.client.reconnect()
             self._write()
         except OSError:
-            self.retry_at = now + self.pause
-            self.pause = min(2 * self.pause, LONGEST_PAUSE)
+            pass  # the next attempt comes after the pause
 
     def acknowledge(self) -> None:
         """Sends the acknowledgements of all messages that were given."""
@@ -157,3 +168,10 @@ class Broker:
         if self.client.socket() is not None:
             self.client.disconnect()
             self._write()
+
+
+def _has_data(socket: Any, timeout: float) -> bool:
+    """Whether a socket has something to read within a timeout. What its layer of encryption has read already counts: the system
+    does not know of it."""
+    pending = getattr(socket, "pending", None)
+    return bool(pending and pending()) or bool(select.select([socket], [], [], timeout)[0])

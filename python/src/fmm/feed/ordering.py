@@ -33,7 +33,7 @@ class Waiting:
     def has(self, vehicle: str, time: float) -> bool:
         """Whether a position of this vehicle and time waits."""
         held = self.of_vehicle.get(vehicle, [])
-        place = bisect.bisect_left([position.time for position in held], time)
+        place = bisect.bisect_left(held, _at(time))
         return place < len(held) and held[place].time == time
 
     def newest(self, vehicle: str) -> float:
@@ -75,11 +75,17 @@ class Waiting:
     def _take(self, vehicle: str, until: float) -> list[Position]:
         """Takes out the positions of a vehicle up to a time."""
         held = self.of_vehicle.get(vehicle, [])
-        count = sum(1 for position in held if position.time <= until)
-        taken, rest = held[:count], held[count:]
-        if rest:
-            self.of_vehicle[vehicle] = rest
-        else:
-            self.of_vehicle.pop(vehicle, None)
+        count = bisect.bisect_right(held, _at(until))
+        if not count:
+            return []
+        taken = held[:count]
+        del held[:count]
+        if not held:
+            del self.of_vehicle[vehicle]
         self.count -= count
         return taken
+
+
+def _at(time: float) -> Position:
+    """A position to compare others with, by its time."""
+    return Position(time, "", 0, 0, 0.0)

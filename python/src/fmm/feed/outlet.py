@@ -95,9 +95,7 @@ class RowStream:
     def __init__(self, state: State, descriptor: int = 1) -> None:
         self.state, self.descriptor = state, descriptor
         write_all(descriptor, HEADER)
-        self.again = (state.get("outgoing") or "").encode()
-        if self.again:
-            write_all(descriptor, self.again)
+        write_all(descriptor, (state.get("outgoing") or "").encode())
         self.written()
 
     def write(self, rows: bytes) -> None:

@@ -7,7 +7,7 @@ import math
 import re
 from collections.abc import Sequence
 from dataclasses import dataclass
-from typing import Optional, Union
+from typing import Optional
 
 NUMBER = re.compile(r"[+-]?(\d+(\.\d*)?|\.\d+)([eE][+-]?\d+)?", re.ASCII)
 LONGEST_ID = 1000  # characters
@@ -146,13 +146,11 @@ class HeaderMissing(Refused):
     """The first line of a table is no header with the columns that are wanted."""
 
 
-def _member(value: object, path: str) -> Optional[Union[str, int]]:
-    """The text or number at a path of an object; None if there is none."""
+def _member(value: object, path: str) -> Optional[str]:
+    """The text or the number, which is text here, at a path of an object; None if there is none."""
     for part in path.split("."):
         value = value.get(part) if isinstance(value, dict) else None
-    if value is None or isinstance(value, (bool, dict, list)) or value == "":
-        return None
-    return value if isinstance(value, (str, int)) else None
+    return value if isinstance(value, str) and value else None
 
 
 def _no_constant(text: str) -> object:

@@ -58,7 +58,10 @@ class State:
             if not path.exists():
                 self._make()
             self.connection = sqlite3.connect(str(path), isolation_level=None, timeout=0)
-            self._begin()
+            with contextlib.ExitStack() as unless_begun:
+                unless_begun.callback(self.close)
+                self._begin()
+                unless_begun.pop_all()
         except OSError as fault:
             raise OutputError(f"{path}: {fault.strerror or fault}") from None
         except sqlite3.OperationalError as fault:
@@ -196,7 +199,7 @@ class State:
             self.connection.executemany(
                 "INSERT OR REPLACE INTO vehicle VALUES (?, ?, ?, ?, ?)",
                 [marked("vehicle", name, v.number, float(v.time), v.positions)
-                 for name, v in self.vehicles.items() if name in self.changed])
+                 for name, v in ((name, self.vehicles[name]) for name in self.changed)])
             self.connection.execute("COMMIT")
             self.connection.execute("BEGIN")
         except sqlite3.Error as fault:
