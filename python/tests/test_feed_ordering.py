@@ -1,4 +1,4 @@
-import time
+from time import process_time
 
 from hypothesis import given
 from hypothesis import strategies as st
@@ -60,10 +60,10 @@ def test_positions_of_all_vehicles_come_in_the_order_of_their_times():
 def test_a_long_wait_costs_no_more_for_each_position():
     """A day of one vehicle that comes late: the work for a position may not grow with those that wait."""
     waiting, count = Waiting(1e9), 20_000
-    begin = time.process_time()
+    begin = process_time()
     for at in range(count):
         assert not waiting.has("a", float(at))
         waiting.add(Position(float(at), "a", 0, 0, float(at)))
     assert waiting.has("a", 5.0) and not waiting.has("a", 5.5)
     assert waiting.due({"a"}, 0.0) == [] and len(waiting.due(set(), 2e9)) == count
-    assert time.process_time() - begin < 3  # it was a minute
+    assert process_time() - begin < 3  # it was a minute

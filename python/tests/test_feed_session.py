@@ -104,7 +104,7 @@ class Client:
 def test_messages_that_are_decrypted_already_do_not_wait(notices: Notices, monkeypatch: pytest.MonkeyPatch) -> None:
     """The system shows nothing to read then."""
     client = Client(module.AT_ONCE + 5)
-    monkeypatch.setattr(module, "client_of", lambda _: client)
+    monkeypatch.setattr(module, "client_of", lambda *_, **__: client)
     broker = Broker(Address("127.0.0.1", "fleet/+", tls=True), notices)
     client.buffer.ends[1].send(b"x")
     assert len(broker.receive(time.monotonic() + 5) or []) == module.AT_ONCE

@@ -15,7 +15,7 @@ from test_restrictions import cross
 from fmm import _runs
 from fmm.errors import OptionError
 from fmm.fleet.common import Progress
-from fmm.fleet.memory import Grid, memory_of_run, sampled_nodes
+from fmm.fleet.memory import Grid, Reach, memory_of_run, sampled_nodes
 from fmm.matching import match
 from fmm.options import Options
 
@@ -70,16 +70,16 @@ def test_the_estimate_knows_nodes_and_distances(small_fleet: Any) -> None:
     network, _ = small_fleet
     x, y = network.lines.xy[::3, 0], network.lines.xy[::3, 1]
     trace = np.zeros(len(x), np.int64)
-    far, near = (memory_of_run(network, x, y, trace, bound, 10_000, 8) for bound in (300_000, 3_000))
+    far, near = (memory_of_run(network, x, y, trace, Reach(bound)) for bound in (300_000, 3_000))
     assert far > near > 32 << 20
-    assert memory_of_run(network, x[:0], y[:0], trace[:0], 300_000, 10_000, 8) < near
-    assert memory_of_run(network, x[:1], y[:1], trace[:1], 300_000, 10_000, 8) < far
+    assert memory_of_run(network, x[:0], y[:0], trace[:0], Reach()) < near
+    assert memory_of_run(network, x[:1], y[:1], trace[:1], Reach()) < far
 
 
 def test_the_grid_of_a_file_is_that_of_its_network(small_fleet: Any) -> None:
     network, _ = small_fleet
-    one = Grid.of_file(network.path, 20_000, 10_000, 8, Progress("nodes", 1))
-    other = Grid.of_network(network, 20_000, 10_000, 8)
+    one = Grid.of_file(network.path, Reach(20_000), Progress("nodes", 1))
+    other = Grid.of_network(network, Reach(20_000))
     assert one.nodes.tolist() == other.nodes.tolist()
     cells = np.unique(one.nodes)
     many = np.arange(1, len(cells) + 1)

@@ -48,6 +48,16 @@ class Means:
             raise OptionError(f"folder is no folder: {os.fspath(self.folder)}")
 
 
+@dataclass(frozen=True)
+class Work:
+    """What is to be matched, and by which program."""
+
+    program: Path
+    network: Network
+    traces: Traces
+    options: Options
+
+
 def solve(network: Network, traces: Traces, options: Options, means: Means, folder: Path) -> tuple[MatchText, dict[str, Any]]:
     """The text of a match and its evidence. `folder` is for the text of one run."""
     program = _programs.program(network.needs_large)
@@ -60,41 +70,41 @@ def solve(network: Network, traces: Traces, options: Options, means: Means, fold
     }
     needed = None if means.engine else needed_memory(network, traces, options)
     free = means.memory << 20 if means.memory else free_here()
-    if needed is None or needed > free:
-        text = in_groups(program, network, traces, options, means, evidence)
+    work = Work(program, network, traces, options)
+    if needed is not None and needed <= free:
+        text = read_text(in_one_run(work, folder), evidence)
+    else:
+        text = in_groups(work, means, evidence)
         if needed is not None:
             traces.notes.append(f"one run may need {needed >> 20:,} MB of memory, and has {free >> 20:,} MB: matched in groups")
-    else:
-        text = in_one_run(program, network, traces, options, folder / "match.txt", evidence)
     compare_traces(text, traces.drives.index.to_numpy(), traces.drives["positions"].to_numpy(), "the positions")
     return text, evidence
 
 
-def in_one_run(program: Path, network: Network, traces: Traces, options: Options, out: Path,
-               evidence: dict[str, Any]) -> MatchText:
-    names = {"network": network.name, "traces": "the positions"}
-    words = _programs.words_of("match", network.path, traces.path, options.arguments())
-    _programs.run(program, words, out, len(traces.row), names)
-    return read_text(out, evidence)
+def in_one_run(work: Work, folder: Path) -> Path:
+    """The file with the text of one run."""
+    out, names = folder / "match.txt", {"network": work.network.name, "traces": "the positions"}
+    words = _programs.words_of("match", work.network.path, work.traces.path, work.options.arguments())
+    _programs.run(work.program, words, out, len(work.traces.row), names)
+    return out
 
 
-def in_groups(program: Path, network: Network, traces: Traces, options: Options, means: Means,
-              evidence: dict[str, Any]) -> MatchText:
+def in_groups(work: Work, means: Means, evidence: dict[str, Any]) -> MatchText:
     """The text that the jobs of groups write together."""
     from .fleet import Call, match_fleet
     engine = means.engine or "local"
     apart = engine != "local"
     place = means.folder or (os.getcwd() if apart else None)
     with tempfile.TemporaryDirectory(prefix=".fmm-", dir=place) as own:
-        paths = [network.path, traces.path]
+        paths = [work.network.path, work.traces.path]
         if apart or means.folder:
             paths = [Path(own, name) for name in ("network.csv", "traces.csv")]
-            shutil.copyfile(network.path, paths[0])
-            shutil.copyfile(traces.path, paths[1])
-        jobs, memory = share(network, means)
-        arguments = options.arguments()
-        words = arguments if options.workers else arguments[:arguments.index("--workers")]
-        call = Call(paths[0], paths[1], Path(own, "groups"), program, engine, jobs, memory, options=words)
+            shutil.copyfile(work.network.path, paths[0])
+            shutil.copyfile(work.traces.path, paths[1])
+        jobs, memory = share(work.network, means)
+        arguments = work.options.arguments()
+        words = arguments if work.options.workers else arguments[:arguments.index("--workers")]
+        call = Call(paths[0], paths[1], Path(own, "groups"), work.program, engine, jobs, memory, options=words)
         evidence["engine"] = engine
         return read_text(match_fleet(call)[0], evidence)
 
@@ -108,9 +118,9 @@ def read_text(path: Path, evidence: dict[str, Any]) -> MatchText:
 
 def needed_memory(network: Network, traces: Traces, options: Options) -> int:
     """The bytes that one run may need."""
-    from .fleet.memory import memory_of_run
-    bound, radius = centimetres(options.bound), centimetres(options.radius)
-    return memory_of_run(network, traces.x, traces.y, traces.trace, bound, radius, options.k)
+    from .fleet.memory import Reach, memory_of_run
+    reach = Reach(centimetres(options.bound), centimetres(options.radius), options.k)
+    return memory_of_run(network, traces.x, traces.y, traces.trace, reach)
 
 
 def free_here() -> int:

@@ -17,7 +17,7 @@ from collections.abc import Sequence
 from pathlib import Path
 from typing import TYPE_CHECKING
 
-from ..errors import FmmError, MismatchError, OptionError
+from ..errors import FmmError, MismatchError
 from ..feed.intake import Reading, Rules
 from ..feed.notices import Notices
 from ..feed.reports import Reader
@@ -75,13 +75,14 @@ def main(words: Sequence[str]) -> int:
 
 def run(args: argparse.Namespace) -> int:
     """Runs a tracker with these options."""
-    from ..track.sinks import Stop, sinks_of
+    from ..track.sinks import Stop, checked_words, sinks_of
+    words = checked_words(args.to or ["-"])
     stop, notices = Stop(), Notices("fmm track")
     parts = _parts(args, notices)
     state = State(args.state)
     try:
         state.claim("track")
-        sinks = sinks_of(args.to or ["-"], state, stop, notices)
+        sinks = sinks_of(words, state, stop, notices)
         try:
             tracker = parts.tracker(state, source_of(args, notices), sinks, stop)
             on_end(stop.set)
@@ -108,13 +109,10 @@ def _parts(args: argparse.Namespace, notices: Notices) -> Parts:
     from ..options import Options
     from ..track.fleet import Ends
     from ..track.parts import Parts
-    from ..track.streams import knows
     network = Network.from_file(args.network)
     if network.projection.crs is None:
         raise MismatchError("has no side file with its projection, so it has no places in degrees", args.network)
     program = _programs.program(network.needs_large)
-    if args.idle is not None and not knows(program, "--idle"):
-        raise OptionError("--idle: fmm streams does not have this option yet; leave it out, and --gap ends drives")
     gap = float(args.idle or (600.0 if args.gap is None else args.gap))
     given = {name: getattr(args, name) for name in OPTIONS if getattr(args, name) is not None}
     placing = placing_on(network.projection, args.crs)

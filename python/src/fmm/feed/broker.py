@@ -43,6 +43,11 @@ class Address:
             raise ValueError(f"{text} is no host, or host and port")
         return found[1], int(found[2] or 1883)
 
+    @property
+    def where(self) -> str:
+        """The host and the port, for messages."""
+        return f"{self.host}:{self.port}"
+
     def vehicle(self, topic: str) -> Optional[str]:
         """The part of a topic that the wildcards match."""
         pattern = re.escape(self.topic).replace(r"\+", "([^/]+)").replace(r"\#", "#").replace("#", "(.+)")
@@ -50,20 +55,28 @@ class Address:
         return "/".join(found.groups()) if found and found.groups() else None
 
 
-def plain_client(**words: Any) -> Any:
+def client_of(address: Address, **words: Any) -> Any:
     """A client of paho with the callbacks of its first version, which each version has."""
     versions = getattr(mqtt, "CallbackAPIVersion", None)
-    return mqtt.Client(*(() if versions is None else (versions.VERSION1,)), **words)
-
-
-def client_of(address: Address) -> Any:
-    """A client whose session the broker keeps."""
-    client = plain_client(client_id=address.client, clean_session=False)
+    client = mqtt.Client(*(() if versions is None else (versions.VERSION1,)), **words)
     if address.user is not None:
         client.username_pw_set(address.user, address.password)
     if address.tls:
         client.tls_set()
     return client
+
+
+def connect(client: Any, address: Address) -> None:
+    """Begins a connection. InputError: the broker cannot be reached."""
+    try:
+        client.connect(address.host, address.port, keepalive=60)
+    except (OSError, ValueError) as fault:
+        raise InputError(f"the broker {address.where} cannot be reached: {fault}") from None
+
+
+def refusal_of(address: Address, code: int) -> str:
+    """Why a broker refuses a connection."""
+    return f"the broker {address.where} refuses the connection: {mqtt.connack_string(code)}"
 
 
 class Broker:
@@ -73,24 +86,20 @@ class Broker:
         self.address, self.notices = address, notices
         self.found: list[Payload] = []
         self.pause, self.retry_at, self.is_up, self.refusal = FIRST_PAUSE, 0.0, False, ""
-        self.client = client_of(address)
+        self.client = client_of(address, client_id=address.client, clean_session=False)
         self.client.on_connect = self._connected
         self.client.on_message = self._take
         self.client.on_subscribe = self._subscribed
         # with this callback paho leaves all writes to us, acknowledgements too
         self.client.on_socket_register_write = lambda *_: None
-        try:
-            self.client.connect(address.host, address.port, keepalive=60)
-        except (OSError, ValueError) as fault:
-            raise InputError(f"the broker {address.host}:{address.port} cannot be reached: {fault}") from None
+        connect(self.client, address)
         self._write()
 
     def _connected(self, client: Any, _: Any, __: Any, code: int, *___: Any) -> None:
         if int(code) == NOT_READY:
             return  # the broker ends the connection, and is asked again
         if int(code):
-            where = f"{self.address.host}:{self.address.port}"
-            self.refusal = f"the broker {where} refuses the connection: {mqtt.connack_string(int(code))}"
+            self.refusal = refusal_of(self.address, int(code))
         else:
             client.subscribe(self.address.topic, qos=1)
 
@@ -100,7 +109,7 @@ class Broker:
         else:
             if int(granted[0]) == 0:
                 self.notices.say("the broker grants quality of service 0 only: it keeps no messages while no feed runs")
-            self.notices.say(f"takes messages of {self.address.topic} from {self.address.host}:{self.address.port}")
+            self.notices.say(f"takes messages of {self.address.topic} from {self.address.where}")
             self.is_up, self.pause = True, FIRST_PAUSE
 
     def _take(self, _: Any, __: Any, message: Any) -> None:

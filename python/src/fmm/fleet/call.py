@@ -19,7 +19,7 @@ from ..errors import FmmError, InputError, OptionError, OutputError, shown
 from . import engines, groups
 from .common import VERSION, Progress, checksum, is_foreign, load_manifest, print_note, state, store_manifest, write_whole
 from .join import join
-from .memory import SLACK, Grid, free_memory
+from .memory import SLACK, Grid, Reach, free_memory
 from .parts import Run
 from .tasks import die_with_parent
 from .trace_file import TraceFile
@@ -146,34 +146,37 @@ def prepare_folder(folder: Path) -> bool:
     return is_new
 
 
-def prepare_groups(call: Call, folder: Path, programs: list[str], options: dict[str, Any], base: int, jobs: int) -> None:
-    """Makes the groups, or refuses a folder that was made for something else."""
-    reading = Progress("checksums", os.path.getsize(call.network) + os.path.getsize(call.traces))
-    identity: dict[str, Any] = {"version": VERSION, "network": checksum(call.network, reading), "program": programs,
-                                "memory": call.memory, "most": call.points,
-                                "options": {name: value for name, value in sorted(options.items()) if name != "workers"}}
+def prepare_groups(call: Call, folder: Path, identity: dict[str, Any], loaded: int, jobs: int) -> None:
+    """Makes the groups, or refuses a folder that was made for something else. `identity` is what the run is made of, and `loaded`
+    the memory of a run without rows."""
     found = load_manifest(folder)
     if found:
-        traces = checksum(call.traces, reading)
-        reading.close()
-        for name, value in {**identity, "traces": traces}.items():
+        with Progress("checksums", os.path.getsize(call.traces)) as reading:
+            identity = {**identity, "traces": checksum(call.traces, reading)}
+        for name, value in identity.items():
             if found[1].get(name) != value:
                 raise InputError(f"was made for another {WORDS.get(name, name)}: name a new folder, or remove it", folder)
         return
-    reading.close()
-    room = (call.memory << 20) - base - SLACK
+    room = (call.memory << 20) - loaded - SLACK
     if room < 0:
-        raise OptionError(f"--memory {call.memory} is too little: the network alone needs {(base + SLACK >> 20) + 1} MB")
-    print_note(f"a job has {call.memory} MB: {base + SLACK >> 20} MB for the network, and the rest for rows of the table")
-    reading = Progress("grouping", os.path.getsize(call.network) + 2 * os.path.getsize(call.traces))
-    used: dict[str, Any] = {"bound": 300_000, "radius": 10_000, "k": 8, **options}
-    grid = Grid.of_file(call.network, used["bound"], used["radius"], used["k"], reading)
-    made, large = groups.make_groups(folder, call.traces, grid, room, call.points, jobs, reading)
-    reading.close()
+        raise OptionError(f"--memory {call.memory} is too little: the network alone needs {(loaded + SLACK >> 20) + 1} MB")
+    print_note(f"a job has {call.memory} MB: {loaded + SLACK >> 20} MB for the network, and the rest for rows of the table")
+    reach = Reach(**{name: value for name, value in identity["options"].items() if name in Reach._fields})
+    with Progress("grouping", os.path.getsize(call.network) + 2 * os.path.getsize(call.traces)) as reading:
+        grid = Grid.of_file(call.network, reach, reading)
+        made, large = groups.make_groups(folder, TraceFile(call.traces, reading), grid, groups.Limits(room, call.points, jobs))
     for number in large:
         print_note(f"group {number} has one trace that may need more than {call.memory} MB")
     shutil.rmtree(folder / "parts", ignore_errors=True)
     store_manifest(folder, {**identity, **made})
+
+
+def identity_of(call: Call, options: dict[str, Any], programs: set[str]) -> dict[str, Any]:
+    """What a run is made of: another value of it is another run."""
+    with Progress("checksums", os.path.getsize(call.network)) as reading:
+        network = checksum(call.network, reading)
+    return {"version": VERSION, "network": network, "program": sorted(programs), "memory": call.memory, "most": call.points,
+            "options": {name: value for name, value in sorted(options.items()) if name != "workers"}}
 
 
 def match_fleet(call: Call) -> tuple[Path, str]:
@@ -206,9 +209,9 @@ def match_groups(call: Call, folder: Path, options: dict[str, Any]) -> str:
     before = [state(path) for path in inputs]
     words = call.options if "workers" in options else [*call.options, "--workers", "1"]
     print_note("reading the files")
-    running, base = probe(call.program, network, words)
+    running, loaded = probe(call.program, network, words)
     jobs = call.jobs or local_jobs(call)
-    prepare_groups(call, folder, sorted({checksum(call.program), checksum(running)}), options, base, jobs)
+    prepare_groups(call, folder, identity_of(call, options, {checksum(call.program), checksum(running)}), loaded, jobs)
     match = folder / "match.txt"
     match.unlink(missing_ok=True)
     (folder / "parts").mkdir(exist_ok=True)
@@ -234,12 +237,10 @@ def match_missing(run: Run, call: Call, jobs: int, workers: int) -> None:
     failed: dict[int, str] = {}
     if missing:
         points = sum(group["points"] for group in run.groups)
-        progress = Progress("matching", points, points - sum(run.groups[number - 1]["points"] for number in missing))
-        work = engines.Work(run, missing, jobs, workers, call.memory, call.wait, progress)
-        try:
+        left = sum(run.groups[number - 1]["points"] for number in missing)
+        with Progress("matching", points, points - left) as progress:
+            work = engines.Work(run, missing, jobs, workers, call.memory, call.wait, progress)
             failed = engines.engine(call.engine)(work)
-        finally:
-            progress.close()
     missing = run.missing()
     if missing:
         number = min(set(missing) & set(failed), default=missing[0])

@@ -93,7 +93,7 @@ def checksum(path: Path, progress: Optional[Progress] = None) -> str:
 
 class Progress:
     """The progress with the remaining time on standard error: a bar if that is a terminal, and otherwise a line after each
-    minute. Call `add`, then `close`."""
+    minute. Call `add` in a `with` block."""
 
     def __init__(self, what: str, total: int, done: int = 0) -> None:
         self.what, self.total, self.done = what, max(total, 1), done
@@ -103,6 +103,13 @@ class Progress:
         if sys.stderr is not None and sys.stderr.isatty():
             form = "{desc} [{bar:30}] {percentage:3.0f} %, {remaining} left"
             self.bar = tqdm(total=self.total, initial=done, desc=what, bar_format=form, ascii=" #", leave=False)
+
+    def __enter__(self) -> Progress:
+        return self
+
+    def __exit__(self, *_: object) -> None:
+        if self.bar is not None:
+            self.bar.close()
 
     def add(self, more: int) -> None:
         self.done += more
@@ -115,10 +122,6 @@ class Progress:
         self.said = now
         left = (now - self.begin) * max(0, self.total - self.done) / max(1, self.done - self.first)
         print_note(f"{self.what} {100 * min(1.0, self.done / self.total):.0f} %, {tqdm.format_interval(left)} left")
-
-    def close(self) -> None:
-        if self.bar is not None:
-            self.bar.close()
 
 
 class Again(FmmError):

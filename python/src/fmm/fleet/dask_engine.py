@@ -2,6 +2,9 @@
 from __future__ import annotations
 
 import logging
+import os
+import subprocess
+import sys
 import time
 from pathlib import Path
 from typing import Any, Optional
@@ -11,20 +14,17 @@ import distributed
 
 from ..errors import FmmError
 from .common import print_note
-from .engines import TRIES, Work
+from .engines import TRIES, Work, last_line
 
 LOOK = 1  # seconds between two looks at the workers
 
 
 def match_group(script: str, folder: str, number: int) -> Optional[str]:
-    """Runs a task on a worker. Returns why it failed finally; raises RuntimeError if another try may help."""
-    import os
-    import subprocess
-    import sys
+    """Runs a task on a worker, by the worker's Python. Returns why it failed finally; raises RuntimeError if another try may
+    help."""
     done = subprocess.run([sys.executable, script, folder, str(number)], stdin=subprocess.DEVNULL, stdout=subprocess.DEVNULL,
                           stderr=subprocess.PIPE, env={**os.environ, "FLEET_PARENT": str(os.getpid())})
-    lines = done.stderr.decode(errors="replace").strip().splitlines()
-    why = lines[-1].removeprefix("fmm fleet: ") if lines else f"status {done.returncode}"
+    why = last_line(done.stderr) or f"status {done.returncode}"
     if done.returncode > 1 or done.returncode < 0:
         raise RuntimeError(why)
     return why if done.returncode else None

@@ -84,20 +84,19 @@ class Attempts:
     """Runs tasks as processes of this one; when this process ends, Linux ends them too."""
 
     def __init__(self, run: Run) -> None:
-        self.run, self.stopping = run, threading.Event()
+        self.run, self.is_stopped, self.lock = run, False, threading.Lock()
         self.processes: set[subprocess.Popen] = set()
 
     def match(self, number: int) -> Optional[str]:
         """Runs a task until it ends well or finally; returns why it failed."""
         why = ""
         for _ in range(TRIES):
-            if self.stopping.is_set():
+            process = self._start(number)
+            if process is None:
                 return "stopped"
-            process = subprocess.Popen(task_command(self.run, number), stdin=subprocess.DEVNULL, stdout=subprocess.DEVNULL,
-                                       stderr=subprocess.PIPE, env={**os.environ, "FLEET_PARENT": str(os.getpid())})
-            self.processes.add(process)
             why = last_line(process.communicate()[1])
-            self.processes.discard(process)
+            with self.lock:
+                self.processes.discard(process)
             if process.returncode == 0:
                 return None
             why = why or f"status {process.returncode}"
@@ -105,10 +104,21 @@ class Attempts:
                 break
         return why
 
+    def _start(self, number: int) -> Optional[subprocess.Popen]:
+        """Starts a task, unless `stop` was called. The lock keeps `stop` from missing a task that is being started."""
+        with self.lock:
+            if self.is_stopped:
+                return None
+            process = subprocess.Popen(task_command(self.run, number), stdin=subprocess.DEVNULL, stdout=subprocess.DEVNULL,
+                                       stderr=subprocess.PIPE, env={**os.environ, "FLEET_PARENT": str(os.getpid())})
+            self.processes.add(process)
+            return process
+
     def stop(self) -> None:
-        self.stopping.set()
-        for process in list(self.processes):
-            process.send_signal(signal.SIGTERM)
+        with self.lock:
+            self.is_stopped = True
+            for process in self.processes:
+                process.send_signal(signal.SIGTERM)
 
 
 def local(work: Work) -> dict[int, str]:

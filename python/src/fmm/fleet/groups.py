@@ -5,18 +5,20 @@ file FOLDER/index has a line `GROUP ID POSITIONS` for each trace, in the order o
 """
 from __future__ import annotations
 
+import contextlib
 import hashlib
 import math
 import os
 import shutil
 import subprocess
 from collections.abc import Iterator
+from dataclasses import dataclass
 from pathlib import Path
 from typing import Any, Optional
 
 from .._output import Outputs
 from ..errors import FmmError, InputError
-from .common import Progress, number_name
+from .common import number_name
 from .memory import Grid, place_on_curve
 from .trace_file import Position, TraceFile
 
@@ -26,8 +28,21 @@ HELD = 64 << 20  # bytes of groups that wait in memory to be written
 Group = dict[str, Any]
 
 
+@dataclass(frozen=True)
+class Limits:
+    """What a group may have: bytes for the rows of the table, and positions. Without `most` each of the jobs gets two groups."""
+
+    room: int
+    most: Optional[int]
+    jobs: int
+
+    def positions(self, all_positions: int) -> int:
+        """The most positions of a group of so many in all."""
+        return self.most or max(LEAST_POSITIONS, -(-all_positions // (2 * self.jobs)))
+
+
 class Sorter:
-    """GNU sort as a process: write lines to it, then read them in the order of their first numbers."""
+    """GNU sort as a process: write lines to it in a `with` block, then read them in the order of their first numbers."""
 
     def __init__(self, folder: Path) -> None:
         self.folder = folder / "sort"
@@ -38,6 +53,18 @@ class Sorter:
                 stderr=subprocess.DEVNULL, env={**os.environ, "LC_ALL": "C"}, text=True)
         except OSError as fault:
             raise FmmError(f"cannot run sort: {fault.strerror}") from None
+
+    def __enter__(self) -> Sorter:
+        return self
+
+    def __exit__(self, *_: object) -> None:
+        """Ends the process, if it was left before its end."""
+        self.process.kill()
+        for pipe in (self.process.stdin, self.process.stdout):
+            with contextlib.suppress(BrokenPipeError):  # lines that were not written yet
+                assert pipe
+                pipe.close()
+        self.process.wait()
 
     def failed(self) -> FmmError:
         return FmmError(f"sort failed; is there room in {self.folder}?")
@@ -187,18 +214,15 @@ def write_groups(folder: Path, traces: TraceFile, places: Iterator[str], groups:
     return digest.hexdigest()
 
 
-def make_groups(folder: Path, path: Path, grid: Grid, room: int, most: Optional[int], jobs: int,
-                progress: Progress) -> tuple[dict[str, Any], list[int]]:
+def make_groups(folder: Path, traces: TraceFile, grid: Grid, limits: Limits) -> tuple[dict[str, Any], list[int]]:
     """Makes the groups and the index; returns what the manifest says of them, and the numbers of groups beyond the memory."""
-    traces, by_place = TraceFile(path, progress), Sorter(folder)
-    count, points = sort_by_place(traces, grid, by_place)
-    first = traces.checksum
-    most = most or max(LEAST_POSITIONS, -(-points // (2 * jobs)))
-    by_number = Sorter(folder)
-    groups = fill_groups(by_place.lines(), grid, room, most, by_number)
-    index = write_groups(folder, traces, by_number.lines(), groups)
+    with Sorter(folder) as by_place, Sorter(folder) as by_number:
+        count, points = sort_by_place(traces, grid, by_place)
+        first = traces.checksum
+        groups = fill_groups(by_place.lines(), grid, limits.room, limits.positions(points), by_number)
+        index = write_groups(folder, traces, by_number.lines(), groups)
     if traces.checksum != first:
-        raise InputError("was changed while it was read", path)
+        raise InputError("was changed while it was read", traces.path)
     shutil.rmtree(folder / "sort", ignore_errors=True)
-    large = [number for number, group in enumerate(groups, 1) if group.pop("rows") > room]
+    large = [number for number, group in enumerate(groups, 1) if group.pop("rows") > limits.room]
     return {"traces": first, "count": count, "points": points, "index": index, "groups": groups}, large

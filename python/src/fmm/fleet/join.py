@@ -4,9 +4,9 @@ from __future__ import annotations
 import collections
 import hashlib
 import os
-from collections.abc import Iterable
+from collections.abc import Iterable, Sequence
 from pathlib import Path
-from typing import IO
+from typing import IO, NamedTuple
 
 import numpy as np
 
@@ -19,11 +19,18 @@ MOST_OPEN = 200
 
 
 class OpenParts:
-    """Reads many parts at a time through few open files."""
+    """Reads many parts at a time through few open files, in a `with` block."""
 
     def __init__(self, run: Run) -> None:
         self.run, self.places = run, dict[int, int]()
         self.files: collections.OrderedDict[int, IO[bytes]] = collections.OrderedDict()
+
+    def __enter__(self) -> OpenParts:
+        return self
+
+    def __exit__(self, *_: object) -> None:
+        for file in self.files.values():
+            file.close()
 
     def get(self, number: int) -> IO[bytes]:
         file = self.files.pop(number, None)
@@ -38,34 +45,33 @@ class OpenParts:
         return file
 
 
+class Checked(NamedTuple):
+    """What parts have been found to be: the last line of each, and the positions of each of its traces."""
+
+    lasts: list[LastLine]
+    positions: list[np.ndarray]
+
+
 def join(run: Run, output: Path) -> str:
     """Writes the texts of all traces in the order of the trace file and one total line; returns this line."""
     index = run.folder / "index"
     if checksum(index) != run.manifest["index"]:
         raise InputError(f"was changed: remove {run.folder}", index)
-    lasts, positions = check_parts(run)
-    progress = Progress("joining", run.manifest["points"])
-    try:
-        with open(index, "rb") as lines, Outputs() as outputs:
-            return join_texts(run, lines, outputs.open(output, binary=True), lasts, positions, progress)
-    finally:
-        progress.close()
+    checked = check_parts(run)
+    with Progress("joining", run.manifest["points"]) as progress, open(index, "rb") as lines, Outputs() as outputs:
+        return join_texts(run, lines, outputs.open(output, binary=True), checked, progress)
 
 
-def check_parts(run: Run) -> tuple[list[LastLine], list[np.ndarray]]:
-    """Reads each part by the whole grammar, and compares it with its last line. Returns these, and the positions of each
-    trace."""
+def check_parts(run: Run) -> Checked:
+    """Reads each part by the whole grammar, and compares it with its last line."""
     numbers = range(1, len(run.groups) + 1)
-    progress = Progress("checking", sum(os.path.getsize(run.part_path(number)) for number in numbers))
-    lasts, positions = [], []
-    try:
+    checked = Checked([], [])
+    with Progress("checking", sum(os.path.getsize(run.part_path(number)) for number in numbers)) as progress:
         for number in numbers:
             path, last = run.part_path(number), run.last_line(number)
-            lasts.append(last)
-            positions.append(check_part(path, last, progress))
-    finally:
-        progress.close()
-    return lasts, positions
+            checked.lasts.append(last)
+            checked.positions.append(check_part(path, last, progress))
+    return checked
 
 
 def check_part(path: Path, last: LastLine, progress: Progress) -> np.ndarray:
@@ -92,33 +98,39 @@ def digest_of(path: Path, length: int) -> str:
     return digest.hexdigest()
 
 
-def join_texts(run: Run, index: Iterable[bytes], text: IO[bytes], lasts: list[LastLine], positions: list[np.ndarray],
-               progress: Progress) -> str:
+def join_texts(run: Run, index: Iterable[bytes], text: IO[bytes], checked: Checked, progress: Progress) -> str:
     """Writes the trace of each line of the index and the total line."""
-    parts, next_id, manifest = OpenParts(run), [0] * len(run.groups), run.manifest
+    next_id = [0] * len(run.groups)
     traces = points = 0
-    for line in index:
-        group, trace, wanted = map(int, line.split())
-        number = next_id[group - 1]
-        next_id[group - 1] += 1
-        path = run.part_path(group)
-        found = int(positions[group - 1][number]) if number < len(positions[group - 1]) else 0
-        if found != wanted:
-            raise InputError(f"trace {number} has {found} positions, not {wanted}: {AGAIN}", path)
-        text.write(b"trace %d\n%send %d\n" % (trace, read_trace(parts.get(group), number, path), trace))
-        traces += 1
-        points += wanted
-        progress.add(wanted)
+    with OpenParts(run) as parts:
+        for line in index:
+            group, trace, wanted = map(int, line.split())
+            number, path = next_id[group - 1], run.part_path(group)
+            next_id[group - 1] += 1
+            positions = checked.positions[group - 1]
+            found = int(positions[number]) if number < len(positions) else 0
+            if found != wanted:
+                raise InputError(f"trace {number} has {found} positions, not {wanted}: {AGAIN}", path)
+            text.write(b"trace %d\n%send %d\n" % (trace, read_trace(parts.get(group), number, path), trace))
+            traces += 1
+            points += wanted
+            progress.add(wanted)
+        check_ends(run, parts, checked.lasts)
+    wanted_counts = run.manifest["count"], run.manifest["points"]
+    if (traces, points) != wanted_counts:
+        raise InputError("has traces {} points {}, its parts traces {} points {}".format(*wanted_counts, traces, points),
+                         run.folder / "manifest.json")
+    total = f"total traces {traces} points {points} pieces {sum(last.pieces for last in checked.lasts)}"
+    text.write(total.encode() + b"\n")
+    return total
+
+
+def check_ends(run: Run, parts: OpenParts, lasts: Sequence[LastLine]) -> None:
+    """Refuses a part with something between its last trace and its total line, or behind that."""
     for number, last in enumerate(lasts, 1):
         file = parts.get(number)
         if not TOTAL.fullmatch(file.readline()) or file.tell() != last.length:
             raise InputError(f"the total line is not in its place: {AGAIN}", run.part_path(number))
-    if (traces, points) != (manifest["count"], manifest["points"]):
-        raise InputError(f"has traces {manifest['count']} points {manifest['points']}, its parts traces {traces} points {points}",
-                         run.folder / "manifest.json")
-    total = f"total traces {traces} points {points} pieces {sum(last.pieces for last in lasts)}"
-    text.write(total.encode() + b"\n")
-    return total
 
 
 def read_trace(file: IO[bytes], number: int, path: Path) -> bytes:

@@ -6,7 +6,7 @@ becomes longer where that is not enough: if positions are more than a sixth of t
 from __future__ import annotations
 
 from pathlib import Path
-from typing import Any
+from typing import Any, NamedTuple
 
 import numpy as np
 
@@ -23,31 +23,39 @@ SLACK = 32 << 20  # bytes of a run for a batch of traces and what else it holds
 LOADED = 3  # bytes of a loaded network for each byte of its file; 2.2 to 2.5 were measured
 
 
+class Reach(NamedTuple):
+    """The options of a match that say which rows it needs, in centimetres, with the defaults of the program."""
+
+    bound: int = 300_000
+    radius: int = 10_000
+    k: int = 8
+
+
 class Grid:
     """Cells are squares of 2^shift cm; a cell is the number (column << 32) + row. `places` are those of the nodes in centimetres,
     int64[n, 2], of which each stands for `scale` nodes."""
 
-    def __init__(self, places: np.ndarray, scale: int, bound: int, radius: int, k: int) -> None:
-        self.bound, self.scale, self.k = bound, scale, k
-        self.shift = max(12, max(bound // 12, radius).bit_length() - 1)
+    def __init__(self, places: np.ndarray, scale: int, reach: Reach) -> None:
+        self.bound, self.scale, self.k = reach.bound, scale, reach.k
+        self.shift = max(12, max(reach.bound // 12, reach.radius).bit_length() - 1)
         self.nodes = np.sort(self.cells(places[:, 0], places[:, 1]))
-        self.near, self.whole = self.columns_within(bound // 3), self.columns_within(bound)
+        self.near, self.whole = self.columns_within(reach.bound // 3), self.columns_within(reach.bound)
         self.entries: dict[int, tuple[int, int, int]] = {}
 
     @classmethod
-    def of_file(cls, network: Path, bound: int, radius: int, k: int, progress: Progress) -> Grid:
+    def of_file(cls, network: Path, reach: Reach, progress: Progress) -> Grid:
         """The grid of a network file."""
         places, scale = sampled_nodes(network, progress)
         packed = np.fromiter(places.values(), np.int64, len(places))
         xy = np.stack([packed >> 32, packed & 0xFFFFFFFF], axis=1) - SHIFTED
-        return cls(xy, scale, bound, radius, k)
+        return cls(xy, scale, reach)
 
     @classmethod
-    def of_network(cls, network: Any, bound: int, radius: int, k: int) -> Grid:
+    def of_network(cls, network: Any, reach: Reach) -> Grid:
         """The grid of a `Network`."""
         lines = network.lines
         _, first = np.unique(lines.to_node, return_index=True)
-        return cls(lines.xy[lines.first[1:] - 1][first], 1, bound, radius, k)
+        return cls(lines.xy[lines.first[1:] - 1][first], 1, reach)
 
     def columns_within(self, reach: int) -> list[tuple[int, int]]:
         """The columns of cells within reach: how far to the right each is, and how many cells it has upwards and downwards."""
@@ -152,8 +160,8 @@ def free_memory() -> int:
         return free
 
 
-def memory_of_run(network: Any, x: np.ndarray, y: np.ndarray, trace: np.ndarray, bound: int, radius: int, k: int) -> int:
-    """The bytes that one run over these positions may need: the network, its rows and a batch of traces. Lengths are whole
+def memory_of_run(network: Any, x: np.ndarray, y: np.ndarray, trace: np.ndarray, reach: Reach) -> int:
+    """The bytes that one run over these positions may need: the network, its rows and a batch of traces. Places are whole
     centimetres."""
-    rows = Grid.of_network(network, bound, radius, k).bytes_of_run(x, y, trace)
+    rows = Grid.of_network(network, reach).bytes_of_run(x, y, trace)
     return SLACK + LOADED * network.path.stat().st_size + rows

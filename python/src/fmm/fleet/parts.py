@@ -91,7 +91,7 @@ class Run:
 
     def remove_temporary(self) -> None:
         for path in [*(self.folder / "parts").glob("*.tmp"), *self.folder.glob(f"{UNFINISHED}*")]:
-            path.unlink()
+            path.unlink(missing_ok=True)  # a job of an earlier call may have ended now
 
 
 # ---- texts

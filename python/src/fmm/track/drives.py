@@ -5,7 +5,7 @@ from collections import deque
 from collections.abc import Iterable, Sequence
 from dataclasses import dataclass, field
 from datetime import datetime, timezone
-from typing import Any, Optional
+from typing import Any, Optional, Union
 
 from .journal import Row
 from .roads import Label, Streets
@@ -79,7 +79,7 @@ class Drives:
 
     def read(self, lines: Iterable[bytes]) -> list[Found]:
         """The objects that lines bring about, in their order; without positions that were delivered before."""
-        found: list[Any] = []
+        found: list[Union[Found, Settled]] = []
         for line in lines:
             number, _, rest = line.partition(b" ")
             word, _, rest = rest.partition(b" ")
@@ -95,7 +95,7 @@ class Drives:
                 found.append(self._end(drive))
         return self._placed(found)
 
-    def _settle(self, drive: Drive, words: Optional[bytes], found: list[Any]) -> None:
+    def _settle(self, drive: Drive, words: Optional[bytes], found: list[Union[Found, Settled]]) -> None:
         if drive.closing is not None and drive.settled == drive.closing:
             found.append(self._end(drive))
             return
@@ -138,7 +138,7 @@ class Drives:
             del self.open[drive.number]
         return Found(drive.number, content, drive.settled)
 
-    def _placed(self, found: Sequence[Any]) -> list[Found]:
+    def _placed(self, found: Sequence[Union[Found, Settled]]) -> list[Found]:
         """The objects, with the places of all settled positions looked up at once."""
         settled = [one for one in found if isinstance(one, Settled)]
         objects = iter(self.positions(settled))

@@ -2,14 +2,13 @@
 from __future__ import annotations
 
 from collections import OrderedDict
-from collections.abc import Callable, Sequence
+from collections.abc import Callable, Iterator, Sequence
 from dataclasses import dataclass
 from itertools import islice
 from typing import Optional
 
 from ..errors import ProgramError
 from ..feed.intake import Intake
-from ..feed.notices import Notices
 from ..feed.ordering import Position
 from ..service.kept import Lost
 from .drives import Drive, Drives, Found
@@ -43,18 +42,24 @@ class Heard:
 class Fleet:
     """Follows drives. The rows have to be in the journal, and committed, before they are taken."""
 
-    def __init__(self, start: Callable[[], Streams], streets: Streets, journal: Journal, intake: Intake, ends: Ends,
-                 notices: Notices) -> None:
-        self.start, self.journal, self.intake, self.ends, self.notices = start, journal, intake, ends, notices
+    def __init__(self, start: Callable[[], Streams], streets: Streets, journal: Journal, intake: Intake, ends: Ends) -> None:
+        self.start, self.journal, self.intake, self.ends = start, journal, intake, ends
         self.drives = Drives(streets)
         self.heard: OrderedDict[int, Heard] = OrderedDict()  # of open drives, the one that was not heard for the longest first
         self.number_of: dict[str, int] = {}
         self.newest = 0.0
         self.streams = start()
-        self.replaced = 0  # programs
+        self.restored = 0  # how often the open drives were followed again
 
-    def take(self, numbered: Sequence[tuple[int, Position]], rows: Sequence[Row]) -> list[Found]:
-        """The objects that rows bring about."""
+    def take(self, numbered: Sequence[tuple[int, Position]], rows: Sequence[Row]) -> Iterator[list[Found]]:
+        """The objects that rows bring about, some rows at a time."""
+        restored = self.restored
+        for first in range(0, len(rows), AT_ONCE):
+            yield self._take(numbered[first:first + AT_ONCE], rows[first:first + AT_ONCE])
+            if self.restored != restored:
+                return  # all rows of the journal were followed then, the later ones of these too
+
+    def _take(self, numbered: Sequence[tuple[int, Position]], rows: Sequence[Row]) -> list[Found]:
         now = self.intake.clock.now()
         text: list[str] = []
         for (number, position), row in zip(numbered, rows):
@@ -82,14 +87,13 @@ class Fleet:
         """Ends all drives."""
         for number in self.heard:
             self.intake.end(self.drives.open[number].vehicle, number)
-        for last_try in (False, True):
+        found: list[Found] = []
+        for last_try in (*[False] * (TRIES - 1), True):
             try:
-                return self.drives.read(self.streams.finish())
+                return found + self.drives.read(self.streams.finish())
             except Lost as fault:
                 self._lost(fault, last_try)
                 found = self.restore()
-                if found:  # they were not read before the program ended
-                    return found + self.finish()
         raise AssertionError
 
     def restore(self) -> list[Found]:
@@ -106,10 +110,10 @@ class Fleet:
         open_rows = sum(drive.settled + len(drive.rows) for drive in self.drives.open.values())
         if 2 * open_rows > self.streams.rows or self.streams.memory < self.ends.memory * MEGABYTE:
             return []
-        self.replaced += 1
         return self.restore()
 
     def _restored(self) -> list[Found]:
+        self.restored += 1
         self.streams.close()
         self.streams = self.start()
         self.drives.open.clear()
@@ -168,7 +172,7 @@ class Fleet:
     def _lost(self, fault: Exception, is_last: bool) -> None:
         if is_last:
             raise ProgramError(1, f"fmm streams ends again and again: {fault}")
-        self.notices.say(f"fmm streams ended, and begins again: {fault}")
+        self.intake.notices.say(f"fmm streams ended, and begins again: {fault}")
 
     def drive_of(self, vehicle: str) -> Optional[Drive]:
         """The open drive of a vehicle."""

@@ -44,9 +44,11 @@ class Database:
         self.address, self.stop, self.notices = address, stop, notices
         self.library, self.extras = psycopg2, psycopg2.extras
         self.connection: Optional[Any] = None
+        self.retry_at = 0.0
         try:
             self._connect()
         except psycopg2.Error as fault:
+            self._drop()
             raise InputError(f"the database cannot be used: {first_line(fault)}") from None
 
     def _connect(self) -> None:
@@ -65,6 +67,8 @@ class Database:
         self._until_done(put)
 
     def offer(self, objects: Sequence[Object]) -> None:
+        if self.connection is None and time.monotonic() < self.retry_at:
+            return  # an attempt to connect may take seconds
         rows = latest([{**one, "provisional": True} for one in objects])
         try:
             self._once(lambda cursor: self._put(cursor, PROVISIONAL, VALUES, rows))
@@ -112,7 +116,7 @@ class Database:
     def _drop(self) -> None:
         if self.connection is not None:
             self.connection.close()
-        self.connection = None
+        self.connection, self.retry_at = None, time.monotonic() + LONGEST_PAUSE
 
     def close(self) -> None:
         self._drop()

@@ -9,13 +9,14 @@ from collections.abc import Callable, Sequence
 from pathlib import Path
 from typing import Any, Optional, Protocol
 
-from ..errors import OutputError
+from ..errors import OptionError
 from ..feed.notices import Notices
 from ..feed.outlet import RowFile
 from ..feed.state import State
 from .drives import Object
 
 PATIENCE = 5.0  # seconds that a sink gets after a signal
+DATABASES = ("postgresql://", "postgres://")
 PIECE = 4096  # bytes that a pipe takes at once if it takes any
 
 
@@ -153,8 +154,23 @@ class Sinks:
             sink.close()
 
 
+def checked_words(words: Sequence[str]) -> Sequence[str]:
+    """The words of --to. OptionError: one of them is no sink, or comes twice."""
+    for word in words:
+        if word.startswith("mqtt://"):
+            from .broker_sink import address_of
+            address_of(word)
+        elif "://" in word and not word.startswith(DATABASES):
+            raise OptionError(f"{word} is no sink: give -, a file, mqtt://HOST/TOPIC or postgresql://HOST/DATABASE")
+        if words.count(word) > 1:
+            raise OptionError(f"--to {word} stands twice: it would get each object twice")
+    if sum(not (word == "-" or "://" in word) for word in words) > 1:
+        raise OptionError("only one file can be written")
+    return words
+
+
 def sinks_of(words: Sequence[str], state: State, stop: Stop, notices: Notices) -> Sinks:
-    """The sinks that the words of --to name."""
+    """The sinks that words of --to name, which have been checked."""
     def make() -> list[Sink]:
         files: list[Sink] = []
         others: list[Sink] = []
@@ -162,16 +178,12 @@ def sinks_of(words: Sequence[str], state: State, stop: Stop, notices: Notices) -
             if word == "-":
                 others.append(Stream(stop))
             elif word.startswith("mqtt://"):
-                from .broker_sink import Publisher
-                others.append(Publisher.of(word, stop, notices))
-            elif word.startswith(("postgresql://", "postgres://")):
+                from .broker_sink import Publisher, address_of
+                others.append(Publisher(address_of(word), stop, notices))
+            elif word.startswith(DATABASES):
                 from .postgis import Database
                 others.append(Database(word, stop, notices))
-            elif "://" in word:
-                raise OutputError(f"{word} is no sink: give -, a file, mqtt://HOST/TOPIC or postgresql://HOST/DATABASE")
             else:
                 files.append(File(Path(word), state))
         return files + others
-    if sum(not (word == "-" or "://" in word) for word in words) > 1:
-        raise OutputError("only one file can be written")
     return Sinks(state, make)

@@ -1,17 +1,14 @@
 """`fmm streams`, which is kept running: it takes rows and gives back the lines that they settle."""
 from __future__ import annotations
 
-import os
-import subprocess
 from collections.abc import Sequence
 from pathlib import Path
 
+from ..feed.intake import CLOSING, MOST_POSITIONS
 from ..service.kept import KeptProgram
 from ..service.program import HEADER
 
-CLOSING = 4_000_000_001  # from this number on: the traces whose rows close fragments
 SECOND = 100_000_000  # from the numbers of the first of two closing traces to those of the second
-MOST = 100_000  # positions of a trace
 
 
 class Streams:
@@ -29,7 +26,7 @@ class Streams:
         `streams` writes the lines of a fragment when a row of another trace follows. So two rows far from all roads, of traces
         of their own, follow the rows. The lines of the first one are the last that are awaited.
         """
-        closing = CLOSING + self.batches // MOST
+        closing = CLOSING + self.batches // MOST_POSITIONS
         far = f"{self.far[0]},{self.far[1]},{second}\n"
         self._kept.give("".join([*rows, f"{closing},{far}", f"{closing + SECOND},{far}"]).encode())
         self.rows += len(rows) + 2
@@ -61,10 +58,3 @@ def last_line_begins(text: bytearray, mark: bytes) -> bool:
 def positions_of(lines: Sequence[bytes]) -> list[bytes]:
     """The lines of traces that do not close fragments."""
     return [line for line in lines if int(line.partition(b" ")[0]) < CLOSING]
-
-
-def knows(program: Path, option: str) -> bool:
-    """Whether `streams` of a program has an option: whether it goes on to the network, which is missing here."""
-    words = [str(program), "streams", option, "1", "--", os.devnull + "/network", os.devnull]
-    done = subprocess.run(words, stdin=subprocess.DEVNULL, capture_output=True, check=False)
-    return done.returncode != 2

@@ -1,6 +1,7 @@
 """The run of `track`: from payloads to objects."""
 from __future__ import annotations
 
+import contextlib
 import time
 from collections.abc import Sequence
 from typing import Optional
@@ -9,7 +10,7 @@ from ..feed.intake import Intake
 from ..feed.ordering import Position
 from ..feed.sources import Payload, Source
 from .drives import Found
-from .fleet import AT_ONCE, Fleet
+from .fleet import Fleet
 from .journal import Journal
 from .provisional import Provisional
 from .sinks import Sinks, Stop, Unwritten
@@ -29,10 +30,9 @@ class Tracker:
     nothing is lost if the process is killed.
     """
 
-    def __init__(self, source: Source, intake: Intake, fleet: Fleet, sinks: Sinks, provisional: Optional[Provisional],
-                 stop: Stop) -> None:
-        self.source, self.intake, self.fleet, self.sinks = source, intake, fleet, sinks
-        self.provisional, self.stop = provisional, stop
+    def __init__(self, source: Source, fleet: Fleet, sinks: Sinks, provisional: Optional[Provisional], stop: Stop) -> None:
+        self.source, self.fleet, self.sinks, self.provisional, self.stop = source, fleet, sinks, provisional, stop
+        self.intake: Intake = fleet.intake
         self.journal: Journal = fleet.journal
         self.positions, self.drives = 0, 0
         self.renewal = time.monotonic() + RENEWAL
@@ -56,10 +56,10 @@ class Tracker:
 
     def close(self) -> None:
         """Leaves the source, and ends the programs."""
-        self.source.close()
-        self.fleet.close()
-        if self.provisional:
-            self.provisional.close()
+        with contextlib.ExitStack() as closing:
+            for part in (self.provisional, self.fleet, self.source):
+                if part:
+                    closing.callback(part.close)
 
     def _until(self) -> float:
         """Until when to wait for payloads."""
@@ -89,8 +89,8 @@ class Tracker:
         else:
             self.intake.state.check_file()
         self.source.acknowledge()
-        for first in range(0, len(rows), AT_ONCE):
-            self._deliver(self.fleet.take(numbered[first:first + AT_ONCE], rows[first:first + AT_ONCE]))
+        for found in self.fleet.take(numbered, rows):
+            self._deliver(found)
 
     def _deliver(self, found: Sequence[Found]) -> None:
         """Writes objects. The journal notes them in the commit that notes them as outgoing."""
