@@ -10,6 +10,7 @@ import pytest
 from hypothesis import given
 from hypothesis import strategies as st
 
+from fmm._noise import Motion
 from fmm._thinning import jumps, thinned
 from fmm._traces import LONGEST, Traces, write_traces
 from fmm.options import Options
@@ -173,7 +174,7 @@ def test_the_order_of_rows_changes_nothing(tmp_path_factory: pytest.TempPathFact
 
 def jumps_of(xs: List[float], fastest: float = 50) -> List[int]:
     x = np.array(xs, dtype=float)
-    return np.flatnonzero(jumps(x, 0 * x, np.arange(len(x)) * 1.0, np.zeros(len(x)), fastest, 10)).tolist()
+    return np.flatnonzero(jumps(Motion(x, 0 * x, np.arange(len(x)) * 1.0, np.zeros(len(x))), fastest, 10)).tolist()
 
 
 def test_jumps() -> None:
@@ -201,5 +202,5 @@ def test_no_drive_is_lost_to_jumps(steps: List[tuple]) -> None:
     x = np.array([place for place, _, _ in steps], dtype=float)
     time = np.cumsum([seconds for _, seconds, _ in steps]) if steps else np.zeros(0)
     drives = np.cumsum([new for _, _, new in steps]) if steps else np.zeros(0)
-    found = jumps(x, 0 * x, time.astype(float), drives, 70, 50)
+    found = jumps(Motion(x, 0 * x, time.astype(float), drives), 70, 50)
     assert set(drives[~found]) == set(drives)

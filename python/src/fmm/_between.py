@@ -1,6 +1,8 @@
 """Positions that were left out of a trace file: their places on the route between the positions before and after."""
 from __future__ import annotations
 
+from typing import NamedTuple
+
 import numpy as np
 
 from ._along import Along, Routes
@@ -8,6 +10,20 @@ from ._places import Places, rising
 from ._ragged import offsets_of, rows_of, spread
 
 AT_ONCE = 200_000
+
+
+class Stretches(NamedTuple):
+    """For each position the stretch of the route of its piece that it is on, from `low` to `high`, and where it was measured,
+    float64[n, 2]. Lengths are centimetres."""
+
+    piece: np.ndarray
+    low: np.ndarray
+    high: np.ndarray
+    xy: np.ndarray
+
+    def part(self, some: slice) -> Stretches:
+        """Those of some positions."""
+        return Stretches(*(column[some] for column in self))
 
 
 def route_at(routes: Routes, piece: np.ndarray, place: np.ndarray) -> np.ndarray:
@@ -19,18 +35,17 @@ def route_at(routes: Routes, piece: np.ndarray, place: np.ndarray) -> np.ndarray
     return np.clip(at, routes.first[piece], routes.first[piece + 1] - 1)
 
 
-def nearest_on_routes(routes: Routes, places: Places, piece: np.ndarray, low: np.ndarray, high: np.ndarray,
-                      xy: np.ndarray) -> np.ndarray:
-    """The place along the route of each piece between `low` and `high` that is nearest to each xy, in centimetres."""
-    out = np.empty(len(piece))
-    for begin in range(0, len(piece), AT_ONCE):
+def nearest_on_routes(routes: Routes, places: Places, stretches: Stretches) -> np.ndarray:
+    """The place along its route, within its stretch, that is nearest to each position, in centimetres."""
+    out = np.empty(len(stretches.piece))
+    for begin in range(0, len(out), AT_ONCE):
         some = slice(begin, begin + AT_ONCE)
-        out[some] = _nearest(routes, places, piece[some], low[some], high[some], xy[some])
+        out[some] = _nearest(routes, places, stretches.part(some))
     return out
 
 
-def _nearest(routes: Routes, places: Places, piece: np.ndarray, low: np.ndarray, high: np.ndarray, xy: np.ndarray) -> np.ndarray:
-    lines = places.lines
+def _nearest(routes: Routes, places: Places, stretches: Stretches) -> np.ndarray:
+    lines, (piece, low, high, xy) = places.lines, stretches
     first, last = route_at(routes, piece, low), route_at(routes, piece, high)
     row, edge = rows_of(last - first + 1), spread(first, last - first + 1)
     street, start = routes.edge[edge], routes.starts[edge]

@@ -9,7 +9,7 @@ import contextlib
 import ctypes
 import gc
 from itertools import repeat
-from typing import Any, Iterator, Optional, Tuple
+from typing import Any, Iterator, NamedTuple, Optional, Tuple
 
 import numpy as np
 import shapely
@@ -23,6 +23,13 @@ NOTHING = np.zeros((0, 2))
 SHAPELY_2 = int(shapely.__version__.split(".")[0]) >= 2
 
 
+class Runs(NamedTuple):
+    """The places of each of some geometries: `counts` places from `first` on."""
+
+    first: np.ndarray
+    counts: np.ndarray
+
+
 def points(xy: np.ndarray, crs: object) -> GeometryArray:
     """A Point for each row of x and y; None where one of them is NaN."""
     good = np.isfinite(xy).all(axis=1)
@@ -31,7 +38,7 @@ def points(xy: np.ndarray, crs: object) -> GeometryArray:
         out[good] = shapely.points(np.ascontiguousarray(xy[good]))
     else:
         rows = np.flatnonzero(good)
-        _fill(out, rows, shapely.geometry.Point, xy, rows, np.ones(len(rows), np.int64))
+        _fill(out, rows, shapely.geometry.Point, xy, Runs(rows, np.ones(len(rows), np.int64)))
     return GeometryArray(out, crs=crs)
 
 
@@ -46,7 +53,7 @@ def lines(offsets: np.ndarray, xy: np.ndarray, crs: object) -> GeometryArray:
         kept = np.repeat(counts > 1, counts)
         out[rows] = shapely.linestrings(xy[kept], indices=np.repeat(np.arange(len(rows)), counts[rows]))
     else:
-        _fill(out, rows, shapely.geometry.LineString, xy, offsets[rows], counts[rows])
+        _fill(out, rows, shapely.geometry.LineString, xy, Runs(offsets[rows], counts[rows]))
     return GeometryArray(out, crs=crs)
 
 
@@ -62,10 +69,10 @@ def _no_collection() -> Iterator[None]:
             gc.enable()
 
 
-def _fill(out: np.ndarray, rows: np.ndarray, kind: type, xy: np.ndarray, first: np.ndarray, counts: np.ndarray) -> None:
-    """Puts geometries of `counts` places from `first` on into the rows of `out`."""
+def _fill(out: np.ndarray, rows: np.ndarray, kind: type, xy: np.ndarray, runs: Runs) -> None:
+    """Puts a geometry for each run of places into the rows of `out`."""
     xy = np.ascontiguousarray(xy, np.float64)
-    made = _made(kind, xy, first, counts)
+    made = _made(kind, xy, runs)
     with _no_collection():
         if made is not None:
             new = object.__new__
@@ -76,11 +83,11 @@ def _fill(out: np.ndarray, rows: np.ndarray, kind: type, xy: np.ndarray, first: 
                 out[row] = geometry
             return
         places = xy.tolist()
-        for row, begin, count in zip(rows.tolist(), first.tolist(), counts.tolist()):
+        for row, begin, count in zip(rows.tolist(), runs.first.tolist(), runs.counts.tolist()):
             out[row] = kind(places[begin] if kind is shapely.geometry.Point else places[begin:begin + count])
 
 
-def _made(kind: type, xy: np.ndarray, first: np.ndarray, counts: np.ndarray) -> Optional[Iterator[int]]:
+def _made(kind: type, xy: np.ndarray, runs: Runs) -> Optional[Iterator[int]]:
     """Makes geometries of GEOS, and gives their addresses; None where GEOS is older than 3.10."""
     from shapely import geos
     library = geos._lgeos  # the functions of GEOS that shapely 1.8 has opened
@@ -90,10 +97,11 @@ def _made(kind: type, xy: np.ndarray, first: np.ndarray, counts: np.ndarray) -> 
     handle = repeat(pointer(geos.lgeos.geos_handle))
     if kind is shapely.geometry.Point:
         point = function(pointer, pointer, number, number)(("GEOSGeom_createPointFromXY_r", library))
-        return map(point, handle, *xy[first].T.tolist())
+        return map(point, handle, *xy[runs.first].T.tolist())
     copy = function(pointer, pointer, pointer, ctypes.c_uint, whole, whole)(("GEOSCoordSeq_copyFromBuffer_r", library))
     line = function(pointer, pointer, pointer)(("GEOSGeom_createLineString_r", library))
-    return map(line, handle, map(copy, handle, (xy.ctypes.data + 16 * first).tolist(), counts.tolist(), repeat(0), repeat(0)))
+    begins = (xy.ctypes.data + 16 * runs.first).tolist()
+    return map(line, handle, map(copy, handle, begins, runs.counts.tolist(), repeat(0), repeat(0)))
 
 
 def coordinates(values: GeometryArray) -> Tuple[np.ndarray, np.ndarray]:

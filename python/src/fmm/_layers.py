@@ -2,7 +2,7 @@
 from __future__ import annotations
 
 from dataclasses import dataclass, fields
-from typing import Any, Iterable, Mapping, Optional
+from typing import Any, Iterable, Mapping, NamedTuple, Optional
 
 import geopandas
 import numpy as np
@@ -85,7 +85,7 @@ def read(roads: geopandas.GeoDataFrame, **words: Any) -> tuple[EdgeLines, pd.Dat
         raise InputError(f"record {record}: {xy[at, 0]:.7g} {xy[at, 1]:.7g} has no place in {projection.name}", name)
     records, first, places = with_length(records, first, places, name, report)
     about, open_ways = attributes(roads, options, name, report)
-    streets = joined(places, first, records, about, open_ways, max(1, round(100 * options.join)))
+    streets = joined(Shapes(records, first, places), about, open_ways, max(1, round(100 * options.join)))
     lines, table = edges_of(streets, name)
     report.source = {"path": roads.attrs.get("path"), "sha256": roads.attrs.get("sha256"), "records": len(roads)}
     return lines, table, projection, report
@@ -209,9 +209,17 @@ def speeds(values: pd.Series, report: NetworkReport) -> list[float]:
     return found
 
 
-def joined(places: np.ndarray, first: np.ndarray, records: np.ndarray, about: pd.DataFrame,
-           open_ways: tuple[np.ndarray, np.ndarray], join: int) -> Streets:
+class Shapes(NamedTuple):
+    """Lines in whole centimetres: the record of each, where its points begin, and all points, int64[n, 2]."""
+
+    records: np.ndarray
+    first: np.ndarray
+    places: np.ndarray
+
+
+def joined(shapes: Shapes, about: pd.DataFrame, open_ways: tuple[np.ndarray, np.ndarray], join: int) -> Streets:
     """The streets between nodes: ends of lines, which are joined, and inner points at such nodes."""
+    records, first, places = shapes
     ends = np.column_stack([first[:-1], first[1:] - 1]).ravel()
     nodes = Nodes(places[ends], join)
     node = np.zeros(len(places), np.int64)

@@ -8,7 +8,7 @@ import numpy as np
 import pandas as pd
 
 from ._along import Along, Routes, along_routes
-from ._between import nearest_on_routes, route_at, with_between
+from ._between import Stretches, nearest_on_routes, route_at, with_between
 from ._edge_times import EdgeTimes, Passing, edge_times
 from ._match_text import MatchText
 from ._places import DrivenLines, Places
@@ -77,7 +77,7 @@ class Solution:
         inside = (last > before) & (matched.piece[last] == matched.piece[before])
         low, piece = matched.along[before], matched.piece[before]
         high = np.where(inside, matched.along[last], low)
-        place = nearest_on_routes(self.routes, self.streets, piece, low, high, self.measured(row))
+        place = nearest_on_routes(self.routes, self.streets, Stretches(piece, low, high, self.measured(row)))
         return Between(row, before, piece, place, inside)
 
     @property

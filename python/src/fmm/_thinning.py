@@ -1,9 +1,12 @@
 """Which positions of a drive are matched: those that are no jumps, and moved far enough from the last one that is matched."""
 from __future__ import annotations
 
-from typing import Callable
+from typing import TYPE_CHECKING, Callable
 
 import numpy as np
+
+if TYPE_CHECKING:
+    from ._noise import Motion
 
 SHORT, AHEAD = 3, 5  # positions of a jump, and stretches after it that may go on from where it began
 
@@ -38,13 +41,14 @@ def thinned(x: np.ndarray, y: np.ndarray, drives: np.ndarray, step: float) -> np
     return kept
 
 
-def jumps(x: np.ndarray, y: np.ndarray, time: np.ndarray, drives: np.ndarray, fastest: float, error: float) -> np.ndarray:
-    """Which positions are jumps, as bools. x, y, `error` in one unit of length, `fastest` in it a second.
+def jumps(motion: Motion, fastest: float, error: float) -> np.ndarray:
+    """Which positions are jumps, as bools. Places and `error` are in one unit of length, `fastest` in it a second.
 
     A step is too fast if it is longer than `fastest` allows in its time, plus `error`. Steps that are too fast cut a drive into
     stretches. A stretch of up to three positions is a jump if the drive goes on after it from where it was before, or if it
     is the first or last one and a longer one is next to it. Times that are NaN show no jumps.
     """
+    x, y, time, drives = motion
     found = np.zeros(len(x), dtype=bool)
     if len(x) < 2:
         return found

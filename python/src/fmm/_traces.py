@@ -8,6 +8,7 @@ from typing import Any, List, Optional, Tuple
 import numpy as np
 import pandas as pd
 
+from ._noise import Motion
 from ._tables import write_file
 from ._thinning import jumps, thinned
 from .errors import shown
@@ -174,7 +175,7 @@ class Plan:
 
     def drop_jumps(self, fastest: float, error: float, gap: Optional[float]) -> None:
         """Drops positions that a vehicle cannot have reached; metres and metres a second."""
-        found = jumps(self.x, self.y, self.time, self.drives(gap), 100 * fastest, 100 * error)
+        found = jumps(Motion(self.x, self.y, self.time, self.drives(gap)), 100 * fastest, 100 * error)
         self.keep(~found, f"a jump: reached and left faster than {3.6 * fastest:.0f} km/h")
 
     def separate_sources(self) -> None:

@@ -2,7 +2,7 @@
 from __future__ import annotations
 
 from dataclasses import dataclass
-from typing import Any, Dict, Optional, Tuple
+from typing import Any, Dict, NamedTuple, Optional, Tuple
 
 import numpy as np
 
@@ -67,7 +67,8 @@ def suggest(positions: Positions, network: Any = None) -> Suggestion:
                       bound=100.0 * round(clamp(2 * longest + 1000, 3000, 50_000) / 100), gap=gap, thin=thin,
                       back=float(round(clamp(2.5 * sigma, 10, 200))), fastest=None if interval is None else FASTEST)
     speed = None if interval is None else speed_of(motion, interval)
-    return Suggestion(options, reasons_of(options, source, step, longest, interval, pauses), interval, noise, speed, pauses)
+    reasons = reasons_of(options, Shown(source, step, longest, interval, pauses))
+    return Suggestion(options, reasons, interval, noise, speed, pauses)
 
 
 def clamp(value: float, least: float, most: float) -> float:
@@ -122,9 +123,20 @@ def noise_of(motion: Motion, interval: Optional[float], beside: Optional[float])
     return USUAL_NOISE, f"the positions do not show their error, so the usual {USUAL_NOISE:g} m are taken"
 
 
-def reasons_of(options: Options, source: str, step: float, longest: float, interval: Optional[float],
-               pauses: int) -> Dict[str, str]:
+class Shown(NamedTuple):
+    """What positions show: of their error in words, the usual and the longest distance of matched ones, their interval, and
+    pauses."""
+
+    source: str
+    step: float
+    longest: float
+    interval: Optional[float]
+    pauses: int
+
+
+def reasons_of(options: Options, shown: Shown) -> Dict[str, str]:
     """A sentence for each option."""
+    source, step, longest, interval, pauses = shown
     reasons = {
         "sigma": source,
         "thin": f"a movement of less than {options.thin:g} m may be the error; such positions get their places afterwards",

@@ -38,7 +38,7 @@ def rows_of_frame(frame: pd.DataFrame, wanted: Wanted, name: str, lines: Optiona
         x, x_faults = coordinates(frame[columns.x], str(columns.x), decimal_comma)
         y, y_faults = coordinates(frame[columns.y], str(columns.y), decimal_comma)
         faults, crs = first_fault(x_faults, y_faults), wanted.crs
-    crs = crs_of(x, y, columns, wanted, crs, name)
+    crs = crs_of((x, y), columns, wanted, crs, name)
     faults = first_fault(faults, place_faults(x, y, crs))
     ids, id_faults = ids_of(frame, columns, name)
     times = times_of(frame, columns, decimal_comma, wanted.zone)
@@ -122,9 +122,10 @@ def places_of_points(geometry: Any) -> Tuple[np.ndarray, np.ndarray, np.ndarray]
     return x, y, np.where(odd, "the coordinates are not finite numbers", faults).astype(object)
 
 
-def crs_of(x: np.ndarray, y: np.ndarray, columns: Columns, wanted: Wanted, crs: Optional[pyproj.CRS],
+def crs_of(places: Tuple[np.ndarray, np.ndarray], columns: Columns, wanted: Wanted, crs: Optional[pyproj.CRS],
            name: str) -> Optional[pyproj.CRS]:
     """The CRS of the places; None for metres of the network's own projection. Refuses what contradicts the numbers."""
+    x, y = places
     known = np.isfinite(x) & np.isfinite(y)
     small = bool(known.any() and (np.abs(x[known]) <= 180).all() and (np.abs(y[known]) <= 180).all())
     if wanted.plane:

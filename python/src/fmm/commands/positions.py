@@ -52,7 +52,7 @@ def main(words: Sequence[str]) -> int:
     files = [source.path for source in positions.sources if source.sha256]
     with tempfile.TemporaryDirectory(prefix="fmm-") as folder, Outputs(inputs=[args.network, *files]) as outputs:
         traces = write_traces(positions, network, options, Path(folder))
-        written(outputs, args.into, traces, positions, network, options)
+        written(outputs, args.into, traces, rows_of(traces, positions), about(traces, positions, network, options))
     say(report(positions, traces, extents))
     if suggestion is not None:
         say(f"{suggestion.text}options for fmm match: {' '.join(options.arguments())}")
@@ -79,22 +79,25 @@ def parsed(words: Sequence[str]) -> argparse.Namespace:
     return args
 
 
-def written(outputs: Outputs, into: str, traces: Traces, positions: Positions, network: Network, options: Options) -> None:
-    """Writes the trace file, the table of rows and the side file."""
+def written(outputs: Outputs, into: str, traces: Traces, rows: pd.DataFrame, content: Dict[str, Any]) -> None:
+    """Writes the trace file, the table of rows and the side file with this content."""
     stem = into[:-len(".csv")]
     with traces.path.open("rb") as file, outputs.open(into, binary=True) as out:
         for block in iter(lambda: file.read(1 << 20), b""):
             out.write(block)
-    rows = rows_of(traces, positions)
     write_table(outputs, f"{stem}.rows.csv", rows)
     write_column_types(outputs, Path(f"{stem}.rows.csv"), rows)
-    content: Dict[str, Any] = {
+    write_side_file(outputs, f"{stem}.json", "traces", content)
+
+
+def about(traces: Traces, positions: Positions, network: Network, options: Options) -> Dict[str, Any]:
+    """What the trace file was made of."""
+    return {
         "traces": {"sha256": checksum_of(traces.path), "traces": len(traces.drives), "positions": len(traces.row)},
         "network": {"sha256": network.checksum}, "projection": {"crs": network.projection.text},
         "options": {"gap": options.gap, "thin": options.thin},
         "sources": [{"path": source.path, "sha256": source.sha256, "rows": source.rows} for source in positions.sources],
         "left_out": len(positions.left_out), "notes": positions.notes + traces.notes}
-    write_side_file(outputs, f"{stem}.json", "traces", content)
 
 
 def rows_of(traces: Traces, positions: Positions) -> pd.DataFrame:

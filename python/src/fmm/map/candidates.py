@@ -28,13 +28,22 @@ class Candidates:
         return np.diff(self.first)
 
 
-def find_candidates(places: Places, usable: np.ndarray, x: np.ndarray, y: np.ndarray, radius: int, k: int) -> Candidates:
-    """The first `k` edges by (squared distance, index) within `radius` cm of each position.
+@dataclass(frozen=True)
+class Search:
+    """Where candidates are looked for: the first `k` edges by (squared distance, index) within `radius` cm of a position.
 
     usable   bool for each edge; the others are no candidates
     """
-    found = [_Finder(places, usable, x[at:at + AT_ONCE], y[at:at + AT_ONCE], radius, k).find()
-             for at in range(0, len(x), AT_ONCE)]
+
+    places: Places
+    usable: np.ndarray
+    radius: int
+    k: int
+
+
+def find_candidates(search: Search, x: np.ndarray, y: np.ndarray) -> Candidates:
+    """The candidates of each position, in whole centimetres."""
+    found = [_Finder(search, x[at:at + AT_ONCE], y[at:at + AT_ONCE]).find() for at in range(0, len(x), AT_ONCE)]
     counts = [one.counts for one in found]
     nothing = np.zeros(0, np.int64)
     return Candidates(offsets_of(np.concatenate([nothing, *counts])), np.concatenate([nothing, *(one.edge for one in found)]),
@@ -45,11 +54,10 @@ def find_candidates(places: Places, usable: np.ndarray, x: np.ndarray, y: np.nda
 class _Finder:
     """Finds the candidates of some positions, by a grid of squares."""
 
-    def __init__(self, places: Places, usable: np.ndarray, x: np.ndarray, y: np.ndarray, radius: int, k: int) -> None:
-        self.places, self.x, self.y, self.radius, self.k = places, x, y, radius, k
-        self.side = max(radius, LEAST_CELL)
+    def __init__(self, search: Search, x: np.ndarray, y: np.ndarray) -> None:
+        self.places, self.usable, self.radius, self.k = search.places, search.usable, search.radius, search.k
+        self.x, self.y, self.side = x, y, max(search.radius, LEAST_CELL)
         self.squares = np.stack([x // self.side, y // self.side], axis=1)
-        self.usable = usable
 
     def find(self) -> Candidates:
         position, part = self._near()

@@ -17,9 +17,9 @@ from .._tables import write_file
 from ..errors import MismatchError, ProgramError
 from ..network import Network
 from ..options import Options, centimetres
-from .candidates import Candidates, find_candidates
+from .candidates import Candidates, Search, find_candidates
 from .certificates import read_certificate
-from .sequences import Costs, Sequences, Trellis, node_numbers
+from .sequences import Costs, Graph, Sequences, Trellis, node_numbers
 
 AT_ONCE = 10_000  # positions of one certificate, unless one trace has more
 TOO_LONG = 8  # the status of prove for a certificate of more than 1 GiB
@@ -77,9 +77,9 @@ class Prover:
             return self._proved(traces.part(0, middle)) + self._proved(traces.part(middle, len(traces.x)))
         if len(certificate.rank) != len(traces.x):
             raise MismatchError(f"has {len(certificate.rank)} positions, not {len(traces.x)}", "the certificate")
-        candidates = find_candidates(self.places, self.usable, traces.x, traces.y, centimetres(self.options.radius),
-                                     int(self.options.k))
-        return [Trellis(self.lines, self.nodes, traces.x, traces.y, candidates, certificate, self.costs).solve()]
+        search = Search(self.places, self.usable, centimetres(self.options.radius), int(self.options.k))
+        candidates = find_candidates(search, traces.x, traces.y)
+        return [Trellis(Graph(self.lines, *self.nodes), (traces.x, traces.y), candidates, certificate, self.costs).solve()]
 
     def _prove(self, traces: TraceFile) -> bytes:
         with tempfile.TemporaryDirectory(prefix="fmm-") as folder:

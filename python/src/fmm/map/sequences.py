@@ -6,7 +6,7 @@ on from it to the end of the piece is computed (backward). The sum of both is wh
 from __future__ import annotations
 
 from dataclasses import dataclass
-from typing import Tuple
+from typing import NamedTuple, Tuple
 
 import numpy as np
 
@@ -52,17 +52,26 @@ class Sequences:
     margin: np.ndarray  # float64[p]: how much more the best sequence over another road costs; NaN if there is none
 
 
+class Graph(NamedTuple):
+    """Edges, and the numbers of the nodes where each begins and ends."""
+
+    lines: EdgeLines
+    begin: np.ndarray
+    end: np.ndarray
+
+
 class Trellis:
     """The layers of a certificate with the candidates of its positions."""
 
-    def __init__(self, lines: EdgeLines, nodes: Tuple[np.ndarray, np.ndarray], x: np.ndarray, y: np.ndarray,
-                 candidates: Candidates, certificate: Certificate, costs: Costs) -> None:
-        """`nodes` are the numbers of the nodes where each edge begins and ends."""
+    def __init__(self, graph: Graph, places: Tuple[np.ndarray, np.ndarray], candidates: Candidates, certificate: Certificate,
+                 costs: Costs) -> None:
+        """`places` are x and y of the positions in whole centimetres."""
         if not np.array_equal(candidates.first, certificate.cell_first):
             raise MismatchError("its positions have other candidates: it is of other files", "the certificate")
-        self.lines, self.length, (self.begin, self.end) = lines, lines.lengths, nodes
-        self.x, self.y, self.candidates, self.certificate, self.costs = x, y, candidates, certificate, costs
-        self.piece = np.full(len(x), -1, np.int64)
+        self.lines, self.begin, self.end = graph
+        self.length, (self.x, self.y) = self.lines.lengths, places
+        self.candidates, self.certificate, self.costs = candidates, certificate, costs
+        self.piece = np.full(len(self.x), -1, np.int64)
         counts = certificate.piece_last - certificate.piece_first + 1
         self.piece[spread(certificate.piece_first, counts)] = rows_of(counts)
         self.wide = int(candidates.counts.max(initial=1))
