@@ -175,6 +175,24 @@ def test_no_road_that_nobody_drove(network: Network, tmp_path: Path, wanders: fl
     assert pieces <= 14 and length == pytest.approx(true, rel=0.06)  # whole edges count at both ends of a drive
 
 
+@pytest.mark.parametrize("wanders, jumps", [(3.0, 0.0), (5.0, 0.5), (5.0, 2.0), (10.0, 0.0), (10.0, 4.0)])
+def test_a_stop_on_a_long_street_is_no_drive_to_its_end(tmp_path: Path, wanders: float, jumps: float) -> None:
+    """An error that wanders moves a standing vehicle by more than `thin` now and then. Where vehicles may turn round only far
+    away, a position that seems to move back would lead there."""
+    path = tmp_path / "road.csv"
+    path.write_text("edge,from,to,line\n1,1,2,0 0;600000 0\n2,2,1,600000 0;0 0\n")
+    rng, rows, true = np.random.default_rng(7), [], 0.0
+    for vehicle in range(12):
+        along = np.arange(1000.0, 5000.0, 12.0)
+        along = np.concatenate([along[:150], np.full(200, along[150]), along[150:]])
+        places = np.stack([along, np.full(len(along), 2.0)], axis=1) + error(rng, len(along), wanders, jumps)
+        rows += [(f"v{vehicle}", x, y, second) for second, (x, y) in enumerate(places.tolist())]
+        true += along[-1] - along[0]
+    frame = pd.DataFrame(rows, columns=["id", "x", "y", "time"])
+    matches = fmm.match(Network.open(path), read_positions(frame, crs="metres"))
+    assert matches.report.metres == pytest.approx(true, rel=0.02)
+
+
 def test_the_public_names() -> None:
     assert fmm.suggest is suggest
 

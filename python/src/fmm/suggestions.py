@@ -17,6 +17,7 @@ OFF_ROAD = 4.0  # times the error that motion shows: what is farther from the ro
 GAP = 300.0  # seconds
 MANY = 16  # candidates: at a junction of five streets ten edges are about as near as the true one
 BETA = 0.08  # see suggest
+BACK = 1.5  # times thin: an error that moves a standing vehicle so far that it counts seldom moves it much farther
 
 
 @dataclass(frozen=True)
@@ -48,9 +49,10 @@ def suggest(positions: Positions, network: Any = None) -> Suggestion:
     """Suggests options for positions.
 
     With a `network` the error is measured by the distances from the nearest edges, otherwise by what standing vehicles and smooth
-    motion show of it. `sigma` is this error. `thin` and `back` are multiples of it: less is not told from standing. `beta` grows
-    with the cube root of the error and of the squared distance between matched positions; this law and its factor were found on
-    simulated drives (bench/README.md), where half and twice of it hardly differ. Takes about as long as writing the trace file.
+    motion show of it. `sigma` is this error. `thin` is a multiple of it: less is not told from standing. `back` is more than
+    `thin`, or a matched position that an error moves back would lead to the end of its street and back. `beta` grows with the
+    cube root of the error and of the squared distance between matched positions; this law and its factor were found on simulated
+    drives (bench/README.md), where half and twice of it hardly differ. Takes about as long as writing the trace file.
     """
     motion, beside = measured(positions, network)
     interval = interval_of(motion)
@@ -65,7 +67,7 @@ def suggest(positions: Positions, network: Any = None) -> Suggestion:
     beta = clamp(BETA * (sigma * step * step) ** (1 / 3), 0.1, 100)
     options = Options(k=MANY, radius=float(round(clamp(5 * sigma, 100, 1000))), sigma=round(sigma, 2), beta=round(beta, 2),
                       bound=100.0 * round(clamp(2 * longest + 1000, 3000, 50_000) / 100), gap=gap, thin=thin,
-                      back=float(round(clamp(2.5 * sigma, 10, 200))), fastest=None if interval is None else FASTEST)
+                      back=float(round(BACK * thin)), fastest=None if interval is None else FASTEST)
     speed = None if interval is None else speed_of(motion, interval)
     reasons = reasons_of(options, Shown(source, step, longest, interval, pauses))
     return Suggestion(options, reasons, interval, noise, speed, pauses)
@@ -141,7 +143,7 @@ def reasons_of(options: Options, shown: Shown) -> Dict[str, str]:
         "sigma": source,
         "thin": f"a movement of less than {options.thin:g} m may be the error; such positions get their places afterwards",
         "beta": f"matched positions are usually {step:.0f} m apart; a usual detour is a small part of that",
-        "back": "two and a half times the error: so far a position may seem to move back",
+        "back": "one and a half times thin: so far an error may seem to move a vehicle back",
         "bound": f"the longest step is {longest:.0f} m, and a route may be twice as long",
         "radius": "five times the error, and at least 100 m",
         "k": "at a junction of five streets ten edges are about as near as the true one",
