@@ -34,6 +34,7 @@ def test_a_dot_leads_into_an_object():
     ("[" * 60_000, "not JSON"),
     ("{", "not JSON"),
     ("[]", "no vehicle"),
+    ('{"vehicle":"a","longitude":1,"longitude":2,"latitude":3,"time":4}', "a name stands twice in an object"),
     ("\udcff", "invalid UTF-8"),
 ])
 def test_a_wrong_object_is_refused(payload, why):
@@ -49,6 +50,22 @@ def test_a_table_is_read_by_its_header():
 def test_a_later_header_counts_from_there_on():
     found = report("csv", "vehicle,longitude,latitude,time", "a,1,2,3", "latitude,longitude,vehicle,time", "2,1,a,4")
     assert found == [None, Report("a", 1.0, 2.0, "3"), None, Report("a", 1.0, 2.0, "4")]
+
+
+def test_a_header_with_other_columns_is_followed_by_no_row():
+    """A row with words in place of numbers is no header."""
+    reader = Reader("csv", Columns())
+    lines = ["vehicle,longitude,latitude,time", "a,1,2,3", "n/a,n/a,n/a,n/a", "a,1,2,4", "plate,lat,lon,when", "a,2,1,5",
+             "vehicle,longitude,latitude,time", "a,1,2,6"]
+    found = []
+    for line in lines:
+        try:
+            found.append(reader.report(line.encode()))
+        except Refused as why:
+            found.append(str(why))
+    other = "the last header has other columns: plate,lat,lon,when"
+    assert found == [None, Report("a", 1.0, 2.0, "3"), "longitude n/a is not a finite number", Report("a", 1.0, 2.0, "4"),
+                     other, other, None, Report("a", 1.0, 2.0, "6")]
 
 
 def test_a_table_without_its_header_ends_the_feed():

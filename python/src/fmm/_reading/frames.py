@@ -1,7 +1,7 @@
 """Positions from a DataFrame, a GeoDataFrame, and what other readers bring into this form."""
 from __future__ import annotations
 
-from typing import Any, Optional, Tuple
+from typing import Any, Optional, Sequence, Tuple
 
 import numpy as np
 import pandas as pd
@@ -94,6 +94,12 @@ def refuse_other_header(frame: pd.DataFrame, columns: Columns, name: str, lines:
         if [plain(str(value)) for value in frame.iloc[at]] != header:
             raise InputError("is a second header with other columns: read its rows from a file of their own", name,
                              int(lines[at]) if lines is not None else None)
+
+
+def has_names(record: Sequence[str], header: Sequence[str]) -> bool:
+    """Whether two fields of a record or more are names of columns, those of a header or usual ones of places."""
+    names = NAMES.union(map(plain, header))
+    return sum(plain(field) in names for field in record) > 1
 
 
 def word_rows(column: pd.Series) -> np.ndarray:

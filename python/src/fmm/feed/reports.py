@@ -7,7 +7,7 @@ import math
 import re
 from collections.abc import Sequence
 from dataclasses import dataclass
-from typing import Optional
+from typing import Any, Optional
 
 NUMBER = re.compile(r"[+-]?(\d+(\.\d*)?|\.\d+)([eE][+-]?\d+)?", re.ASCII)
 LONGEST_ID = 1000  # characters
@@ -78,6 +78,7 @@ class Reader:
     def __init__(self, form: str, columns: Columns) -> None:
         self.form, self.columns = form, columns
         self.header: Optional[list[str]] = None
+        self.other_header = ""  # one without the wanted columns: the rows after it cannot be read
         self.has_times = False  # rows without one may be cut then
 
     def report(self, payload: bytes, vehicle: Optional[str] = None) -> Optional[Report]:
@@ -101,7 +102,7 @@ class Reader:
 
     def _of_object(self, text: str, vehicle: Optional[str]) -> list[object]:
         try:
-            found = json.loads(text, parse_int=str, parse_float=str, parse_constant=_no_constant)
+            found = json.loads(text, parse_int=str, parse_float=str, parse_constant=_no_constant, object_pairs_hook=_object)
         except (ValueError, RecursionError):
             raise Refused("not JSON") from None
         columns = self.columns
@@ -130,16 +131,29 @@ class Reader:
         if self.header is None:
             raise HeaderMissing(f"the header of the feed is {text[:80]}; name its columns of vehicle, x, y and time with "
                                 "--columns")
+        if self._is_header(record):
+            self.other_header = text[:80]
+        if self.other_header:
+            raise Refused(f"the last header has other columns: {self.other_header}")
         if len(record) != len(self.header):
             raise Refused(f"{len(record)} fields, and the header has {len(self.header)}")
         found: list[Optional[str]] = [record[self.header.index(name)] for name in wanted]
         return [*found, None][:4]
 
+    def _is_header(self, record: Sequence[str]) -> bool:
+        """Whether a record has a word in place of x, and two names of columns or more."""
+        header = self.header or []
+        place = header.index(self.columns.x)
+        if place < len(record) and not record[place].lstrip()[:1].isalpha():
+            return False
+        from .._reading.frames import has_names
+        return has_names(record, header)
+
     def _take_header(self, record: list[str]) -> None:
         """Takes a header. A later header with other columns replaces the one before it."""
         if len(set(record)) < len(record):
             raise Refused("a column of the header comes twice")
-        self.header = record
+        self.header, self.other_header = record, ""
 
 
 class HeaderMissing(Refused):
@@ -151,6 +165,14 @@ def _member(value: object, path: str) -> Optional[str]:
     for part in path.split("."):
         value = value.get(part) if isinstance(value, dict) else None
     return value if isinstance(value, str) and value else None
+
+
+def _object(pairs: Sequence[tuple[str, Any]]) -> dict[str, Any]:
+    """An object in which each name stands once."""
+    found = dict(pairs)
+    if len(found) < len(pairs):
+        raise Refused("a name stands twice in an object")
+    return found
 
 
 def _no_constant(text: str) -> object:
