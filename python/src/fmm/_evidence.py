@@ -1,11 +1,13 @@
 """Checksums of files, and the side files (JSON) that say what made an artefact."""
 from __future__ import annotations
 
+import contextlib
 import hashlib
 import json
 import os
+import stat
 from pathlib import Path
-from typing import Any, Optional
+from typing import Any, Iterator, Optional
 
 from ._output import Outputs
 from ._version import __version__
@@ -22,6 +24,39 @@ def checksum_of(path: PathText) -> str:
     except OSError as fault:
         raise InputError(fault.strerror or fault, path) from None
     return digest.hexdigest()
+
+
+def state(path: PathText) -> list[int]:
+    """Size, times of change and number of a file: another state shows that the file may have been changed."""
+    try:
+        about = os.stat(path)
+    except OSError as fault:
+        raise InputError(fault.strerror or fault, path) from None
+    return [about.st_size, about.st_mtime_ns, about.st_ctime_ns, about.st_ino]
+
+
+@contextlib.contextmanager
+def unchanged(*paths: PathText) -> Iterator[None]:
+    """Refuses with InputError a file that was changed or replaced while the block read it. Pipes are not looked at."""
+    before = {path: state(path) for path in paths if is_file(path)}
+    yield
+    for path, known in before.items():
+        if state(path) != known:
+            raise InputError("was changed while it was read: call again", path)
+
+
+def is_file(path: PathText) -> bool:
+    """Whether this is a regular file, which can be read several times."""
+    try:
+        return stat.S_ISREG(os.stat(path).st_mode)
+    except OSError:
+        return False
+
+
+def refuse_pipe(path: PathText) -> None:
+    """Refuses with InputError what can be read only once."""
+    if os.path.exists(path) and not os.path.isdir(path) and not is_file(path):
+        raise InputError("is a pipe, and it is read several times; give a file", path)
 
 
 def write_side_file(outputs: Outputs, path: PathText, kind: str, content: dict[str, Any]) -> None:

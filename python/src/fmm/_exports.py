@@ -14,7 +14,7 @@ from ._column_types import write_column_types
 from ._evidence import checksum_of, compare, part, read_side_file, write_side_file
 from ._layer_files import read_layer, write_layer
 from ._libraries import explained
-from ._output import Outputs
+from ._output import Outputs, pages_beside
 from ._tables import CONTROL, escaped, read_table, write_rows
 from .errors import InputError, OptionError, OutputError, PathText
 from .options import Options
@@ -37,7 +37,7 @@ def to_file(matches: Matches, path: PathText, layer: Optional[str], standing: fl
     """Writes a GeoPackage, files of GeoJSON, or a folder of .csv files with their column types."""
     name = os.fspath(path)
     inputs = [source["path"] for source in matches.evidence.get("sources", []) if source.get("sha256")]
-    inputs += [] if matches.network is None else [os.fspath(matches.network.path)]
+    inputs += [] if matches.network is None else matches.network.files
     with Outputs(inputs) as outputs:
         if name.endswith(".gpkg"):
             written = to_geopackage(matches, outputs, name, standing)
@@ -189,6 +189,9 @@ def open_matches(path: PathText) -> Matches:
         raise InputError("No such file or directory", path)
     content = read_side_file(side, "matches")
     folder = Path(path) if Path(path).is_dir() else Path(path).parent
+    beside = pages_beside(Path(path))
+    if beside is not None:
+        raise InputError(f"another program has changed it, since there is {beside.name}: close it there first", path)
     for name, wanted in part(content, side, "files", kind=dict).items():
         compare("the checksum", checksum_of(folder / name), wanted, folder / name, side)
     crs = None if content.get("crs") is None else pyproj.CRS.from_wkt(content["crs"])

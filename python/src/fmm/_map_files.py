@@ -9,7 +9,7 @@ from typing import Any, Optional
 import geopandas
 from shapely import wkt
 
-from ._evidence import checksum_of
+from ._evidence import checksum_of, refuse_pipe
 from ._layer_files import layer_names
 from ._tables import read_table
 from .errors import FmmError, InputError, MissingLibraryError, OptionError, PathText, shown
@@ -23,6 +23,7 @@ def kind_of(path: PathText) -> str:
     name = os.fspath(path)
     if os.path.isdir(path):
         return "layer"  # such as a file geodatabase
+    refuse_pipe(path)
     try:
         with open(path, "rb") as file:
             head = file.read(4096)

@@ -1,22 +1,29 @@
 """Output files that appear under their names only when all of them are complete."""
 from __future__ import annotations
 
+import contextlib
 import errno
+import fcntl
 import io
 import os
 import re
 import secrets
 import select
 import shutil
+import signal
 import stat
+import threading
+import time
 from pathlib import Path
 from types import TracebackType
-from typing import IO, Any, Iterable, NamedTuple, Optional, Union
+from typing import IO, Any, Iterable, Iterator, NamedTuple, Optional, Union
 
 from .errors import OutputError, PathText
 
 STANDARD_OUTPUT = re.compile(r"-|/dev/stdout")
 DESCRIPTOR = re.compile(r"/dev/fd/([0-9]{1,9})|/proc/self/fd/([0-9]{1,9})|(/dev/stderr)")
+PATIENCE = 1.0  # seconds that a call waits for another one
+SIGNALS = (signal.SIGINT, signal.SIGTERM, signal.SIGHUP)
 
 
 def write_all(descriptor: int, data: Union[bytes, bytearray, memoryview]) -> None:
@@ -34,6 +41,55 @@ def reason(fault: OSError) -> str:
     if isinstance(fault, BrokenPipeError):
         return "the reader of the output has gone"
     return fault.strerror or str(fault)
+
+
+@contextlib.contextmanager
+def undisturbed() -> Iterator[None]:
+    """Holds back the signals that end a command until the block is over. Only the main thread gets signals."""
+    if threading.current_thread() is not threading.main_thread():
+        yield
+        return
+    came: list[int] = []
+    handlers = {number: signal.getsignal(number) for number in SIGNALS}
+    held = {number: handler for number, handler in handlers.items() if handler not in (signal.SIG_IGN, None)}
+    for one in held:
+        signal.signal(one, lambda number, _: came.append(number))
+    try:
+        yield
+    finally:
+        for one, handler in held.items():
+            signal.signal(one, handler)
+        for first in came[:1]:
+            os.kill(os.getpid(), first)
+
+
+@contextlib.contextmanager
+def locked(folders: Iterable[Path]) -> Iterator[None]:
+    """Lets other calls wait that are about to rename their outputs in these folders, but not for long: the caller's script may
+    have locked a folder. Some file systems have no locks."""
+    descriptors: list[int] = []
+    try:
+        for folder in sorted({os.path.realpath(folder) for folder in folders}):
+            with contextlib.suppress(OSError):
+                descriptors.append(os.open(folder, os.O_RDONLY | os.O_DIRECTORY | os.O_CLOEXEC))
+                lock(descriptors[-1], PATIENCE)
+        yield
+    finally:
+        for descriptor in descriptors:
+            os.close(descriptor)
+
+
+def lock(descriptor: int, seconds: float) -> None:
+    """Locks an open file or folder. Raises OSError if that is not possible within some seconds."""
+    until = time.monotonic() + seconds
+    while True:
+        try:
+            fcntl.flock(descriptor, fcntl.LOCK_EX | fcntl.LOCK_NB)
+            return
+        except BlockingIOError:
+            if time.monotonic() > until:
+                raise
+            time.sleep(0.01)
 
 
 class Target(io.RawIOBase):
@@ -63,6 +119,17 @@ class Target(io.RawIOBase):
             os.close(self.descriptor)
 
 
+def pages_beside(path: Path) -> Optional[Path]:
+    """The file with pages that SQLite takes for those of a database: another program has it open, or was killed."""
+    wal, journal = (path.with_name(path.name + end) for end in ("-wal", "-journal"))
+    return wal if wal.exists() else journal if journal.exists() and journal.stat().st_size else None
+
+
+def place_of(path: Path) -> str:
+    """The same text for all names of a file that need not exist yet."""
+    return os.path.join(os.path.realpath(path.parent), path.name)
+
+
 class Output(NamedTuple):
     """An output with the name that it gets in the end; `folder` is a private folder around `unfinished`, if there is one."""
     path: Path
@@ -74,7 +141,8 @@ class Outputs:
     """All outputs of one call. Leaving the `with` block renames them; an exception removes them, and old files stay.
 
     `-` and `/dev/stdout` are standard output. Pipes and devices are written directly. Refused with OutputError: two outputs
-    of one name, an output that is one of `inputs`, a symbolic link or a folder where a file should be.
+    of one name, an output that is one of `inputs`, a symbolic link or a folder where a file should be, a database that is open
+    elsewhere. If two calls end at the same time, the files of one of them stay.
     """
 
     def __init__(self, inputs: Iterable[PathText] = ()) -> None:
@@ -115,7 +183,7 @@ class Outputs:
         missing = [parent for parent in (folder, *folder.parents) if not parent.exists()]
         for parent in reversed(missing):
             try:
-                parent.mkdir()
+                parent.mkdir(exist_ok=True)  # another call may make it now
             except OSError as fault:
                 raise OutputError(f"{parent}: {reason(fault)}") from None
             self.folders.append(parent)
@@ -133,6 +201,12 @@ class Outputs:
         except OSError as fault:
             raise OutputError(f"{path}: {reason(fault)}") from None
         return private
+
+    def check(self, *paths: PathText) -> None:
+        """Refuses the names of files that will be opened later."""
+        for path in paths:
+            if not (STANDARD_OUTPUT.fullmatch(os.fspath(path)) or DESCRIPTOR.fullmatch(os.fspath(path))):
+                self._target(os.fspath(path))
 
     def _descriptor(self, name: str) -> tuple[int, bool]:
         """An open descriptor to write to, and whether it stays open in the end."""
@@ -165,9 +239,12 @@ class Outputs:
             raise OutputError(f"{name}: is a folder")
         if target.is_symlink():
             raise OutputError(f"{name}: is a symbolic link; remove it, or name the file that it leads to")
-        self._add_name(os.path.join(os.path.realpath(target.parent), target.name), name)
+        beside = pages_beside(target)
+        if beside is not None:
+            raise OutputError(f"{name}: another program has it open, since there is {beside.name}: close it there first")
+        self._add_name(place_of(target), name)
         for path in self.inputs:
-            if target.exists() and path.exists() and os.path.samefile(path, target):
+            if place_of(path) == place_of(target) or target.exists() and path.exists() and os.path.samefile(path, target):
                 raise OutputError(f"{name}: is an input of the same call" + (f" ({path})" if os.fspath(path) != name else ""))
         return target
 
@@ -178,15 +255,26 @@ class Outputs:
 
     def __exit__(self, kind: Optional[type[BaseException]], fault: Optional[BaseException],
                  trace: Optional[TracebackType]) -> None:
+        complete = False
         try:
             self._close_all(kind is None)
             if kind is None:
                 for target, private in self.private:
                     self.outputs += [Output(self._target(os.fspath(target / name)), private / name, None)
                                      for name in sorted(os.listdir(private))]
-                self._rename_all()
+                with undisturbed(), locked(output.path.parent for output in self.outputs):
+                    self._rename_all()
+                    complete = True
         finally:
-            self._remove_rest(kind is None)
+            self._remove_rest(complete)
+        if isinstance(fault, OutputError) and self.private:
+            self._name_privates(str(fault))
+
+    def _name_privates(self, text: str) -> None:
+        """Raises a fault with the user's names of files in private folders."""
+        for target, private in self.private:
+            text = text.replace(os.fspath(private), os.fspath(target))
+        raise OutputError(text) from None
 
     def _close_all(self, complete: bool) -> None:
         """Closes the files. If the call failed before, faults of closing say nothing new."""

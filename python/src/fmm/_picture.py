@@ -38,7 +38,7 @@ def draw(matches: Matches, axes: Any, routes: Any, bounds: Extent) -> None:
     if matches.network is not None:
         axes.add_collection(LineCollection(lines_within(matches, bounds), colors=STREET, linewidths=1.2))
     colours = matplotlib_colours()
-    driven = routes[routes.geometry.notna() & ~routes.geometry.is_empty]
+    driven = with_places(routes)
     ids = list(dict.fromkeys(driven["id"]))
     for number, name in enumerate(ids):
         lines = [np.asarray(line.coords) for line in driven.geometry[driven["id"] == name]]
@@ -80,10 +80,15 @@ def measured_places(matches: Matches) -> np.ndarray:
     return places[np.abs(places).max(axis=1, initial=0) < 1e8]
 
 
+def with_places(frame: Any) -> Any:
+    """The rows that have a place. geopandas warns if its own notna meets an empty geometry."""
+    return frame[~(frame.geometry.array.isna() | frame.geometry.is_empty)]
+
+
 def extent(routes: Any, points: Any) -> Extent:
     """What the picture shows: the driven roads, or without any the positions, and a margin."""
-    found = routes[routes.geometry.notna() & ~routes.geometry.is_empty]
-    frame = found if len(found) else points[points.geometry.notna() & ~points.geometry.is_empty]
+    found = with_places(routes)
+    frame = found if len(found) else with_places(points)
     west, south, east, north = frame.total_bounds if len(frame) else (0, 0, 1, 1)
     margin = MARGIN * max(east - west, north - south, 1000.0)
     return west - margin, south - margin, east + margin, north + margin

@@ -10,7 +10,7 @@ from typing import Any, Optional
 
 from . import _programs
 from ._checks import compare_traces
-from ._evidence import checksum_of
+from ._evidence import checksum_of, unchanged
 from ._match_text import MatchText, read_match
 from ._traces import Traces
 from .errors import OptionError, PathText
@@ -61,6 +61,7 @@ class Work:
 def solve(network: Network, traces: Traces, options: Options, means: Means, folder: Path) -> tuple[MatchText, dict[str, Any]]:
     """The text of a match and its evidence. `folder` is for the text of one run."""
     program = _programs.program(network.needs_large)
+    network.check_file()
     evidence = {
         "program": _programs.about(program),
         "network": {"path": network.saved_path and str(network.saved_path), "sha256": network.checksum,
@@ -71,12 +72,13 @@ def solve(network: Network, traces: Traces, options: Options, means: Means, fold
     needed = None if means.engine else needed_memory(network, traces, options)
     free = means.memory << 20 if means.memory else free_here()
     work = Work(program, network, traces, options)
-    if needed is not None and needed <= free:
-        text = read_text(in_one_run(work, folder), evidence)
-    else:
-        text = in_groups(work, means, evidence)
-        if needed is not None:
-            traces.notes.append(f"one run may need {needed >> 20:,} MB of memory, and has {free >> 20:,} MB: matched in groups")
+    with unchanged(network.path):
+        if needed is not None and needed <= free:
+            text = read_text(in_one_run(work, folder), evidence)
+        else:
+            text = in_groups(work, means, evidence)
+    if needed is not None and needed > free:
+        traces.notes.append(f"one run may need {needed >> 20:,} MB of memory, and has {free >> 20:,} MB: matched in groups")
     compare_traces(text, traces.drives.index.to_numpy(), traces.drives["positions"].to_numpy(), "the positions")
     return text, evidence
 

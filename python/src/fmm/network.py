@@ -11,13 +11,13 @@ import numpy as np
 import pandas as pd
 
 from . import _geometry, _network_file
-from ._evidence import checksum_of, compare, part, read_side_file, write_side_file
+from ._evidence import checksum_of, compare, part, read_side_file, refuse_pipe, state, unchanged, write_side_file
 from ._lines import EdgeLines, Parts
 from ._network_report import NetworkReport
 from ._output import Outputs
 from ._streets import COLUMNS
 from ._tables import numbers, read_table, whole_numbers, write_rows
-from .errors import InputError, PathText
+from .errors import InputError, MismatchError, PathText
 from .projection import DEGREES, FARTHEST, Extent, Projection
 
 SIDE = ("edge", "direction", "street", "part_from", "part_to", "way", "class", "name", "ref", "maxspeed", "oneway")
@@ -34,6 +34,7 @@ class Network:
         self._is_saved = False
         self._folder: Optional[tempfile.TemporaryDirectory[str]] = None
         self._checksum: Optional[str] = None
+        self._state: Optional[list[int]] = None
         self._edges: Optional[geopandas.GeoDataFrame] = None
         self._streets: Optional[EdgeLines] = None
         self._describe()
@@ -55,7 +56,8 @@ class Network:
         of 16 bytes for each node of the map.
         """
         from ._osm import network
-        return cls(*network.read(path, profile, bbox, crs, restrictions))
+        with unchanged(path):
+            return cls(*network.read(path, profile, bbox, crs, restrictions))
 
     @classmethod
     def from_geodataframe(cls, roads: geopandas.GeoDataFrame, **options: Any) -> Network:
@@ -82,7 +84,8 @@ class Network:
             return cls.from_graph(_map_files.read_graph(path), **words)
         if kind == "network":
             return cls.open(path, **words)
-        return cls.from_geodataframe(_map_files.read_layer(path, words.pop("layer", None)), **words)
+        with unchanged(path):
+            return cls.from_geodataframe(_map_files.read_layer(path, words.pop("layer", None)), **words)
 
     @classmethod
     def open(cls, path: PathText, crs: Any = None) -> Network:
@@ -90,16 +93,20 @@ class Network:
 
         Refused with InputError: a damaged file; with MismatchError: side files of another network, another `crs`.
         """
-        lines = _network_file.read_network(path)
-        given = None if crs is None else Projection.of(crs)
+        refuse_pipe(path)
         table_path, side_path = side_paths(path)
-        if not side_path.exists():
-            network = cls(lines, empty_table(len(lines)), given or Projection(None), NetworkReport({"path": os.fspath(path)}))
-        else:
-            network = cls._with_side_files(path, lines, table_path, side_path)
-            if given is not None and not given.matches(network.projection):
-                compare("the projection", network.projection.name, given.name, path, "the projection that was asked for")
-        network._path, network._checksum, network._is_saved = Path(path), checksum_of(path), True
+        with unchanged(path):
+            lines, checksum = _network_file.read_network(path), checksum_of(path)
+            given = None if crs is None else Projection.of(crs)
+            if not side_path.exists():
+                if table_path.exists():
+                    raise MismatchError(f"lies beside {table_path.name} without {side_path.name}, which ties the two together", path)
+                network = cls(lines, empty_table(len(lines)), given or Projection(None), NetworkReport({"path": os.fspath(path)}))
+            else:
+                network = cls._with_side_files(path, lines, table_path, side_path)
+            network._keep_file(path, checksum)
+        if side_path.exists() and given is not None and not given.matches(network.projection):
+            compare("the projection", network.projection.name, given.name, path, "the projection that was asked for")
         return network
 
     @classmethod
@@ -127,8 +134,19 @@ class Network:
                 file.flush()
             checksums = [checksum_of(output.unfinished) for output in outputs.outputs]
             write_side_file(outputs, side_path, "network", self.evidence(*checksums))
-        self._path, self._checksum, self._is_saved = Path(path), None, True
-        return self._path
+        self._keep_file(path, checksums[0])
+        return Path(path)
+
+    def _keep_file(self, path: PathText, checksum: str) -> None:
+        """Takes a file as that of the network."""
+        self._path, self._checksum, self._state, self._is_saved = Path(path), checksum, state(path), True
+
+    def check_file(self) -> None:
+        """Refuses with InputError a network file that is not the one that was read or saved any more."""
+        if self._state is not None and state(self.path) != self._state:
+            if checksum_of(self.path) != self.checksum:
+                raise InputError("was changed after it was read: open it again", self.path)
+            self._state = state(self.path)
 
     def evidence(self, network: str, table: str) -> dict[str, Any]:
         """The content of the side file, for the checksums of the other two files."""
@@ -154,6 +172,11 @@ class Network:
     def saved_path(self) -> Optional[Path]:
         """The network file; None while it is only in a temporary folder."""
         return self._path if self._is_saved else None
+
+    @property
+    def files(self) -> list[Path]:
+        """The network file and its side files, if the network is saved."""
+        return [] if self.saved_path is None else [self.saved_path, *side_paths(self.saved_path)]
 
     @property
     def name(self) -> str:

@@ -4,6 +4,7 @@ from __future__ import annotations
 import glob
 import hashlib
 import os
+import unicodedata
 from dataclasses import dataclass, field
 from pathlib import Path
 from typing import Any, Dict, List, Optional, Sequence, Tuple
@@ -12,6 +13,7 @@ import numpy as np
 import pandas as pd
 import pyproj
 
+from ._evidence import is_file, unchanged
 from ._reading.csv import read_csv
 from ._reading.frames import DEGREES, rows_of_frame
 from ._reading.gpx import read_gpx
@@ -112,8 +114,9 @@ def read_positions(sources: Any, *, id: Optional[str] = None, x: Optional[str] =
     read: List[Source] = []
     digests: Dict[str, str] = {}
     for item in items:
-        digest = checked_digest(item, digests) if isinstance(item, Path) else ""
-        part = read_source(item, wanted, query, stems)
+        with unchanged(*([item] if isinstance(item, Path) else [])):
+            digest = checked_digest(item, digests) if isinstance(item, Path) else ""
+            part = read_source(item, wanted, query, stems)
         rows.append(part)
         read.append(Source(part.name, digest, len(part.frame)))
     return joined(rows, read)
@@ -215,8 +218,8 @@ def read_source(item: Any, wanted: Wanted, query: Optional[str], stems: Dict[Pat
 
 
 def begins_as_xml(path: Path) -> bool:
-    if os.fspath(path) == "-":
-        return False
+    if not is_file(path):
+        return False  # what is read of a pipe is gone
     with path.open("rb") as file:
         return file.read(64).lstrip(b"\xef\xbb\xbf \t\r\n").startswith(b"<")
 
@@ -231,12 +234,13 @@ def joined(rows: List[Rows], sources: List[Source]) -> Positions:
     frame = pd.concat([part.frame for part in rows], ignore_index=True) if len(rows) > 1 else rows[0].frame
     frame.index = pd.RangeIndex(len(frame), name="row")
     frame.attrs.clear()
+    alike = similar_ids(frame["id"])
     faults = np.concatenate([part.faults for part in rows])
     lines = np.concatenate([part.lines for part in rows])
     source = np.repeat(np.arange(len(rows)), [len(part.frame) for part in rows])
     names = np.array([part.name for part in rows], dtype=object)
     positions = Positions(frame, crs, left_out_of(frame, faults, names[source], lines), sources,
-                          [note for part in rows for note in part.notes], np.concatenate([part.parts for part in rows]),
+                          [note for part in rows for note in part.notes] + alike, np.concatenate([part.parts for part in rows]),
                           pd.DataFrame({"source": source, "line": lines}), unzoned_warnings(rows))
     return positions
 
@@ -246,6 +250,19 @@ def unzoned_warnings(rows: Sequence[Rows]) -> List[str]:
     count = sum(part.unzoned for part in rows)
     return [f"{count:,} times name no time zone and count as UTC; timezone (--timezone) says theirs, such as Europe/Berlin"
             ] if count else []
+
+
+def similar_ids(ids: pd.Series) -> List[str]:
+    """A note about ids that look alike: they differ only in blanks around them or in how Unicode writes an accent."""
+    groups: Dict[str, List[str]] = {}
+    for name in pd.unique(ids):
+        groups.setdefault(unicodedata.normalize("NFC", name).strip(), []).append(name)
+    alike = [names for names in groups.values() if len(names) > 1]
+    if not alike:
+        return []
+    shown_names = " and ".join(map(ascii, alike[0]))
+    return [f"ids that differ only in blanks or in the form of accents are several vehicles: {shown(shown_names, 80)}"
+            + (f" and {len(alike) - 1} more" if len(alike) > 1 else "")]
 
 
 def left_out_of(frame: pd.DataFrame, faults: np.ndarray, files: np.ndarray, lines: np.ndarray) -> pd.DataFrame:

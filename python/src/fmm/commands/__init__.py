@@ -11,6 +11,7 @@ from __future__ import annotations
 import ast
 import difflib
 import importlib
+import os
 import signal
 import sys
 from collections.abc import Callable, Sequence
@@ -18,10 +19,10 @@ from pathlib import Path
 from types import FrameType
 from typing import Optional
 
+from .._output import SIGNALS
 from ..errors import FmmError, OptionError, one_line
 
 INTERRUPTED = 130
-SIGNALS = (signal.SIGINT, signal.SIGTERM, signal.SIGHUP)
 
 
 class Stopped(BaseException):
@@ -73,6 +74,7 @@ def usage() -> str:
 def perform(name: str, words: Sequence[str]) -> int:
     """Runs a command. Every error that a user can cause becomes one line on standard error."""
     from .._libraries import explained
+    _take_closed_descriptors()
     handlers = {number: signal.getsignal(number) for number in SIGNALS}
     for number, handler in handlers.items():
         if handler != signal.SIG_IGN:
@@ -134,9 +136,18 @@ def _ignore_signals() -> None:
         signal.signal(number, signal.SIG_IGN)
 
 
+def _take_closed_descriptors() -> None:
+    """Opens standard input, output and error if they are closed, so that no file gets their numbers. Reading the one and writing
+    the others stays an error."""
+    for descriptor, mode in ((0, os.O_WRONLY), (1, os.O_RDONLY), (2, os.O_RDONLY)):
+        try:
+            os.fstat(descriptor)
+        except OSError:
+            os.open(os.devnull, mode)  # takes the smallest number that is free
+
+
 def _drop_output() -> None:
     """Leaves nothing to be written to standard output at exit."""
-    import os
     try:
         os.dup2(os.open(os.devnull, os.O_WRONLY), 1)
     except OSError:

@@ -62,10 +62,13 @@ def main(words: Sequence[str]) -> int:
 
 
 def check_ids(options: Parser, args: argparse.Namespace) -> None:
-    """Refuses a table of ids in place of the rows, of the state or of what SQLite has beside that."""
+    """Refuses a table of ids in place of the rows, of the network, of the state or of what SQLite has beside that."""
     if args.ids is None:
         return
     kept = [args.state, *(Path(f"{args.state}{ending}") for ending in ("-wal", "-shm", "-journal")), *filter(None, [args.into])]
+    if args.network is not None:
+        from ..network import side_paths
+        kept += [args.network, *side_paths(args.network)]
     for made in (args.ids, args.ids.with_suffix(".csvt")):
         for path in kept:
             if made.resolve() == path.resolve():

@@ -50,7 +50,7 @@ def main(words: Sequence[str]) -> int:
         given = {name: value for name, value in (("gap", args.gap), ("thin", args.thin)) if value is not None}
         options = suggestion.options.but(**given)
     files = [source.path for source in positions.sources if source.sha256]
-    with tempfile.TemporaryDirectory(prefix="fmm-") as folder, Outputs(inputs=[args.network, *files]) as outputs:
+    with tempfile.TemporaryDirectory(prefix="fmm-") as folder, Outputs([*network.files, *files]) as outputs:
         traces = write_traces(positions, network, options, Path(folder))
         written(outputs, args.into, traces, rows_of(traces, positions), about(traces, positions, network, options))
     say(report(positions, traces, extents))

@@ -63,7 +63,7 @@ def main(words: list[str]) -> int:
     with warnings.catch_warnings():
         warnings.simplefilter("ignore", FmmWarning)  # the report begins with them
         matches = match(network, positions, crs=values.result_crs, **means, **options)
-    with Outputs([values.map, *(source.path for source in positions.sources)]) as outputs:
+    with Outputs([values.map, *network.files, *(source.path for source in positions.sources)]) as outputs:
         write_all(matches, outputs.files_of(values.into), values, notes)
     print(Path(values.into, "report.txt").read_text(encoding="utf-8"), end="")
     return 0

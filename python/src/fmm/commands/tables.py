@@ -21,7 +21,7 @@ import pandas as pd
 
 from .. import _programs
 from .._checks import compare_lines, compare_places, compare_traces
-from .._evidence import checksum_of, compare, part, read_side_file
+from .._evidence import checksum_of, compare, part, read_side_file, refuse_pipe, unchanged
 from .._match_text import MatchText, read_match
 from .._plain_numbers import plain_numbers
 from .._ragged import runs
@@ -54,7 +54,11 @@ def main(words: Sequence[str]) -> int:
     parser.add_argument("--trust", action="store_true", help="do not run the program once more")
     args = parser.parse_args(words[:words.index("--")] if "--" in words else words)
     options = options_of(given)
-    matches = tables(args, options, given)
+    inputs = [path for path in (args.network, args.traces, args.match, args.ids) if path is not None]
+    for path in inputs:
+        refuse_pipe(path)
+    with unchanged(*inputs):
+        matches = tables(args, options, given)
     matches.to_file(args.into)
     print(matches.report.text, end="")
     return 0
@@ -89,7 +93,7 @@ def tables(args: Any, options: Options, words: Sequence[str]) -> Matches:
         "traces": {"path": args.traces, "sha256": checksum_of(args.traces)},
         "text": {"path": args.match, "sha256": checksum_of(args.match), "rows": text.rows, "order": "rows"},
         "options": {"words": list(words)}, "positions_crs": network.projection.text,
-        "sources": [{"path": path, "sha256": checksum_of(path)} for path in (args.traces, args.match)],
+        "sources": [{"path": path, "sha256": checksum_of(path)} for path in (args.traces, args.match, args.ids) if path],
     }
     if not args.trust:
         evidence["program"] = run_again(network, args, text, words)

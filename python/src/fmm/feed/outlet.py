@@ -5,7 +5,7 @@ import os
 from pathlib import Path
 from typing import Optional, Union
 
-from .._output import write_all
+from .._output import lock, reason, write_all
 from ..errors import FmmError, OutputError
 from .state import State
 
@@ -35,10 +35,20 @@ class RowFile:
             self.descriptor = os.open(path, os.O_WRONLY | os.O_APPEND | os.O_CREAT, 0o666)
         except OSError as fault:
             raise OutputError(f"{path}: {fault.strerror}") from None
+        self._lock()
         if exists:
             self._complete()
         else:
             self._begin()
+
+    def _lock(self) -> None:
+        """Refuses a file that another feed writes. Some file systems have no locks."""
+        try:
+            lock(self.descriptor, 0.0)
+        except BlockingIOError:
+            raise FmmError(f"{self.path}: another feed writes this file") from None
+        except OSError:
+            pass
 
     def _begin(self) -> None:
         self.state.set("rows file", self.path.resolve())
@@ -58,7 +68,8 @@ class RowFile:
         if not self.size <= found <= self.size + len(outgoing):
             raise FmmError(f"{self.path} has {found} bytes, and its state knows {self.size + len(outgoing)}: it was cut or "
                            "changed")
-        self.append(outgoing[found - self.size:])
+        rest, self.size = outgoing[found - self.size:], found
+        self.append(rest)
         self.written()
 
     def _note(self, rows: bytes) -> None:
@@ -68,11 +79,15 @@ class RowFile:
 
     def append(self, rows: bytes) -> None:
         """Writes rows that the state has as outgoing."""
+        size = self.size + len(rows)
         try:
             write_all(self.descriptor, rows)
-            self.size = os.fstat(self.descriptor).st_size
+            now, named = os.fstat(self.descriptor), os.stat(self.path)
         except OSError as fault:
             raise OutputError(f"{self.path}: {fault.strerror}") from None
+        if now.st_size != size or not os.path.samestat(now, named):
+            raise OutputError(f"{self.path}: was changed, moved or cut by another program while the feed wrote it")
+        self.size = size
 
     def write(self, rows: bytes) -> None:
         """Commits the state with these rows as outgoing, and then writes them."""
@@ -94,15 +109,20 @@ class RowStream:
 
     def __init__(self, state: State, descriptor: int = 1) -> None:
         self.state, self.descriptor = state, descriptor
-        write_all(descriptor, HEADER)
-        write_all(descriptor, (state.get("outgoing") or "").encode())
+        self._append(HEADER + (state.get("outgoing") or "").encode())
         self.written()
+
+    def _append(self, rows: bytes) -> None:
+        try:
+            write_all(self.descriptor, rows)
+        except OSError as fault:
+            raise OutputError(f"standard output: {reason(fault)}") from None
 
     def write(self, rows: bytes) -> None:
         """Commits the state with these rows as outgoing, and then writes them."""
         self.state.set("outgoing", rows.decode())
         self.state.commit()
-        write_all(self.descriptor, rows)
+        self._append(rows)
 
     def written(self) -> None:
         """Notes that nothing is outgoing. The next commit of the state keeps this."""

@@ -8,6 +8,7 @@ from collections.abc import Sequence
 from dataclasses import dataclass
 from typing import Optional, Protocol
 
+from ..errors import InputError
 from .reports import LONGEST_PAYLOAD
 
 CHUNK = 65_536
@@ -50,7 +51,10 @@ class Lines:
         timeout = None if until == float("inf") else max(0.0, until - time.monotonic())
         if not select.select([self.descriptor], [], [], timeout)[0]:
             return []
-        chunk = os.read(self.descriptor, CHUNK)
+        try:
+            chunk = os.read(self.descriptor, CHUNK)
+        except OSError as fault:
+            raise InputError(fault.strerror or fault, "standard input") from None
         if not chunk:
             self.is_over = True
             return [self._payload(self.rest, "the input ends in the middle of the line")] if self.rest else []

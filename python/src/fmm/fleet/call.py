@@ -15,9 +15,10 @@ from dataclasses import dataclass, field
 from pathlib import Path
 from typing import Any, Optional
 
+from .._evidence import state
 from ..errors import FmmError, InputError, OptionError, OutputError, shown
 from . import engines, groups
-from .common import VERSION, Progress, checksum, is_foreign, load_manifest, print_note, state, store_manifest, write_whole
+from .common import VERSION, Progress, checksum, is_foreign, load_manifest, print_note, store_manifest, write_whole
 from .join import join
 from .memory import SLACK, Grid, Reach, free_memory
 from .parts import Run
@@ -191,6 +192,9 @@ def match_fleet(call: Call) -> tuple[Path, str]:
             raise InputError("is no file", path)
     TraceFile(call.traces).check_header()
     folder = call.into.absolute()
+    for path in (call.network, call.traces):
+        if folder.resolve() in path.resolve().parents:
+            raise InputError(f"is in the folder of the groups, {call.into}: name another folder", path)
     is_new = prepare_folder(folder)
     with lock(folder):
         try:

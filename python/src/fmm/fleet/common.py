@@ -2,7 +2,6 @@
 from __future__ import annotations
 
 import json
-import os
 import sys
 import time
 from pathlib import Path
@@ -24,15 +23,6 @@ def is_foreign(name: str) -> bool:
     """Whether this is no file of a fleet: the rest of a removed file of NFS, the folder of ext4, an output that a call which was
     killed did not complete."""
     return name.startswith((".nfs", UNFINISHED)) or name in FOREIGN
-
-
-def state(path: Path) -> list[int]:
-    """Size, time of change and number of a file: another state shows that the file may have been changed."""
-    try:
-        about = os.stat(path)
-    except OSError as fault:
-        raise InputError(fault.strerror or fault, path) from None
-    return [about.st_size, about.st_mtime_ns, about.st_ctime_ns, about.st_ino]
 
 
 def write_whole(path: Path, data: bytes) -> None:

@@ -12,8 +12,9 @@ from typing import Any
 
 import numpy as np
 
+from .._evidence import state
 from ..errors import FmmError, InputError, shown
-from .common import Again, checksum, load_json, print_note, state
+from .common import Again, checksum, load_json, print_note
 from .parts import Run, read_text
 
 FINAL = (2, 5, 6)  # statuses of fmm that another try does not change

@@ -3,6 +3,7 @@ from __future__ import annotations
 
 import html
 import json
+import os
 import re
 from dataclasses import dataclass
 from pathlib import Path
@@ -34,7 +35,9 @@ class Page:
     notes: List[str]
 
     def save(self, path: PathText) -> None:
-        """Writes the page to a file."""
+        """Writes the page to a file whose name ends in .html, so that it is none of a match."""
+        if not os.fspath(path).lower().endswith((".html", ".htm")) and os.fspath(path) not in ("-", "/dev/stdout"):
+            raise OptionError(f"{os.fspath(path)}: the name of a map ends in .html")
         with Outputs() as outputs:
             outputs.open(path).write(self.html)
 

@@ -10,6 +10,7 @@ import numpy as np
 import pandas as pd
 
 from .. import _programs
+from .._evidence import unchanged
 from .._places import Places
 from .._progress import bar
 from .._ragged import offsets_of
@@ -86,7 +87,9 @@ class Prover:
             path, out = Path(folder) / "traces.csv", Path(folder) / "certificate.txt"
             traces.write(path)
             words = _programs.words_of("prove", self.network.path, path, self.words)
-            _programs.run(self.program, words, out, 0, {"network": self.network.name, "traces": "the positions"})
+            self.network.check_file()
+            with unchanged(self.network.path):
+                _programs.run(self.program, words, out, 0, {"network": self.network.name, "traces": "the positions"})
             return out.read_bytes()
 
 

@@ -43,8 +43,17 @@ class Parts:
         idle = [] if self.ends.idle is None else ["--idle", str(self.ends.idle)]
         intake = Intake(self.reading, state, self.rules, self.notices)
         streets = Streets(self.network, centimetres(options.back), self.lookup)
-        fleet = Fleet(lambda: Streams(self.program, path, [*words, *idle], far), streets, Journal(state), intake, self.ends)
+
+        def streams() -> Streams:
+            self.network.check_file()
+            return Streams(self.program, path, [*words, *idle], far)
+
+        def program() -> Program:
+            self.network.check_file()
+            return Program(self.program, path, words, far)
+
+        fleet = Fleet(streams, streets, Journal(state), intake, self.ends)
         provisional = None
         if self.has_provisional:
-            provisional = Provisional(lambda: Program(self.program, path, words, far), fleet, intake.waiting, self.notices)
+            provisional = Provisional(program, fleet, intake.waiting, self.notices)
         return Tracker(source, fleet, sinks, provisional, stop)
