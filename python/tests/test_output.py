@@ -3,14 +3,17 @@ from __future__ import annotations
 
 import fcntl
 import os
+import signal
 import subprocess
 import sys
 import threading
 import time
 from pathlib import Path
+from typing import Any
 
 import pytest
 
+from fmm import _locks, _output
 from fmm._output import Outputs, umask, write_all
 from fmm.errors import OutputError
 
@@ -109,3 +112,62 @@ def test_standard_output(tmp_path: Path) -> None:
     done = subprocess.run([sys.executable, "-c", script], capture_output=True, text=True, env={"PYTHONPATH": "src"},
                           cwd=Path(__file__).parents[1])
     assert (done.returncode, done.stdout, done.stderr) == (0, "a", "b")
+
+
+def test_the_files_of_two_calls_are_not_mixed(tmp_path: Path, monkeypatch: pytest.MonkeyPatch) -> None:
+    """While one call renames its files, another one waits, unless the folder is locked for long."""
+    replace = os.replace
+
+    def other() -> None:
+        with Outputs() as outputs:
+            for name in "ab":
+                outputs.open(tmp_path / name).write("other")
+
+    def slow(source: Path, target: Path) -> None:
+        replace(source, target)
+        if threading.current_thread() is threading.main_thread() and not begun:
+            begun.append(threading.Thread(target=other))
+            begun[0].start()
+            begun[0].join(0.1)
+
+    begun: list[threading.Thread] = []
+    monkeypatch.setattr(os, "replace", slow)
+    with Outputs() as outputs:
+        for name in "ab":
+            outputs.open(tmp_path / name).write("one")
+    begun[0].join()
+    assert {(tmp_path / name).read_text() for name in "ab"} == {"other"}
+    monkeypatch.setattr(_locks, "PATIENCE", 0.05)
+    folder = os.open(tmp_path, os.O_RDONLY)
+    fcntl.flock(folder, fcntl.LOCK_EX)
+    other()
+    os.close(folder)
+
+
+def test_a_signal_between_two_renames(tmp_path: Path, monkeypatch: pytest.MonkeyPatch) -> None:
+    replace = os.replace
+
+    def interrupted(source: Path, target: Path) -> None:
+        replace(source, target)
+        os.kill(os.getpid(), signal.SIGINT)
+
+    monkeypatch.setattr(os, "replace", interrupted)
+    before = signal.signal(signal.SIGINT, signal.default_int_handler)
+    try:
+        with pytest.raises(KeyboardInterrupt), Outputs() as outputs:
+            for name in "abc":
+                outputs.open(outputs.folder(tmp_path / "new") / name).write("x")
+        assert signal.getsignal(signal.SIGINT) is signal.default_int_handler
+    finally:
+        signal.signal(signal.SIGINT, before)
+    assert sorted(os.listdir(tmp_path / "new")) == ["a", "b", "c"]
+
+
+def test_a_full_disk_leaves_no_folder(tmp_path: Path, monkeypatch: pytest.MonkeyPatch) -> None:
+    def full(descriptor: int, data: Any) -> None:
+        raise OSError(28, "No space left on device")
+
+    monkeypatch.setattr(_output, "write_all", full)
+    with pytest.raises(OutputError, match="new/a: No space left"), Outputs() as outputs:
+        outputs.open(outputs.folder(tmp_path / "new") / "a").write("x")
+    assert os.listdir(tmp_path) == []

@@ -1,4 +1,4 @@
-"""Files that other programs change, open or name while a command works: nothing is mixed, exchanged or written over in silence."""
+"""Files that others change, open or name while a command works: nothing is mixed, exchanged or written over in silence."""
 from __future__ import annotations
 
 import fcntl
@@ -9,24 +9,26 @@ import shutil
 import signal
 import subprocess
 import threading
+import time
 import unicodedata
 from pathlib import Path
-from typing import Any, Callable
+from typing import Any, Callable, Iterator
 
 import forks
 import geopandas
 import pytest
-from feeds import feed, rows, start
+from feeds import feed, start
 
 import fmm
-from fmm import _output, _picture, _programs, commands, positions
+from fmm import _picture, _programs, commands, positions
 from fmm._evidence import own_checksum
 from fmm._osm import network
 from fmm._output import Outputs
 from fmm.commands import run as run_command
-from fmm.errors import InputError, MismatchError, OptionError, OutputError
+from fmm.errors import FmmError, InputError, MismatchError, OptionError, OutputError
 from fmm.feed.intake import Reading, Rules
 from fmm.feed.notices import Notices
+from fmm.feed.ordering import Position
 from fmm.feed.reading import placing_of, timing_of
 from fmm.feed.reports import Columns, Reader
 from fmm.feed.sources import Lines
@@ -34,6 +36,7 @@ from fmm.feed.state import State
 from fmm.map.page import Page
 from fmm.options import Options
 from fmm.track.fleet import Ends
+from fmm.track.journal import Journal
 from fmm.track.parts import Parts
 from fmm.track.sinks import Sinks, Stop
 
@@ -120,17 +123,50 @@ def test_a_map_that_changes_while_it_is_read(small: Path, tmp_path: Path, monkey
         fmm.Network.from_osm(path)
 
 
-def test_a_live_fleet_starts_no_program_on_another_network(place: Path, monkeypatch: pytest.MonkeyPatch) -> None:
+def parts_of(name: str, **words: Any) -> Parts:
+    """What a tracker on a network is made of."""
+    reading = Reading(Reader("rows", Columns()), placing_of(None, "metres"), timing_of(False, None, Notices("fmm track")))
+    return Parts(fmm.Network.open(name), _programs.program(False), ALONE.but(**words), None, reading, Rules(),
+                 Ends(600.0, None, 1000), False, Notices("fmm track"))
+
+
+@pytest.fixture
+def state(place: Path) -> Iterator[State]:
+    """A state in the folder with a network."""
+    made = State(Path("s.db"))
+    yield made
+    made.close()
+
+
+def test_a_live_fleet_starts_no_program_on_another_network(place: Path, state: State) -> None:
     """Such as after the weekly update of a map, when a program that was killed is started again."""
-    reading = Reading(Reader("rows", Columns()), placing_of(None, "metres"), timing_of(False))
-    parts = Parts(fmm.Network.open("n.csv"), _programs.program(False), ALONE, None, reading, Rules(), Ends(600.0, None, 1000),
-                  False, Notices("fmm track"))
-    state = State(Path("s.db"))
-    tracker = parts.tracker(state, Lines(), Sinks(state, list), Stop())
+    tracker = parts_of("n.csv").tracker(state, Lines(), Sinks(state, list), Stop())
     exchange(place / "n.csv")
     with pytest.raises(InputError, match="^n.csv: was changed after it was read"):
         tracker.fleet.restore()
-    state.close()
+    tracker.close()
+
+
+def test_open_drives_keep_their_network_and_options(place: Path, small: Path, state: State) -> None:
+    fmm.Network.from_osm(small / "village.osm", crs="32N", profile="foot").save("m.csv")
+    others = (parts_of("m.csv"), parts_of("n.csv", radius=50.0))
+    parts_of("n.csv").tracker(state, Lines(), Sinks(state, list), Stop()).close()
+    parts_of("m.csv").tracker(state, Lines(), Sinks(state, list), Stop()).close()
+    parts_of("n.csv", workers=2).tracker(state, Lines(), Sinks(state, list), Stop()).close()
+    Journal(state).add([(1, Position(5.0, "a", 0, 0, 5.0))])
+    for other in others:
+        with pytest.raises(FmmError, match="s.db has open drives of another network or of other options: end them by"):
+            other.tracker(state, Lines(), Sinks(state, list), Stop())
+
+
+def test_a_feed_keeps_its_projection(place: Path, small: Path) -> None:
+    fmm.Network.from_osm(small / "village.osm", crs="33N").save("m.csv")
+    for name, status in (("n.csv", 0), ("m.csv", 1), ("n.csv", 0)):
+        done = forks.run("feed", "--network", name, "--format", "rows", "--state", "s.db", "--into", "out.csv",
+                         given=f"{name} {time.time()},9.43,54.31,5\n")
+        assert done.returncode == status, done
+        assert status == 0 or "s.db has positions in EPSG:32632 (UTM 32N), and the network is in EPSG:32633" in done.stderr
+    assert len(Path("out.csv").read_text().splitlines()) == 3
 
 
 def test_a_table_of_edges_without_the_file_that_ties_it(place: Path) -> None:
@@ -182,13 +218,10 @@ def test_no_command_writes_over_what_it_reads(place: Path, capfd: pytest.Capture
             ("positions monday.gpx --network n.csv --into n.edges.csv", "n.edges.csv: is an input of the same call"),
             ("fleet n.csv groups/match.txt --into groups", "groups/match.txt: is in the folder of the groups, groups"),
             ("run out/result.csv monday.gpx --into out", "out/result.json: is an input of the same call"),
-            ("feed --network n.csv --state s.db --ids n.csv", "n.csv: is an input of the same call"),
-            ("feed --network n.csv --state s.db --ids n.json", "n.json: is an input of the same call"),
-            ("feed --network n.csv --state s.db --into r.csv --ids ./r.csv", "r.csv: two outputs have this name"),
-            ("track n.csv --state s.db --to - --to -", "-: two outputs have this name")):
+            ("feed --network n.csv --state s.db --ids n.json", "--ids n.json would replace n.json")):
         capfd.readouterr()
-        assert commands.main(line.split()) == 1 and message in capfd.readouterr().err, line
-    assert {path for path in place.rglob("*") if path.is_file() and path.name != "s.db"} == set(before)
+        assert commands.main(line.split()) in (1, 2) and message in capfd.readouterr().err, line
+    assert {path for path in place.rglob("*") if path.is_file()} == set(before)
     assert all(path.read_bytes() == data for path, data in before.items())
 
 
@@ -208,65 +241,6 @@ def test_a_database_that_another_program_has_open(tmp_path: Path, beside: str) -
     with pytest.raises(InputError, match=f"a.gpkg: another program has changed it, since there is {beside}"):
         (tmp_path / "a.json").write_text(SIDE)
         fmm.open_matches(tmp_path / "a.gpkg")
-
-
-def test_the_files_of_two_calls_are_not_mixed(tmp_path: Path, monkeypatch: pytest.MonkeyPatch) -> None:
-    """While one call renames its files, another one waits, unless the folder is locked for long."""
-    replace = os.replace
-
-    def other() -> None:
-        with Outputs() as outputs:
-            for name in "ab":
-                outputs.open(tmp_path / name).write("other")
-
-    def slow(source: Path, target: Path) -> None:
-        replace(source, target)
-        if threading.current_thread() is threading.main_thread() and not begun:
-            begun.append(threading.Thread(target=other))
-            begun[0].start()
-            begun[0].join(0.1)
-
-    begun: list[threading.Thread] = []
-    monkeypatch.setattr(os, "replace", slow)
-    with Outputs() as outputs:
-        for name in "ab":
-            outputs.open(tmp_path / name).write("one")
-    begun[0].join()
-    assert {(tmp_path / name).read_text() for name in "ab"} == {"other"}
-    monkeypatch.setattr(_output, "PATIENCE", 0.05)
-    folder = os.open(tmp_path, os.O_RDONLY)
-    fcntl.flock(folder, fcntl.LOCK_EX)
-    other()
-    os.close(folder)
-
-
-def test_a_signal_between_two_renames(tmp_path: Path, monkeypatch: pytest.MonkeyPatch) -> None:
-    replace = os.replace
-
-    def interrupted(source: Path, target: Path) -> None:
-        replace(source, target)
-        os.kill(os.getpid(), signal.SIGINT)
-
-    monkeypatch.setattr(os, "replace", interrupted)
-    before = signal.signal(signal.SIGINT, signal.default_int_handler)
-    try:
-        with pytest.raises(KeyboardInterrupt), Outputs() as outputs:
-            for name in "abc":
-                outputs.open(outputs.folder(tmp_path / "new") / name).write("x")
-        assert signal.getsignal(signal.SIGINT) is signal.default_int_handler
-    finally:
-        signal.signal(signal.SIGINT, before)
-    assert sorted(os.listdir(tmp_path / "new")) == ["a", "b", "c"]
-
-
-def test_a_full_disk_leaves_no_folder(tmp_path: Path, monkeypatch: pytest.MonkeyPatch) -> None:
-    def full(descriptor: int, data: Any) -> None:
-        raise OSError(28, "No space left on device")
-
-    monkeypatch.setattr(_output, "write_all", full)
-    with pytest.raises(OutputError, match="new/a: No space left"), Outputs() as outputs:
-        outputs.open(outputs.folder(tmp_path / "new") / "a").write("x")
-    assert os.listdir(tmp_path) == []
 
 
 def test_a_layer_on_a_full_disk_is_one_line(place: Path, monkeypatch: pytest.MonkeyPatch) -> None:

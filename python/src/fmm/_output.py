@@ -1,29 +1,23 @@
 """Output files that appear under their names only when all of them are complete."""
 from __future__ import annotations
 
-import contextlib
 import errno
-import fcntl
 import io
 import os
 import re
 import secrets
 import select
 import shutil
-import signal
 import stat
-import threading
-import time
 from pathlib import Path
 from types import TracebackType
-from typing import IO, Any, Iterable, Iterator, NamedTuple, Optional, Union
+from typing import IO, Any, Iterable, NamedTuple, Optional, Union
 
+from ._locks import locked, undisturbed
 from .errors import OutputError, PathText
 
 STANDARD_OUTPUT = re.compile(r"-|/dev/stdout")
 DESCRIPTOR = re.compile(r"/dev/fd/([0-9]{1,9})|/proc/self/fd/([0-9]{1,9})|(/dev/stderr)")
-PATIENCE = 1.0  # seconds that a call waits for another one
-SIGNALS = (signal.SIGINT, signal.SIGTERM, signal.SIGHUP)
 
 
 def write_all(descriptor: int, data: Union[bytes, bytearray, memoryview]) -> None:
@@ -41,55 +35,6 @@ def reason(fault: OSError) -> str:
     if isinstance(fault, BrokenPipeError):
         return "the reader of the output has gone"
     return fault.strerror or str(fault)
-
-
-@contextlib.contextmanager
-def undisturbed() -> Iterator[None]:
-    """Holds back the signals that end a command until the block is over. Only the main thread gets signals."""
-    if threading.current_thread() is not threading.main_thread():
-        yield
-        return
-    came: list[int] = []
-    handlers = {number: signal.getsignal(number) for number in SIGNALS}
-    held = {number: handler for number, handler in handlers.items() if handler not in (signal.SIG_IGN, None)}
-    for one in held:
-        signal.signal(one, lambda number, _: came.append(number))
-    try:
-        yield
-    finally:
-        for one, handler in held.items():
-            signal.signal(one, handler)
-        for first in came[:1]:
-            os.kill(os.getpid(), first)
-
-
-@contextlib.contextmanager
-def locked(folders: Iterable[Path]) -> Iterator[None]:
-    """Lets other calls wait that are about to rename their outputs in these folders, but not for long: the caller's script may
-    have locked a folder. Some file systems have no locks."""
-    descriptors: list[int] = []
-    try:
-        for folder in sorted({os.path.realpath(folder) for folder in folders}):
-            with contextlib.suppress(OSError):
-                descriptors.append(os.open(folder, os.O_RDONLY | os.O_DIRECTORY | os.O_CLOEXEC))
-                lock(descriptors[-1], PATIENCE)
-        yield
-    finally:
-        for descriptor in descriptors:
-            os.close(descriptor)
-
-
-def lock(descriptor: int, seconds: float) -> None:
-    """Locks an open file or folder. Raises OSError if that is not possible within some seconds."""
-    until = time.monotonic() + seconds
-    while True:
-        try:
-            fcntl.flock(descriptor, fcntl.LOCK_EX | fcntl.LOCK_NB)
-            return
-        except BlockingIOError:
-            if time.monotonic() > until:
-                raise
-            time.sleep(0.01)
 
 
 class Target(io.RawIOBase):
@@ -201,12 +146,6 @@ class Outputs:
         except OSError as fault:
             raise OutputError(f"{path}: {reason(fault)}") from None
         return private
-
-    def check(self, *paths: PathText) -> None:
-        """Refuses the names of files that will be opened later."""
-        for path in paths:
-            if not (STANDARD_OUTPUT.fullmatch(os.fspath(path)) or DESCRIPTOR.fullmatch(os.fspath(path))):
-                self._target(os.fspath(path))
 
     def _descriptor(self, name: str) -> tuple[int, bool]:
         """An open descriptor to write to, and whether it stays open in the end."""

@@ -100,7 +100,7 @@ class Network:
             given = None if crs is None else Projection.of(crs)
             if not side_path.exists():
                 if table_path.exists():
-                    raise MismatchError(f"lies beside {table_path.name} without {side_path.name}, which ties the two together", path)
+                    raise MismatchError(f"lies beside {table_path.name} without {side_path.name}, which ties the two", path)
                 network = cls(lines, empty_table(len(lines)), given or Projection(None), NetworkReport({"path": os.fspath(path)}))
             else:
                 network = cls._with_side_files(path, lines, table_path, side_path)

@@ -19,7 +19,7 @@ from pathlib import Path
 from types import FrameType
 from typing import Optional
 
-from .._output import SIGNALS
+from .._locks import SIGNALS
 from ..errors import FmmError, OptionError, one_line
 
 INTERRUPTED = 130

@@ -77,10 +77,13 @@ def check_ids(options: Parser, args: argparse.Namespace) -> None:
 
 def run(args: argparse.Namespace) -> int:
     """Runs the feed of these options."""
-    notices = Notices("fmm feed")
-    reading = _reading(args, notices)
+    from ..feed.reading import keep_projection, placing_on, projection_of, timing_of
+    notices, projection = Notices("fmm feed"), projection_of(args.network, args.crs)
+    placing, timing = placing_on(projection, args.crs), timing_of(args.milliseconds, args.timezone, notices)
+    reading = Reading(Reader(form_of(args), args.columns), placing, timing)
     with contextlib.closing(State(args.state)) as state:
         state.claim("feed")
+        keep_projection(state, projection)
         intake = Intake(reading, state, Rules(args.gap, args.most, args.wait, args.ahead, args.close), notices)
         with contextlib.closing(outlet_of(args.into, state)) as outlet, contextlib.closing(source_of(args, notices)) as source:
             feed = Feed(source, intake, outlet)
@@ -92,12 +95,6 @@ def run(args: argparse.Namespace) -> int:
     if not intake.positions and not args.mqtt and not feed.is_stopped:
         raise FmmError("the feed has no good row")
     return 0
-
-
-def _reading(args: argparse.Namespace, notices: Notices) -> Reading:
-    from ..feed.reading import placing_of, timing_of
-    return Reading(Reader(form_of(args), args.columns), placing_of(args.network, args.crs),
-                   timing_of(args.milliseconds, args.timezone, notices))
 
 
 def _write_ids(path: Path, state: State) -> None:

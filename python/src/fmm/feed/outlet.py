@@ -5,7 +5,8 @@ import os
 from pathlib import Path
 from typing import Optional, Union
 
-from .._output import lock, reason, write_all
+from .._locks import lock
+from .._output import reason, write_all
 from ..errors import FmmError, OutputError
 from .state import State
 

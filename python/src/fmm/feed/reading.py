@@ -14,17 +14,33 @@ from ..projection import NOWHERE, Projection
 from .intake import Place, Placing, Timing
 from .notices import Notices
 from .reports import NUMBER
+from .state import State
 
 
 def placing_of(network: Optional[Path], crs: Optional[str]) -> Placing:
     """Projects places to whole centimetres of a network. `crs` is that of the places; `metres` are metres of the network."""
+    return placing_on(projection_of(network, crs), crs)
+
+
+def projection_of(network: Optional[Path], crs: Optional[str]) -> Projection:
+    """The projection of a network, which has to be known unless the positions are in its metres."""
     projection = Projection(None)
     if network is not None:
         from ..network import Network
         projection = Network.open(network).projection
     if projection.crs is None and crs != "metres":
         raise FmmError(f"{network} has no side file with its projection; give --crs metres if the positions are in its metres")
-    return placing_on(projection, crs)
+    return projection
+
+
+def keep_projection(state: State, projection: Projection) -> None:
+    """Refuses a state whose positions are in another projection. That of a new network may be another one by its extent."""
+    known = state.get("projection")
+    if known is not None and projection.crs is not None and not Projection.of(known).matches(projection):
+        raise FmmError(f"{state.path} has positions in {Projection.of(known).name}, and the network is in {projection.name}: "
+                       "begin a new state, or make the network with --crs")
+    if known is None and projection.crs is not None:
+        state.set("projection", projection.text)
 
 
 def placing_on(projection: Projection, crs: Optional[str]) -> Placing:
