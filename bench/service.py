@@ -14,7 +14,7 @@ edges and costs of each answer are compared with those of `./fmm match`. It prin
 
   --crs CRS        the projection of the files (32N)
   --processes N    of the service, and workers of `match` (4)
-  --clients N      clients at the same time (32)
+  --clients N      clients at the same time (64)
   --seconds S      of each measurement (10)
   --repeat R       turns (3)
   --rate R         requests a second at half load, instead of half the throughput
@@ -59,6 +59,7 @@ class Drives:
     def __init__(self, args):
         projection = Projection.of(args.crs)
         table = pd.read_csv(args.traces)
+        self.in_file = table["trace"].nunique()
         if args.drives:
             table = table[table["trace"].isin(table["trace"].unique()[:args.drives])]
         x, y = projection.to_crs(table["x"].to_numpy(), table["y"].to_numpy(), 4326)
@@ -258,7 +259,7 @@ def timed(*words):
 
 def figures(args, drives, service):
     """Prints the figures. Returns how many answers were lost or wrong."""
-    fmm, count = str(TOP / "fmm"), len(drives.paths)
+    fmm, count = str(TOP / "fmm"), drives.in_file
     loading = min(timed(fmm, "match", args.network, "/dev/stdin")[0] for _ in range(args.repeat))
     print(f"start: {service.start:.2f} s; the program reads the network in {loading:.2f} s", flush=True)
     warm = Load(service.port, drives)
@@ -272,15 +273,16 @@ def figures(args, drives, service):
         parts = 1000 * (service.processor() - before) / done
         turns.append((count / clock, 1000 * spent / count, done / seconds, parts, 1000 * (own() - self_before) / done))
         faults += load.lost + load.wrong
-        print("  turn: match {:.0f} a second, {:.2f} ms; service {:.0f} a second, {} ms, client {:.2f} ms".format(
-            *turns[-1][:3], turns[-1][3].round(2), turns[-1][4]), flush=True)
+        print("  turn: match {:.0f} a second, {:.2f} ms; service {:.0f} a second, {} ms, clients {:.2f} ms".format(
+            *turns[-1][:3], parts.round(2), turns[-1][4]), flush=True)
     match_rate, match_spent = max(turn[0] for turn in turns), min(turn[1] for turn in turns)
     best = max(turns, key=lambda turn: turn[2])
     spent = best[3].sum()
     shares = ", ".join(f"{name} {share:.2f}" for name, share in zip(PARTS, best[3]))
     print(f"match: {match_rate:.0f} drives a second, {match_spent:.2f} ms of a processor for each")
     print(f"throughput: {best[2]:.0f} drives a second, {spent:.2f} ms of a processor for each ({shares}; besides, clients "
-          f"{best[4]:.2f}); of match: {best[2] / match_rate:.2f} by the clock, {match_spent / spent:.2f} by processors", flush=True)
+          f"{best[4]:.2f})")
+    print(f"of match: {best[2] / match_rate:.2f} by the clock, {match_spent / spent:.2f} by processors", flush=True)
     half = Load(service.port, drives)
     rate = args.rate or best[2] / 2
     asyncio.run(half.at_rate(rate, args.seconds))
@@ -305,7 +307,7 @@ def main():
     for name in ("network", "traces"):
         parser.add_argument(name)
     parser.add_argument("--crs", default="32N", help=argparse.SUPPRESS)
-    for name, kind, default in (("processes", int, 4), ("clients", int, 32), ("seconds", float, 10), ("repeat", int, 3),
+    for name, kind, default in (("processes", int, 4), ("clients", int, 64), ("seconds", float, 10), ("repeat", int, 3),
                                 ("rate", float, None), ("drives", int, None), ("soak", float, None)):
         parser.add_argument(f"--{name}", type=kind, default=default, help=argparse.SUPPRESS)
     args = parser.parse_args()

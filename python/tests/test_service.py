@@ -286,7 +286,8 @@ def test_large_programs_are_replaced(network: Network, drive: np.ndarray, tmp_pa
         until = time.monotonic() + 120
         while matcher.replaced < 3:
             assert time.monotonic() < until, "no program was replaced"
-            text = matcher.match(x, y, np.zeros(len(x), np.int64), None, time.monotonic() + 60)
+            rows = np.stack([x, y, np.zeros(len(x), np.int64)], axis=1)
+            text = matcher.match(rows, np.array([len(x)]), None, time.monotonic() + 60)
             assert pieces_of(text, 0) == wanted
             time.sleep(0.05)
     finally:

@@ -14,7 +14,7 @@ from fmm._match_text import read_match
 from fmm._places import Places
 from fmm.errors import ProgramError
 from fmm.service import polylines
-from fmm.service.lines import drive_text
+from fmm.service.lines import drives_text
 from fmm.service.metrics import Metrics
 from fmm.service.nearest import Nearest
 from fmm.service.program import Lost, far_place, follow_text
@@ -64,7 +64,7 @@ def test_options_are_read_or_refused(options: dict[str, str]) -> None:
     except Refused as fault:
         assert fault.code in ("InvalidQuery", "InvalidValue", "InvalidOptions") and str(fault)
     else:
-        assert request.timestamps is None or len(request.timestamps) == 2
+        assert len(request.times) == 2
 
 
 def test_a_long_number_is_read_in_linear_time() -> None:
@@ -142,7 +142,7 @@ def test_both_readers_of_a_drive_agree(positions: list[tuple[bool, int]], drive:
             lines += [f"piece {run} {number} cost {11 * number} route {' '.join(map(str, route))}"]
             run = -1
     got = "".join(f"{drive} {line}\n" for line in [*lines, f"none {len(positions)}"]).encode()
-    text = drive_text(b"0 none 3\n" + got, drive, len(positions))
+    text = drives_text(b"0 none 3\n" + got, drive, np.array([len(positions)]))
     assert text.edge.tolist() == [edge if found else -1 for found, edge in positions]
     whole = read_match(follow_text(got, drive, len(positions), 1) + b"total traces 1 points %d pieces %d\n" %
                        (len(positions), len(text.cost)))
@@ -151,7 +151,7 @@ def test_both_readers_of_a_drive_agree(positions: list[tuple[bool, int]], drive:
     line = data.draw(st.sampled_from(got.split(b"\n")[:-1]))
     for wrong in (got.replace(line + b"\n", b"", 1), got.replace(line, b"x" + line, 1), got.replace(line, line + b" x", 1)):
         with pytest.raises(Lost):
-            drive_text(wrong, drive, len(positions))
+            drives_text(wrong, drive, np.array([len(positions)]))
 
 
 @pytest.mark.parametrize("wrong", [
@@ -161,7 +161,7 @@ def test_other_lines_are_no_answer(wrong: bytes) -> None:
     with pytest.raises(Lost):
         follow_text(wrong, 7, 1, 3)
     with pytest.raises(Lost):
-        drive_text(wrong, 7, 1)
+        drives_text(wrong, 7, np.array([1]))
 
 
 def test_metrics_have_the_format_of_prometheus() -> None:

@@ -11,7 +11,7 @@ from ._places import Places, rising
 from ._ragged import offsets_of, rows_of, runs
 from .errors import MismatchError
 
-SMALL = 1_000  # positions up to which they are followed one by one, since that is faster than arrays
+SMALL = 5_000  # positions up to which they are followed one by one, since that is faster than arrays
 
 
 @dataclass
@@ -147,7 +147,7 @@ def _follow_with(edge: np.ndarray, offset: np.ndarray, route: List[int], back: i
             now = route.index(following, at + 1)
         except ValueError:
             return None
-        if route[at] in route[at + 1:now]:
+        if now > at + 1 and route[at] in route[at + 1:now]:
             return None
         at = now
         found.append(at)

@@ -115,15 +115,21 @@ class Places:
         point[ends[between]] = -1
         return DrivenLines(first, places, point).without_doubles()
 
-    def driven_points(self, route: np.ndarray, begin: int, end: int) -> np.ndarray:
-        """The points of the network on a route from offset `begin` of its first edge to offset `end` of its last one, without
-        the places at these offsets, and each point once where edges meet."""
-        first, until = self.lines.first[route], self.lines.first[route + 1]
-        first[0] = self._along.searchsorted(self._base[route[0]] + begin, side="right")
-        until[-1] = self._along.searchsorted(self._base[route[-1]] + end, side="left")
-        points = spread(first, np.maximum(until - first, 0))
+    def driven_points(self, route: np.ndarray, first: np.ndarray, begin: np.ndarray,
+                      end: np.ndarray) -> Tuple[np.ndarray, np.ndarray]:
+        """The points of the network on routes, without the places at their ends, and each point once where edges meet; and where
+        the points of each route begin. Route i is the edges first[i] to first[i + 1] of `route`, from offset begin[i] of the
+        first one to offset end[i] of the last one."""
+        after, until = self.lines.first[route], self.lines.first[route + 1]
+        opens, ends = first[:-1], first[1:] - 1
+        after[opens] = self._along.searchsorted(self._base[route[opens]] + begin, side="right")
+        until[ends] = self._along.searchsorted(self._base[route[ends]] + end, side="left")
+        counts = np.maximum(until - after, 0)
+        points, bounds = spread(after, counts), offsets_of(counts)[first]
         x, y = self.lines.xy[points].T
-        return points[np.append(True, (x[1:] != x[:-1]) | (y[1:] != y[:-1]))[:len(points)]]
+        kept = np.append(True, (x[1:] != x[:-1]) | (y[1:] != y[:-1]))[:len(points)]
+        kept[bounds[:-1][bounds[:-1] < len(points)]] = True
+        return points[kept], offsets_of(kept)[bounds]
 
 
 def rising(values: np.ndarray, group: np.ndarray) -> np.ndarray:

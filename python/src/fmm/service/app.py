@@ -34,7 +34,7 @@ Endpoint = Callable[[Request], Awaitable[Response]]
 
 
 class Service:
-    """The application of one service; `app` is what a server runs."""
+    """The application of one service, which a server runs."""
 
     def __init__(self, pool: Pool, settings: Settings, metrics: Metrics, about: Dict[str, Any],
                  begin: Callable[[], None], live: Optional[Live] = None) -> None:
@@ -42,9 +42,10 @@ class Service:
         self.begin, self.live = begin, live
         self.pool, self.settings, self.metrics, self.about = pool, settings, metrics, about
         self.began = time.monotonic()
+        self.asked = {name: Asked(self, name) for name in ("match", "nearest")}
         routes = [
-            *(Route(f"/{name}/v1/{{profile}}/{{coordinates:path}}", Asked(self, name), methods=["GET"])
-              for name in ("match", "nearest")),
+            *(Route(f"/{name}/v1/{{profile}}/{{coordinates:path}}", asked, methods=["GET"])
+              for name, asked in self.asked.items()),
             Route("/match", self._counted("post", self._post("posted")), methods=["POST"]),
             Route("/map", self._counted("map", self._post("map")), methods=["POST"]),
             Route("/live", self._counted("live", self._live)),
@@ -55,7 +56,16 @@ class Service:
             Route("/network.json", self._counted("network", self._network)),
             *(Route(path, self._counted("page", self._file(name))) for path, name in page.FILES.items()),
         ]
-        self.app = Starlette(routes=routes, lifespan=self._lifespan, exception_handlers={404: unknown, 405: wrong_method})
+        self.others = Starlette(routes=routes, lifespan=self._lifespan, exception_handlers={404: unknown, 405: wrong_method})
+
+    async def __call__(self, scope: Scope, receive: Receive, send: Send) -> None:
+        """Answers a request. Matches do not go through Starlette, which would take as long as the rest of the main process."""
+        if scope["type"] == "http" and scope["method"] == "GET" and scope["path"].startswith("/match/v1/"):
+            profile, slash, coordinates = scope["path"][len("/match/v1/"):].partition("/")
+            if profile and slash:
+                await self.asked["match"].answer(profile, coordinates, scope, send)
+                return
+        await self.others(scope, receive, send)
 
     @asynccontextmanager
     async def _lifespan(self, app: Starlette) -> AsyncIterator[None]:
@@ -163,12 +173,16 @@ class Asked:
         self.headers = [(name.encode(), value.encode()) for name, value in headers.items()]
 
     async def __call__(self, scope: Scope, receive: Receive, send: Send) -> None:
-        began, words = time.monotonic(), scope["path_params"]
-        head = {"do": self.what, "profile": words["profile"], "coordinates": words["coordinates"],
+        await self.answer(scope["path_params"]["profile"], scope["path_params"]["coordinates"], scope, send)
+
+    async def answer(self, profile: str, coordinates: str, scope: Scope, send: Send) -> None:
+        """Sends the answer."""
+        began = time.monotonic()
+        head = {"do": self.what, "profile": profile, "coordinates": coordinates,
                 "query": scope["query_string"].decode("latin-1")}
         more: List[Tuple[bytes, bytes]] = []
         try:
-            about, content = await self.service.pool.ask(head)
+            about, content = await self.service.pool.ask(head, shares=self.what == "match")
             status, kind = about["status"], about["kind"]
         except Refused as fault:
             response = refusal(fault)

@@ -1,10 +1,10 @@
-"""A matched drive along its route: what OSRM calls matchings, legs and tracepoints, as arrays."""
+"""Matched drives along their routes: what OSRM calls matchings, legs and tracepoints, as arrays."""
 from __future__ import annotations
 
 import json
 import math
 from dataclasses import dataclass
-from typing import List, Optional
+from typing import Tuple
 
 import numpy as np
 import pandas as pd
@@ -12,8 +12,10 @@ import pandas as pd
 from .._along import Along, along_routes
 from .._match_text import MatchText
 from .._places import Places
+from .._ragged import offsets_of, rows_of
 from ..network import Network
 from ..projection import DEGREES, transformer
+from .texts import words_of
 
 
 class Roads:
@@ -25,8 +27,8 @@ class Roads:
         self._forth, self._back = transformer(DEGREES, crs), transformer(crs, DEGREES)
         self.names: np.ndarray = network.table["name"].to_numpy(object)
         numbers, names = pd.factorize(self.names, use_na_sentinel=False)
-        texts = np.array([json.dumps(name, ensure_ascii=False) for name in names], object)
-        self.json_names: np.ndarray = texts[numbers]
+        self.json_names = words_of([json.dumps(name, ensure_ascii=False).encode("utf-8", "replace") for name in names])
+        self.name: np.ndarray = numbers  # of each edge: the number of its name
         x, y = self._back.transform(*(network.lines.xy.T / 100))
         self.points: np.ndarray = np.round(np.stack([x, y], axis=1), 7)  # those of the network in degrees
         self.profile = str(network.report.source.get("profile", ""))
@@ -47,8 +49,8 @@ class Roads:
 
 
 @dataclass
-class Drive:
-    """A match of one drive. Positions are those that were matched against roads (`kept` of the request). Places are centimetres.
+class Drives:
+    """A match of some drives. Places are centimetres.
 
     text     what the program wrote
     along    the positions with an edge, and their places along the routes
@@ -64,55 +66,59 @@ class Drive:
     away: np.ndarray
 
 
-def drive_of(roads: Roads, text: MatchText, back: int) -> Drive:
+def drives_of(roads: Roads, text: MatchText, back: int) -> Drives:
     """What follows from the text of a match and the network. `back` is the option in centimetres."""
     along = along_routes(text, np.arange(len(text.edge)), roads.places, back)
     on = along.position
     edge = roads.network.lines.position_of(text.edge[on])
-    return Drive(text, along, edge, roads.places.at(edge, text.offset[on]), np.sqrt(text.d2[on]) / 100)
+    return Drives(text, along, edge, roads.places.at(edge, text.offset[on]), np.sqrt(text.d2[on]) / 100)
 
 
 @dataclass
-class Line:
-    """A driven line: the place where it begins, the points of the network that follow, and the place where it ends. An end that
-    is a point of the network is not among the points."""
+class Lines:
+    """The driven line of each piece: the place where it begins, the points of the network that follow, and the place where it
+    ends. An end that is a point of the network is not among the points."""
 
-    ends: np.ndarray  # float64[2, 2]: centimetres
+    ends: np.ndarray  # float64[q, 2, 2]: centimetres
     points: np.ndarray  # int64[n]: of EdgeLines.xy
+    first: np.ndarray  # int64[q + 1]: where the points of each line begin
 
-    def places(self, places: Places) -> np.ndarray:
-        """The whole line in centimetres."""
-        return np.concatenate([self.ends[:1], places.lines.xy[self.points], self.ends[1:]])
+    def all(self, ends: np.ndarray, points: np.ndarray) -> Tuple[np.ndarray, np.ndarray]:
+        """Whole lines one after the other, and where each begins, from values of the ends and of all points of the network."""
+        bounds = self.first + np.arange(0, 2 * len(self.first), 2)
+        whole = np.empty((bounds[-1], 2))
+        whole[self.inner] = points[self.points]
+        whole[bounds[:-1]], whole[bounds[1:] - 1] = ends[:, 0], ends[:, 1]
+        return whole, bounds
+
+    @property
+    def inner(self) -> np.ndarray:
+        """The place of each point in the whole lines."""
+        return np.arange(1, len(self.points) + 1) + 2 * rows_of(np.diff(self.first))
+
+    def thinned(self, kept: np.ndarray) -> Lines:
+        """The lines with some of their points."""
+        return Lines(self.ends, self.points[kept], offsets_of(kept)[self.first])
 
 
-def lines_of(places: Places, along: Along) -> List[Line]:
+def lines_of(places: Places, along: Along) -> Lines:
     """The driven line of each piece."""
-    routes, found = along.routes, []
-    bounds, positions = routes.first.tolist(), along.first.tolist()
-    for first, until, position, following in zip(bounds, bounds[1:], positions, positions[1:]):
-        route = routes.edge[first:until]
-        # whole numbers: a search for others would turn the distances of the whole network into floats
-        begin, end = round(along.along[position]), round(along.along[following - 1] - routes.starts[until - 1])
-        ends = places.at(route[[0, -1]], np.array([begin, end]))
-        points = places.driven_points(route, begin, end)
-        equal = (places.lines.xy[points[[0, -1]]] == ends).all(axis=1) if len(points) else np.zeros(2, bool)
-        found.append(Line(ends, points[equal[0]:len(points) - equal[1]]))
-    return found
+    routes = along.routes
+    opens, closes = routes.first[:-1], routes.first[1:] - 1
+    begin = np.rint(along.along[along.first[:-1]]).astype(np.int64)
+    end = np.rint(along.along[along.first[1:] - 1] - routes.starts[closes]).astype(np.int64)
+    ends = places.at(routes.edge[np.concatenate([opens, closes])], np.concatenate([begin, end]))
+    ends = np.stack([ends[:len(opens)], ends[len(opens):]], axis=1)
+    points, first = places.driven_points(routes.edge, routes.first, begin, end)
+    xy, has_points, kept = places.lines.xy, np.flatnonzero(np.diff(first)), np.ones(len(points), bool)
+    for side, at in ((0, first[has_points]), (1, first[has_points + 1] - 1)):
+        kept[at[(xy[points[at]] == ends[has_points, side]).all(axis=1)]] = False
+    return Lines(ends, points, first).thinned(kept)
 
 
-def leg_metres(along: Along) -> List[np.ndarray]:
-    """For each piece the metres along the route from each position to the next."""
-    bounds = along.first.tolist()
-    return [(along.along[begin + 1:end] - along.along[begin:end - 1]) / 100 for begin, end in zip(bounds, bounds[1:])]
-
-
-def leg_seconds(along: Along, times: Optional[np.ndarray]) -> List[Optional[np.ndarray]]:
-    """For each piece the seconds from each position to the next; None without times."""
-    bounds = along.first.tolist()
-    if times is None:
-        return [None] * (len(bounds) - 1)
-    own = times[along.position]
-    return [own[begin + 1:end] - own[begin:end - 1] for begin, end in zip(bounds, bounds[1:])]
+def leg_metres(along: Along) -> np.ndarray:
+    """The metres along the route from each position to the next. Those from one piece to another mean nothing."""
+    return np.maximum(np.diff(along.along), 0) / 100
 
 
 def confidence(cost: int, positions: int) -> float:

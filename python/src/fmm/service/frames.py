@@ -4,9 +4,10 @@ from __future__ import annotations
 import json
 import socket
 import struct
-from typing import Any, Optional, Tuple
+from typing import Any, List, Tuple
 
 SIZES = struct.Struct("!II")
+BLOCK = 1 << 20
 Frame = Tuple[dict[str, Any], bytes]
 
 
@@ -16,21 +17,33 @@ def packed(head: dict[str, Any], body: bytes = b"") -> bytes:
     return SIZES.pack(len(words), len(body)) + words + body
 
 
-def receive(connection: socket.socket) -> Optional[Frame]:
-    """The next message, None at the end of the connection."""
-    sizes = _exactly(connection, SIZES.size)
-    if sizes is None:
-        return None
-    head_size, body_size = SIZES.unpack(sizes)
-    data = _exactly(connection, head_size + body_size)
-    return None if data is None else (json.loads(data[:head_size]), data[head_size:])
+class Frames:
+    """The messages of a connection."""
+
+    def __init__(self, connection: socket.socket) -> None:
+        self.connection = connection
+        self._got = bytearray()
+
+    def all(self) -> List[Frame]:
+        """The messages that have arrived; waits until there is one. An empty list at the end of the connection."""
+        while not (found := taken(self._got)):
+            block = self.connection.recv(BLOCK)
+            if not block:
+                return []
+            self._got += block
+        return found
 
 
-def _exactly(connection: socket.socket, size: int) -> Optional[bytes]:
-    got = bytearray()
-    while len(got) < size:
-        block = connection.recv(min(size - len(got), 1 << 20))
-        if not block:
-            return None
-        got += block
-    return bytes(got)
+def taken(got: bytearray) -> List[Frame]:
+    """The whole messages at the beginning of what has arrived. They are removed from it."""
+    found, at = [], 0
+    with memoryview(got) as view:
+        while len(got) >= at + SIZES.size:
+            head_size, body_size = SIZES.unpack_from(got, at)
+            begin = at + SIZES.size + head_size
+            if len(got) < begin + body_size:
+                break
+            found.append((json.loads(bytes(view[at + SIZES.size:begin])), bytes(view[begin:begin + body_size])))
+            at = begin + body_size
+    del got[:at]
+    return found

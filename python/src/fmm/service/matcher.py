@@ -11,7 +11,7 @@ from .. import _programs
 from .._match_text import MatchText, read_match
 from ..network import Network
 from ..options import Options, centimetres
-from .lines import drive_text
+from .lines import drives_text
 from .program import DRIVES, NO_ROWS, Late, Lost, Program, far_place, follow_text
 from .refusals import Refused, late
 from .settings import MEGABYTE, Limits
@@ -39,21 +39,23 @@ class Matcher:
         self.replaced = 0
         _first_answer(self.program, time.monotonic() + START)
 
-    def match(self, x: np.ndarray, y: np.ndarray, times: np.ndarray, sigma: Optional[float], until: float) -> MatchText:
-        """The match of a drive in whole centimetres and seconds. Refused: it takes too long; a program fails twice."""
-        return self._read(np.stack([x, y, times], axis=1), sigma, until, lambda got, drive: drive_text(got, drive, len(x)))
+    def match(self, rows: np.ndarray, counts: np.ndarray, sigma: Optional[float], until: float) -> MatchText:
+        """The match of drives of so many rows each, int64[n, 3] of x and y in centimetres and of seconds. Refused: it takes too
+        long; a program fails twice."""
+        return self._read(rows, counts, sigma, until, lambda got, first: drives_text(got, first, counts))
 
     def follow(self, rows: np.ndarray, name: int, sigma: Optional[float], until: float) -> bytes:
-        """The follow text of a drive, int64[n, 3] of x, y and time, as trace `name`. Refused: as `match`."""
-        return self._read(rows, sigma, until, lambda got, drive: follow_text(got, drive, len(rows), name))
+        """The follow text of a drive as trace `name`. Refused: as `match`."""
+        return self._read(rows, np.array([len(rows)]), sigma, until, lambda got, drive: follow_text(got, drive, len(rows), name))
 
-    def _read(self, rows: np.ndarray, sigma: Optional[float], until: float, read: Callable[[bytes, int], Read]) -> Read:
-        """What `read` makes of the lines of a drive and its number."""
+    def _read(self, rows: np.ndarray, counts: np.ndarray, sigma: Optional[float], until: float,
+              read: Callable[[bytes, int], Read]) -> Read:
+        """What `read` makes of the lines of some drives and the id of the first one."""
         for last_try in (False, True):
             program = self._program_for(sigma)
             try:
-                drive = program.ask(rows)
-                found = read(program.answer(until), drive)
+                first = program.ask_all(rows, counts)
+                found = read(program.answer(until), first)
                 self._look_after(program)
                 return found
             except Late:

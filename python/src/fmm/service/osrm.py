@@ -1,138 +1,158 @@
 """Answers of /match/v1 and /nearest/v1 as OSRM gives them, with the edges and costs of FMM besides.
 
-The JSON of a match is made by one format for all legs and one for all tracepoints: objects for each of them take longer than the
-match itself.
+Requests that wait together are matched together: each step is one call of numpy, pyproj or GEOS for all their drives.
 """
 from __future__ import annotations
 
 import json
-from itertools import chain
-from typing import Any, Dict, List, Optional
+from typing import Any, Dict, List, Optional, Union
 
 import numpy as np
-from shapely.geometry import LineString
 
+from .._ragged import offsets_of, rows_of
 from .._thinning import thinned
 from ..options import Options, centimetres
-from .drives import Drive, Line, Roads, confidence, drive_of, leg_metres, leg_seconds, lines_of
+from . import texts
+from .drives import Drives, Lines, Roads, confidence, drives_of, leg_metres, lines_of
 from .matcher import Matcher
 from .nearest import Nearest
-from .polylines import encode
+from .polylines import encode_all
 from .refusals import Refused
-from .requests import MatchRequest, NearestRequest
+from .requests import MatchOptions, MatchRequest, NearestRequest
+from .simplified import simplified
+from .texts import Column, decimal, text_of, whole
 
 TIDY = 1000  # centimetres: with tidy=true a position is matched only if it moved so far
 PIXELS = 1000  # of the map for which a line is simplified
-PLACE = "[%.7f,%.7f]"
-POINT = ('{"location":' + PLACE + ',"name":%s,"distance":%s,"matchings_index":%d,"waypoint_index":%d,"edge":%d}')
-# 0.00, 0.01, .. to 655.35: most lengths are among them, and a look into the table takes a fifth of the time of a format.
-HUNDREDTHS = np.array([f"{number // 100}.{number % 100:02d}" for number in range(1 << 16)], object)
+Answer = Union[bytes, Refused]
 
 
-def match(matcher: Matcher, roads: Roads, request: MatchRequest, until: float) -> str:
-    """The answer to a request for a match, as JSON. Refused with NoMatch: no position has a road."""
-    plane = roads.plane(request.places)
-    kept = ~np.isnan(plane[:, 0])
-    if request.tidy and kept.any():
-        some = np.flatnonzero(kept)
-        kept[some] = thinned(plane[some, 0], plane[some, 1], np.zeros(len(some), np.int64), TIDY)
-    kept = np.flatnonzero(kept)
-    if not len(kept):
-        raise no_match(matcher.options)
-    x, y = plane[kept].astype(np.int64).T
-    times = None if request.timestamps is None else (request.timestamps - request.timestamps[0])[kept]
-    splitting = times if times is not None and request.splits_gaps else np.zeros(len(kept), np.int64)
-    text = matcher.match(x, y, splitting, request.sigma, until)
-    if not len(text.cost):
-        raise no_match(matcher.options)
-    drive = drive_of(roads, text, centimetres(matcher.options.back))
-    lines = [] if request.overview == "false" else [shown(line, roads, request) for line in lines_of(roads.places, drive.along)]
-    degrees = roads.degrees(np.concatenate([drive.snapped, *(line.ends for line in lines)]))
-    snapped, ends = degrees[:len(drive.snapped)], degrees[len(drive.snapped):].reshape(-1, 2, 2)
-    shapes = [np.concatenate([end[:1], roads.points[line.points], end[1:]]) for line, end in zip(lines, ends)]
-    answer = '{"code":"Ok","matchings":[' + ",".join(matchings(request, drive, times, shapes)) + "]"
-    if request.has_tracepoints:
-        answer += ',"tracepoints":[' + tracepoints(roads, drive, snapped, kept, len(request.places)) + "]"
-    return answer + "}"
+def match(matcher: Matcher, roads: Roads, requests: List[MatchRequest], until: float) -> List[Answer]:
+    """The answers to requests with the same options, as JSON. Refused with NoMatch: no position has a road."""
+    options, first = requests[0].options, offsets_of(np.array([len(request.places) for request in requests]))
+    drive = rows_of(np.diff(first))
+    plane = roads.plane(np.concatenate([request.places for request in requests]))
+    times = np.concatenate([request.times for request in requests])
+    kept = np.flatnonzero(~np.isnan(plane[:, 0]))
+    if options.tidy:
+        kept = kept[thinned(plane[kept, 0], plane[kept, 1], drive[kept], TIDY)]
+    rows = np.column_stack([plane[kept].astype(np.int64), times[kept] if options.splits_gaps else np.zeros(len(kept), np.int64)])
+    text = matcher.match(rows, np.bincount(drive[kept], minlength=len(requests)), options.sigma, until)
+    drives = drives_of(roads, text, centimetres(matcher.options.back))
+    lines = shown(drives, roads, options)
+    degrees = roads.degrees(np.concatenate([drives.snapped, lines.ends.reshape(-1, 2)]))
+    snapped, ends = degrees[:len(drives.snapped)], degrees[len(drives.snapped):].reshape(-1, 2, 2)
+    found = matchings(drives, options, times[kept], geometries(lines, ends, roads, options))
+    pieces = offsets_of(np.bincount(text.piece_trace, minlength=len(requests)))
+    points = None
+    if options.has_tracepoints:
+        points = tracepoints(roads, drives, snapped, kept[drives.along.position], first[-1], pieces)
+    return [answer(found[begin:end], None if points is None else points[here:there]) if begin < end else no_match(matcher.options)
+            for begin, end, here, there in zip(pieces, pieces[1:], first, first[1:])]
+
+
+def answer(found: List[bytes], points: Optional[np.ndarray]) -> bytes:
+    """The JSON of one drive. `points` is the rows of its tracepoints."""
+    parts = [b'{"code":"Ok","matchings":[', b",".join(found), b"]"]
+    if points is not None:
+        parts += [b',"tracepoints":[', text_of(points)[:-1], b"]"]
+    return b"".join([*parts, b"}"])
 
 
 def no_match(options: Options) -> Refused:
     return Refused("NoMatch", f"no position is within {options.radius:g} m of a road")
 
 
-def matchings(request: MatchRequest, drive: Drive, times: Optional[np.ndarray], lines: List[np.ndarray]) -> List[str]:
-    """One matching for each piece. `lines` has the line of each in degrees, and is empty if none was asked for."""
+def matchings(drives: Drives, options: MatchOptions, times: np.ndarray, lines: List[str]) -> List[bytes]:
+    """One matching for each piece. `lines` has the geometry of each, and is empty if none was asked for."""
+    text, along = drives.text, drives.along
+    metres, seconds = leg_metres(along), np.diff(times[along.position])
+    rows = legs(metres, seconds, options)
+    cost, bounds, route, begins = text.cost.tolist(), along.first.tolist(), text.route.tolist(), text.route_first.tolist()
     found = []
-    text = drive.text
-    for piece, (cost, metres, seconds) in enumerate(
-            zip(text.cost.tolist(), leg_metres(drive.along), leg_seconds(drive.along, times))):
-        about = {"confidence": round(confidence(cost, len(metres) + 1), 6), "distance": round(float(metres.sum()), 2),
-                 "duration": None if seconds is None else float(seconds.sum()), "weight_name": "cost", "weight": cost}
-        edges = text.route[text.route_first[piece]:text.route_first[piece + 1]].tolist()
-        parts = [json.dumps(about, separators=(",", ":"))[:-1], f'"legs":[{legs(metres, seconds, request.annotations)}]',
-                 f'"edges":{json.dumps(edges, separators=(",", ":"))}']
-        if lines:
-            parts.append(f'"geometry":{geometry(lines[piece], request.geometries)}')
-        found.append(",".join(parts) + "}")
+    for piece, (begin, end) in enumerate(zip(bounds, bounds[1:])):
+        duration = f"{seconds[begin:end - 1].sum()}.0" if options.has_times else "null"
+        about = (f'{{"confidence":{round(confidence(cost[piece], end - begin), 6)},'
+                 f'"distance":{round(float(metres[begin:end - 1].sum()), 2)},"duration":{duration},'
+                 f'"weight_name":"cost","weight":{cost[piece]},"legs":[')
+        edges = ",".join(map(str, route[begins[piece]:begins[piece + 1]]))
+        geometry = f',"geometry":{lines[piece]}' if lines else ""
+        found.append(b"".join([about.encode(), text_of(rows[begin:end - 1])[:-1], f'],"edges":[{edges}]{geometry}}}'.encode()]))
     return found
 
 
-def legs(metres: np.ndarray, seconds: Optional[np.ndarray], annotations: tuple[str, ...]) -> str:
-    """The ways from each matched position to the next."""
-    duration = "null" if seconds is None else "%d.0"
-    distances: List[Any] = with_hundredths(metres)
-    columns, leg = [distances], '{"distance":%s,"duration":' + duration + ',"summary":"","steps":[]'
-    if seconds is not None:
-        columns.append(seconds.tolist())
-    if annotations:
-        speeds: List[Any] = ["null"] * len(metres)
-        if seconds is not None:
-            speeds = [round(m / s, 2) if s else "null" for m, s in zip(metres.tolist(), columns[1])]
-        values = {"distance": ("%s", distances), "duration": (duration, columns[1:] and columns[1]), "speed": ("%s", speeds)}
-        some = {name: values[name] for name in annotations}
-        leg += ',"annotation":{' + ",".join(f'"{name}":[{form}]' for name, (form, _) in some.items()) + "}"
-        columns += [column for form, column in some.values() if form != "null"]
-    return ",".join([leg + "}"] * len(metres)) % tuple(chain.from_iterable(zip(*columns)))
+def legs(metres: np.ndarray, seconds: np.ndarray, options: MatchOptions) -> np.ndarray:
+    """The ways from each matched position to the next, as rows. Those from one piece to another mean nothing."""
+    hundredths, seconds = hundredths_of(metres), np.maximum(seconds, 0)
+    distance: List[Column] = [decimal(hundredths, 2)]
+    duration: List[Column] = [whole(seconds), b".0"] if options.has_times else [b"null"]
+    columns: List[Column] = [b'{"distance":', *distance, b',"duration":', *duration, b',"summary":"","steps":[]']
+    if options.annotations:
+        speed = speeds(metres, seconds) if options.has_times else [b"null"]
+        values = {"distance": distance, "duration": duration, "speed": speed}
+        for number, name in enumerate(options.annotations):
+            columns += [b"," if number else b',"annotation":{', f'"{name}":['.encode()] + values[name] + [b"]"]
+        columns.append(b"}")
+    return texts.rows_of(len(metres), *columns, b"},")
 
 
-def with_hundredths(values: np.ndarray) -> List[str]:
-    """Numbers of at least 0 as `%.2f` writes them."""
-    hundredths = 100 * values
-    units = np.rint(hundredths)
-    if units.max(initial=0) < len(HUNDREDTHS) and (np.abs(hundredths - units) < 1e-6).all():
-        return HUNDREDTHS[units.astype(np.int64)].tolist()
-    return [f"{value:.2f}" for value in values.tolist()]
+def speeds(metres: np.ndarray, seconds: np.ndarray) -> List[Column]:
+    """The metres a second of each leg; null for one without a duration."""
+    moves = seconds > 0
+    null = np.where(moves, 0, texts.words_of([b"null"])[0, 0]).astype(np.uint32)
+    speed = decimal(hundredths_of(metres / np.maximum(seconds, 1)), 2)
+    return [[null, *(np.where(moves, word, texts.NOTHING) for word in speed)]]
 
 
-def shown(line: Line, roads: Roads, request: MatchRequest) -> Line:
-    """A line with the places that were asked for. The third coordinate says which points are left."""
-    if request.overview == "full" or not len(line.points):
-        return line
-    places = line.places(roads.places)
-    extent = float((places.max(axis=0) - places.min(axis=0)).max())
-    numbered = np.column_stack([places, np.arange(len(places))])
-    left = np.asarray(LineString(numbered).simplify(extent / PIXELS, preserve_topology=False).coords)[1:-1, 2]
-    return Line(line.ends, line.points[left.astype(np.int64) - 1])
+def hundredths_of(values: np.ndarray) -> np.ndarray:
+    return np.rint(100 * values).astype(np.int64)
 
 
-def geometry(places: np.ndarray, form: str) -> str:
-    """A line in degrees in the form that was asked for."""
-    if form == "geojson":
-        coordinates = ",".join([PLACE] * len(places)) % tuple(places.ravel().tolist())
-        return f'{{"type":"LineString","coordinates":[{coordinates}]}}'
-    return json.dumps(encode(places, 6 if form == "polyline6" else 5))
+def shown(drives: Drives, roads: Roads, options: MatchOptions) -> Lines:
+    """The driven lines with the points that were asked for; none if they were not asked for."""
+    if options.overview == "false":
+        return Lines(np.zeros((0, 2, 2)), np.zeros(0, np.int64), np.zeros(1, np.int64))
+    lines = lines_of(roads.places, drives.along)
+    if options.overview == "full" or not len(lines.points):
+        return lines
+    places, first = lines.all(lines.ends, roads.places.lines.xy)
+    extent = np.maximum.reduceat(places, first[:-1]) - np.minimum.reduceat(places, first[:-1])
+    pixel = np.maximum(extent.max(axis=1), 1) / PIXELS
+    return lines.thinned(simplified(places / pixel.repeat(np.diff(first))[:, None], first)[lines.inner])
 
 
-def tracepoints(roads: Roads, drive: Drive, snapped: np.ndarray, kept: np.ndarray, count: int) -> str:
-    """What became of each coordinate; null for one without a road. `snapped` is the places in degrees."""
-    along = drive.along
-    found = np.zeros(count, bool)
-    found[kept[along.position]] = True
+def geometries(lines: Lines, ends: np.ndarray, roads: Roads, options: MatchOptions) -> List[str]:
+    """The lines in the form that was asked for. `ends` is their ends in degrees."""
+    places, first = lines.all(ends, roads.points)
+    if options.geometries != "geojson":
+        digits = 6 if options.geometries == "polyline6" else 5
+        return [json.dumps(text) for text in encode_all(places, first, digits)]
+    x, y = np.rint(1e7 * places.T).astype(np.int64)
+    rows = texts.rows_of(len(places), b"[", decimal(x, 7), b",", decimal(y, 7), b"],")
+    coordinates = [text_of(rows[begin:end])[:-1].decode() for begin, end in zip(first, first[1:])]
+    return [f'{{"type":"LineString","coordinates":[{text}]}}' for text in coordinates]
+
+
+def tracepoints(roads: Roads, drives: Drives, snapped: np.ndarray, found: np.ndarray, count: int,
+                pieces: np.ndarray) -> np.ndarray:
+    """What became of each of `count` coordinates, as rows; null for one without a road. `found` has those with a road, and
+    `snapped` their places in degrees. `pieces` is where the pieces of each drive begin."""
+    along, text = drives.along, drives.text
+    x, y = np.rint(1e7 * snapped.T).astype(np.int64)
+    name = roads.json_names[roads.name[drives.edge]].T
+    edge = text.edge[along.position]
+    matching = along.piece - pieces[text.piece_trace[along.piece]]
     waypoint = np.arange(len(along.piece)) - along.first[along.piece]
-    x, y, names = snapped[:, 0].tolist(), snapped[:, 1].tolist(), roads.json_names[drive.edge].tolist()
-    numbers = [column.tolist() for column in (along.piece, waypoint, drive.text.edge[along.position])]
-    values = chain.from_iterable(zip(x, y, names, with_hundredths(np.round(drive.away, 2)), *numbers))
-    return ",".join([POINT if there else "null" for there in found.tolist()]) % tuple(values)
+    rows = texts.rows_of(
+        len(found), b'{"location":[', decimal(x, 7), b",", decimal(y, 7), b'],"name":', list(name), b',"distance":',
+        decimal(hundredths_of(drives.away), 2), b',"matchings_index":', whole(matching), b',"waypoint_index":', whole(waypoint),
+        b',"edge":', whole(edge), b"},")
+    if len(found) == count:
+        return rows
+    every = np.zeros((count, rows.shape[1]), np.uint32)
+    every[:, :2] = texts.words_of([b"null,"])
+    every[found] = rows
+    return every
 
 
 def nearest(index: Nearest, roads: Roads, request: NearestRequest) -> Dict[str, Any]:

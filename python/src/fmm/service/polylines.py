@@ -1,20 +1,34 @@
 """Lines as text in Google's polyline format, latitude first. `digits` is 5 for polyline, 6 for polyline6."""
 from __future__ import annotations
 
+from typing import List
+
 import numpy as np
+
+from .._ragged import offsets_of
 
 FIVES = np.arange(0, 30, 5, np.uint32)  # where the groups of five bits of a number begin
 
 
 def encode(places: np.ndarray, digits: int = 5) -> str:
     """The text of places float64[n, 2], longitude first."""
+    return encode_all(places, np.array([0, len(places)]), digits)[0]
+
+
+def encode_all(places: np.ndarray, first: np.ndarray, digits: int = 5) -> List[str]:
+    """The texts of lines. Line i has the places first[i] to first[i + 1], at least one."""
     whole = np.rint(places[:, ::-1] * 10.0 ** digits).astype(np.int64)
-    steps = np.diff(whole, axis=0, prepend=np.zeros((1, 2), np.int64)).ravel()
-    left = ((steps << 1) ^ (steps >> 63)).astype(np.uint32)[:, None] >> FIVES  # what a group and those after it have to say
+    steps = whole.copy()
+    steps[1:] -= whole[:-1]
+    steps[first[:-1]] = whole[first[:-1]]
+    # what a group of five bits and those after it have to say
+    left = ((steps << 1) ^ (steps >> 63)).ravel().astype(np.uint32)[:, None] >> FIVES
     groups = (left & 31).astype(np.uint8) + np.where(left >= 32, np.uint8(95), np.uint8(63))
     written = left > 0
     written[:, 0] = True
-    return groups[written].tobytes().decode("ascii")
+    text = groups[written].tobytes().decode("ascii")
+    bounds = offsets_of(written.sum(axis=1))[2 * first].tolist()
+    return [text[begin:end] for begin, end in zip(bounds, bounds[1:])]
 
 
 def decode(text: str, digits: int = 5) -> np.ndarray:

@@ -2,104 +2,115 @@
 from __future__ import annotations
 
 import asyncio
-import json
 import os
 import signal
-import time
 from collections import deque
-from typing import Any, Deque, Dict, List, Optional, Set, TypeVar, cast
+from typing import Any, Callable, Deque, Dict, List, Optional, Sequence, Set, cast
 
 from ..commands import say
 from ..errors import ProgramError, one_line
 from .forks import Forks
-from .frames import SIZES, Frame, packed
+from .frames import Frame, packed, taken
 from .metrics import Metrics
 from .refusals import Refused, late
 from .settings import Limits
 
 START = 660.0  # seconds for a worker to be ready
 SPARE = 2.0  # seconds that a worker gets to say itself that the time has passed
-TRIES = 2  # workers that a request may lose
-Result = TypeVar("Result")
+TOGETHER = 16  # most requests that a worker gets at once
+SIZE = 64 * 1024  # bytes of them: no more than one request for a match may have
+
+
+class Asked:
+    """A request that waits for its answer. `shares` is whether a worker may get others with it."""
+
+    def __init__(self, message: bytes, shares: bool) -> None:
+        self.message, self.shares = message, shares
+        self.answer: asyncio.Future[Frame] = asyncio.get_running_loop().create_future()
+        self.timer: Optional[asyncio.TimerHandle] = None
+
+    def end_timer(self) -> None:
+        """The request waits no more."""
+        if self.timer:
+            self.timer.cancel()
+
+    def fail(self, fault: Exception) -> None:
+        """Ends the request without an answer."""
+        if not self.answer.done():
+            self.answer.set_exception(fault)
 
 
 class Connection(asyncio.Protocol):
-    """A worker. It has one request at a time."""
+    """A worker. It answers requests in order, and gets the next ones when it has answered all."""
 
-    def __init__(self) -> None:
+    def __init__(self, is_done: Callable[[Connection], None]) -> None:
+        """`is_done` is called when the worker has answered all requests, or is of no use any more."""
         self.about: Dict[str, Any] = {}
         self.counted = 0
-        self.is_lost = False
-        self._got = bytearray()
-        self._answer: asyncio.Future[Frame] = asyncio.get_running_loop().create_future()
+        self.is_lost = False  # it has ended
+        self.is_over = False  # it gets no more requests
+        self._is_done, self._got = is_done, bytearray()
+        self._asked: Deque[Asked] = deque()
+        self._timer: Optional[asyncio.TimerHandle] = None
 
-    async def exchange(self, frame: bytes, seconds: float) -> Frame:
-        """Sends a request and waits for the answer. ConnectionError: the worker has ended. TimeoutError: it takes too long."""
-        self._answer = asyncio.get_running_loop().create_future()
-        if self.is_lost:
-            raise ConnectionResetError
-        self._transport.write(frame)
-        return await self.receive(seconds)
-
-    async def receive(self, seconds: float) -> Frame:
-        """Waits for a message, as `exchange`."""
-        head, body = await in_time(self._answer, seconds)
-        self.about.update(head)
-        return head, body
+    def send(self, asked: Sequence[Asked], seconds: float) -> None:
+        """Sends requests. Their faults are ConnectionError if the worker ends, and TimeoutError if it takes too long."""
+        self._asked.extend(asked)
+        self._timer = asyncio.get_running_loop().call_later(seconds, self._give_up, asyncio.TimeoutError())
+        self._transport.write(b"".join(one.message for one in asked))
 
     def connection_made(self, transport: asyncio.BaseTransport) -> None:
         self._transport = cast(asyncio.Transport, transport)  # uvloop's has another class
 
     def data_received(self, data: bytes) -> None:
         self._got += data
-        if len(self._got) < SIZES.size:
-            return
-        head_size, body_size = SIZES.unpack_from(self._got)
-        begin = SIZES.size + head_size
-        if len(self._got) >= begin + body_size:
-            frame = json.loads(self._got[SIZES.size:begin]), bytes(self._got[begin:begin + body_size])
-            del self._got[:begin + body_size]
-            if not self._answer.done():
-                self._answer.set_result(frame)
+        for frame in taken(self._got):
+            self.about.update(frame[0])
+            answer = self._asked.popleft().answer
+            if not answer.done():  # else the request was given up
+                answer.set_result(frame)
+            if not self._asked:
+                self._end_timer()
+                self._is_done(self)
 
     def connection_lost(self, fault: Optional[Exception]) -> None:
         self.is_lost = True
-        if not self._answer.done():
-            self._answer.set_exception(ConnectionResetError())
-            self._answer.exception()  # nobody may wait for it
+        if not self.is_over:
+            self._give_up(ConnectionResetError())
 
     def end(self) -> None:
         """Ends the worker and its program."""
-        was_lost, self.is_lost = self.is_lost, True
+        self.is_over = True
+        self._end_timer()
+        for asked in self._asked:
+            asked.fail(ConnectionResetError())
         self._transport.close()
-        if "pid" in self.about and not was_lost:
+        if "pid" in self.about and not self.is_lost:
             try:
                 os.killpg(int(self.about["pid"]), signal.SIGKILL)
             except (ProcessLookupError, PermissionError):
                 pass
 
+    def _give_up(self, fault: Exception) -> None:
+        asked, self._asked, self.is_over = self._asked, deque(), True
+        self._end_timer()
+        for one in asked:
+            one.fail(fault)
+        self._is_done(self)
 
-async def in_time(future: asyncio.Future[Result], seconds: float) -> Result:
-    """The result of a future. TimeoutError: it takes longer. Unlike asyncio.wait_for it makes no task."""
-    def give_up() -> None:
-        if not future.done():
-            future.set_exception(asyncio.TimeoutError())
-
-    timer = asyncio.get_running_loop().call_later(seconds, give_up)
-    try:
-        return await future
-    finally:
-        timer.cancel()
+    def _end_timer(self) -> None:
+        if self._timer:
+            self._timer.cancel()
 
 
 class Pool:
-    """Hands requests to idle workers."""
+    """Hands requests to idle workers, those for matches that wait several at a time."""
 
     def __init__(self, forks: Forks, count: int, limits: Limits, metrics: Metrics) -> None:
         self.forks, self.count, self.limits, self.metrics = forks, count, limits, metrics
         self.workers: List[Connection] = []
         self._idle: Deque[Connection] = deque()
-        self._waiters: Deque[asyncio.Future[Connection]] = deque()  # empty while there are idle workers
+        self._waiting: Deque[Asked] = deque()
         self.replaced_programs = 0
         self._starts: Set[asyncio.Task[None]] = set()
         self._closing = False
@@ -108,39 +119,31 @@ class Pool:
         """Starts all workers. ProgramError: one does not start."""
         await asyncio.gather(*(self._add() for _ in range(self.count)))
 
-    async def ask(self, head: Dict[str, Any], body: bytes = b"") -> Frame:
-        """The answer of a worker. Refused: too many wait, it takes too long, or it loses two workers."""
-        frame = packed(head, body)
-        for _ in range(TRIES):
-            worker = await self._worker()
+    async def ask(self, head: Dict[str, Any], body: bytes = b"", shares: bool = False) -> Frame:
+        """The answer of a worker. Refused: too many wait, it takes too long, or it loses two workers. With `shares` a worker may
+        get other requests with it; what fails together with others is asked once more alone."""
+        message = packed(head, body)
+        for is_first in (True, False):
             try:
-                answer = await worker.exchange(frame, self.limits.seconds + SPARE)
+                answer = await self._queued(Asked(message, shares and is_first))
             except ConnectionError:
-                self._replace(worker)
                 continue
             except asyncio.TimeoutError:
-                self._replace(worker)
                 raise late(self.limits.seconds) from None
-            except BaseException:  # the request was given up; the worker's answer would be taken for that of the next one
-                self._replace(worker)
-                raise
-            self._count(worker, answer[0])
-            if answer[0]["last"]:
-                self._replace(worker, lost=False)
-            else:
-                self._free(worker)
-            return answer
+            if not answer[0]["again"]:
+                self.metrics.positions += answer[0]["positions"]
+                return answer
         raise Refused("InternalError", "the request ended two workers", 500)
 
     @property
     def ready(self) -> int:
         """How many workers can take requests."""
-        return sum(not worker.is_lost for worker in self.workers)
+        return sum(not worker.is_over for worker in self.workers)
 
     @property
     def waiting(self) -> int:
         """How many requests wait for a worker."""
-        return len(self._waiters)
+        return len(self._waiting)
 
     @property
     def memory(self) -> int:
@@ -153,53 +156,64 @@ class Pool:
         for task in self._starts:
             task.cancel()
         for worker in list(self.workers):
+            self.workers.remove(worker)
             worker.end()
 
-    async def _worker(self) -> Connection:
-        """An idle worker."""
-        until = time.monotonic() + self.limits.seconds
-        while True:
-            worker = self._idle.popleft() if self._idle else await self._awaited(until - time.monotonic())
-            if not worker.is_lost:
-                return worker
-            self._replace(worker)
-
-    async def _awaited(self, seconds: float) -> Connection:
-        """The next worker that becomes idle. Refused: too many wait, or none becomes idle in time."""
-        if len(self._waiters) >= self.limits.waiting:
+    def _queued(self, asked: Asked) -> asyncio.Future[Frame]:
+        """The answer to a request, which waits for its turn. Refused: too many wait, or no worker takes it in time."""
+        if len(self._waiting) >= self.limits.waiting and not self._idle:
             self.metrics.refused_waiting += 1
             raise busy()
-        waiter: asyncio.Future[Connection] = asyncio.get_running_loop().create_future()
-        self._waiters.append(waiter)
-        try:
-            return await in_time(waiter, seconds)
-        except BaseException as fault:
-            if waiter in self._waiters:
-                self._waiters.remove(waiter)
-            if waiter.done() and not waiter.cancelled() and not waiter.exception():
-                self._free(waiter.result())  # the request was given up in the moment in which it got a worker
-            if not isinstance(fault, asyncio.TimeoutError):
-                raise
-            self.metrics.refused_waiting += 1
-            raise busy() from None
+        self._waiting.append(asked)
+        asked.timer = asyncio.get_running_loop().call_later(self.limits.seconds, self._refuse, asked)
+        self._hand_out()
+        return asked.answer
 
-    def _free(self, worker: Connection) -> None:
-        """Hands a worker to the request that has waited longest."""
-        while self._waiters:
-            waiter = self._waiters.popleft()
-            if not waiter.done():
-                waiter.set_result(worker)
-                return
-        self._idle.append(worker)
+    def _refuse(self, asked: Asked) -> None:
+        self._waiting.remove(asked)
+        self.metrics.refused_waiting += 1
+        asked.fail(busy())
 
-    def _count(self, worker: Connection, about: Dict[str, Any]) -> None:
-        self.replaced_programs += about["replaced"] - worker.counted
-        worker.counted = about["replaced"]
-        self.metrics.positions += about["positions"]
+    def _hand_out(self) -> None:
+        """Gives what waits to idle workers."""
+        while self._idle and self._waiting:
+            asked = self._together()
+            for one in asked:
+                one.end_timer()
+            self._idle.popleft().send(asked, self.limits.seconds + SPARE)
 
-    def _replace(self, worker: Connection, lost: bool = True) -> None:
-        worker.end()
+    def _together(self) -> List[Asked]:
+        """The requests for the next worker: one, or its share of those that wait. The share is twice an equal one, since other
+        workers are at work on theirs."""
+        most = min(TOGETHER, -(-2 * len(self._waiting) // self.count))
+        found = [self._waiting.popleft()]
+        size, shares = len(found[0].message), found[0].shares
+        while shares and self._waiting and len(found) < most:
+            following = self._waiting[0]
+            size += len(following.message)
+            if not following.shares or size > SIZE:
+                break
+            found.append(self._waiting.popleft())
+        return found
+
+    def _done(self, worker: Connection) -> None:
+        """A worker has answered all its requests, or is of no use any more."""
+        if worker not in self.workers:  # it starts, or is being ended
+            return
+        replaced = worker.about.get("replaced", 0)
+        self.replaced_programs += replaced - worker.counted
+        worker.counted = replaced
+        if worker.is_over or worker.about.get("last"):
+            self._replace(worker, lost=worker.is_over)
+        else:
+            self._idle.append(worker)
+            self._hand_out()
+
+    def _replace(self, worker: Connection, lost: bool) -> None:
         self.workers.remove(worker)
+        if worker in self._idle:
+            self._idle.remove(worker)
+        worker.end()
         self.metrics.lost_workers += lost
         if not self._closing:
             task = asyncio.get_running_loop().create_task(self._again())
@@ -219,9 +233,11 @@ class Pool:
                 pause = min(2 * pause, 30)
 
     async def _add(self) -> None:
-        _, worker = await asyncio.get_running_loop().create_connection(Connection, sock=self.forks.worker())
+        _, worker = await asyncio.get_running_loop().create_connection(lambda: Connection(self._done), sock=self.forks.worker())
+        ready = Asked(b"", False)
+        worker.send([ready], START)
         try:
-            head, _ = await worker.receive(START)
+            head, _ = await ready.answer
         except (ConnectionError, asyncio.TimeoutError):
             worker.end()
             raise ProgramError(1, "a worker ended while it started") from None
@@ -232,7 +248,7 @@ class Pool:
             worker.end()
             raise ProgramError(1, head["failed"])
         self.workers.append(worker)
-        self._free(worker)
+        self._done(worker)
 
 
 def busy() -> Refused:

@@ -13,8 +13,10 @@ from typing import Sequence
 
 import numpy as np
 
+from .._ragged import offsets_of
 from ..errors import ProgramError
 from .kept import KeptProgram, Late, Lost
+from .texts import rows_of, signed, text_of, whole
 
 HEADER = b"trace,x,y,time\n"
 CORNER = 1_000_000_000  # centimetres: the range of the proved programs
@@ -49,16 +51,26 @@ class Program:
 
     def ask(self, rows: np.ndarray) -> int:
         """Hands over a drive, int64[n, 3] of x, y and time; returns its id. `answer` has to be called before the next drive."""
-        self.drives += 1
-        name, far = self.drives, f"{self.far[0]},{self.far[1]},0\n"
-        form, given = (f"{name},%d,%d,%d\n", rows) if rows[:, 2].any() else (f"{name},%d,%d,0\n", rows[:, :2])
-        text = form * len(rows) % tuple(given.ravel().tolist())
-        self._kept.give(f"{text}{name},{far}0,{far}".encode())
-        self._rows = len(rows)
-        return name
+        return self.ask_all(rows, np.array([len(rows)]))
+
+    def ask_all(self, rows: np.ndarray, counts: np.ndarray) -> int:
+        """Hands over drives of so many rows each; returns the id of the first one. The others have the ids that follow."""
+        first, self.drives, self._rows = self.drives + 1, self.drives + len(counts), int(counts[-1])
+        begins = offsets_of(counts + 2)  # the closing rows of a drive come after its own
+        given = np.empty((begins[-1], 4), np.int64)
+        given[:, 0] = np.arange(first, self.drives + 1).repeat(counts + 2)
+        given[begins[1:] - 1, 0] = 0
+        is_own = np.ones(len(given), bool)
+        is_own[begins[1:] - 1] = is_own[begins[1:] - 2] = False
+        given[is_own, 1:] = rows
+        given[~is_own, 1:] = *self.far, 0
+        name, x, y, time = given.T
+        table = rows_of(len(given), whole(name), b",", signed(x), b",", signed(y), b",", whole(time), b"\n")
+        self._kept.give(text_of(table))
+        return first
 
     def answer(self, until: float) -> bytes:
-        """The lines of the drive, after those that are left of closing the one before. `until` is a time of time.monotonic.
+        """The lines of the drives, after those that are left of closing the one before. `until` is a time of time.monotonic.
 
         Late: the time has passed; the program is then of no use. Lost: the program has ended.
         """

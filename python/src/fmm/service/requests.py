@@ -37,11 +37,10 @@ FOREIGN = {
 
 
 @dataclass(frozen=True)
-class MatchRequest:
-    """A drive. `times` is seconds from the first position, None if the request has none or asks to ignore gaps for the match."""
+class MatchOptions:
+    """What a request asks for. Requests with the same options are matched together."""
 
-    places: np.ndarray  # float64[n, 2]: longitude, latitude
-    timestamps: Optional[np.ndarray] = None  # int64[n]
+    has_times: bool = False
     sigma: Optional[float] = None  # metres; None: that of the service
     geometries: str = "polyline"
     overview: str = "simplified"
@@ -49,6 +48,15 @@ class MatchRequest:
     splits_gaps: bool = True
     tidy: bool = False
     has_tracepoints: bool = True
+
+
+@dataclass(frozen=True)
+class MatchRequest:
+    """A drive. `times` is seconds from the first position, 0 if the request has none."""
+
+    places: np.ndarray  # float64[n, 2]: longitude, latitude
+    times: np.ndarray  # int64[n]
+    options: MatchOptions
 
 
 @dataclass(frozen=True)
@@ -148,12 +156,13 @@ def match_request(coordinates: str, query: str, most: int) -> MatchRequest:
     places = places_of(coordinates, most)
     if len(places) < 2:
         raise Refused("InvalidOptions", "a match needs two coordinates or more")
-    return MatchRequest(
-        places, timestamps_of(options.get("timestamps", ""), len(places)), sigma_of(options.get("radiuses", ""), len(places)),
+    times = timestamps_of(options.get("timestamps", ""), len(places))
+    return MatchRequest(places, np.zeros(len(places), np.int64) if times is None else times - times[0], MatchOptions(
+        times is not None, sigma_of(options.get("radiuses", ""), len(places)),
         one_of(options, "geometries", ("polyline", "polyline6", "geojson")),
         one_of(options, "overview", ("simplified", "full", "false")), annotations_of(options.get("annotations", "false")),
         one_of(options, "gaps", ("split", "ignore")) == "split", one_of(options, "tidy", ("false", "true")) == "true",
-        one_of(options, "skip_waypoints", ("false", "true")) == "false")
+        one_of(options, "skip_waypoints", ("false", "true")) == "false"))
 
 
 def one_of(options: Dict[str, str], name: str, values: tuple[str, ...]) -> str:

@@ -18,7 +18,7 @@ from .app import Service
 from .forks import Forks
 from .live import PATIENCE, Live, StandardInput, give_up_after
 from .metrics import Metrics
-from .pool import Pool
+from .pool import TOGETHER, Pool
 from .settings import Settings
 from .worker import Worker
 
@@ -93,8 +93,9 @@ async def run(forks: Forks, listening: socket.socket, settings: Settings, facts:
         live = Live() if settings.live else None
         begin = f"fmm serve: {address} ({settings.processes} workers)"
         service = Service(pool, settings, metrics, facts, lambda: say(begin), live)
-        config = uvicorn.Config(service.app, log_level="warning", access_log=False, lifespan="on", timeout_keep_alive=30,
-                                limit_concurrency=settings.limits.waiting + settings.processes + 256, server_header=False)
+        most = settings.limits.waiting + TOGETHER * settings.processes + 256
+        config = uvicorn.Config(service, log_level="warning", access_log=False, lifespan="on", timeout_keep_alive=30,
+                                limit_concurrency=most, server_header=False, proxy_headers=False)
         server = Server(config)
         server.live = live
         if live:

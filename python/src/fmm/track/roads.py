@@ -104,7 +104,8 @@ class Streets:
                          np.array([edge for edge, _ in labels], np.int64), np.array([offset for _, offset in labels], np.int64),
                          np.zeros(count, np.int64), zero, zero, np.array([count - 1]), zero, one * len(edges), edges, None)
         along = along_routes(text, np.arange(count), self.places, self.back)
-        line = lines_of(self.places, along)[0].places(self.places)
+        lines = lines_of(self.places, along)
+        line, _ = lines.all(lines.ends, self.places.lines.xy)
         same = np.append(False, (line[1:] == line[:-1]).all(axis=1))
         places = self.degrees(line[~same]).tolist()
-        return float(sum(part.sum() for part in leg_metres(along))), places * 2 if len(places) == 1 else places
+        return float(leg_metres(along).sum()), places * 2 if len(places) == 1 else places
