@@ -9,17 +9,20 @@ import pytest
 from hypothesis import given
 from hypothesis import strategies as st
 from services import grid
+from shapely.geometry import LineString
 
 from fmm._match_text import read_match
 from fmm._places import Places
 from fmm.errors import ProgramError
-from fmm.service import polylines
+from fmm.service import polylines, texts
+from fmm.service.frames import packed, taken
 from fmm.service.lines import drives_text
 from fmm.service.metrics import Metrics
 from fmm.service.nearest import Nearest
 from fmm.service.program import Lost, far_place, follow_text
 from fmm.service.refusals import Refused
 from fmm.service.requests import match_request, nearest_request, places_of
+from fmm.service.simplified import simplified
 
 PLACES = st.lists(st.tuples(st.integers(-18_000_000, 18_000_000), st.integers(-9_000_000, 9_000_000)), min_size=1, max_size=30)
 
@@ -176,3 +179,68 @@ def test_metrics_have_the_format_of_prometheus() -> None:
             name, _, value = line.rpartition(" ")
             samples[name] = float(value)
     assert samples["fmm_request_seconds_count"] == samples['fmm_request_seconds_bucket{le="+Inf"}'] == 2
+
+
+@given(st.lists(st.integers(-2 ** 40, 2 ** 40), min_size=1, max_size=30), st.sampled_from([2, 3, 6, 7]))
+def test_rows_have_the_numbers_that_python_writes(values: list[int], digits: int) -> None:
+    numbers = np.array(values)
+    rows = texts.rows_of(len(values), b"<", texts.signed(numbers), b" ", texts.decimal(numbers, digits), b" ",
+                         texts.whole(np.abs(numbers)), b">\n")
+    assert texts.text_of(rows) == "".join(
+        f"<{value} {'-' * (value < 0)}{abs(value) // 10 ** digits}.{abs(value) % 10 ** digits:0{digits}} {abs(value)}>\n"
+        for value in values).encode()
+    assert texts.text_of(rows[1:]).count(b"\n") == len(values) - 1
+
+
+@given(st.lists(PLACES, min_size=1, max_size=5))
+def test_polylines_of_several_lines_are_those_of_each(lines: list[list[tuple[int, int]]]) -> None:
+    each = [np.array(line) / 1e5 for line in lines]
+    first = np.cumsum([0, *map(len, each)])
+    assert polylines.encode_all(np.concatenate(each), first) == [polylines.encode(line) for line in each]
+
+
+def test_several_lines_are_simplified_as_each_alone() -> None:
+    draw = np.random.default_rng(4)
+    lines = [np.cumsum(draw.normal(0, 1, (count, 2)), axis=0) for count in (2, 40, 3, 90)] + [np.zeros((2, 2))]
+    first = np.cumsum([0, *map(len, lines)])
+    kept = simplified(np.concatenate(lines), first)
+    for line, begin, end in zip(lines, first, first[1:]):
+        alone = np.asarray(LineString(line).simplify(1, preserve_topology=False).coords)
+        assert np.array_equal(line[kept[begin:end]], alone)
+        assert np.array_equal(simplified(line, np.array([0, len(line)])), kept[begin:end])
+
+
+@given(st.lists(st.lists(st.integers(-1, 4), max_size=6), min_size=2, max_size=4), st.data())
+def test_lines_of_several_drives_are_those_of_each(drives: list[list[int]], data: st.DataObject) -> None:
+    parts = []
+    for drive, edges in enumerate(drives, 11):
+        lines = [f"trace {drive}", "fix 0"]
+        for number, edge in enumerate(edges):
+            lines += [f"none {number}"] if edge < 0 else [f"at {number} edge {edge} offset 5 d2 6"]
+            lines += [f"fix {number + 1}"] + ([f"piece {number} {number} cost 7 route {edge}"] if edge >= 0 else [])
+        parts.append("".join(f"{drive} {line}\n" for line in [*lines, f"none {len(edges)}"]).encode() + b"0 fix 8\n0 none 8\n")
+    counts = np.array(list(map(len, drives)))
+    text = drives_text(b"".join(parts), 11, counts)
+    assert text.edge.tolist() == [edge for edges in drives for edge in edges]
+    assert text.trace_of.tolist() == [number for number, edges in enumerate(drives) for _ in edges]
+    begin = 0
+    for number, (part, edges) in enumerate(zip(parts, drives)):
+        alone, own = drives_text(part, 11 + number, counts[number:number + 1]), text.piece_trace == number
+        assert np.array_equal(alone.first, text.first[own]) and np.array_equal(alone.cost, text.cost[own])
+        assert alone.edge.tolist() == text.edge[begin:begin + len(edges)].tolist()
+        begin += len(edges)
+    first, second = data.draw(st.permutations(range(len(parts))))[:2]
+    parts[first], parts[second] = parts[second], parts[first]
+    with pytest.raises(Lost):
+        drives_text(b"".join(parts), 11, counts)
+
+
+def test_messages_arrive_whole_in_whatever_blocks() -> None:
+    whole = b"".join(packed({"number": number}, b"x" * size) for number, size in enumerate((0, 5, 70_000)))
+    for size in (1, 7, 1000, len(whole)):
+        got, found = bytearray(), []
+        for begin in range(0, len(whole), size):
+            got += whole[begin:begin + size]
+            found += taken(got)
+        assert [head["number"] for head, _ in found] == [0, 1, 2] and [len(body) for _, body in found] == [0, 5, 70_000]
+        assert not got

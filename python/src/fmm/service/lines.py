@@ -38,7 +38,10 @@ def drives_text(got: bytes, drive: int, counts: np.ndarray) -> MatchText:
     if len(kind) != (2 * counts + 3).sum() or len(numbers) != size.sum():
         raise lost()
     name, place = numbers[begin], numbers[begin + 1]
-    check_order(kind, name - drive, np.where(kind == IS_TRACE, place - drive, place), counts)
+    is_trace = kind == IS_TRACE
+    if (place[is_trace] != name[is_trace]).any():
+        raise lost()
+    check_order(kind, name - drive, np.where(is_trace, 0, place), counts)
     base, ats = offsets_of(counts + 1), begin[kind == IS_AT]
     labels = np.full((3, base[-1]), -1, np.int64)
     labels[:, base[numbers[ats] - drive] + numbers[ats + 1]] = numbers[ats + 2], numbers[ats + 3], numbers[ats + 5]
@@ -69,7 +72,7 @@ def check_order(kind: np.ndarray, drive: np.ndarray, place: np.ndarray, counts: 
     base, first = offsets_of(counts + 1), offsets_of(2 * counts + 3)
     is_trace, is_fix, every = kind == IS_TRACE, kind == IS_FIX, np.arange(base[-1])
     key = base[drive] + place
-    if not np.array_equal(np.flatnonzero(is_trace), first[:-1]) or (place[is_trace] != drive[is_trace]).any():
+    if not np.array_equal(np.flatnonzero(is_trace), first[:-1]):
         raise lost()
     if not np.array_equal(key[is_fix], every) or not np.array_equal(np.sort(key[~is_fix & ~is_trace]), every):
         raise lost()
