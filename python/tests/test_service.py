@@ -19,6 +19,7 @@ from profiles import PROFILE, REQUESTS
 from services import TOP, Service, alive, answered, coordinates, degrees, drives, grid, matched, pieces_of, running
 
 from fmm import Network
+from fmm.service.frames import Frames, packed
 from fmm.service.polylines import decode
 
 pytest.importorskip("starlette", reason="python3-starlette is not installed")
@@ -273,6 +274,69 @@ def test_waiting_is_bounded(network: Network, drive: np.ndarray) -> None:
         assert "access-control-allow-origin" not in service.client.get("/health").headers
         assert len(refused) >= 4 and all(answer.headers["retry-after"] == "1" for answer in refused)
         assert service.match(drive)["code"] == "Ok"
+
+
+def test_drives_that_fail_together_are_asked_again(network: Network, drive: np.ndarray) -> None:
+    from fmm.service.matcher import Matcher
+    from fmm.service.settings import Limits, Settings
+    from fmm.service.worker import Worker
+    worker = Worker(network, Settings(limits=Limits(seconds=2)))
+    worker.matcher = Matcher(network, worker.settings.options, worker.settings.limits)
+    frames = [({"do": "match", "profile": "car", "coordinates": text, "query": ""}, b"") for text in (coordinates(drive), "9;9")]
+    try:
+        os.kill(worker.matcher.program.child.pid, signal.SIGSTOP)
+        first, wrong, last = worker.replies([frames[0], frames[1], frames[0]])
+        assert first.again and last.again and not wrong.again and wrong.status == 400
+        os.kill(worker.matcher.program.child.pid, signal.SIGKILL)
+        assert [(reply.status, reply.again) for reply in worker.replies(frames[:1] * 3)] == [(200, False)] * 3
+        os.kill(worker.matcher.program.child.pid, signal.SIGSTOP)
+        assert [(reply.status, reply.again) for reply in worker.replies(frames[:1])] == [(504, False)]
+    finally:
+        worker.matcher.close()
+
+
+class Echo:
+    """Stands for the process that forks workers. A worker answers with its request, but not more than one at once, and ends at
+    the request `end`."""
+
+    def __init__(self) -> None:
+        self.sizes: list[int] = []
+
+    def worker(self) -> socket.socket:
+        ours, theirs = socket.socketpair()
+        threading.Thread(target=self._work, args=(theirs,), daemon=True).start()
+        return ours
+
+    def _work(self, connection: socket.socket) -> None:
+        connection.sendall(packed({}))
+        arriving = Frames(connection)
+        with connection:
+            while frames := arriving.all():
+                self.sizes.append(len(frames))
+                if any(head["do"] == "end" for head, _ in frames):
+                    return
+                time.sleep(0.05)  # so that others wait
+                for head, _ in frames:
+                    connection.sendall(packed({"again": len(frames) > 1, "positions": 1}, head["do"].encode()))
+
+
+def test_requests_that_failed_together_are_sent_alone() -> None:
+    from fmm.service.metrics import Metrics
+    from fmm.service.pool import Pool
+    from fmm.service.settings import Limits
+    echo = Echo()
+
+    async def run() -> list[object]:
+        pool = Pool(echo, 1, Limits(), Metrics())  # type: ignore[arg-type]
+        await pool.start()
+        words = ["a", "b", "end", "c", "d"]
+        found = await asyncio.gather(*(pool.ask({"do": word}, shares=True) for word in words), return_exceptions=True)
+        await pool.close()
+        return [one if isinstance(one, BaseException) else one[1].decode() for one in found]
+
+    found = asyncio.run(asyncio.wait_for(run(), 30))
+    assert [str(one) for one in found] == ["a", "b", "the request ended two workers", "c", "d"]
+    assert max(echo.sizes) > 1
 
 
 def test_large_programs_are_replaced(network: Network, drive: np.ndarray, tmp_path: Path) -> None:

@@ -59,7 +59,7 @@ def whole(frame: pd.DataFrame, column: str, greatest: int) -> np.ndarray:
     texts = frame[column].tolist()
     joined = "".join(texts)
     if joined.isascii() and joined.isdigit() and "" not in texts and max(map(len, texts)) <= 19:
-        values = np.fromiter(map(int, texts), np.uint64, len(texts))
+        values = np.fromstring(" ".join(texts), np.uint64, sep=" ")
         if values.max() <= greatest:
             return values
     texts = [text.strip(" \t") for text in texts]
