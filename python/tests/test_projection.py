@@ -9,7 +9,7 @@ from hypothesis import strategies as some
 from profiles import slow
 
 from fmm.errors import OptionError
-from fmm.projection import NOWHERE, Projection, extent_of
+from fmm.projection import DEGREES, MANY, NOWHERE, Projection, extent_of, transformed, transformer
 
 
 def test_a_city_gets_its_zone() -> None:
@@ -86,3 +86,10 @@ def test_a_plane_of_unknown_place() -> None:
     assert [v.tolist() for v in plane.to_crs(np.array([150]), np.array([-20]), None)] == [[1.5], [-0.2]]
     with pytest.raises(OptionError, match="no known projection"):
         plane.to_crs(np.array([1]), np.array([1]), 4326)
+
+
+def test_many_places_are_transformed_as_few_are() -> None:
+    draw = np.random.default_rng(1)
+    x, y = draw.uniform(4e5, 6e5, MANY + 3), draw.uniform(5e6, 6e6, MANY + 3)
+    transform = transformer(pyproj.CRS.from_epsg(32632), DEGREES)
+    assert np.array_equal(transformed(transform, x, y), transform.transform(x, y))

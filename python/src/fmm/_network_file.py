@@ -2,6 +2,7 @@
 from __future__ import annotations
 
 import re
+from operator import methodcaller
 from typing import IO
 
 import numpy as np
@@ -72,7 +73,7 @@ def whole(frame: pd.DataFrame, column: str, greatest: int) -> np.ndarray:
 def points_of(frame: pd.DataFrame) -> tuple[np.ndarray, np.ndarray]:
     """The points of all lines, and where each line begins."""
     texts = frame["line"].tolist()
-    count = np.fromiter((text.count(";") + 1 for text in texts), np.int64, len(texts))
+    count = np.fromiter(map(methodcaller("count", ";"), texts), np.int64, len(texts)) + 1
     joined = ";".join(texts)
     values: np.ndarray
     if are_plain(joined.encode(), int(count.sum())) and count.min() > 1:

@@ -7,6 +7,7 @@ import math
 import os
 import re
 import sys
+from operator import methodcaller
 from typing import IO, Any, Iterator, Optional, Sequence
 
 import numpy as np
@@ -103,7 +104,7 @@ def split_records(lines: list[str], numbers: np.ndarray, name: str, separator: s
             fields += row
     else:
         header = lines[0].split(separator)
-        counts = np.fromiter((line.count(separator) for line in lines), np.int64, len(lines))
+        counts = np.fromiter(map(methodcaller("count", separator), lines), np.int64, len(lines))
         wrong = np.flatnonzero(counts != counts[0])
         if len(wrong):
             raise InputError(unequal(int(counts[wrong[0]]) + 1, len(header)), name, int(numbers[wrong[0]]))

@@ -3,8 +3,10 @@ from __future__ import annotations
 
 import functools
 import math
+import os
 import re
 import warnings
+from concurrent.futures import ThreadPoolExecutor
 from dataclasses import dataclass
 from typing import Iterator, Optional, Union
 
@@ -19,6 +21,7 @@ DEGREES = pyproj.CRS.from_epsg(4326)
 FARTHEST = 1_000_000_000  # centimetres: the range of the proved programs
 NOWHERE = int(np.iinfo(np.int64).min)
 UTM_ERROR = 0.001  # UTM has 0.0004 in the middle of a zone and 0.001 at its borders on the equator
+MANY, THREADS = 100_000, 4  # places from which on threads are worth their start, and how many there are at most
 OWN_ERROR = 0.0025  # the projection of the data themselves is kept if no length is wrong by more
 
 Extent = tuple[float, float, float, float]
@@ -105,7 +108,7 @@ class Projection:
             return x, y
         if self.crs is None:
             raise OptionError("the network has no known projection, so its places have no CRS; give the CRS when it is opened")
-        return transformer(self.crs, pyproj.CRS.from_user_input(crs)).transform(x, y)
+        return transformed(transformer(self.crs, pyproj.CRS.from_user_input(crs)), x, y)
 
     def scale_error(self, bounds: Extent) -> float:
         """The greatest relative error of a short length in an extent (west, south, east, north in degrees). NaN if unknown,
@@ -215,3 +218,13 @@ def named(kind: str, x: float, y: float, conversion: object) -> pyproj.CRS:
 @functools.lru_cache(32)
 def transformer(source: pyproj.CRS, target: pyproj.CRS) -> pyproj.Transformer:
     return pyproj.Transformer.from_crs(source, target, always_xy=True)
+
+
+def transformed(transform: pyproj.Transformer, x: np.ndarray, y: np.ndarray) -> tuple[np.ndarray, np.ndarray]:
+    """Places in another CRS, by several threads if there are many: PROJ runs without Python's lock."""
+    if x.ndim != 1 or len(x) < MANY:
+        return transform.transform(x, y)
+    threads = min(os.cpu_count() or 1, THREADS)
+    with ThreadPoolExecutor(threads) as pool:
+        parts = list(pool.map(transform.transform, np.array_split(x, threads), np.array_split(y, threads)))
+    return np.concatenate([part[0] for part in parts]), np.concatenate([part[1] for part in parts])

@@ -14,7 +14,7 @@ from .._match_text import MatchText
 from .._places import Places
 from .._ragged import offsets_of, rows_of
 from ..network import Network
-from ..projection import DEGREES, transformer
+from ..projection import DEGREES, transformed, transformer
 from .texts import words_of
 
 
@@ -29,8 +29,7 @@ class Roads:
         numbers, names = pd.factorize(self.names, use_na_sentinel=False)
         self.json_names = words_of([json.dumps(name, ensure_ascii=False).encode("utf-8", "replace") for name in names])
         self.name: np.ndarray = numbers  # of each edge: the number of its name
-        x, y = self._back.transform(*(network.lines.xy.T / 100))
-        self.points: np.ndarray = np.round(np.stack([x, y], axis=1), 7)  # those of the network in degrees
+        self.points = self.degrees(network.lines.xy)  # those of the network
         self.profile = str(network.report.source.get("profile", ""))
 
     def plane(self, degrees: np.ndarray) -> np.ndarray:
@@ -44,7 +43,7 @@ class Roads:
 
     def degrees(self, centimetres: np.ndarray) -> np.ndarray:
         """Longitudes and latitudes of places, rounded to seven decimals (a centimetre)."""
-        x, y = self._back.transform(centimetres[:, 0] / 100, centimetres[:, 1] / 100)
+        x, y = transformed(self._back, centimetres[:, 0] / 100, centimetres[:, 1] / 100)
         return np.round(np.stack([x, y], axis=1), 7)
 
 
