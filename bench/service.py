@@ -7,7 +7,8 @@ edges and costs of each answer are compared with those of `./fmm match`. It prin
   start        seconds until the service answers, beside those in which the program reads the network
   match        drives a second of `./fmm match --workers N` over the trace file, and milliseconds of a processor for each
   throughput   drives a second of the service with clients that ask again as soon as they have an answer, and milliseconds of a
-               processor for each, by process; beside it, the shares of the figures of `match`
+               processor for each, by process
+  of match     the throughput as a share of that of `match`, by the clock and by processors without the clients
   half load    the milliseconds from the time at which a request is due to its answer, with half as many requests a second
 
 `match` and the load take turns --repeat times; the best turn of each is printed. The clients run on the same processors.
