@@ -46,7 +46,7 @@ def match(matcher: Matcher, roads: Roads, requests: List[MatchRequest], until: f
     pieces = offsets_of(np.bincount(text.piece_trace, minlength=len(requests)))
     points = None
     if options.has_tracepoints:
-        points = tracepoints(roads, drives, snapped, kept[drives.along.position], first[-1], pieces)
+        points = tracepoints(roads, drives, snapped, kept[drives.along.position], first[-1])
     return [answer(found[begin:end], None if points is None else points[here:there]) if begin < end else no_match(matcher.options)
             for begin, end, here, there in zip(pieces, pieces[1:], first, first[1:])]
 
@@ -133,15 +133,14 @@ def geometries(lines: Lines, ends: np.ndarray, roads: Roads, options: MatchOptio
     return [f'{{"type":"LineString","coordinates":[{text}]}}' for text in coordinates]
 
 
-def tracepoints(roads: Roads, drives: Drives, snapped: np.ndarray, found: np.ndarray, count: int,
-                pieces: np.ndarray) -> np.ndarray:
+def tracepoints(roads: Roads, drives: Drives, snapped: np.ndarray, found: np.ndarray, count: int) -> np.ndarray:
     """What became of each of `count` coordinates, as rows; null for one without a road. `found` has those with a road, and
-    `snapped` their places in degrees. `pieces` is where the pieces of each drive begin."""
+    `snapped` their places in degrees."""
     along, text = drives.along, drives.text
     x, y = np.rint(1e7 * snapped.T).astype(np.int64)
     name = roads.json_names[roads.name[drives.edge]].T
     edge = text.edge[along.position]
-    matching = along.piece - pieces[text.piece_trace[along.piece]]
+    matching = along.piece - offsets_of(np.bincount(text.piece_trace))[text.piece_trace[along.piece]]
     waypoint = np.arange(len(along.piece)) - along.first[along.piece]
     rows = texts.rows_of(
         len(found), b'{"location":[', decimal(x, 7), b",", decimal(y, 7), b'],"name":', list(name), b',"distance":',
