@@ -4,6 +4,7 @@ from __future__ import annotations
 import asyncio
 import os
 import random
+import shutil
 import signal
 import socket
 import subprocess
@@ -354,6 +355,28 @@ def test_large_programs_are_replaced(network: Network, drive: np.ndarray, tmp_pa
             text = matcher.match(rows, np.array([len(x)]), None, time.monotonic() + 60)
             assert pieces_of(text, 0) == wanted
             time.sleep(0.05)
+    finally:
+        matcher.close()
+
+
+def test_no_program_starts_over_a_network_that_was_exchanged(network: Network, drive: np.ndarray, tmp_path: Path) -> None:
+    from fmm.options import Options
+    from fmm.service.matcher import Matcher
+    from fmm.service.refusals import Refused
+    from fmm.service.settings import Limits
+    shutil.copytree(network.path.parent, tmp_path / "own")
+    own = Network.open(tmp_path / "own" / network.path.name)
+    matcher = Matcher(own, Options(), Limits())
+    try:
+        x, y = own.projection.to_centimetres(drive[:, 0], drive[:, 1], 4326)
+        rows, counts = np.stack([x, y, np.zeros(len(x), np.int64)], axis=1), np.array([len(x)])
+        assert len(matcher.match(rows, counts, None, time.monotonic() + 60).cost)
+        own.path.write_text("edge,from,to,line\n1,1,2,0 0;100 0\n", encoding="ascii")
+        os.kill(matcher.program.child.pid, signal.SIGKILL)
+        for _ in range(2):
+            with pytest.raises(Refused, match="was changed after it was read") as refused:
+                matcher.match(rows, counts, None, time.monotonic() + 60)
+            assert refused.value.status == 500
     finally:
         matcher.close()
 

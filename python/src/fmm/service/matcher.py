@@ -9,6 +9,7 @@ import numpy as np
 
 from .. import _programs
 from .._match_text import MatchText, read_match
+from ..errors import InputError
 from ..network import Network
 from ..options import Options, centimetres
 from .lines import drives_text
@@ -30,7 +31,7 @@ class Matcher:
     def __init__(self, network: Network, options: Options, limits: Limits) -> None:
         self.options, self.limits = options, limits
         self.program_path: Path = _programs.program(network.needs_large)
-        self.network_path = network.path
+        self.network = network
         self.far = far_place(network.lines.xy, centimetres(options.radius))
         self.program = self._started(options)
         self.next: Optional[Program] = None
@@ -81,12 +82,19 @@ class Matcher:
         return [program for program in (self.program, self.next, self.other) if program]
 
     def _started(self, options: Options) -> Program:
+        """A program over the network that was read. Refused: its file was changed since."""
+        try:
+            self.network.check_file()
+        except InputError as fault:
+            raise Refused("InternalError", str(fault), 500) from None
         words = [*options.but(gap=None).arguments(), "--gap", str(2 ** 32 - 1 if options.gap is None else int(options.gap))]
-        return Program(self.program_path, self.network_path, words, self.far)
+        return Program(self.program_path, self.network.path, words, self.far)
 
     def _program_for(self, sigma: Optional[float]) -> Program:
         if sigma is None or sigma == self.options.sigma:
             self._exchange()
+            if self.program.is_closed:
+                self.program = self._started(self.options)
             return self.program
         if self.other is None or self.other_sigma != sigma:
             if self.other:
@@ -115,7 +123,10 @@ class Matcher:
             program.close()
             self.other = None
         elif self.next is None:
-            self.next = self._started(self.options)
+            try:
+                self.next = self._started(self.options)
+            except Refused:
+                return  # the program at hand has the network that was read
             self.next.ask(NO_ROWS)
 
     def _drop(self, program: Program) -> None:

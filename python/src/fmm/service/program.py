@@ -45,6 +45,7 @@ class Program:
     def __init__(self, path: Path, network: Path, words: Sequence[str], far: tuple[int, int]) -> None:
         self.far = far
         self.drives = 0
+        self.is_closed = False
         self._kept = KeptProgram(path, network, words)
         self._kept.give(HEADER)
         self.memory, self.child = self._kept.memory, self._kept.child
@@ -84,6 +85,7 @@ class Program:
     def close(self) -> None:
         """Ends the program. What it was asked is lost."""
         self._kept.close()
+        self.is_closed = True
 
 
 def follow_text(got: bytes, drive: int, count: int, name: int) -> bytes:
