@@ -8,7 +8,7 @@ import profiles  # noqa: F401  sets the profile of hypothesis
 import pytest
 
 TOP = Path(__file__).resolve().parents[2]
-sys.dont_write_bytecode = True
+sys.dont_write_bytecode = sys.pycache_prefix is None
 
 
 @pytest.fixture

@@ -1,4 +1,4 @@
-"""The plugin of QGIS, as `qgis_process` runs it. Left out where QGIS is missing."""
+"""The plugin of QGIS, as `qgis_process` and a QGIS of this process run it. Left out where QGIS is missing."""
 from __future__ import annotations
 
 import configparser
@@ -7,6 +7,7 @@ import os
 import shutil
 import subprocess
 import xml.etree.ElementTree as xml
+from collections.abc import Iterator
 from pathlib import Path
 from typing import Any, Callable
 
@@ -42,22 +43,48 @@ def process(tmp_path_factory: pytest.TempPathFactory) -> Process:
     return lambda *words: subprocess.run([PROGRAM, *words], env=environment, capture_output=True, text=True)
 
 
-def results(done: subprocess.CompletedProcess[str]) -> dict[str, Any]:
-    assert done.returncode == 0, done.stdout + done.stderr
-    return json.loads(done.stdout[done.stdout.index("{"):])["results"]
+Algorithm = Callable[..., "tuple[dict[str, Any], bool, str]"]
 
 
-def test_a_network_and_a_match(process: Process, tmp_path: Path) -> None:
+@pytest.fixture(scope="module")
+def algorithm(tmp_path_factory: pytest.TempPathFactory) -> Iterator[Algorithm]:
+    """Runs an algorithm of the plugin in a QGIS of this process, whose start takes a third of that of `qgis_process`. It gives the
+    results, whether the algorithm succeeded, and its log."""
+    core = pytest.importorskip("qgis.core", reason="the plugin of QGIS, since there is no python3-qgis")
+    with pytest.MonkeyPatch.context() as patch:
+        patch.setenv("QT_QPA_PLATFORM", "offscreen")
+        patch.setenv("QGIS_CUSTOM_CONFIG_PATH", str(tmp_path_factory.mktemp("config")))
+        patch.syspath_prepend(str(PLUGIN.parent))
+        application = core.QgsApplication([], False)
+        application.initQgis()
+        from fmm_qgis.plugin import Plugin  # type: ignore[import]
+        plugin = Plugin()
+        plugin.initProcessing()
+
+        def run(name: str, **parameters: Any) -> tuple[dict[str, Any], bool, str]:
+            feedback = core.QgsProcessingFeedback(False)
+            found = core.QgsApplication.processingRegistry().algorithmById(name)
+            results, good = found.run(parameters, core.QgsProcessingContext(), feedback)
+            return results, good, feedback.textLog()
+
+        yield run
+        plugin.unload()
+        application.exitQgis()
+
+
+def test_a_network_and_a_match(algorithm: Algorithm, process: Process, tmp_path: Path) -> None:
+    """The match is run by `qgis_process`, as a user without a screen runs it."""
     network = tmp_path / "network.csv"
-    made = process("run", "fmm:network", "--json", f"--EXTRACT={SMALL / 'village.osm'}", f"--NETWORK={network}")
-    assert results(made)["NETWORK"] == str(network) and fmm.Network.open(network).edge_count == 26
+    made, good, log = algorithm("fmm:network", EXTRACT=str(SMALL / "village.osm"), NETWORK=str(network))
+    assert good and made["NETWORK"] == str(network) and fmm.Network.open(network).edge_count == 26, log
     positions = fmm.read_positions(SMALL / "fleet.csv").frame
     points = geopandas.points_from_xy(positions["x"], positions["y"])
     table = geopandas.GeoDataFrame({"id": positions["id"], "time": positions["time"]}, geometry=points, crs=4326)
     table.to_file(tmp_path / "fleet.gpkg", driver="GPKG")
     done = process("run", "fmm:match", "--json", f"--NETWORK={network}", f"--POSITIONS={tmp_path / 'fleet.gpkg'}",
                    "--ID=id", "--TIME=time", "--SIGMA=12", "--GAP=300", f"--FOLDER={tmp_path / 'out'}")
-    found = results(done)
+    assert done.returncode == 0, done.stdout + done.stderr
+    found = json.loads(done.stdout[done.stdout.index("{"):])["results"]
     path, _, layer = found["ROUTES"].partition("|layername=")
     routes = geopandas.read_file(path, layer=layer)
     matches = fmm.match(network, fmm.read_positions(tmp_path / "fleet.gpkg", id="id", time="time"), sigma=12, gap=300)
@@ -65,14 +92,14 @@ def test_a_network_and_a_match(process: Process, tmp_path: Path) -> None:
     assert routes["edges"].tolist() == matches.routes["edges"].tolist()
 
 
-def test_faults_are_in_the_log(process: Process, tmp_path: Path) -> None:
+def test_faults_are_in_the_log(algorithm: Algorithm, tmp_path: Path) -> None:
     wrong = tmp_path / "wrong.osm"
     wrong.write_text("<osm></osm>\n")
-    done = process("run", "fmm:network", f"--EXTRACT={wrong}", f"--NETWORK={tmp_path / 'n.csv'}")
-    assert done.returncode != 0 and "wrong.osm" in done.stdout + done.stderr
+    _, good, log = algorithm("fmm:network", EXTRACT=str(wrong), NETWORK=str(tmp_path / "n.csv"))
+    assert not good and "wrong.osm" in log and "ended with status 1" in log
     assert not (tmp_path / "n.csv").exists()
-    done = process("run", "fmm:network", f"--NETWORK={tmp_path / 'n.csv'}")
-    assert "an extract or a layer" in done.stdout + done.stderr
+    _, good, log = algorithm("fmm:network", NETWORK=str(tmp_path / "n.csv"))
+    assert not good and "an extract or a layer" in log
 
 
 def test_the_plugin_says_its_version() -> None:
@@ -87,13 +114,13 @@ def test_the_style_has_a_symbol_for_each_rule() -> None:
     assert {rule.get("symbol") for rule in style.iter("rule")} == symbols
 
 
-def test_a_network_from_a_layer(process: Process, tmp_path: Path) -> None:
+def test_a_network_from_a_layer(algorithm: Algorithm, tmp_path: Path) -> None:
     network = fmm.Network.from_osm(SMALL / "village.osm")
     streets = network.edges[network.edges["direction"] == "forward"].drop(columns=["from_node", "to_node"])
     streets.assign(way="").to_file(tmp_path / "roads.gpkg", driver="GPKG")
-    done = process("run", "fmm:network", "--json", f"--LAYER={tmp_path / 'roads.gpkg'}", "--ONEWAY=oneway",
-                   "--FORWARD=1,True", f"--NETWORK={tmp_path / 'n.csv'}")
-    results(done)
+    _, good, log = algorithm("fmm:network", LAYER=str(tmp_path / "roads.gpkg"), ONEWAY="oneway", FORWARD="1,True",
+                             NETWORK=str(tmp_path / "n.csv"))
+    assert good, log
     made = fmm.Network.open(tmp_path / "n.csv")
     assert made.edge_count >= len(streets) and made.projection.matches(network.projection)
 

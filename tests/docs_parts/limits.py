@@ -2,8 +2,12 @@
 from __future__ import annotations
 
 import re
-import subprocess
+import sys
 from pathlib import Path
+
+sys.path.insert(0, str(Path(__file__).resolve().parents[2] / "tools"))
+from clauses_parts.page import page  # noqa: E402
+from clauses_parts.repository import Repository  # noqa: E402
 
 # The lines that are written by hand: what tests/docs compares with the output of a command is not counted.
 LINES = {"docs/PROOFS.md": 250, "docs/DECISIONS.md": 220}
@@ -18,13 +22,10 @@ def lines_by_hand(text: str) -> int:
 def mistakes_in(top: Path) -> list[str]:
     found = []
     for name, most in LINES.items():
-        page = top / name
-        many = lines_by_hand(page.read_text(encoding="utf-8")) if page.exists() else 0
+        many = lines_by_hand((top / name).read_text(encoding="utf-8")) if (top / name).exists() else 0
         if many > most:
             found.append(f"{name}: it has {many} lines that are written by hand; at most {most} are allowed")
-    tool = top / "tools" / "clauses"
-    if tool.exists():
-        done = subprocess.run([str(tool), "--check"], capture_output=True, text=True, check=False)
-        if done.returncode:
-            found.append(done.stdout.strip() or f"{MADE}: tools/clauses failed: {done.stderr.strip()[-300:]}")
+    made = top / MADE
+    if not made.exists() or made.read_text(encoding="utf-8") != page(Repository(top)):
+        found.append(f"{MADE}: it is not current; run tools/clauses --write")
     return found

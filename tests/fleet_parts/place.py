@@ -7,12 +7,13 @@ import subprocess
 import threading
 import time
 
-from .forker import Forker
+from fork_parts.forker import Forker
 
 TOP = os.path.dirname(os.path.dirname(os.path.dirname(os.path.realpath(__file__))))
 FOUND = subprocess.run([os.path.join(TOP, "tests", "find_python")], capture_output=True, text=True)
 PYTHON = FOUND.stdout.strip()
 os.environ["PYTHONPATH"] = os.path.join(TOP, "python", "src")
+MODULES = ("fmm.commands.fleet", "fmm.fleet.call")
 lock = threading.Lock()
 counts = {True: 0, False: 0}
 
@@ -88,7 +89,7 @@ class Place:
 
     def __init__(self, folder, program):
         self.folder, self.program = folder, program
-        self.forker = Forker(PYTHON, os.environ["PYTHONPATH"])
+        self.forker = Forker(PYTHON, os.environ["PYTHONPATH"], MODULES)
         self.network, self.traces = self.path("network.csv"), self.path("traces.csv")
         below = random.Random(43).randrange
         make_network(self.network, below)

@@ -121,6 +121,7 @@ def main() -> int:
     names = words.files or [path.name for path in sorted(Path("tests").glob("test_*.py"))]
     waiting = sorted(names, key=lambda name: FIRST.index(name) if name in FIRST else len(FIRST))
     preload()
+    os.environ["PYTHONDONTWRITEBYTECODE"] = "1"  # programs that tests start keep nothing
     with tempfile.TemporaryDirectory(prefix="fmm-tests-") as folder:
         children = Children(Path(folder), more)
         try:

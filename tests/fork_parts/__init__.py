@@ -1,0 +1,1 @@
+"""Commands of the package in forks of one process."""

@@ -1,0 +1,93 @@
+"""`server.py ADDRESS MODULE ..` imports modules of the package, and forks a child for each command that comes to a socket."""
+from __future__ import annotations
+
+import importlib
+import json
+import os
+import signal
+import socket
+import sys
+import traceback
+from collections.abc import Sequence
+from contextlib import suppress
+from types import FrameType
+from typing import NoReturn, Optional
+
+
+def perform(words: list[str], folder: str, environment: dict[str, str], files: Sequence[int]) -> NoReturn:
+    """Does what `python3 -m fmm WORDS` does, with these files as standard input, output and error."""
+    status = 99
+    try:
+        signal.signal(signal.SIGINT, signal.default_int_handler)  # ignored if a shell runs the tests in the background
+        signal.signal(signal.SIGTERM, signal.SIG_DFL)
+        for number, file in enumerate(files):
+            os.dup2(file, number)
+        os.closerange(3, 64)
+        sys.stdin, sys.stdout, sys.stderr = (open(number, "w" if number else "r", closefd=False) for number in range(3))
+        os.environ.clear()
+        os.environ.update(environment)
+        os.chdir(folder)
+        from fmm.commands import main
+        status = main(words) or 0
+        sys.stdout.flush()
+    except SystemExit as end:
+        status = end.code if isinstance(end.code, int) else 1 if end.code else 0
+    except BaseException:
+        traceback.print_exc()
+    finally:
+        os._exit(status)
+
+
+def answer(connection: socket.socket) -> None:
+    """Runs the command of a connection, and says first its process id, and then its status."""
+    text, files, _, _ = socket.recv_fds(connection, 1 << 20, 3)
+    child = os.fork()
+    if child == 0:
+        perform(*json.loads(text), files)
+    for number in files:
+        os.close(number)
+    with suppress(OSError):  # the client may be gone
+        connection.send(b"%d" % child)
+        connection.send(b"%d" % os.waitstatus_to_exitcode(os.waitpid(child, 0)[1]))
+
+
+def reap(how: int) -> None:
+    """Waits for children that ended, or for all."""
+    with suppress(ChildProcessError):
+        while os.waitpid(-1, how) != (0, 0):
+            pass
+
+
+def end(number: int, frame: Optional[FrameType]) -> NoReturn:
+    """Ends the server when all its commands have ended."""
+    reap(0)
+    sys.exit(0)
+
+
+def serve(address: str) -> NoReturn:
+    """Answers each connection in a child, which forks the command, so that the status can be told when it has ended."""
+    signal.signal(signal.SIGTERM, end)
+    listener = socket.socket(socket.AF_UNIX, socket.SOCK_SEQPACKET)
+    listener.bind(address)
+    listener.listen(64)
+    print("ready", flush=True)
+    while True:
+        connection, _ = listener.accept()
+        reap(os.WNOHANG)
+        if os.fork() == 0:
+            signal.signal(signal.SIGTERM, signal.SIG_DFL)
+            listener.close()
+            try:
+                answer(connection)
+            finally:
+                os._exit(0)
+        connection.close()
+
+
+if __name__ == "__main__":
+    for name in sys.argv[2:]:
+        importlib.import_module(name)
+    with suppress(Exception):
+        from fmm import _programs
+        _programs.program(False)  # so that a fork need not ask for it
+    serve(sys.argv[1])
