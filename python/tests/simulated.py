@@ -9,6 +9,7 @@ from __future__ import annotations
 import calendar
 import collections
 import functools
+import itertools
 import math
 import random
 from dataclasses import dataclass, field
@@ -58,14 +59,13 @@ class Town:
         self.leaving[begin].append(len(self.edges))
         self.edges.append(Edge(begin, end, line, length, street))
 
-    def place(self, edge: int, along: float) -> Place:
-        line = self.edges[edge].line
-        for (ax, ay), (bx, by) in zip(line, line[1:]):
-            length = math.dist((ax, ay), (bx, by))
-            if along <= length:
-                return ax + along / length * (bx - ax), ay + along / length * (by - ay)
-            along -= length
-        return line[-1]
+    def places(self, edges: np.ndarray, along: np.ndarray) -> np.ndarray:
+        """The places so far along these edges, whose lines have a bend each."""
+        begin, bend, end = np.array([edge.line for edge in self.edges])[edges].transpose(1, 0, 2)
+        first, second = (np.hypot(*(to - of).T) for of, to in ((begin, bend), (bend, end)))
+        before = np.minimum(along / first, 1)[:, None]
+        after = np.clip((along - first) / second, 0, 1)[:, None]
+        return begin + before * (bend - begin) + after * (end - bend)
 
     def network_text(self) -> str:
         """The network file; edges have ids from 1."""
@@ -106,36 +106,31 @@ class Drive:
 
 def drive(rng: random.Random, town: Town, slow: float) -> Drive:
     """A drive, each STEP seconds."""
-    times, edges, places, stood = [], [], [], []
-    edge, along, speed, wait, halt = rng.randrange(len(town.edges)), 30.0, 0.0, 0.0, 0.0
+    edges, places, stood = [], [], []
+    edge, along, speed = rng.randrange(len(town.edges)), 30.0, 0.0
     parkings = iter(rng.sample(PARKED, 2))
     parks_at, parks_for = rng.uniform(0.2, 0.35) * LASTS, next(parkings)
     stops, parks = rng.random() < 0.3, False
     length, usual = town.edges[edge].length, (7 + 7 * (edge * 37 % 11) / 11) / slow
-    time = 0.0
-    while time < LASTS:
-        times.append(time)
+    while len(edges) < LASTS / STEP:
         edges.append(edge)
         places.append(along)
-        stood.append(speed == 0.0 and (wait > 0 or halt > 0))
-        time += STEP
-        if not parks and parks_at < time and 25 < along < length - 60:
+        stood.append(False)
+        if not parks and parks_at < STEP * len(edges) and 25 < along < length - 60:
             parks, goal = True, along + 35 + rng.uniform(0, 20)
         target = usual
         if stops or parks:
             left = (goal if parks else length - 4) - along
             if left < 0.5:
+                rest = round((parks_for if parks else rng.uniform(4, 30)) / STEP)
+                edges += rest * [edge]
+                places += rest * [along]
+                stood += rest * [True]
+                speed = 0.0
                 if parks:
-                    halt = (halt or parks_for) - STEP
+                    parks, parks_at, parks_for = False, STEP * len(edges) + 0.2 * LASTS, next(parkings, 300)
                 else:
-                    wait = (wait or rng.uniform(4, 30)) - STEP
-                if halt > 0 or wait > 0:
-                    speed = 0.0
-                    continue
-                if parks:
-                    parks, halt, parks_at, parks_for = False, 0.0, time + 0.2 * LASTS, next(parkings, 300)
-                else:
-                    stops, wait = False, 0.0
+                    stops = False
             if stops or parks:
                 target = min(target, math.sqrt(2 * 1.5 * max(left, 0.1)))
         speed = min(max(speed - 3 * STEP, target), speed + 1.5 * STEP)
@@ -146,7 +141,8 @@ def drive(rng: random.Random, town: Town, slow: float) -> Drive:
             edge = rng.choice([e for e in town.leaving[end] if town.edges[e].end != begin])
             length, usual = town.edges[edge].length, (7 + 7 * (edge * 37 % 11) / 11) / slow
             stops = rng.random() < 0.3
-    return Drive(np.array(times), np.array(edges), np.array(places), np.array(stood))
+    count = round(LASTS / STEP)
+    return Drive(STEP * np.arange(count), *(np.array(values[:count]) for values in (edges, places, stood)))
 
 
 @functools.lru_cache(maxsize=None)
@@ -161,14 +157,14 @@ def driven(seed: int) -> Tuple[Town, List[Tuple[str, float, Drive]]]:
 @functools.lru_cache(maxsize=1)
 def made(seed: int, interval: int, silent: bool) -> Tuple[Town, pd.DataFrame, Truth]:
     town, drives = driven(seed)
-    errors, truth = random.Random(seed), Truth()
-    rows: List[Tuple[float, str, float, float]] = []
+    errors, truth = np.random.RandomState(seed), Truth()
+    tables = []
     for vehicle, start, one in drives:
         found = follow(errors, town, one, interval, silent)
-        rows += [(start + second, vehicle, x, y) for second, x, y in found]
-        add_truth(truth, town, one, vehicle, start, found[-1][0])
-    rows.sort(key=lambda row: row[0])
-    return town, pd.DataFrame(rows, columns=["time", "vehicle", "x", "y"])[["vehicle", "x", "y", "time"]], truth
+        tables.append(found.assign(vehicle=vehicle, time=found["time"] + start))
+        add_truth(truth, town, one, vehicle, start, found["time"].iloc[-1])
+    positions = pd.concat(tables).sort_values("time", kind="stable", ignore_index=True)
+    return town, positions[["vehicle", "x", "y", "time"]], truth
 
 
 def fleet(seed: int = 7, interval: int = 2, silent: bool = False) -> Tuple[Town, pd.DataFrame, Truth]:
@@ -178,25 +174,17 @@ def fleet(seed: int = 7, interval: int = 2, silent: bool = False) -> Tuple[Town,
     return town, positions.copy(), truth
 
 
-def follow(rng: random.Random, town: Town, one: Drive, interval: int, silent: bool) -> List[Tuple[int, float, float]]:
+def follow(errors: np.random.RandomState, town: Town, one: Drive, interval: int, silent: bool) -> pd.DataFrame:
     """The positions of a drive: seconds, x and y."""
-    rows = []
+    at = np.arange(0, len(one.time), round(interval / STEP))
     share = 0.975 ** interval
     step = 2 * math.sqrt(1 - share * share)
-    x_error = y_error = 0.0
-    stood_since = 0
-    seconds = np.round(one.time).astype(int)
-    at = np.flatnonzero((abs(one.time - seconds) <= STEP / 2) & (seconds % interval == 0))
-    for place, second, edge, along, stands in zip(*(array.tolist() for array in (
-            at, seconds[at], one.edge[at], one.along[at], one.stands[at]))):
-        x_error = share * x_error + rng.gauss(0, step)
-        y_error = share * y_error + rng.gauss(0, step)
-        stood_since = stood_since if stands else place
-        if silent and stands and STEP * (place - stood_since) > 20:
-            continue
-        x, y = town.place(edge, along)
-        rows.append((second, x + x_error + rng.gauss(0, 0.5), y + y_error + rng.gauss(0, 0.5)))
-    return rows
+    news = errors.normal(0, step, (2, len(at))).tolist()
+    wander = np.array([list(itertools.accumulate(new, lambda error, more: share * error + more)) for new in news]).T
+    xy = town.places(one.edge[at], one.along[at]) + wander + errors.normal(0, 0.5, (len(at), 2))
+    found = pd.DataFrame({"time": np.rint(one.time[at]).astype(int), "x": xy[:, 0], "y": xy[:, 1]})
+    moved = np.maximum.accumulate(np.where(one.stands[at], 0, at))
+    return found[STEP * (at - moved) <= 20] if silent else found
 
 
 def add_truth(truth: Truth, town: Town, one: Drive, vehicle: str, start: float, last: float) -> None:

@@ -18,18 +18,43 @@ import pytest
 import fmm
 from fmm import _picture, commands
 
+TOP = Path(__file__).resolve().parents[2]
+SMALL = TOP / "recipes" / "small"
+FRONT = [str(TOP / "fmm"), "run"]
 TABLES = ["distances", "edges", "network_edges", "points", "routes", "stops", "travel_times"]
 FILES = sorted([f"{name}.{end}" for name in TABLES for end in ("csv", "csvt")] + [
     "map.html", "matches.json", "picture.png", "report.txt", "result.gpkg", "result.json"])
 
 
-@pytest.fixture
-def place(tmp_path: Path, small: Path, monkeypatch: pytest.MonkeyPatch) -> Path:
-    """A folder with the small map and tracks, in which the test runs."""
+def fill(folder: Path) -> None:
     for name in ("village.osm", "monday.gpx", "walk.gpx", "fleet.csv", "roads.csv"):
-        shutil.copy(small / name, tmp_path)
+        shutil.copy(SMALL / name, folder)
+
+
+@pytest.fixture
+def place(tmp_path: Path, monkeypatch: pytest.MonkeyPatch) -> Path:
+    """A folder with the small map and tracks, in which the test runs."""
+    fill(tmp_path)
     monkeypatch.chdir(tmp_path)
     return tmp_path
+
+
+@pytest.fixture(scope="module")
+def made(tmp_path_factory: pytest.TempPathFactory) -> tuple[Path, str]:
+    """The results of `fmm run village.osm monday.gpx`, as ./fmm makes them in a process of its own, and what it says."""
+    folder = tmp_path_factory.mktemp("made")
+    fill(folder)
+    done = subprocess.run([*FRONT, "village.osm", "monday.gpx", "--into", "out"], cwd=folder, capture_output=True, text=True,
+                          env={**os.environ, "FMM_PYTHON": sys.executable})
+    assert (done.returncode, done.stderr) == (0, "")
+    return folder / "out", done.stdout
+
+
+@pytest.fixture
+def done(place: Path, made: tuple[Path, str]) -> str:
+    """The same results are in the folder in which the test runs. Gives what the command said."""
+    shutil.copytree(made[0], "out")
+    return made[1]
 
 
 def run(*words: str) -> int:
@@ -41,11 +66,10 @@ def rows(name: str) -> list[dict[str, str]]:
         return list(csv.DictReader(file))
 
 
-def test_results(place: Path, capsys: pytest.CaptureFixture[str]) -> None:
-    assert run("village.osm", "monday.gpx") == 0
+def test_results(done: str) -> None:
     assert sorted(os.listdir("out")) == FILES
     report = Path("out/report.txt").read_text()
-    assert report == capsys.readouterr().out
+    assert report == done
     assert report.startswith("positions: 33, with an edge: 33 (100.0 %)\n")
     assert "option back: " in report and "projection: EPSG:32632" in report and "left out: 1 nodes" in report
     points = rows("points.csv")
@@ -60,10 +84,8 @@ def test_results(place: Path, capsys: pytest.CaptureFixture[str]) -> None:
     assert json.loads(Path("out/result.json").read_text())["kind"] == "matches"
 
 
-@pytest.mark.filterwarnings("error:You are attempting to write an empty DataFrame")
-def test_layers(place: Path) -> None:
+def test_layers(done: str) -> None:
     """The GeoPackage has typed layers, as GDAL itself reads them."""
-    assert run("village.osm", "monday.gpx") == 0
     names = ("points", "routes", "edges", "network", "stops")
     layers = {name: geopandas.read_file("out/result.gpkg", layer=name) for name in names}
     assert [len(layers[name]) for name in ("points", "routes", "network")] == [33, 2, 26]
@@ -75,6 +97,10 @@ def test_layers(place: Path) -> None:
     assert "entry: DateTime" in said and "seconds: Real" in said and "whole: Integer(Boolean)" in said
 
 
+EMPTY = pytest.mark.filterwarnings("error:You are attempting to write an empty DataFrame")
+
+
+@EMPTY
 def test_pbf(place: Path) -> None:
     if not shutil.which("osmium"):
         pytest.skip("maps in PBF, since there is no osmium")
@@ -118,6 +144,7 @@ def test_local_times(place: Path, capsys: pytest.CaptureFixture[str]) -> None:
     assert capsys.readouterr().out.startswith("warning: 10 times name no time zone and count as UTC; timezone (--timezone)")
 
 
+@EMPTY
 def test_network_as_map(place: Path) -> None:
     fmm.Network.from_osm("village.osm").save("network.csv")
     assert run("network.csv", "monday.gpx") == 0
@@ -139,18 +166,16 @@ def test_positions_elsewhere(place: Path, capsys: pytest.CaptureFixture[str]) ->
     assert capsys.readouterr().out.startswith("warning: 33 of 33 positions have no edge")
 
 
-def test_earlier_results_are_replaced(place: Path) -> None:
-    assert run("village.osm", "monday.gpx") == 0
+def test_earlier_results_are_replaced(done: str) -> None:
     Path("out/notes.txt").write_text("mine")
     assert run("village.osm", "walk.gpx", "--profile", "foot") == 0
     assert {row["id"] for row in rows("points.csv")} == {"walk"}
     assert sorted(os.listdir("out")) == sorted([*FILES, "notes.txt"])
 
 
-def test_nothing_half_written(place: Path, monkeypatch: pytest.MonkeyPatch, capsys: pytest.CaptureFixture[str]) -> None:
+def test_nothing_half_written(done: str, monkeypatch: pytest.MonkeyPatch, capsys: pytest.CaptureFixture[str]) -> None:
     def full(*words: object) -> None:
         raise OSError(28, "No space left on device", "picture.png")
-    assert run("village.osm", "monday.gpx") == 0
     before = {name: Path("out", name).read_bytes() for name in os.listdir("out")}
     monkeypatch.setattr(_picture, "write_picture", full)
     assert run("village.osm", "walk.gpx", "--profile", "foot") == 1
@@ -280,10 +305,9 @@ def test_wrong_points(place: Path, what: str, point: str, reason: None, capsys: 
         assert first["reason"] in said.out
 
 
-def test_the_network_of_a_result_can_be_made_again(place: Path, capsys: pytest.CaptureFixture[str]) -> None:
+def test_the_network_of_a_result_can_be_made_again(done: str, capsys: pytest.CaptureFixture[str]) -> None:
     """The map of a result has candidates if it gets the network, which is that of the box in the report."""
-    assert run("village.osm", "monday.gpx") == 0
-    found = re.search(r"from (\S+), (\S+) to (\S+), (\S+) degrees was read", capsys.readouterr().out)
+    found = re.search(r"from (\S+), (\S+) to (\S+), (\S+) degrees was read", done)
     assert found and json.loads(Path("out/result.json").read_text())["network"]["path"] is None
     assert commands.main(["network", "village.osm", "--into", "network.csv", "--bbox", ",".join(found.groups())]) == 0
     capsys.readouterr()
@@ -303,14 +327,10 @@ def test_what_to_look_at_is_a_warning(place: Path, capsys: pytest.CaptureFixture
     assert said.out.startswith("warning: 1 of 1 positions have no edge") and said.err == ""
 
 
-def test_front(place: Path, top: Path) -> None:
-    """./fmm run in a process of its own, with standard output that is closed."""
-    words = [top / "fmm", "run", "village.osm", "monday.gpx", "--into", "out"]
-    environment = {**os.environ, "FMM_PYTHON": sys.executable}
-    done = subprocess.run(words, capture_output=True, text=True, env=environment)
-    assert (done.returncode, done.stderr) == (0, "")
-    assert done.stdout == Path("out/report.txt").read_text()
-    assert subprocess.run([*words, "--help"], capture_output=True, text=True, env=environment).stdout.startswith("usage: fmm run")
+def test_front() -> None:
+    """./fmm run explains itself in a process of its own; the fixture `made` has its results."""
+    said = subprocess.run([*FRONT, "--help"], capture_output=True, text=True, env={**os.environ, "FMM_PYTHON": sys.executable})
+    assert said.stdout.startswith("usage: fmm run")
 
 
 def test_each_option_is_explained() -> None:

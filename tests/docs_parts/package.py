@@ -7,7 +7,13 @@ import shutil
 import subprocess
 import sys
 import threading
+from contextlib import contextmanager
 
+from fork_parts.forker import Forker
+
+# What most commands import.
+MODULES = ("fmm.commands.run", "fmm.map", "fmm.matches", "fmm.matching", "fmm._exports", "fmm._osm", "fmm._picture", "fmm._runs",
+           "matplotlib.backends.backend_agg")
 TOOLS = ("sqlite3", "ogrinfo", "ogr2ogr", "osmium")
 LIBRARIES = "geopandas gpxpy numpy osmium pandas pyproj shapely tqdm".split()
 SESSION = """
@@ -55,12 +61,26 @@ def lacking(top, language, text):
     return f"there is no {missing[0]}" if missing else None
 
 
+@contextmanager
+def forked_python(top):
+    """A program that runs commands of the package as Python does, in forks of a process that has its modules. None if no Python
+    has the libraries, or if there is no package."""
+    if not commands(top) or not python():
+        yield None
+        return
+    forker = Forker(python(), os.path.join(top, "python", "src"), MODULES)
+    try:
+        yield str(forker.python)
+    finally:
+        forker.close()
+
+
 class Session:
     """Python in the folder of a page. The blocks of a page share their names."""
 
     def __init__(self, room, seconds):
         self.seconds = seconds
-        source = os.path.join(room, "python", "src")
+        source = os.path.realpath(os.path.join(room, "python", "src"))  # where compiled modules are kept for it
         self.process = subprocess.Popen([python(), "-c", SESSION], cwd=room, stdin=subprocess.PIPE, stdout=subprocess.PIPE,
                                         stderr=subprocess.DEVNULL, text=True, env={
                                             **os.environ, "LC_ALL": "C.UTF-8", "PYTHONDONTWRITEBYTECODE": "1",
