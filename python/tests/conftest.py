@@ -6,6 +6,8 @@ from pathlib import Path
 
 import profiles  # noqa: F401  sets the profile of hypothesis
 import pytest
+from browsers import browser, chromium  # noqa: F401  fixtures
+from databases import cluster, server  # noqa: F401  fixtures
 
 TOP = Path(__file__).resolve().parents[2]
 sys.dont_write_bytecode = sys.pycache_prefix is None

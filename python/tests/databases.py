@@ -27,12 +27,16 @@ class Server:
         assert done.returncode == 0, done.stdout + done.stderr
 
     def start(self) -> None:
-        """Makes the database fleet and starts the server."""
+        """Starts the server with a database that others are made of."""
         data = str(self.folder / "data")
         self.call("initdb", "-D", data, "-U", "fleet", "-A", "trust", "-E", "UTF8", "--locale=C", "--no-sync")
         self.begin()
-        for words in (["createdb", "fleet"], ["psql", "-q", "-d", "fleet", "-c", "CREATE EXTENSION postgis"]):
-            subprocess.run(words, check=True, env=self.environment, capture_output=True)
+        self.ask("createdb", "with_postgis")
+        self.ask("psql", "-q", "-d", "with_postgis", "-c", "CREATE EXTENSION postgis")
+
+    def ask(self, *words: str) -> None:
+        """Runs a program that asks the server."""
+        subprocess.run(words, check=True, env=self.environment, capture_output=True)
 
     def begin(self) -> None:
         """Starts it on the folder that it has."""
@@ -45,8 +49,8 @@ class Server:
         self.call("pg_ctl", "-D", str(self.folder / "data"), "-m", "immediate", "stop")
 
 
-@pytest.fixture
-def server() -> Iterator[Server]:
+@pytest.fixture(scope="session")
+def cluster() -> Iterator[Server]:
     found = sorted(glob.glob("/usr/lib/postgresql/*/bin/initdb"))
     has = glob.glob("/usr/share/postgresql/*/extension/postgis.control")
     missing = [name for name in ("ogr2ogr", "psql", "createdb") if not shutil.which(name)]
@@ -62,3 +66,11 @@ def server() -> Iterator[Server]:
             yield made
         finally:
             made.stop()
+
+
+@pytest.fixture
+def server(cluster: Server) -> Iterator[Server]:
+    """The server with an empty database fleet."""
+    cluster.ask("createdb", "-T", "with_postgis", "fleet")
+    yield cluster
+    cluster.ask("dropdb", "--force", "fleet")

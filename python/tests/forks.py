@@ -8,12 +8,14 @@ import subprocess
 import sys
 import tempfile
 import traceback
-from collections.abc import Callable, Mapping, Sequence
+from collections.abc import Callable, Iterator, Mapping, Sequence
 from dataclasses import dataclass
 from pathlib import Path
 from typing import Any, NoReturn, Optional
 
-from fmm import commands
+from fork_parts import forker, server
+
+from fmm import _programs, commands
 
 
 @dataclass(frozen=True)
@@ -48,6 +50,25 @@ def run(*words: str, given: str = "", folder: Optional[Path] = None, env: Option
         out.seek(0)
         error.seek(0)
         return Done(status, out.read().decode(), error.read().decode())
+
+
+@contextlib.contextmanager
+def python() -> Iterator[str]:
+    """A program that ./fmm takes as its Python (FMM_PYTHON), and that runs commands in forks of this process."""
+    _programs.program(False)  # so that a fork need not ask for it
+    with tempfile.TemporaryDirectory(prefix="fmm-forks-") as folder:
+        address = f"{folder}/socket"
+        listener = server.listen(address)
+        pid = os.fork()
+        if pid == 0:
+            server.serve(listener)
+        listener.close()
+        forker.write_python(Path(folder, "python"), sys.executable, address)
+        try:
+            yield f"{folder}/python"
+        finally:
+            os.kill(pid, signal.SIGTERM)
+            os.waitpid(pid, 0)
 
 
 def _perform(words: list[str], files: Sequence[int], folder: Any, environment: Optional[Mapping[str, str]],

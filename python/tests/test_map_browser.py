@@ -1,34 +1,14 @@
 """The map in a browser: Chromium opens the file without a network, clicks, filters, and counts what is drawn."""
 from __future__ import annotations
 
-import shutil
 import time
 from pathlib import Path
-from typing import Any, Callable, Iterator
+from typing import Any, Callable
 
 import pytest
 from maps import example
 
-CHROMIUM, DRIVER, LEAFLET = shutil.which("chromium"), shutil.which("chromedriver"), Path("/usr/share/javascript/leaflet")
-selenium = pytest.importorskip("selenium", reason="the map in a browser, since there is no python3-selenium")
-pytestmark = pytest.mark.skipif(not (CHROMIUM and DRIVER and LEAFLET.is_dir()),
-                                reason="the map in a browser, since chromium, chromium-driver or libjs-leaflet is not installed")
 PATIENCE = 60  # seconds, on a machine that does much else
-
-
-@pytest.fixture(scope="module")
-def browser() -> Iterator[Any]:
-    from selenium.webdriver import Chrome
-    from selenium.webdriver.chrome.options import Options
-    from selenium.webdriver.chrome.service import Service
-    options = Options()
-    for word in ("--headless=new", "--no-sandbox", "--disable-gpu", "--disable-dev-shm-usage", "--window-size=1280,900",
-                 "--host-resolver-rules=MAP * ~NOTFOUND"):
-        options.add_argument(word)
-    options.set_capability("goog:loggingPrefs", {"browser": "ALL"})
-    driver = Chrome(options=options, service=Service(DRIVER))
-    yield driver
-    driver.quit()
 
 
 @pytest.fixture(scope="module")
@@ -40,7 +20,6 @@ def address(tmp_path_factory: Any) -> str:
 
 @pytest.fixture
 def page(browser: Any, address: str) -> Any:
-    browser.set_window_size(1280, 900)
     browser.get(address)
     wait(lambda: browser.execute_script("return Boolean(window.fmm && fmm.ready)"))
     assert browser.execute_script("return fmm.fault || null") is None

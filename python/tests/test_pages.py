@@ -5,10 +5,12 @@ import csv
 import os
 import re
 import subprocess
-import sys
+from collections.abc import Iterator
 from pathlib import Path
 
-from databases import Server, server  # noqa: F401  a fixture
+import forks
+import pytest
+from databases import Server
 
 
 def blocks(page: Path) -> dict[str, str]:
@@ -16,14 +18,21 @@ def blocks(page: Path) -> dict[str, str]:
     return dict(re.findall(r"^```sh (\w+)\n(.*?)^```", page.read_text(encoding="utf-8"), re.M | re.S))
 
 
-def test_postgis(server: Server, top: Path, tmp_path: Path) -> None:  # noqa: F811
+@pytest.fixture
+def python() -> Iterator[str]:
+    """What runs the commands of a page."""
+    with forks.python() as program:
+        yield program
+
+
+def test_postgis(server: Server, python: str, top: Path, tmp_path: Path) -> None:
     for name in ("fmm", "recipes"):
         os.symlink(top / name, tmp_path / name)
     page = blocks(top / "recipes" / "postgis.md")
 
     def said(name: str) -> list[dict[str, str]]:
         done = subprocess.run(["bash", "-e", "-c", page[name]], cwd=tmp_path, capture_output=True, text=True,
-                              env={**server.environment, "FMM_PYTHON": sys.executable})
+                              env={**server.environment, "FMM_PYTHON": python})
         assert done.returncode == 0, done.stderr
         return list(csv.DictReader(done.stdout.splitlines()))
 

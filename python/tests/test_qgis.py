@@ -11,6 +11,7 @@ from collections.abc import Iterator
 from pathlib import Path
 from typing import Any, Callable
 
+import forks
 import geopandas
 import pytest
 from services import TOP, alive
@@ -26,6 +27,14 @@ PROGRAM = shutil.which("qgis_process.bin") or shutil.which("qgis_process")
 
 
 Process = Callable[..., "subprocess.CompletedProcess[str]"]
+
+
+@pytest.fixture(scope="module", autouse=True)
+def python() -> Iterator[None]:
+    """The commands that the plugin starts need no new Python each."""
+    with forks.python() as program, pytest.MonkeyPatch.context() as patch:
+        patch.setenv("FMM_PYTHON", program)
+        yield
 
 
 @pytest.fixture(scope="module")
@@ -48,8 +57,8 @@ Algorithm = Callable[..., "tuple[dict[str, Any], bool, str]"]
 
 @pytest.fixture(scope="module")
 def algorithm(tmp_path_factory: pytest.TempPathFactory) -> Iterator[Algorithm]:
-    """Runs an algorithm of the plugin in a QGIS of this process, whose start takes a third of that of `qgis_process`. It gives the
-    results, whether the algorithm succeeded, and its log."""
+    """Runs an algorithm of the plugin in a QGIS of this process, whose start takes a third of that of `qgis_process`. It gives
+    the results, whether the algorithm succeeded, and its log."""
     core = pytest.importorskip("qgis.core", reason="the plugin of QGIS, since there is no python3-qgis")
     with pytest.MonkeyPatch.context() as patch:
         patch.setenv("QT_QPA_PLATFORM", "offscreen")

@@ -160,45 +160,24 @@ data.items.add(new File([arguments[0]], "walk.gpx"));
 document.getElementById("map").dispatchEvent(new DragEvent("drop", {dataTransfer: data, bubbles: true, cancelable: true}));"""
 
 
-def test_a_browser_matches_a_file(service: Service, tmp_path: Path) -> None:
-    driver = browser()
-    try:
-        driver.set_window_size(1200, 800)
-        driver.get(service.url + "/")
-        driver.find_element("id", "file").send_keys(str(SMALL / "monday.gpx"))
-        from selenium.webdriver.support.ui import WebDriverWait  # type: ignore[import]
-        WebDriverWait(driver, 60).until(lambda d: "positions have a road" in d.find_element("id", "says").text)
-        drawn = driver.execute_script("return window.drawn")
-        text = (SMALL / "monday.gpx").read_bytes()
-        answer = posted(service, text, "application/gpx+xml")
-        points = [point["properties"]["edge"] is not None for point in layer(answer, "points") if point["geometry"]]
-        lines = [route for route in layer(answer, "routes") if route["geometry"]]
-        assert drawn == {"routes": len(lines), "points": sum(points), "off": len(points) - sum(points),
-                         "pieces": len(layer(answer, "routes"))}
-        driver.execute_script(DROP, (SMALL / "walk.gpx").read_text())
-        WebDriverWait(driver, 60).until(lambda d: "walk.gpx:" in d.find_element("id", "says").text)
-        points = layer(posted(service, (SMALL / "walk.gpx").read_bytes(), "application/gpx+xml"), "points")
-        drawn = driver.execute_script("return window.drawn")
-        assert drawn["points"] + drawn["off"] == sum(point["geometry"] is not None for point in points) > 0
-        faults = [entry for entry in driver.get_log("browser") if entry["level"] == "SEVERE"]
-        assert not faults
-    finally:
-        driver.quit()
-
-
-def browser() -> Any:
-    """Chromium without a window; the test is left out where it is missing."""
-    selenium = pytest.importorskip("selenium.webdriver", reason="python3-selenium is not installed")
-    for program in ("/usr/bin/chromium", "/usr/bin/chromedriver", "/usr/share/javascript/leaflet/leaflet.js"):
-        if not Path(program).exists():
-            pytest.skip(f"{program} is not installed")
-    options = selenium.ChromeOptions()
-    options.binary_location = "/usr/bin/chromium"
-    for word in ("--headless=new", "--no-sandbox", "--disable-gpu", "--disable-dev-shm-usage"):
-        options.add_argument(word)
-    options.set_capability("goog:loggingPrefs", {"browser": "ALL"})
-    from selenium.webdriver.chrome.service import Service as Driver  # type: ignore[import]
-    return selenium.Chrome(service=Driver("/usr/bin/chromedriver"), options=options)
+def test_a_browser_matches_a_file(service: Service, browser: Any) -> None:
+    from selenium.webdriver.support.ui import WebDriverWait  # type: ignore[import]
+    browser.get(service.url + "/")
+    browser.find_element("id", "file").send_keys(str(SMALL / "monday.gpx"))
+    WebDriverWait(browser, 60).until(lambda d: "positions have a road" in d.find_element("id", "says").text)
+    drawn = browser.execute_script("return window.drawn")
+    text = (SMALL / "monday.gpx").read_bytes()
+    answer = posted(service, text, "application/gpx+xml")
+    points = [point["properties"]["edge"] is not None for point in layer(answer, "points") if point["geometry"]]
+    lines = [route for route in layer(answer, "routes") if route["geometry"]]
+    assert drawn == {"routes": len(lines), "points": sum(points), "off": len(points) - sum(points),
+                     "pieces": len(layer(answer, "routes"))}
+    browser.execute_script(DROP, (SMALL / "walk.gpx").read_text())
+    WebDriverWait(browser, 60).until(lambda d: "walk.gpx:" in d.find_element("id", "says").text)
+    points = layer(posted(service, (SMALL / "walk.gpx").read_bytes(), "application/gpx+xml"), "points")
+    drawn = browser.execute_script("return window.drawn")
+    assert drawn["points"] + drawn["off"] == sum(point["geometry"] is not None for point in points) > 0
+    assert not [entry for entry in browser.get_log("browser") if entry["level"] == "SEVERE"]
 
 
 def test_numbers_are_finite(service: Service) -> None:

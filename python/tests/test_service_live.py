@@ -138,24 +138,18 @@ def test_a_service_without_a_fleet_has_no_events(tmp_path: Path) -> None:
         assert service.client.get("/network.json").json()["live"] is False
 
 
-def test_the_page_moves_with_the_fleet(live: Live) -> None:
-    from test_service_files import browser
-    driver = browser()
-    try:
-        from selenium.webdriver.support.ui import WebDriverWait  # type: ignore[import]
-        driver.set_window_size(1200, 800)
-        live.give(PLACE)
-        driver.get(live.service.url + "/")
-        row = "#vehicles tbody"
-        WebDriverWait(driver, 60).until(lambda d: "van 7" in d.find_element("css selector", row).text)
-        moves = driver.execute_script("return window.drawn.moves")
-        live.give({**PLACE, "time": "2024-05-06T08:00:05Z", "street": "Am <b>Markt</b>", "speed": 30.2, "kind": "provisional"})
-        WebDriverWait(driver, 60).until(lambda d: d.execute_script("return window.drawn.moves") > moves)
-        text = driver.find_element("css selector", row).text
-        assert "Am <b>Markt</b>" in text and "30 km/h" in text
-        live.give({"kind": "drive", "vehicle": "van 7", "metres": 10,
-                   "route": {"type": "MultiLineString", "coordinates": [[[9.43, 54.31], [9.431, 54.31]]]}})
-        WebDriverWait(driver, 60).until(lambda d: d.execute_script("return window.drawn.drives") == 1)
-        assert not [entry for entry in driver.get_log("browser") if entry["level"] == "SEVERE"]
-    finally:
-        driver.quit()
+def test_the_page_moves_with_the_fleet(live: Live, browser: Any) -> None:
+    from selenium.webdriver.support.ui import WebDriverWait  # type: ignore[import]
+    live.give(PLACE)
+    browser.get(live.service.url + "/")
+    row = "#vehicles tbody"
+    WebDriverWait(browser, 60).until(lambda d: "van 7" in d.find_element("css selector", row).text)
+    moves = browser.execute_script("return window.drawn.moves")
+    live.give({**PLACE, "time": "2024-05-06T08:00:05Z", "street": "Am <b>Markt</b>", "speed": 30.2, "kind": "provisional"})
+    WebDriverWait(browser, 60).until(lambda d: d.execute_script("return window.drawn.moves") > moves)
+    text = browser.find_element("css selector", row).text
+    assert "Am <b>Markt</b>" in text and "30 km/h" in text
+    live.give({"kind": "drive", "vehicle": "van 7", "metres": 10,
+               "route": {"type": "MultiLineString", "coordinates": [[[9.43, 54.31], [9.431, 54.31]]]}})
+    WebDriverWait(browser, 60).until(lambda d: d.execute_script("return window.drawn.drives") == 1)
+    assert not [entry for entry in browser.get_log("browser") if entry["level"] == "SEVERE"]

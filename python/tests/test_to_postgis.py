@@ -7,7 +7,7 @@ from typing import Any
 import geopandas
 import numpy as np
 import pytest
-from databases import Server, server  # noqa: F401  a fixture
+from databases import Server
 
 import fmm
 from fmm.errors import OutputError
@@ -30,7 +30,7 @@ def counts(engine: Any, schema: str = "public") -> list[int]:
         return [connection.execute(sqlalchemy.text(f"SELECT count(*) FROM {schema}.{name}")).scalar() for name in TABLES]
 
 
-def test_the_four_tables_are_written_whole_or_not_at_all(server: Server, matches: Matches) -> None:  # noqa: F811
+def test_the_four_tables_are_written_whole_or_not_at_all(server: Server, matches: Matches) -> None:
     engine = sqlalchemy.create_engine(f"postgresql://fleet@/fleet?host={server.folder}")
     assert matches.network is not None
     wanted = [len(table) for table in (matches.points, matches.routes, matches.edges, matches.network.edges)]

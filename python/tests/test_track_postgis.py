@@ -7,27 +7,26 @@ import re
 import shutil
 import signal
 import subprocess
-import sys
 import time
 from pathlib import Path
 from typing import Any
 
 import pytest
 from brokers import Broker, needs_mosquitto
-from databases import Server, server  # noqa: F401  a fixture
-from test_pages import blocks
+from databases import Server
+from test_pages import blocks, python  # noqa: F401  a fixture
 from tracks import Run, assert_once_and_as_matched, fleet, of_kind
 
 pytest.importorskip("psycopg2", reason="python3-psycopg2 is not installed")
 
 
-def rows(server: Server, query: str) -> list[list[str]]:  # noqa: F811
+def rows(server: Server, query: str) -> list[list[str]]:
     done = subprocess.run(["psql", "-d", "fleet", "-A", "-t", "-F", "|", "-c", query], check=True, env=server.environment,
                           capture_output=True, text=True)
     return [line.split("|") for line in done.stdout.splitlines()]
 
 
-def test_a_database_has_each_position_once(server: Server, tmp_path: Path) -> None:  # noqa: F811
+def test_a_database_has_each_position_once(server: Server, tmp_path: Path) -> None:
     made = fleet(tmp_path, 12)
     lines, address = made.lines(), f"postgresql://fleet@/fleet?host={server.folder}"
     words = ["--to", address, "--to", "-", "--wait", "10"]
@@ -61,12 +60,12 @@ def test_a_database_has_each_position_once(server: Server, tmp_path: Path) -> No
 
 @needs_mosquitto
 @pytest.mark.skipif(not shutil.which("mosquitto_pub"), reason="mosquitto-clients is not installed")
-def test_the_page_leads_from_a_message_to_a_row(server: Server, top: Path, tmp_path: Path) -> None:  # noqa: F811
+def test_the_page_leads_from_a_message_to_a_row(server: Server, python: str, top: Path, tmp_path: Path) -> None:  # noqa: F811
     page = blocks(top / "docs" / "LIVE.md")
     shown = re.search(r"```sh now\n.*?```\n```text\n(.*?)```", (top / "docs" / "LIVE.md").read_text(), re.S)
     os.symlink(top / "fmm", tmp_path / "fmm")
     broker = Broker(tmp_path)
-    environment = {**server.environment, "FMM_PYTHON": sys.executable}
+    environment = {**server.environment, "FMM_PYTHON": python}
 
     def bash(text: str, **more: Any) -> Any:
         text = text.replace("localhost", f"localhost:{broker.port}").replace("mosquitto_pub", f"mosquitto_pub -p {broker.port}")

@@ -13,8 +13,15 @@ from . import client
 SERVER, CLIENT = (Path(__file__).with_name(f"{name}.py") for name in ("server", "client"))
 
 
+def write_python(path: Path, python: str, address: str) -> None:
+    """Writes a program that ./fmm takes as its Python: it has its commands run by the server at this address."""
+    words = " ".join(map(shlex.quote, [python, "-IS", str(CLIENT), address]))
+    path.write_text(f'#!/bin/sh\n[ "$1 $2" = "-m fmm" ] || exec {shlex.quote(python)} "$@"\nshift 2\nexec {words} "$@"\n')
+    path.chmod(0o755)
+
+
 class Forker:
-    """A server of forks. It is started by this Python with the sources of the package in a folder, and imports these modules."""
+    """A server of forks, started by this Python with the sources of the package in a folder. It imports these modules."""
 
     def __init__(self, python: str, sources: str, modules: Sequence[str]) -> None:
         self.folder = tempfile.TemporaryDirectory(prefix="fmm-forks-")
@@ -22,9 +29,7 @@ class Forker:
         self.process = subprocess.Popen([python, str(SERVER), self.address, *modules], stdin=subprocess.DEVNULL,
                                         stdout=subprocess.PIPE, env={**os.environ, "PYTHONPATH": sources})
         self.python = Path(self.folder.name, "python")
-        words = " ".join(map(shlex.quote, [python, "-IS", str(CLIENT), self.address]))
-        self.python.write_text(f'#!/bin/sh\n[ "$1 $2" = "-m fmm" ] || exec {shlex.quote(python)} "$@"\nshift 2\nexec {words} "$@"\n')
-        self.python.chmod(0o755)
+        write_python(self.python, python, self.address)
         assert self.process.stdout
         self.process.stdout.readline()  # it listens
 

@@ -1,6 +1,7 @@
 """`server.py ADDRESS MODULE ..` imports modules of the package, and forks a child for each command that comes to a socket."""
 from __future__ import annotations
 
+import gc
 import importlib
 import json
 import os
@@ -61,16 +62,20 @@ def reap(how: int) -> None:
 def end(number: int, frame: Optional[FrameType]) -> NoReturn:
     """Ends the server when all its commands have ended."""
     reap(0)
-    sys.exit(0)
+    os._exit(0)
 
 
-def serve(address: str) -> NoReturn:
-    """Answers each connection in a child, which forks the command, so that the status can be told when it has ended."""
-    signal.signal(signal.SIGTERM, end)
+def listen(address: str) -> socket.socket:
+    """A socket to which commands may come."""
     listener = socket.socket(socket.AF_UNIX, socket.SOCK_SEQPACKET)
     listener.bind(address)
     listener.listen(64)
-    print("ready", flush=True)
+    return listener
+
+
+def serve(listener: socket.socket) -> NoReturn:
+    """Answers each connection in a child, which forks the command, so that the status can be told when it has ended."""
+    signal.signal(signal.SIGTERM, end)
     while True:
         connection, _ = listener.accept()
         reap(os.WNOHANG)
@@ -86,8 +91,12 @@ def serve(address: str) -> NoReturn:
 
 if __name__ == "__main__":
     for name in sys.argv[2:]:
-        importlib.import_module(name)
+        with suppress(ImportError):  # a command that needs it says so
+            importlib.import_module(name)
     with suppress(Exception):
         from fmm import _programs
         _programs.program(False)  # so that a fork need not ask for it
-    serve(sys.argv[1])
+    gc.freeze()  # so that no child looks at all these objects again, and takes copies of their pages
+    socket_of_commands = listen(sys.argv[1])
+    print("ready", flush=True)
+    serve(socket_of_commands)

@@ -1,10 +1,12 @@
-"""Runs files of python/tests, each in a process of its own. See tests/python.
+"""Runs files of python/tests, many at once. See tests/python.
 
-Importing the libraries takes longer than most of the files. So this process imports them once, and forks a child for each file.
+Importing the libraries takes longer than most of the files. So this process imports them once, and forks a child for each file,
+or for a few of them.
 """
 from __future__ import annotations
 
 import argparse
+import gc
 import importlib
 import os
 import re
@@ -17,24 +19,36 @@ from pathlib import Path
 
 PYTHON = Path(__file__).resolve().parents[2] / "python"
 LIBRARIES = (
-    "fiona", "fmm.commands", "fmm.commands.run", "fmm.map", "fmm.matches", "fmm.matching", "fmm.network", "fmm.positions",
-    "fmm.report", "fmm.suggestions", "fmm._exports", "fmm._osm", "fmm._picture", "fmm._runs", "geopandas",
-    "hypothesis.strategies", "matplotlib.backends.backend_agg", "matplotlib.figure", "numpy.random", "pyproj", "pytest",
-    "shapely", "sqlite3", "tqdm", *(f"_pytest.{name}" for name in (
+    "fiona", "fmm.commands", "fmm.commands.run", "fmm.commands.serve", "fmm.commands.track", "fmm.feed.broker", "fmm.map",
+    "fmm.matches", "fmm.matching", "fmm.network", "fmm.positions", "fmm.report", "fmm.service.server", "fmm.suggestions",
+    "fmm.track.parts", "fmm._exports", "fmm._osm", "fmm._picture", "fmm._runs", "geopandas", "httpx", "hypothesis.strategies",
+    "matplotlib.backends.backend_agg", "matplotlib.figure", "numpy.random", "pyproj", "pytest", "shapely", "sqlite3", "tqdm",
+    *(f"_pytest.{name}" for name in (
         "doctest", "faulthandler", "junitxml", "logging", "pastebin", "runner", "skipping", "stepwise", "terminal",
         "threadexception", "tmpdir", "unittest", "unraisableexception")))
 NO_TESTS = 5  # the status of pytest if it ran none, since all were left out or there are none
-# These take longest, of processors or by waiting, so they are started first.
-FIRST = (
-    "test_types.py", "test_qgis.py", "test_run.py", "test_service.py", "test_stops.py", "test_map_browser.py", "test_track.py",
-    "test_track_broker.py", "test_feed_broker.py", "test_service_live.py", "test_service_files.py", "test_attacks.py",
-    "test_map.py", "test_exports.py", "test_groups.py", "test_matches.py", "test_feed.py", "test_extract.py",
-    "test_suggestions.py", "test_pages.py", "test_track_postgis.py", "test_restrictions.py", "test_osm.py")
+# The files of a process. Those that stand first take longest, of processors or by waiting, and are started first. Files that
+# stand together share what takes long to start or to make: a browser, a server of databases, a simulated fleet. The others, which
+# are short, come last, FEW together.
+TOGETHER = (
+    ("test_types.py",), ("test_map_browser.py", "test_service_files.py", "test_service_live.py"), ("test_service.py",),
+    ("test_qgis.py",), ("test_to_postgis.py", "test_track_postgis.py", "test_pages.py"), ("test_run.py",),
+    ("test_stops.py", "test_matches.py"), ("test_groups.py", "test_exports.py"), ("test_track.py",), ("test_track_broker.py",),
+    ("test_feed_broker.py",), ("test_attacks.py",), ("test_map.py",), ("test_feed.py",), ("test_match_text.py",),
+    ("test_restrictions.py", "test_osm.py"), ("test_extract.py",), ("test_suggestions.py",))
+FEW = 6
+
+
+def grouped(names: list[str]) -> list[list[str]]:
+    """The files of each process, in the order in which they are started."""
+    known = [[name for name in group if name in names] for group in TOGETHER]
+    others = sorted(set(names).difference(*TOGETHER))
+    return [group for group in known if group] + [others[at:at + FEW] for at in range(0, len(others), FEW)]
 
 
 @dataclass
 class Child:
-    """A file that is being tested."""
+    """Files that are being tested."""
 
     name: str
     output: Path
@@ -52,9 +66,9 @@ class Children:
         self.left_out: set[str] = set()
         self.times: list[tuple[float, float, str]] = []
 
-    def start(self, name: str) -> None:
-        """Forks a child that tests a file."""
-        child = Child(name, self.folder / f"{name}.txt", time.monotonic())
+    def start(self, names: list[str]) -> None:
+        """Forks a child that tests files."""
+        child = Child(" ".join(names), self.folder / f"{names[0]}.txt", time.monotonic())
         sys.stdout.flush()
         pid = os.fork()
         if pid:
@@ -62,7 +76,7 @@ class Children:
             return
         status = 3
         try:
-            status = run_file(name, child.output, self.folder / name, self.words)
+            status = run_files(names, child.output, self.folder / names[0], self.words)
         finally:
             sys.stdout.flush()
             sys.stderr.flush()
@@ -88,15 +102,15 @@ class Children:
             os.killpg(pid, signal.SIGTERM)
 
 
-def run_file(name: str, output: Path, room: Path, words: list[str]) -> int:
-    """Runs a file in this process, and returns the status of pytest."""
+def run_files(names: list[str], output: Path, room: Path, words: list[str]) -> int:
+    """Runs files in this process, and returns the status of pytest."""
     import pytest
     os.setpgid(0, 0)
     signal.signal(signal.SIGTERM, signal.default_int_handler)
     with output.open("wb") as file:
         os.dup2(file.fileno(), 1)
         os.dup2(file.fileno(), 2)
-    return int(pytest.main(["-q", "-rs", f"--basetemp={room}", *words, f"tests/{name}"]))
+    return int(pytest.main(["-q", "-rs", f"--basetemp={room}", *words, *(f"tests/{name}" for name in names)]))
 
 
 def preload() -> None:
@@ -107,19 +121,20 @@ def preload() -> None:
             importlib.import_module(name)
         except ImportError:
             pass  # the tests that need it say so
+    gc.freeze()  # so that no child looks at all these objects again, and takes copies of their pages
 
 
 def main() -> int:
     """Runs the files that the words name."""
     parser = argparse.ArgumentParser(prog="tests/python", description="Runs tests of the Python package.")
     parser.add_argument("--jobs", type=int, default=int(os.environ.get("JOBS", 0)) or os.cpu_count(),
-                        help="how many files at once (%(default)s)")
-    parser.add_argument("--times", action="store_true", help="say the seconds of each file: of processors, and from begin to end")
+                        help="how many processes at once (%(default)s)")
+    parser.add_argument("--times", action="store_true", help="say the seconds of each process: of processors, and of the clock")
     parser.add_argument("files", nargs="*", metavar="FILE", help="a file of python/tests; all by default")
     words, more = parser.parse_known_args()
     os.chdir(PYTHON)
     names = words.files or [path.name for path in sorted(Path("tests").glob("test_*.py"))]
-    waiting = sorted(names, key=lambda name: FIRST.index(name) if name in FIRST else len(FIRST))
+    waiting = grouped(names)
     preload()
     os.environ["PYTHONDONTWRITEBYTECODE"] = "1"  # programs that tests start keep nothing
     with tempfile.TemporaryDirectory(prefix="fmm-tests-") as folder:
