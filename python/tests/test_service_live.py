@@ -49,6 +49,14 @@ def live() -> Iterator[Live]:
     os.close(write)
 
 
+def lines_of(answer: httpx.Response) -> Iterator[str]:
+    """The lines of an answer as they come. httpx itself joins long ones slowly."""
+    rest = b""
+    for block in answer.iter_raw():
+        *lines, rest = (rest + block).split(b"\n")
+        yield from (line.decode() for line in lines)
+
+
 def events(lines: Iterator[str], count: int) -> list[tuple[str, dict[str, Any]]]:
     """The next events: kind and object."""
     found: list[tuple[str, dict[str, Any]]] = []
@@ -70,7 +78,7 @@ def test_clients_get_the_newest_places_and_then_all_objects(live: Live) -> None:
         assert answer.status_code == 200 and answer.headers["content-type"].startswith("text/event-stream")
         assert answer.headers["x-frame-options"] == "DENY" and "default-src 'none'" in answer.headers["content-security-policy"]
         assert "access-control-allow-origin" not in answer.headers and answer.headers["cache-control"] == "no-store"
-        lines = answer.iter_lines()
+        lines = lines_of(answer)
         assert sorted(events(lines, 2), key=lambda one: one[1]["vehicle"]) == [("provisional", tram), ("position", PLACE)]
         drive = {"kind": "drive", "vehicle": "van 7", "route": {"type": "MultiLineString", "coordinates": []}, "metres": 1.0}
         live.give({"kind": "other"}, [1], {**PLACE, "speed": float("nan")}, "x" * 2_000_000, drive, PLACE)
@@ -87,10 +95,16 @@ def test_the_example_of_the_page(live: Live) -> None:
     assert found
     live.give(PLACE)
     time.sleep(0.5)
-    done = subprocess.run(["bash", "-c", found[1].replace("http://127.0.0.1:8000", live.service.url)], capture_output=True,
-                          text=True, check=True, timeout=60)
+    words = ["bash", "-c", found[1].replace("http://127.0.0.1:8000", live.service.url)]
+    with subprocess.Popen(words, stdout=subprocess.PIPE, text=True) as run:
+        end = time.monotonic() + 60
+        while run.poll() is None and time.monotonic() < end:
+            live.give(PLACE)  # curl learns from the next event that its reader has all it wants
+            time.sleep(0.1)
+        said = run.communicate(timeout=10)[0]
+    assert run.returncode == 0
     wanted = re.sub(r"id: \d+", "id: N", found[2])
-    assert wanted == re.sub(r"id: \d+", "id: N", done.stdout)
+    assert wanted == re.sub(r"id: \d+", "id: N", said)
 
 
 def test_a_slow_client_is_dropped_and_the_others_go_on(live: Live) -> None:
@@ -101,7 +115,7 @@ def test_a_slow_client_is_dropped_and_the_others_go_on(live: Live) -> None:
         slow.sendall(b"GET /live HTTP/1.1\r\nhost: a\r\n\r\n")
         assert slow.recv(100).startswith(b"HTTP/1.1 200 ")
         with httpx.stream("GET", f"{live.service.url}/live", timeout=60) as answer:
-            lines = answer.iter_lines()
+            lines = lines_of(answer)
             long = {"kind": "drive", "vehicle": "x" * 400_000}
             for number in range(40):
                 live.give({**long, "number": number})
