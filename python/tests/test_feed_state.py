@@ -3,6 +3,7 @@ from __future__ import annotations
 
 import contextlib
 import sqlite3
+import sys
 import time
 from pathlib import Path
 
@@ -12,6 +13,7 @@ from feeds import feed
 from fmm.errors import FmmError
 from fmm.feed import state as state_module
 from fmm.feed.ordering import Position
+from fmm.feed.outlet import HEADER, RowFile
 from fmm.feed.state import State, Vehicle
 from fmm.track.journal import Journal, Row
 
@@ -104,3 +106,15 @@ def test_a_state_that_is_refused_is_let_go(tmp_path: Path) -> None:
     with contextlib.closing(sqlite3.connect(path, timeout=0)) as database:
         database.execute("INSERT INTO a VALUES (1)")
     assert refused.traceback  # which keeps the refused state alive
+
+
+def test_a_feed_goes_on_that_was_killed_before_it_wrote_the_header(tmp_path: Path, monkeypatch: pytest.MonkeyPatch) -> None:
+    path = tmp_path / "rows.csv"
+    with contextlib.closing(State(tmp_path / "state.db")) as state, monkeypatch.context() as killed:
+        killed.setattr(RowFile, "append", lambda file, rows: (file.close(), sys.exit("killed")))
+        with pytest.raises(SystemExit):
+            RowFile(path, state)
+    assert path.read_bytes() == b""
+    with contextlib.closing(State(tmp_path / "state.db")) as state:
+        RowFile(path, state).close()
+    assert path.read_bytes() == HEADER

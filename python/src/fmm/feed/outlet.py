@@ -27,7 +27,8 @@ class RowFile:
         try:
             if path.is_symlink() or (path.exists() and not path.is_file()):
                 raise OutputError(f"{path} is no plain file")
-            exists = path.exists() and (path.stat().st_size > 0 or is_same and not header)
+            is_begun = is_same and (not header or state.count("rows size") == 0)  # the header is still to be written
+            exists = path.exists() and (path.stat().st_size > 0 or is_begun)
             if exists and not is_same:
                 raise FmmError(f"{path} has rows that the state {state.path} does not know: name another file, or the state of "
                                "these rows")
