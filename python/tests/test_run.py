@@ -144,6 +144,19 @@ def test_local_times(place: Path, capsys: pytest.CaptureFixture[str]) -> None:
     assert capsys.readouterr().out.startswith("warning: 10 times name no time zone and count as UTC; timezone (--timezone)")
 
 
+@pytest.mark.filterwarnings("error::UserWarning")
+def test_single_positions(place: Path, capsys: pytest.CaptureFixture[str]) -> None:
+    """Parcels: each is a vehicle of its own, whose piece of road has no length."""
+    Path("parcels.csv").write_text("id,lon,lat\n007,9.43001,54.31002\n7,9.43201,54.31004\n8,,\n")
+    assert run("village.osm", "parcels.csv") == 0
+    assert "positions: 3, with an edge: 2" in capsys.readouterr().out
+    assert [row["edge"] != "" for row in rows("points.csv")] == [True, True, False]
+    assert [row["reason"] for row in rows("points.csv")] == ["", "", "no lon"]
+    places = geopandas.GeoSeries.from_wkt(["POINT (9.43 54.31)", "POINT EMPTY"])
+    empty = geopandas.GeoDataFrame({"id": ["a", "b"]}, geometry=places, crs=4326)
+    assert fmm.read_positions(empty).left_out["reason"].tolist() == ["no place"]
+
+
 @EMPTY
 def test_network_as_map(place: Path) -> None:
     fmm.Network.from_osm("village.osm").save("network.csv")

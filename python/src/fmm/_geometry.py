@@ -11,6 +11,7 @@ import gc
 from itertools import repeat
 from typing import Any, Iterator, NamedTuple, Optional, Tuple
 
+import geopandas
 import numpy as np
 import shapely
 import shapely.geometry
@@ -111,6 +112,12 @@ def coordinates(values: GeometryArray) -> Tuple[np.ndarray, np.ndarray]:
         return offsets_of(shapely.get_num_coordinates(data)), shapely.get_coordinates(data)
     places = [np.asarray(value.coords) if value is not None and not value.is_empty else NOTHING for value in values]
     return offsets_of(np.array([len(place) for place in places], np.int64)), np.concatenate([NOTHING, *places])
+
+
+def there(series: geopandas.GeoSeries) -> np.ndarray:
+    """Which geometries are neither missing nor empty, as bools. The series itself warns of a change of geopandas long ago."""
+    values = series.values
+    return ~(values.isna() | values.is_empty)
 
 
 def texts(values: GeometryArray, decimals: int) -> np.ndarray:

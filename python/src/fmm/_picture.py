@@ -5,6 +5,7 @@ from typing import TYPE_CHECKING, Any
 
 import numpy as np
 
+from . import _geometry
 from .errors import PathText
 from .projection import Extent, Projection
 
@@ -81,8 +82,8 @@ def measured_places(matches: Matches) -> np.ndarray:
 
 
 def with_places(frame: Any) -> Any:
-    """The rows that have a place. geopandas warns if its own notna meets an empty geometry."""
-    return frame[~(frame.geometry.array.isna() | frame.geometry.is_empty)]
+    """The rows that have a place."""
+    return frame[_geometry.there(frame.geometry)]
 
 
 def extent(routes: Any, points: Any) -> Extent:

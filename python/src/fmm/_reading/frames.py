@@ -7,6 +7,7 @@ import numpy as np
 import pandas as pd
 import pyproj
 
+from .. import _geometry
 from ..errors import InputError
 from .columns import LATITUDES, LONGITUDES, XS, YS, Columns, find_columns, plain
 from .dates import pair_of, read_pair
@@ -118,7 +119,7 @@ def geometry_of(frame: pd.DataFrame) -> Optional[str]:
 def places_of_points(geometry: Any) -> Tuple[np.ndarray, np.ndarray, np.ndarray]:
     """x, y and faults of a column of geometries."""
     kinds = geometry.geom_type
-    empty = (geometry.isna() | geometry.is_empty).to_numpy()
+    empty = ~_geometry.there(geometry)
     points = (kinds == "Point").to_numpy() & ~empty
     x, y = np.full(len(geometry), np.nan), np.full(len(geometry), np.nan)
     x[points], y[points] = geometry[points].x, geometry[points].y
