@@ -50,7 +50,7 @@ def read_times(column: Any, decimal_comma: bool = False, zone: Optional[str] = N
         return _of_datetimes(pd.Series(values), zone)
     texts = _texts(values)
     found, known, unzoned = _of_texts(texts)
-    found[unzoned], faults = _local(found[unzoned], zone, [texts[place] for place in np.flatnonzero(unzoned)])
+    found[unzoned], faults = _local(found[unzoned], zone, np.array(texts, dtype=object)[unzoned] if zone else texts)
     rest = np.flatnonzero(~known)
     others = with_points([texts[place] for place in rest]) if decimal_comma else [texts[place] for place in rest]
     numbers, good = plain_numbers(others)
