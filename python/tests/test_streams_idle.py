@@ -13,12 +13,10 @@ from hypothesis import given, strategies as st
 from profiles import slow
 
 from fmm import _programs
-from fmm.track.streams import knows
 
 NEVER = 2 ** 32 - 1  # seconds
 LONGEST = 100_000  # positions of a drive
 PROGRAM = _programs.program(False)
-pytestmark = pytest.mark.skipif(not knows(PROGRAM, "--idle"), reason="fmm streams --idle, which this program does not have yet")
 
 
 class Row(NamedTuple):
