@@ -1,5 +1,8 @@
 //! Command lines, accepted and refused.
-use command_line::{Command, Work, read_command};
+use command_line::{
+    CheckFiles, Command, MatchFiles, StreamFiles, TableFiles, TownNumbers, TraceFiles, Work,
+    read_command,
+};
 use cost_model::Params;
 use std::alloc::{AllocError, Global};
 
@@ -86,11 +89,11 @@ static ACCEPTED: [(&str, Command<'static>); 8] = [
     (
         "match a --k=3 --table t --gap 60 --bound 0 -- -b",
         Command {
-            work: Work::Match {
+            work: Work::Match(MatchFiles {
                 network: "a",
                 traces: "-b",
                 table: Some("t"),
-            },
+            }),
             options: Params {
                 k: 3,
                 bound: 0,
@@ -102,71 +105,71 @@ static ACCEPTED: [(&str, Command<'static>); 8] = [
     (
         "follow --back=500 a b",
         Command {
-            work: Work::Follow {
+            work: Work::Follow(TraceFiles {
                 network: "a",
                 traces: "b",
-            },
+            }),
             options: BACK_500,
         },
     ),
     (
         "streams a b --back 500",
         Command {
-            work: Work::Streams {
+            work: Work::Streams(StreamFiles {
                 network: "a",
                 traces: "b",
                 idle: u32::MAX,
-            },
+            }),
             options: BACK_500,
         },
     ),
     (
         "streams --idle 1 a --back=500 b",
         Command {
-            work: Work::Streams {
+            work: Work::Streams(StreamFiles {
                 network: "a",
                 traces: "b",
                 idle: 1,
-            },
+            }),
             options: BACK_500,
         },
     ),
     (
         "prove a --back 500 b",
         Command {
-            work: Work::Prove {
+            work: Work::Prove(TraceFiles {
                 network: "a",
                 traces: "b",
-            },
+            }),
             options: BACK_500,
         },
     ),
     (
         "check a --back 500 b c",
         Command {
-            work: Work::Check {
+            work: Work::Check(CheckFiles {
                 network: "a",
                 traces: "b",
                 certificate: "c",
-            },
+            }),
             options: BACK_500,
         },
     ),
     (
         "table --back=500 a",
         Command {
-            work: Work::Table { network: "a" },
+            work: Work::Table(TableFiles { network: "a" }),
             options: BACK_500,
         },
     ),
     (
         "town 20 --workers 7 200 01",
         Command {
-            work: Work::Town {
+            work: Work::Town(TownNumbers {
                 side: 20,
                 traces: 200,
                 seed: 1,
-            },
+            }),
             options: Params {
                 workers: 7,
                 ..Params::DEFAULT
@@ -178,33 +181,26 @@ static ACCEPTED: [(&str, Command<'static>); 8] = [
 // The name of a work's command, and those of its files.
 fn names_of<'a>(work: &Work<'a>) -> [&'a str; 4] {
     match *work {
-        Work::Match {
-            network,
-            traces,
-            table,
-        } => ["match", network, traces, table.unwrap_or("")],
-        Work::Follow { network, traces } => ["follow", network, traces, ""],
-        Work::Streams {
-            network,
-            traces,
-            ..
-        } => ["streams", network, traces, ""],
-        Work::Prove { network, traces } => ["prove", network, traces, ""],
-        Work::Check {
-            network,
-            traces,
-            certificate,
-        } => ["check", network, traces, certificate],
-        Work::Table { network } => ["table", network, "", ""],
-        Work::Town { .. } => ["town", "", "", ""],
+        Work::Match(files) => [
+            "match",
+            files.network,
+            files.traces,
+            files.table.unwrap_or(""),
+        ],
+        Work::Follow(files) => ["follow", files.network, files.traces, ""],
+        Work::Streams(files) => ["streams", files.network, files.traces, ""],
+        Work::Prove(files) => ["prove", files.network, files.traces, ""],
+        Work::Check(files) => ["check", files.network, files.traces, files.certificate],
+        Work::Table(files) => ["table", files.network, "", ""],
+        Work::Town(_) => ["town", "", "", ""],
     }
 }
 
 // The numbers of a work, and 0 for each without one.
 fn numbers_of(work: &Work<'_>) -> [u32; 3] {
     match *work {
-        Work::Town { side, traces, seed } => [side, traces, seed],
-        Work::Streams { idle, .. } => [idle, 0, 0],
+        Work::Town(numbers) => [numbers.side, numbers.traces, numbers.seed],
+        Work::Streams(files) => [files.idle, 0, 0],
         _ => [0; 3],
     }
 }

@@ -63,22 +63,29 @@ fn fill<S: Shelf>(shelf: &mut S, name: &str, block: &mut Block) -> Result<bool, 
     Ok(end <= TEXT_LIMIT)
 }
 
+// A reader, and the bytes of the block that it takes next.
+#[derive(Drop)]
+struct Parsing<'a> {
+    reader: CertificateReader,
+    full: &'a [u8],
+}
+
 // Processes a block while the next one is read.
 fn take_and_fill<R: Threads + Sync, S: Shelf>(
     rt: &R,
     shelf: &mut S,
     name: &str,
-    reader: CertificateReader,
-    full: &[u8],
+    parsing: Parsing<'_>,
     next: Block,
 ) -> Result<(CertificateReader, Block, bool), Stop>
     requires { IsToBeRead next }
-    ensures taken { IfOk result (λ left. left.0 ≡ reader ++ full.now) }
+    ensures taken { IfOk result (λ left. left.0 ≡ parsing.entry.reader ++ parsing.entry.full.now) }
     ensures ok { IfOk result (λ left. ReadsBlock name.now
         (S.state shelf.old) (S.state shelf.new) next.from left.1 left.2) }
     ensures err { IfErr result (FailsToRead File.Certificate name.now
         (S.state shelf.old) (S.state shelf.new)) }
 {
+    let Parsing { reader, full } = parsing;
     let (taken, (block, filled, _shelf)) = thread::join(
         rt,
         move || -> Result<CertificateReader, AllocError>
@@ -127,7 +134,11 @@ pub fn read_certificate_file<R: Threads + Sync, S: Shelf>(
     let mut goes_on = fill(shelf, name, &mut block)?;
     while goes_on {
         let next = next_block(&block, spare, size);
-        let (more, filled, on) = take_and_fill(rt, &mut *shelf, name, reader, &block.bytes, next)?;
+        let parsing = Parsing {
+            reader,
+            full: &block.bytes,
+        };
+        let (more, filled, on) = take_and_fill(rt, &mut *shelf, name, parsing, next)?;
         reader = more;
         spare = block.bytes;
         block = filled;

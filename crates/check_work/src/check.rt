@@ -11,14 +11,13 @@ use crate::certificate_file::read_certificate_file;
 use crate::verdicts::{CertificateFault, accept_finding};
 use bounded_table::Row;
 use cert_checker::{Subject, check_certificate};
+use command_line::CheckFiles;
 use cost_model::Params;
 use decimal_text::write_unsigned;
 use edge_io::{Shelf, Sink};
 use plain_list::List;
 use potential_certificate::{Certificate, CertificateReader, TraceProof};
-use program_frame::{
-    NetworkFile, Refusal, Stop, load_network, load_traces, put_text, refuse_fault,
-};
+use program_frame::{Refusal, Request, Stop, load_network, load_traces, put_text, refuse_fault};
 use rayon::prelude::*;
 use std::alloc::{AllocError, Global};
 use std::thread;
@@ -144,25 +143,23 @@ fn load_certificate<R: Threads + Sync, S: Shelf>(
 pub fn check_traces<R: Threads + Sync, S: Shelf, K: Sink>(
     rt: &R,
     alloc: Global,
-    network: NetworkFile<'_>,
-    traces: &str,
-    certificate: &str,
-    options: Params,
+    request: &Request<CheckFiles<'_>>,
     shelf: &mut S,
     out: &mut K,
 ) -> Result<(), Stop>
-    requires { IsAccepted options }
-    ensures { Performs (Ok (check_plan network.entry.limits network.entry.name.now traces.now
-        certificate.now options))
+    requires { IsAccepted request.now.options }
+    ensures { Performs (Ok (check_plan request.now.limits request.now.files.network.now
+        request.now.files.traces.now request.now.files.certificate.now request.now.options))
         (S.state shelf.old) (S.state shelf.new) (K.state out.old) (K.state out.new) result }
 {
-    let roads = load_network(alloc, shelf, network)?;
-    let taken = load_traces(alloc, shelf, traces)?;
+    let files = request.files;
+    let roads = load_network(alloc, shelf, files.network, request.limits)?;
+    let taken = load_traces(alloc, shelf, files.traces)?;
     let subject = Subject {
         net: &roads,
-        params: &options,
+        params: &request.options,
         traces: taken.as_slice(),
     };
-    let line = load_certificate(rt, alloc, shelf, certificate, &subject)?;
+    let line = load_certificate(rt, alloc, shelf, files.certificate, &subject)?;
     put_text(out, line.as_slice())
 }

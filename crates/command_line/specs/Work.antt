@@ -23,27 +23,27 @@ pub record PlainCommand : Type 0 where
   pub options : Params
 
 abbrev pub plain_work : Work → PlainWork
-plain_work (Match network traces table) =
-    match_files network.now traces.now (option_map (λ name. name.now) table)
-plain_work (Follow network traces) = follow_files network.now traces.now
-plain_work (Streams network traces idle) = stream_files network.now traces.now idle
-plain_work (Prove network traces) = prove_files network.now traces.now
-plain_work (Check network traces certificate) =
-    check_files network.now traces.now certificate.now
-plain_work (Table network) = table_of_network network.now
-plain_work (Town side traces seed) = match_town side traces seed
+plain_work (Match files) =
+    match_files files.network.now files.traces.now (option_map (λ name. name.now) files.table)
+plain_work (Follow files) = follow_files files.network.now files.traces.now
+plain_work (Streams files) = stream_files files.network.now files.traces.now files.idle
+plain_work (Prove files) = prove_files files.network.now files.traces.now
+plain_work (Check files) =
+    check_files files.network.now files.traces.now files.certificate.now
+plain_work (Table files) = table_of_network files.network.now
+plain_work (Town town) = match_town town.side town.traces town.seed
 
 -- the numbers of a work are in their ranges
 abbrev pub AreNumbersWithin : Work → Type 0
-AreNumbersWithin (Match network traces table) = Unit {0}
-AreNumbersWithin (Follow network traces) = Unit {0}
-AreNumbersWithin (Streams network traces idle) = IsWithin (range_of Idle).least (range_of Idle).most idle
-AreNumbersWithin (Prove network traces) = Unit {0}
-AreNumbersWithin (Check network traces certificate) = Unit {0}
-AreNumbersWithin (Table network) = Unit {0}
-AreNumbersWithin (Town side traces seed) =
-    IsWithin (range_of N).least (range_of N).most side
-    × IsWithin (range_of T).least (range_of T).most traces
+AreNumbersWithin (Match files) = Unit {0}
+AreNumbersWithin (Follow files) = Unit {0}
+AreNumbersWithin (Streams files) = IsWithin (range_of Idle).least (range_of Idle).most files.idle
+AreNumbersWithin (Prove files) = Unit {0}
+AreNumbersWithin (Check files) = Unit {0}
+AreNumbersWithin (Table files) = Unit {0}
+AreNumbersWithin (Town town) =
+    IsWithin (range_of N).least (range_of N).most town.side
+    × IsWithin (range_of T).least (range_of T).most town.traces
 
 abbrev pub plain : Command → PlainCommand
 plain command = record { work = plain_work command.work; options = command.options }

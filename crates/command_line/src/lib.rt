@@ -20,4 +20,6 @@ mod works;
 pub use command::read_command;
 pub use fault::WordsFault;
 pub use value::ValueName;
-pub use work::{Command, Work};
+pub use work::{
+    CheckFiles, Command, MatchFiles, StreamFiles, TableFiles, TownNumbers, TraceFiles, Work,
+};

@@ -5,25 +5,24 @@ ghost use Rattle.follow_work.specs.Follow.{follow_plan};
 ghost use Rattle.program_frame.specs.Performs.{Performs};
 
 use crate::job::FollowJob;
-use cost_model::Params;
+use command_line::TraceFiles;
 use edge_io::{Shelf, Sink};
-use program_frame::{NetworkFile, Stop, load_network, work_traces};
+use program_frame::{Request, Stop, load_network, work_traces};
 use std::alloc::Global;
 
 /// Reads the network, and then the traces, which it follows position by position.
 pub fn follow_traces<S: Shelf, K: Sink>(
     alloc: Global,
-    network: NetworkFile<'_>,
-    traces: &str,
-    options: Params,
+    request: &Request<TraceFiles<'_>>,
     shelf: &mut S,
     out: &mut K,
 ) -> Result<(), Stop>
-    requires { IsAccepted options }
-    ensures { Performs (Ok (follow_plan network.entry.limits network.entry.name.now traces.now options))
+    requires { IsAccepted request.now.options }
+    ensures { Performs (Ok (follow_plan request.now.limits request.now.files.network.now
+        request.now.files.traces.now request.now.options))
         (S.state shelf.old) (S.state shelf.new) (K.state out.old) (K.state out.new) result }
 {
-    let roads = load_network(alloc, shelf, network)?;
-    let job = FollowJob::open(alloc, &roads, options)?;
-    work_traces(alloc, job, shelf, traces, out)
+    let roads = load_network(alloc, shelf, request.files.network, request.limits)?;
+    let job = FollowJob::open(alloc, &roads, request.options)?;
+    work_traces(alloc, job, shelf, request.files.traces, out)
 }

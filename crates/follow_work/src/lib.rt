@@ -24,4 +24,4 @@ mod times;
 pub use follow::follow_traces;
 pub use job::FollowJob;
 pub use laws::{streams_follow_each_drive, streams_follow_each_id};
-pub use streams::{StreamedFile, stream_traces};
+pub use streams::stream_traces;

@@ -12,12 +12,12 @@ ghost use Rattle.follow_work.specs.inside.StreamsDone.{CanTakeFragments, HasStre
 
 use crate::drive_job::DriveJob;
 use crate::rows::open_rows;
-use cost_model::Params;
+use command_line::StreamFiles;
 use decimal_text::write_unsigned;
 use edge_io::{Shelf, Sink};
 use plain_list::List;
 use program_frame::{
-    FaultLine, Job, NetworkFile, Refusal, Stop, Tally, load_network, refuse_fault, work_traces,
+    FaultLine, Job, Refusal, Request, Stop, Tally, load_network, refuse_fault, work_traces,
 };
 use row_search::NearRows;
 use std::alloc::{AllocError, Global};
@@ -138,51 +138,43 @@ impl<'m> Job for StreamJob<'m> {
     }
 }
 
-/// A file of positions, whose drives end once a position is this many seconds and more newer than theirs. At the
-/// greatest number none ends before the file does.
-#[derive(Clone, Copy)]
-pub struct StreamedFile<'a> {
-    pub name: &'a str,
-    pub idle: u32,
-}
-
 // Reads the traces, whose positions it takes in order.
 fn work_streams<S: Shelf, K: Sink>(
     alloc: Global,
     matcher: &Matcher<'_>,
-    traces: StreamedFile<'_>,
+    files: &StreamFiles<'_>,
     shelf: &mut S,
     out: &mut K,
 ) -> Result<(), Stop>
     requires { IsAccepted matcher.now.params }
     ensures { Performs
-        (Ok (works_traces traces.entry.name.now (streams_within matcher.now traces.entry.idle)))
+        (Ok (works_traces files.now.traces.now (streams_within matcher.now files.now.idle)))
         (S.state shelf.old) (S.state shelf.new) (K.state out.old) (K.state out.new) result }
 {
-    if traces.idle < u32::MAX {
-        let job = DriveJob::open(alloc, matcher, traces.idle)?;
-        work_traces(alloc, job, shelf, traces.name, out)
+    if files.idle < u32::MAX {
+        let job = DriveJob::open(alloc, matcher, files.idle)?;
+        work_traces(alloc, job, shelf, files.traces, out)
     } else {
         let job = StreamJob::open(alloc, matcher)?;
-        work_traces(alloc, job, shelf, traces.name, out)
+        work_traces(alloc, job, shelf, files.traces, out)
     }
 }
 
-/// Reads the network, and then the traces, whose positions it takes in order.
+/// Reads the network, and then the traces, whose positions it takes in order. A drive ends once a position is
+/// more than `idle` seconds newer than the drive's newest one; at the greatest number none ends before the
+/// file does.
 pub fn stream_traces<S: Shelf, K: Sink>(
     alloc: Global,
-    network: NetworkFile<'_>,
-    traces: StreamedFile<'_>,
-    options: Params,
+    request: &Request<StreamFiles<'_>>,
     shelf: &mut S,
     out: &mut K,
 ) -> Result<(), Stop>
-    requires { IsAccepted options }
-    ensures { Performs (Ok (streams_plan network.entry.limits network.entry.name.now
-        traces.entry.name.now traces.entry.idle options))
+    requires { IsAccepted request.now.options }
+    ensures { Performs (Ok (streams_plan request.now.limits request.now.files.network.now
+        request.now.files.traces.now request.now.files.idle request.now.options))
         (S.state shelf.old) (S.state shelf.new) (K.state out.old) (K.state out.new) result }
 {
-    let roads = load_network(alloc, shelf, network)?;
-    let matcher = Matcher::open(alloc, &roads, options)?;
-    work_streams(alloc, &matcher, traces, shelf, out)
+    let roads = load_network(alloc, shelf, request.files.network, request.limits)?;
+    let matcher = Matcher::open(alloc, &roads, request.options)?;
+    work_streams(alloc, &matcher, &request.files, shelf, out)
 }

@@ -4,24 +4,28 @@
 
 use edge_io::StreamSink;
 use match_pool::OpenGate;
+use match_work::Env;
 use program_frame::Outside;
-use program_run::run_within;
+use program_run::{Program, run_within};
 use road_network::NetworkLimits;
 use std::process::ExitCode;
 
 fn main(rt: HostRuntime) -> ExitCode {
     let mut err = StreamSink::new(rt.stderr());
     match Outside::open(rt.alloc(), &rt, rt, rt.stdout(), &mut err) {
-        Ok(mut to) => ExitCode::from(run_within(
-            NetworkLimits::Large,
-            &rt,
-            rt.alloc(),
-            &to.words,
-            &mut to.shelf,
-            &mut to.out,
-            &mut err,
-            &OpenGate,
-        )),
+        Ok(mut to) => {
+            let env = Env {
+                rt: &rt,
+                alloc: rt.alloc(),
+                gate: &OpenGate,
+            };
+            let program = Program {
+                limits: NetworkLimits::Large,
+                env,
+            };
+            let status = run_within(&program, &to.words, &mut to.shelf, &mut to.out, &mut err);
+            ExitCode::from(status)
+        }
         Err(status) => ExitCode::from(status),
     }
 }

@@ -22,20 +22,20 @@ pub words_refuse : (words : List (List ℕ)) (fault : WordsFault) (shelf : Shelf
 words_refuse words fault shelf out stop known refuses = inl (frame.words_refuse follow_alone (with_follow words) fault shelf out stop known refuses)
 
 -- the words ask for another work
-no_follow : (work : Work) (options : _) → ((network traces : _) → work ≢ Follow network traces) → followed (plain_work work) options ≡ None
-no_follow (Match network traces table) options other = refl
-no_follow (Follow network traces) options other = absurd (other network traces refl)
-no_follow (Streams network traces idle) options other = refl
-no_follow (Prove network traces) options other = refl
-no_follow (Check network traces certificate) options other = refl
-no_follow (Table network) options other = refl
-no_follow (Town side traces seed) options other = refl
+no_follow : (work : Work) (options : _) → ((files : _) → work ≢ Follow files) → followed (plain_work work) options ≡ None
+no_follow (Match files) options other = refl
+no_follow (Follow files) options other = absurd (other files refl)
+no_follow (Streams files) options other = refl
+no_follow (Prove files) options other = refl
+no_follow (Check files) options other = refl
+no_follow (Table files) options other = refl
+no_follow (Town numbers) options other = refl
 
-pub other_refuse : (words : List (List ℕ)) (command : Command) (shelf : ShelfState) (out : SinkState) (stop : Stop) → command_of (with_follow words) ≡ Ok (plain command) → ((network traces : _) → command.work ≢ Follow network traces) → RefusesWords Usage stop → LivePerforms (asked_by words) shelf shelf out out (Err stop)
+pub other_refuse : (words : List (List ℕ)) (command : Command) (shelf : ShelfState) (out : SinkState) (stop : Stop) → command_of (with_follow words) ≡ Ok (plain command) → ((files : _) → command.work ≢ Follow files) → RefusesWords Usage stop → LivePerforms (asked_by words) shelf shelf out out (Err stop)
 other_refuse words command shelf out stop is other refuses =
     inl (frame.others_refuse follow_alone (with_follow words) (plain command) shelf out stop is (no_follow command.work command.options other) refuses)
 
 -- the words ask for `follow`
-pub asked_follow : (words : List (List ℕ)) (command : Command) (network traces : _) (shelf shelf' : ShelfState) (out out' : SinkState) (ended : Result (Unit {0}) Stop) → command_of (with_follow words) ≡ Ok (plain command) → command.work ≡ Follow network traces → LivePerforms (Ok (follow_plan Standard network.now traces.now command.options)) shelf shelf' out out' ended → LivePerforms (asked_by words) shelf shelf' out out' ended
-asked_follow words command network traces shelf shelf' out out' ended known is performs =
-    subst (λ (a : Result Plan (List ℕ)). LivePerforms a shelf shelf' out out' ended) (sym (frame.asked_is follow_alone (with_follow words) (plain command) (follow_plan Standard network.now traces.now command.options) known (ap (λ (w : Work). followed (plain_work w) command.options) is))) performs
+pub asked_follow : (words : List (List ℕ)) (command : Command) (files : _) (shelf shelf' : ShelfState) (out out' : SinkState) (ended : Result (Unit {0}) Stop) → command_of (with_follow words) ≡ Ok (plain command) → command.work ≡ Follow files → LivePerforms (Ok (follow_plan Standard files.network.now files.traces.now command.options)) shelf shelf' out out' ended → LivePerforms (asked_by words) shelf shelf' out out' ended
+asked_follow words command files shelf shelf' out out' ended known is performs =
+    subst (λ (a : Result Plan (List ℕ)). LivePerforms a shelf shelf' out out' ended) (sym (frame.asked_is follow_alone (with_follow words) (plain command) (follow_plan Standard files.network.now files.traces.now command.options) known (ap (λ (w : Work). followed (plain_work w) command.options) is))) performs

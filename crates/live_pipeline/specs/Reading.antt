@@ -124,10 +124,10 @@ ReadsNext name shelf shelf' at at' chunk (Ok more) = NextChunk name shelf shelf'
 ReadsNext name shelf shelf' at at' chunk (Err last) = EndsRead name shelf shelf' last
 
 -- the whole file was fed, or the reading ended early
-abbrev pub PutsChunks : List ℕ → ShelfState → ShelfState → TraceReader → List Part
-    → Result (Unit {0}) Part → Type 0
-PutsChunks name shelf shelf' reader put (Ok done) = IsFedWhole name shelf shelf' reader put
-PutsChunks name shelf shelf' reader put (Err last) = HasPut name shelf shelf' put last
+abbrev pub PutsChunks : List ℕ → ShelfState → ShelfState → List Part → Result TraceReader Part
+    → Type 0
+PutsChunks name shelf shelf' put (Ok reader) = IsFedWhole name shelf shelf' reader put
+PutsChunks name shelf shelf' put (Err last) = HasPut name shelf shelf' put last
 
 -- a reader has put the traces of a file, and then one last part
 pub record HasRead (name : List ℕ) (shelf shelf' : ShelfState) (before after : Parts) : Type 0 where

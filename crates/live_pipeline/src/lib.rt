@@ -31,7 +31,7 @@ pub use ending::end_traces;
 pub use matcher::match_parts;
 pub use part::Part;
 pub use pipeline::live_traces;
-pub use read_done::ReadDone;
+pub use read_done::{ReadDone, TraceFile};
 pub use reader::read_traces;
 pub use relay::{PutPass, Relay, TakePass};
 pub use top::live;

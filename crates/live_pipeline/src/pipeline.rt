@@ -10,8 +10,8 @@ use crate::closing::close_whole;
 use crate::ending::end_traces;
 use crate::matcher::match_parts;
 use crate::part::Part;
-use crate::read_done::{ReadDone, ReadPromise};
-use crate::reader::read_traces;
+use crate::read_done::{ReadDone, ReadPromise, Reading, TraceFile};
+use crate::reader::read_unless;
 use crate::relay::{PutPass, Relay, TakePass};
 use edge_io::{Shelf, Sink};
 use program_frame::{Job, Stop, work_traces};
@@ -25,74 +25,71 @@ use std::thread::Threads;
 // The most messages that wait between reader and matcher. Speed only: any value is right.
 const CAPACITY: u32 = 64;
 
+// What a matcher is given.
+#[derive(Drop)]
+struct Matching<J> {
+    job: J,
+    pass: TakePass,
+}
+
+// The last part that a matcher took and how its work ended, if a reader was started.
+type Matched = Option<(Part, Result<(), Stop>)>;
+
 // Starts the reader in a second thread if one is available, and joins it.
 fn run_both<R: Threads + Wait + Sync, J: Job + Drop, S: Shelf + Send + Drop, K: Sink>(
     rt: &R,
     relay: &Relay,
-    name: &String,
-    shelf: S,
-    put: PutPass,
-    take: TakePass,
-    job: J,
+    reading: Reading<'_, S>,
+    matching: Matching<J>,
     out: &mut K,
-) -> (ReadDone<S>, TakePass, J, Option<(Part, Result<(), Stop>)>)
-    requires unused { (put ≡ no_parts relay.now.name) × (take ≡ no_parts relay.now.name) }
-    requires fresh { IsFresh (J.text job) (J.has job) }
-    ensures done { Keeps S.state (string_bytes name.now) shelf put result.0 }
-    ensures matched { MatchesBeside J.text J.has job result.2
-        (K.state out.old) (K.state out.new) take result.1 result.3 }
+) -> (ReadDone<S>, Matching<J>, Matched)
+    requires unused { (reading.pass ≡ no_parts relay.now.name)
+        × (matching.pass ≡ no_parts relay.now.name) }
+    requires fresh { IsFresh (J.text matching.job) (J.has matching.job) }
+    ensures done { Keeps S.state (string_bytes reading.entry.file.name.now) reading.entry.file.shelf
+        reading.entry.pass result.0 }
+    ensures matched { MatchesBeside J.text J.has matching.job result.1.job
+        (K.state out.old) (K.state out.new) matching.pass result.1.pass result.2 }
 {
     let refused = AtomicBool::new(false);
     let flag = &refused;
-    let (done, taken, left, matched, _out) = thread::scope(
+    let (done, left, matched, _out) = thread::scope(
         thread::scope_env(),
         rt,
-        move |scope| -> (
-            ReadDone<S>,
-            TakePass,
-            J,
-            Option<(Part, Result<(), Stop>)>,
-            &mut K,
-        )
-            requires unused { (put ≡ no_parts relay.now.name) × (take ≡ no_parts relay.now.name) }
-            requires fresh { IsFresh (J.text job) (J.has job) }
-            ensures done { Keeps S.state (string_bytes name.entry.now) shelf put result.0 }
-            ensures matched { MatchesBeside J.text J.has job result.2
-                (K.state out.entry.now) (K.state result.4.now) take result.1 result.3 }
-            ensures lent { result.4.ghost_name ≡ out.entry.ghost_name }
+        move |scope| -> (ReadDone<S>, Matching<J>, Matched, &mut K)
+            requires unused { (reading.pass ≡ no_parts relay.now.name)
+                × (matching.pass ≡ no_parts relay.now.name) }
+            requires fresh { IsFresh (J.text matching.job) (J.has matching.job) }
+            ensures done { Keeps S.state (string_bytes reading.entry.file.name.now)
+                reading.entry.file.shelf reading.entry.pass result.0 }
+            ensures matched { MatchesBeside J.text J.has matching.job result.1.job
+                (K.state out.entry.now) (K.state result.3.now) matching.pass result.1.pass result.2 }
+            ensures lent { result.3.ghost_name ≡ out.entry.ghost_name }
         {
             let promise = ReadPromise {
-                shelf: Snapshot::of(&shelf),
-                pass: Snapshot::of(&put),
-                name: Snapshot::of(name),
+                shelf: Snapshot::of(&reading.file.shelf),
+                pass: Snapshot::of(&reading.pass),
+                name: Snapshot::of(reading.file.name),
             };
             let reader = move || -> ReadDone<S>
-                requires { put ≡ no_parts relay.now.name }
-                ensures { Keeps S.state (string_bytes name.entry.now) shelf put result }
-            {
-                let mut shelf = shelf;
-                let mut pass = put;
-                if flag.load(Ordering::SeqCst) {
-                    return ReadDone::Unread { shelf, pass };
-                }
-                read_traces(rt, relay, name, &mut shelf, &mut pass);
-                ReadDone::Read { shelf, pass }
-            };
+                requires { reading.pass ≡ no_parts relay.now.name }
+                ensures { Keeps S.state (string_bytes reading.entry.file.name.now)
+                    reading.entry.file.shelf reading.entry.pass result }
+            { read_unless(rt, relay, reading, flag.load(Ordering::SeqCst)) };
             match scope.spawn_with(promise, reader) {
                 Ok(handle) => {
-                    let mut take = take;
-                    let mut job = job;
-                    let matched = match_parts(rt, relay, &mut job, &mut take, &mut *out);
-                    (handle.join(rt), take, job, Some(matched), out)
+                    let Matching { mut job, mut pass } = matching;
+                    let last = match_parts(rt, relay, &mut job, &mut pass, &mut *out);
+                    (handle.join(rt), Matching { job, pass }, Some(last), out)
                 }
                 Err(refusal) => {
                     flag.store(true, Ordering::SeqCst);
-                    ((refusal.value)(), take, job, None, out)
+                    ((refusal.value)(), matching, None, out)
                 }
             }
         },
     );
-    (done, taken, left, matched)
+    (done, left, matched)
 }
 
 /// Passes the traces of a file to a job and writes their text, as `work_traces` does, while another
@@ -103,20 +100,24 @@ pub fn live_traces<R: Threads + Wait + Sync, J: Job + Drop, S: Shelf + Send + Dr
     rt: &R,
     alloc: Global,
     job: J,
-    shelf: S,
-    name: &String,
+    file: TraceFile<'_, S>,
     out: &mut K,
 ) -> (Result<(), Stop>, S)
     requires { IsFresh (J.text job) (J.has job) }
-    ensures { LivePerforms (Ok (works_traces (string_bytes name.now) (J.text job)))
-        (S.state shelf) (S.state result.1) (K.state out.old) (K.state out.new) result.0 }
+    ensures { LivePerforms (Ok (works_traces (string_bytes file.entry.name.now) (J.text job)))
+        (S.state file.entry.shelf) (S.state result.1) (K.state out.old) (K.state out.new) result.0 }
 {
+    let name = file.name;
     let Ok((relay, put, take)) = Relay::open(alloc, CAPACITY) else {
-        return (Err(Stop::NoMemory), shelf);
+        return (Err(Stop::NoMemory), file.shelf);
     };
-    let (done, mut take, mut job, matched) = run_both(
-        rt, &relay, name, shelf, put, take, job, &mut *out,
-    );
+    let reading = Reading { file, pass: put };
+    let matching = Matching { job, pass: take };
+    let (done, left, matched) = run_both(rt, &relay, reading, matching, &mut *out);
+    let Matching {
+        mut job,
+        pass: mut take,
+    } = left;
     match (matched, done) {
         (Some((last, ended)), ReadDone::Read { shelf, pass }) => {
             close_whole(relay, pass, take);

@@ -1,9 +1,23 @@
-//! What the reader's thread returns, and what it promises of it. Serves `live_traces`; decided by
+//! What the reader's thread is given and returns, and what it promises of it. Serves `live_traces`; decided by
 //! `Keeps`.
 use crate::relay::PutPass;
 use edge_io::Shelf;
 use std::snapshot::Snapshot;
 use std::thread::Promise;
+
+/// A trace file: the shelf that holds it, and its name there.
+#[derive(Drop)]
+pub struct TraceFile<'a, S> {
+    pub shelf: S,
+    pub name: &'a String,
+}
+
+/// What a reader is given.
+#[derive(Drop)]
+pub struct Reading<'a, S> {
+    pub file: TraceFile<'a, S>,
+    pub pass: PutPass,
+}
 
 /// The shelf and the pass of a reader, after it has read, or if it has not begun.
 #[derive(Drop)]

@@ -8,12 +8,12 @@ ghost use Rattle.live_pipeline.specs.Words.{asked_plan};
 ghost use Rattle.program_frame.specs.Refusals.{refusal_lines};
 
 use crate::pipeline::live_traces;
+use crate::read_done::TraceFile;
 use crate::words::follow_words;
-use command_line::{WordsFault, Work, read_command};
-use cost_model::Params;
+use command_line::{TraceFiles, WordsFault, Work, read_command};
 use edge_io::{Shelf, Sink};
 use follow_work::FollowJob;
-use program_frame::{NetworkFile, Refusal, Stop, load_network, refuse_fault, report};
+use program_frame::{Refusal, Request, Stop, load_network, refuse_fault, report};
 use road_network::NetworkLimits;
 use std::alloc::Global;
 use std::sync::Wait;
@@ -23,28 +23,29 @@ use std::thread::Threads;
 fn follow_live<R: Threads + Wait + Sync, S: Shelf + Send + Drop, K: Sink>(
     rt: &R,
     alloc: Global,
-    network: NetworkFile<'_>,
-    traces: &str,
-    options: Params,
+    request: &Request<TraceFiles<'_>>,
     shelf: S,
     out: &mut K,
 ) -> (Result<(), Stop>, S)
-    requires { IsAccepted options }
-    ensures { LivePerforms (Ok (follow_plan network.entry.limits network.entry.name.now traces.now options))
+    requires { IsAccepted request.now.options }
+    ensures { LivePerforms (Ok (follow_plan request.now.limits request.now.files.network.now
+        request.now.files.traces.now request.now.options))
         (S.state shelf) (S.state result.1) (K.state out.old) (K.state out.new) result.0 }
 {
     let mut shelf = shelf;
-    let roads = match load_network(alloc, &mut shelf, network) {
+    let files = request.files;
+    let roads = match load_network(alloc, &mut shelf, files.network, request.limits) {
         Ok(roads) => roads,
         Err(stop) => return (Err(stop), shelf),
     };
-    let Ok(name) = String::from_str(alloc, traces) else {
+    let Ok(name) = String::from_str(alloc, files.traces) else {
         return (Err(Stop::NoMemory), shelf);
     };
-    let Ok(job) = FollowJob::open(alloc, &roads, options) else {
+    let Ok(job) = FollowJob::open(alloc, &roads, request.options) else {
         return (Err(Stop::NoMemory), shelf);
     };
-    live_traces(rt, alloc, job, shelf, &name, out)
+    let file = TraceFile { shelf, name: &name };
+    live_traces(rt, alloc, job, file, out)
 }
 
 // The work of the words; leaves the error output alone.
@@ -66,12 +67,13 @@ fn perform<R: Threads + Wait + Sync, S: Shelf + Send + Drop, K: Sink>(
         Err(fault) => return (Err(refuse_fault(alloc, Refusal::Words, &fault)), shelf),
     };
     match command.work {
-        Work::Follow { network, traces } => {
-            let file = NetworkFile {
-                name: network,
+        Work::Follow(files) => {
+            let request = Request {
+                files,
                 limits: NetworkLimits::Standard,
+                options: command.options,
             };
-            follow_live(rt, alloc, file, traces, command.options, shelf, out)
+            follow_live(rt, alloc, &request, shelf, out)
         }
         _ => {
             let refused = refuse_fault(alloc, Refusal::Words, &WordsFault::Usage);

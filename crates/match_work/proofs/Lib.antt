@@ -1,5 +1,6 @@
 pub mod Asking
 pub mod Jobs
 pub mod Sharing
+pub mod TableSaid
 pub mod TraceMatches
 pub mod TownTexts

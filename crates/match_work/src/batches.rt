@@ -6,6 +6,7 @@ ghost use Rattle.match_pool.specs.Working.{AreJobTraces};
 ghost use Rattle.row_store.specs.Store.{HasNearRows};
 ghost use Rattle.match_work.specs.Sharing.{IsStoreFor, MatchesBatch, ShareStore, fresh_readers};
 
+use crate::env::Env;
 use match_pool::{Gate, match_all};
 use match_text::MatchedTrace;
 use plain_list::List;
@@ -14,6 +15,13 @@ use std::alloc::{AllocError, Global};
 use std::thread::Threads;
 use trace_match::Matcher;
 use trace_reader::Trace;
+
+/// What traces are matched on, and the store of the rows that the workers share.
+#[derive(Clone, Copy)]
+pub struct Shared<'s> {
+    pub matcher: &'s Matcher<'s>,
+    pub store: &'s RowStore<'s>,
+}
 
 /// A store for the rows of the network within the bound of the options.
 pub fn open_store<'n>(alloc: Global, matcher: &Matcher<'n>) -> Result<RowStore<'n>, AllocError>
@@ -50,13 +58,11 @@ pub fn open_readers<'s>(
 /// The matches of some traces, in order, by one worker for each reader. `first` is the index of the
 /// first trace in the file, from 0.
 pub fn match_batch<'s, R: Threads + Sync, G: Gate>(
-    rt: &R,
-    alloc: Global,
+    env: &Env<'_, R, G>,
     matcher: &Matcher<'_>,
     first: u64,
     traces: &[Trace],
     readers: &mut List<Reader<'s>>,
-    gate: &G,
 ) -> Result<List<MatchedTrace>, AllocError>
     requires traces { AreJobTraces first traces.now }
     requires readers { AreReadersFor matcher.now.network matcher.now.params readers.old }
@@ -66,6 +72,6 @@ pub fn match_batch<'s, R: Threads + Sync, G: Gate>(
     let grid = matcher.grid();
     let params = matcher.params();
     match_all(
-        rt, alloc, network, grid, params, first, traces, readers, gate,
+        env.rt, env.alloc, network, grid, params, first, traces, readers, env.gate,
     )
 }

@@ -9,16 +9,18 @@
 //!   `specs/Towns.antt`: the total line of `match`, and the sum of the costs of all pieces.
 //! - [`open_near_store`], [`open_readers`] and [`match_batch`] are for callers that match traces by workers:
 //!   the store, a reader of it for each worker, and the matches of some traces. Their effect is
-//!   `MatchesBatch` in `specs/Sharing.antt`.
+//!   `MatchesBatch` in `specs/Sharing.antt`. An [`Env`] has what workers need of outside.
 #![tactic(auto)]
 
 mod batches;
+mod env;
 mod matches;
 mod tabled;
 mod texts;
 mod towns;
 
-pub use batches::{match_batch, open_near_store, open_readers};
+pub use batches::{Shared, match_batch, open_near_store, open_readers};
+pub use env::Env;
 pub use matches::{match_file, match_traces};
 pub use tabled::match_with_table;
 pub use towns::match_town;

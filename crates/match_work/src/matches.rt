@@ -11,15 +11,16 @@ ghost use Rattle.match_work.specs.Sharing.{IsStoreFor, MatchesBatch, MatchesBatc
 ghost use Rattle.match_work.specs.Matches.{match_plan, match_text};
 ghost use Rattle.match_work.specs.inside.MatchesDone.{HasMatched};
 
-use crate::batches::{match_batch, open_near_store, open_readers};
+use crate::batches::{Shared, match_batch, open_near_store, open_readers};
+use crate::env::Env;
 use crate::texts::write_in_threads;
-use cost_model::Params;
+use command_line::MatchFiles;
 use edge_io::{Shelf, Sink};
 use match_pool::Gate;
 use match_text::MatchedTrace;
 use plain_list::List;
-use program_frame::{Job, NetworkFile, Stop, Tally, load_network, work_traces};
-use row_store::{Reader, RowStore, known_count};
+use program_frame::{Job, Request, Stop, Tally, load_network, work_traces};
+use row_store::{Reader, known_count};
 use std::alloc::{AllocError, Global};
 use std::thread::Threads;
 use trace_match::Matcher;
@@ -100,32 +101,30 @@ where
 
 /// Matches the traces of a file by workers over one store, and writes their texts and the total line.
 pub fn match_file<'s, R: Threads + Sync, G: Gate, S: Shelf, K: Sink>(
-    rt: &R,
-    alloc: Global,
-    matcher: &'s Matcher<'s>,
-    store: &'s RowStore<'s>,
+    env: &Env<'_, R, G>,
+    shared: &Shared<'s>,
     traces: &str,
     shelf: &mut S,
     out: &mut K,
-    gate: &G,
 ) -> Result<(), Stop>
-    requires { IsStoreFor matcher.now store.now }
-    ensures { Performs (Ok (works_traces traces.now (match_text matcher.now)))
+    requires { IsStoreFor shared.now.matcher.now shared.now.store.now }
+    ensures { Performs (Ok (works_traces traces.now (match_text shared.now.matcher.now)))
         (S.state shelf.old) (S.state shelf.new) (K.state out.old) (K.state out.new) result }
 {
-    let readers = open_readers(alloc, matcher, store)?;
+    let matcher = shared.matcher;
+    let readers = open_readers(env.alloc, matcher, shared.store)?;
     let match_batch = |first: u64, batch: &[Trace], readers: &mut List<Reader<'_>>|
         requires { AreJobTraces first batch.now
             × AreReadersFor matcher.now.network matcher.now.params readers.now }
         ensures { MatchesBatch matcher.entry.now batch.now readers.entry.now result
             readers.exit.now }
-    { match_batch(rt, alloc, matcher, first, batch, readers, gate) };
+    { match_batch(env, matcher, first, batch, readers) };
     let workers = matcher.params().workers;
     let write = |matches: &[MatchedTrace], into: &mut List<u8>|
         requires { All IsLawful matches.now × (pieces_in matches.now ≤ 2 ^ 62) }
         ensures text { OnOk result (into.exit.now ≡ into.entry.now ++ text_of_matches matches.now) }
         ensures pieces { IfOk result (λ pieces. pieces ≡ pieces_in matches.now) }
-    { write_in_threads(rt, alloc, workers, matches, into) };
+    { write_in_threads(env.rt, env.alloc, workers, matches, into) };
     let job = MatchJob {
         matcher,
         readers,
@@ -133,26 +132,27 @@ pub fn match_file<'s, R: Threads + Sync, G: Gate, S: Shelf, K: Sink>(
         write,
         tally: Tally::NONE,
     };
-    work_traces(alloc, job, shelf, traces, out)
+    work_traces(env.alloc, job, shelf, traces, out)
 }
 
-/// Reads the network, and then the traces, which it matches batch by batch.
+/// Reads the network, and then the traces, which it matches batch by batch. A table file is not read.
 pub fn match_traces<R: Threads + Sync, G: Gate, S: Shelf, K: Sink>(
-    rt: &R,
-    alloc: Global,
-    network: NetworkFile<'_>,
-    traces: &str,
-    options: Params,
+    env: &Env<'_, R, G>,
+    request: &Request<MatchFiles<'_>>,
     shelf: &mut S,
     out: &mut K,
-    gate: &G,
 ) -> Result<(), Stop>
-    requires { IsAccepted options }
-    ensures { Performs (Ok (match_plan network.entry.limits network.entry.name.now traces.now options))
+    requires { IsAccepted request.now.options }
+    ensures { Performs (Ok (match_plan request.now.limits request.now.files.network.now
+        request.now.files.traces.now request.now.options))
         (S.state shelf.old) (S.state shelf.new) (K.state out.old) (K.state out.new) result }
 {
-    let roads = load_network(alloc, shelf, network)?;
-    let matcher = Matcher::open(alloc, &roads, options)?;
-    let store = open_near_store(alloc, &matcher)?;
-    match_file(rt, alloc, &matcher, &store, traces, shelf, out, gate)
+    let roads = load_network(env.alloc, shelf, request.files.network, request.limits)?;
+    let matcher = Matcher::open(env.alloc, &roads, request.options)?;
+    let store = open_near_store(env.alloc, &matcher)?;
+    let shared = Shared {
+        matcher: &matcher,
+        store: &store,
+    };
+    match_file(env, &shared, request.files.traces, shelf, out)
 }

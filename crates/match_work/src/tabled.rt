@@ -5,38 +5,38 @@ ghost use Rattle.cost_model.specs.Options.{IsAccepted};
 ghost use Rattle.program_frame.specs.Performs.{Performs};
 ghost use Rattle.match_work.specs.TableMatch.{table_match_plan};
 
-use crate::batches::open_store;
+use crate::batches::{Shared, open_store};
+use crate::env::Env;
 use crate::matches::match_file;
-use cost_model::Params;
+use command_line::MatchFiles;
 use edge_io::{Shelf, Sink};
 use match_pool::Gate;
-use program_frame::{NetworkFile, Stop, load_network};
-use std::alloc::Global;
+use program_frame::{Request, Stop, load_network};
 use std::thread::Threads;
 use table_work::preload;
 use trace_match::Matcher;
 
-/// Reads the network, then the table file, and then the traces, which it matches batch by batch. The text
+/// Reads the network, then this table file, and then the traces, which it matches batch by batch. The text
 /// is that of `match_traces`, which reads no table file.
 pub fn match_with_table<R: Threads + Sync, G: Gate, S: Shelf, K: Sink>(
-    rt: &R,
-    alloc: Global,
-    network: NetworkFile<'_>,
+    env: &Env<'_, R, G>,
+    request: &Request<MatchFiles<'_>>,
     table: &str,
-    traces: &str,
-    options: Params,
     shelf: &mut S,
     out: &mut K,
-    gate: &G,
 ) -> Result<(), Stop>
-    requires { IsAccepted options }
-    ensures { Performs
-        (Ok (table_match_plan network.entry.limits network.entry.name.now table.now traces.now options))
+    requires { IsAccepted request.now.options }
+    ensures { Performs (Ok (table_match_plan request.now.limits request.now.files.network.now
+        table.now request.now.files.traces.now request.now.options))
         (S.state shelf.old) (S.state shelf.new) (K.state out.old) (K.state out.new) result }
 {
-    let roads = load_network(alloc, shelf, network)?;
-    let matcher = Matcher::open(alloc, &roads, options)?;
-    let store = open_store(alloc, &matcher)?;
-    preload(alloc, shelf, table, &roads, options.bound, &store)?;
-    match_file(rt, alloc, &matcher, &store, traces, shelf, out, gate)
+    let roads = load_network(env.alloc, shelf, request.files.network, request.limits)?;
+    let matcher = Matcher::open(env.alloc, &roads, request.options)?;
+    let store = open_store(env.alloc, &matcher)?;
+    preload(env.alloc, shelf, table, &store)?;
+    let shared = Shared {
+        matcher: &matcher,
+        store: &store,
+    };
+    match_file(env, &shared, request.files.traces, shelf, out)
 }

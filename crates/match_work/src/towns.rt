@@ -12,7 +12,9 @@ ghost use Rattle.match_work.specs.Sharing.{IsStoreFor};
 ghost use Rattle.match_work.specs.Towns.{cost_line, network_in, report_of_town, town_plan, town_text};
 ghost use Rattle.match_work.specs.inside.TownsDone.{AreCosts, IsCost};
 
-use crate::batches::{match_batch, open_near_store, open_readers};
+use crate::batches::{Shared, match_batch, open_near_store, open_readers};
+use crate::env::Env;
+use command_line::TownNumbers;
 use cost_model::Params;
 use edge_io::Sink;
 use itoa::Buffer;
@@ -21,7 +23,7 @@ use match_text::MatchedTrace;
 use plain_list::List;
 use program_frame::{Stop, Tally, put_text};
 use road_network::{Network, read_network};
-use row_store::{RowStore, known_count};
+use row_store::known_count;
 use std::alloc::{AllocError, Global};
 use std::thread::Threads;
 use town::{town_network, town_traces};
@@ -49,11 +51,12 @@ fn open_network(alloc: Global, side: u32) -> Result<Network, AllocError>
 }
 
 // Reads the traces of a town. Their file has no fault either.
-fn read_traces(alloc: Global, side: u32, count: u32, seed: u32) -> Result<List<Trace>, AllocError>
-    requires { IsWithin 2 100 side × IsWithin 1 2_000 count }
-    ensures { IfOk result (λ traces. traces ≡ file_traces (traces_text side count seed)) }
+fn read_traces(alloc: Global, numbers: TownNumbers) -> Result<List<Trace>, AllocError>
+    requires { IsWithin 2 100 numbers.side × IsWithin 1 2_000 numbers.traces }
+    ensures { IfOk result (λ traces. traces
+        ≡ file_traces (traces_text numbers.side numbers.traces numbers.seed)) }
 {
-    let bytes = town_traces(alloc, side, count, seed)?;
+    let bytes = town_traces(alloc, numbers.side, numbers.traces, numbers.seed)?;
     let mut reader = TraceReader::open(alloc);
     let mut traces = List::new(alloc);
     let Ok(()) = reader.feed(bytes.as_slice(), &mut traces) else {
@@ -101,65 +104,60 @@ fn append_cost(cost: u128, into: &mut List<u8>) -> Result<(), AllocError>
 
 // The output of a town.
 fn report<'s, R: Threads + Sync, G: Gate>(
-    rt: &R,
-    alloc: Global,
-    matcher: &Matcher<'_>,
-    store: &'s RowStore<'s>,
+    env: &Env<'_, R, G>,
+    shared: &Shared<'s>,
     traces: &[Trace],
-    gate: &G,
 ) -> Result<List<u8>, AllocError>
-    requires store { IsStoreFor matcher.now store.now }
+    requires store { IsStoreFor shared.now.matcher.now shared.now.store.now }
     requires traces { IsBounded traces.now × (length traces.now ≤ 2_000) }
-    ensures { IfOk result (λ text. text ≡ town_text matcher.now traces.now) }
+    ensures { IfOk result (λ text. text ≡ town_text shared.now.matcher.now traces.now) }
 {
-    let mut readers = open_readers(alloc, matcher, store)?;
-    let matches = match_batch(rt, alloc, matcher, 0, traces, &mut readers, gate)?;
+    let mut readers = open_readers(env.alloc, shared.matcher, shared.store)?;
+    let matches = match_batch(env, shared.matcher, 0, traces, &mut readers)?;
     let costs = add_up(matches.as_slice());
     let mut tally = Tally::NONE;
     tally.add(traces, costs.pieces);
-    let rows = known_count(alloc, readers.as_slice())?;
-    let mut text = List::new(alloc);
+    let rows = known_count(env.alloc, readers.as_slice())?;
+    let mut text = List::new(env.alloc);
     tally.append_line(u64::from(rows), &mut text)?;
     append_cost(costs.cost, &mut text)?;
     Ok(text)
 }
 
 fn town_report<R: Threads + Sync, G: Gate>(
-    rt: &R,
-    alloc: Global,
-    side: u32,
-    count: u32,
-    seed: u32,
+    env: &Env<'_, R, G>,
+    numbers: TownNumbers,
     options: Params,
-    gate: &G,
 ) -> Result<List<u8>, AllocError>
-    requires within { IsWithin 2 100 side × IsWithin 1 2_000 count }
+    requires within { IsWithin 2 100 numbers.side × IsWithin 1 2_000 numbers.traces }
     requires options { IsAccepted options }
-    ensures { IfOk result (λ text. text ≡ report_of_town side count seed options) }
+    ensures { IfOk result (λ text. text
+        ≡ report_of_town numbers.side numbers.traces numbers.seed options) }
 {
-    let network = open_network(alloc, side)?;
-    let traces = read_traces(alloc, side, count, seed)?;
-    let matcher = Matcher::open(alloc, &network, options)?;
-    let store = open_near_store(alloc, &matcher)?;
-    report(rt, alloc, &matcher, &store, traces.as_slice(), gate)
+    let network = open_network(env.alloc, numbers.side)?;
+    let traces = read_traces(env.alloc, numbers)?;
+    let matcher = Matcher::open(env.alloc, &network, options)?;
+    let store = open_near_store(env.alloc, &matcher)?;
+    let shared = Shared {
+        matcher: &matcher,
+        store: &store,
+    };
+    report(env, &shared, traces.as_slice())
 }
 
 /// Makes the files of a town, and matches its traces on its network. Reads no file.
 pub fn match_town<R: Threads + Sync, G: Gate, K: Sink>(
-    rt: &R,
-    alloc: Global,
-    side: u32,
-    count: u32,
-    seed: u32,
+    env: &Env<'_, R, G>,
+    numbers: TownNumbers,
     options: Params,
     out: &mut K,
-    gate: &G,
 ) -> Result<(), Stop>
-    requires within { IsWithin 2 100 side × IsWithin 1 2_000 count }
+    requires within { IsWithin 2 100 numbers.side × IsWithin 1 2_000 numbers.traces }
     requires options { IsAccepted options }
-    ensures { (shelf : ShelfState) → Performs (Ok (town_plan side count seed options))
+    ensures { (shelf : ShelfState)
+        → Performs (Ok (town_plan numbers.side numbers.traces numbers.seed options))
         shelf shelf (K.state out.old) (K.state out.new) result }
 {
-    let text = town_report(rt, alloc, side, count, seed, options, gate)?;
+    let text = town_report(env, numbers, options)?;
     put_text(out, text.as_slice())
 }

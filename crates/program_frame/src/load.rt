@@ -1,5 +1,4 @@
 //! The network, accepted or refused. Serves the commands; decided by `network_said`.
-ghost use Rattle.std.specs.Prelude.{◌≡◌};
 ghost use Rattle.program_frame.specs.Loads.{Accepts, Loads};
 ghost use Rattle.program_frame.specs.Refusals.{network_said};
 ghost use Rattle.road_network.specs.Limits.{file_limit};
@@ -11,23 +10,6 @@ use edge_io::Shelf;
 use road_network::{Network, NetworkLimits, read_network_text};
 use std::alloc::Global;
 
-/// The file of a network: its name, and the limits that hold for its bytes.
-#[derive(Clone, Copy)]
-pub struct NetworkFile<'a> {
-    pub name: &'a str,
-    pub limits: NetworkLimits,
-}
-
-impl<'a> NetworkFile<'a> {
-    /// The file of this name, read within these limits.
-    pub fn new(name: &'a str, limits: NetworkLimits) -> Self
-        ensures name { result.name.now ≡ name.now }
-        ensures limits { result.limits ≡ limits }
-    {
-        NetworkFile { name, limits }
-    }
-}
-
 // The network of a text, or its refusal.
 fn accept_network(alloc: Global, limits: NetworkLimits, text: Vec<u8>) -> Result<Network, Stop>
     ensures { Accepts Refusal.Network (network_said limits text.items) result }
@@ -38,17 +20,18 @@ fn accept_network(alloc: Global, limits: NetworkLimits, text: Vec<u8>) -> Result
     }
 }
 
-/// Reads the network, and accepts or refuses it. The memory of the file's text is returned while its
-/// records are read.
+/// Reads a network within these limits, and accepts or refuses it. The memory of the file's text is
+/// returned while its records are read.
 pub fn load_network<S: Shelf>(
     alloc: Global,
     shelf: &mut S,
-    file: NetworkFile<'_>,
+    name: &str,
+    limits: NetworkLimits,
 ) -> Result<Network, Stop>
-    ensures { Loads Refusal.Network File.Network file.entry.name.now (file_limit file.entry.limits)
-        (network_said file.entry.limits) (S.state shelf.old) (S.state shelf.new) result }
+    ensures { Loads Refusal.Network File.Network name.now (file_limit limits)
+        (network_said limits) (S.state shelf.old) (S.state shelf.new) result }
 {
-    let limit = file.limits.file_bytes();
-    let bytes = read_file(alloc, shelf, File::Network, file.name, limit)?;
-    accept_network(alloc, file.limits, bytes)
+    let limit = limits.file_bytes();
+    let bytes = read_file(alloc, shelf, File::Network, name, limit)?;
+    accept_network(alloc, limits, bytes)
 }

@@ -3,6 +3,7 @@ use Rattle.std.proofs.Common.{◌≡◌, ℕ, List, Result, Ok, refl, sym, subst
 use Rattle.command_line.specs.Work.{PlainCommand, plain, plain_work}
 use Rattle.command_line.specs.Words.{command_of}
 use Rattle.command_line.specs.declared.work.Command.{Command}
+use Rattle.command_line.specs.declared.work.TownNumbers.{TownNumbers}
 use Rattle.command_line.specs.declared.work.Work.{Work}
 use Rattle.command_line.specs.declared.work.Work.TheVariants.{Town}
 use Rattle.edge_io.specs.State.{ShelfState, SinkState}
@@ -18,6 +19,6 @@ asked_command limits words command shelf shelf' out out' ended known performs =
     subst (λ a. Performs a shelf shelf' out out' ended) (sym (asked_is (every_work limits) words command (command_plan limits command) known refl)) performs
 
 -- a town reads no file, so it leaves any shelf as it is
-pub town_performs : (limits : NetworkLimits) (command : Command) (side traces seed : ℕ) (shelf : ShelfState) (out out' : SinkState) (ended : Result (Unit {0}) Stop) → command.work ≡ Town side traces seed → Performs (Ok (town_plan side traces seed command.options)) shelf shelf out out' ended → Performs (Ok (command_plan limits (plain command))) shelf shelf out out' ended
-town_performs limits command side traces seed shelf out out' ended is performs =
+pub town_performs : (limits : NetworkLimits) (command : Command) (town : TownNumbers) (shelf : ShelfState) (out out' : SinkState) (ended : Result (Unit {0}) Stop) → command.work ≡ Town town → Performs (Ok (town_plan town.side town.traces town.seed command.options)) shelf shelf out out' ended → Performs (Ok (command_plan limits (plain command))) shelf shelf out out' ended
+town_performs limits command town shelf out out' ended is performs =
     subst (λ (w : Work). Performs (Ok (work_plan limits (plain_work w) command.options)) shelf shelf out out' ended) (sym is) performs

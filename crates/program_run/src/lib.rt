@@ -19,4 +19,4 @@ mod over_streams;
 mod top;
 
 pub use over_streams::{run_over, run_over_bytes};
-pub use top::{run, run_within};
+pub use top::{Program, run, run_within};

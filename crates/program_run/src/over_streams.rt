@@ -5,16 +5,16 @@ ghost use Rattle.program_run.specs.Words.{asked_plan};
 
 use crate::top::run;
 use edge_io::{FileShelf, FileSource, NamedFiles, StreamSink};
-use match_pool::OpenGate;
+use match_pool::{Gate, OpenGate};
+use match_work::Env;
 use plain_list::List;
 use std::alloc::Global;
 use std::io::Write;
 use std::thread::Threads;
 
 /// Runs the program over the files of a source and two streams. Returns the status and the streams.
-pub fn run_over<R: Threads + Sync, F: FileSource + Drop, W: Write + Drop, X: Write + Drop>(
-    rt: &R,
-    alloc: Global,
+pub fn run_over<R: Threads + Sync, G: Gate, F: FileSource + Drop, W: Write + Drop, X: Write + Drop>(
+    env: &Env<'_, R, G>,
     words: &[String],
     files: F,
     out: W,
@@ -23,10 +23,12 @@ pub fn run_over<R: Threads + Sync, F: FileSource + Drop, W: Write + Drop, X: Wri
     ensures { WritesOutcome (asked_plan words.now) (F.holds files)
         (W.contents out) (W.contents result.1) (X.contents err) (X.contents result.2) result.0 }
 {
-    let mut shelf = FileShelf::new(alloc, files);
+    let mut shelf = FileShelf::new(env.alloc, files);
     let mut out = StreamSink::new(out);
     let mut err = StreamSink::new(err);
-    let status = run(rt, alloc, words, &mut shelf, &mut out, &mut err, &OpenGate);
+    let status = run(
+        env.rt, env.alloc, words, &mut shelf, &mut out, &mut err, env.gate,
+    );
     (status, out.into_stream(), err.into_stream())
 }
 
@@ -40,6 +42,11 @@ pub fn run_over_bytes<R: Threads + Sync>(
     ensures { LeavesOutcome (asked_plan words.now) (lookup files.now)
         result.1.items result.2.items result.0 }
 {
+    let env = Env {
+        rt,
+        alloc,
+        gate: &OpenGate,
+    };
     let files = NamedFiles(files);
-    run_over(rt, alloc, words, files, Vec::new(alloc), Vec::new(alloc))
+    run_over(&env, words, files, Vec::new(alloc), Vec::new(alloc))
 }

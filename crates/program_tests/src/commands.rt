@@ -1,6 +1,7 @@
 //! Runs of the commands over files in memory, with what each of them must give.
 use crate::ended::{Ended, run_to_end, shelf};
 use match_pool::OpenGate;
+use match_work::Env;
 use row_tests::small::{TWO_EDGES, TWO_WAYS};
 use std::alloc::{AllocError, Global};
 use std::thread::Threads;
@@ -194,5 +195,6 @@ pub fn end<R: Threads + Sync>(
         ("cert", CERTIFICATE),
     ];
     let mut shelf = shelf(alloc, &files, trouble.reads, trouble.most)?;
-    run_to_end(rt, alloc, it.words, &mut shelf, trouble.puts, &OpenGate)
+    let gate = &OpenGate;
+    run_to_end(&Env { rt, alloc, gate }, it.words, &mut shelf, trouble.puts)
 }

@@ -2,6 +2,7 @@
 use crate::texts::list;
 use edge_io::{MemoryShelf, MemorySink, Shelf};
 use match_pool::Gate;
+use match_work::Env;
 use plain_list::List;
 use program_run::run;
 use std::alloc::{AllocError, Global};
@@ -78,16 +79,16 @@ impl Ended {
 
 /// Ends the run of these words over a shelf, where the puts of these numbers on out and on err fail.
 pub fn run_to_end<R: Threads + Sync, S: Shelf, G: Gate>(
-    rt: &R,
-    alloc: Global,
+    env: &Env<'_, R, G>,
     all: &[&str],
     shelf: &mut S,
     puts: [&[u64]; 2],
-    gate: &G,
 ) -> Result<Ended, AllocError> {
-    let words = words(alloc, all)?;
-    let mut out = sink(alloc, puts[0])?;
-    let mut err = sink(alloc, puts[1])?;
-    let status = run(rt, alloc, &words, shelf, &mut out, &mut err, gate);
+    let words = words(env.alloc, all)?;
+    let mut out = sink(env.alloc, puts[0])?;
+    let mut err = sink(env.alloc, puts[1])?;
+    let status = run(
+        env.rt, env.alloc, &words, shelf, &mut out, &mut err, env.gate,
+    );
     Ok(Ended { status, out, err })
 }

@@ -7,6 +7,7 @@ use crate::ended::{Ended, run_to_end, shelf};
 use crate::texts::{many_texts, many_traces};
 use bounded_table::Row;
 use match_pool::{Gate, OpenGate};
+use match_work::Env;
 use plain_list::List;
 use road_network::NodeId;
 use row_store::{RowStore, Sight};
@@ -30,7 +31,7 @@ fn gives<R: Threads + Sync, G: Gate>(
         return false;
     };
     let words = ["match", "net", "tra", "--workers", "2"];
-    match run_to_end(rt, alloc, &words, &mut shelf, [&[], &[]], gate) {
+    match run_to_end(&Env { rt, alloc, gate }, &words, &mut shelf, [&[], &[]]) {
         Ok(ended) => ended.is(0, text, b""),
         Err(_) => false,
     }
@@ -261,7 +262,12 @@ fn finds_rows_of_table<R: Threads + Sync>(rt: &R, alloc: Global) -> bool {
         return false;
     };
     let words = ["match", "net", "tra", "--table", "tab"];
-    match run_to_end(rt, alloc, &words, &mut shelf, [&[], &[]], &gate) {
+    let env = Env {
+        rt,
+        alloc,
+        gate: &gate,
+    };
+    match run_to_end(&env, &words, &mut shelf, [&[], &[]]) {
         Ok(ended) => ended.status == 0 && gate.found.load(SeqCst) == 1,
         Err(_) => false,
     }
@@ -350,7 +356,7 @@ fn end_town<R: Threads + Sync, G: Gate>(
 ) -> Result<Ended, AllocError> {
     let mut shelf = shelf(alloc, &[], &[], u32::MAX)?;
     let words = ["town", "3", "4", "1", "--workers", workers];
-    run_to_end(rt, alloc, &words, &mut shelf, [&[], &[]], gate)
+    run_to_end(&Env { rt, alloc, gate }, &words, &mut shelf, [&[], &[]])
 }
 
 // Whether `town` by two workers writes what it writes by one.

@@ -3,6 +3,7 @@ use crate::ended::{run_to_end, shelf};
 use crate::texts::list;
 use decimal_text::write_unsigned;
 use match_pool::OpenGate;
+use match_work::Env;
 use plain_list::List;
 use std::alloc::{AllocError, Global};
 use std::fs;
@@ -55,7 +56,8 @@ fn status<R: Threads + Sync>(
     let files = [("net", road), ("tra", traces)];
     let mut shelf = shelf(alloc, &files, &[], u32::MAX)?;
     let words = ["match", "net", "tra", "--workers", "2"];
-    let ended = run_to_end(rt, alloc, &words, &mut shelf, [puts, &[]], &OpenGate)?;
+    let gate = &OpenGate;
+    let ended = run_to_end(&Env { rt, alloc, gate }, &words, &mut shelf, [puts, &[]])?;
     Ok(ended.status)
 }
 

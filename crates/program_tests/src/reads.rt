@@ -6,6 +6,7 @@ use decimal_text::write_unsigned;
 use edge_io::{MemoryShelf, Shelf, Taken};
 use live_pipeline::live;
 use match_pool::OpenGate;
+use match_work::Env;
 use plain_list::List;
 use row_tests::small::TWO_EDGES;
 use std::alloc::{AllocError, Global};
@@ -184,7 +185,8 @@ fn has_calls<R: Threads + Sync>(rt: &R, alloc: Global, it: &Case<'_>) -> bool {
     let Ok(mut shelf) = recording_shelf(alloc, it) else {
         return false;
     };
-    run_to_end(rt, alloc, it.words, &mut shelf, [&[], &[]], &OpenGate).is_ok()
+    let gate = &OpenGate;
+    run_to_end(&Env { rt, alloc, gate }, it.words, &mut shelf, [&[], &[]]).is_ok()
         && shelf.calls.as_slice() == it.calls
 }
 

@@ -2,19 +2,12 @@
 use crate::commands::{MATCH, NONE, RUNS, Run, Trouble, end};
 use crate::ended::Ended;
 use crate::texts::many_traces;
-use std::alloc::Global;
+use std::alloc::{AllocError, Global};
 use std::thread::Threads;
 
-// Whether a run with such trouble ends with this status and line, and with a beginning of the whole text.
-fn is_cut<R: Threads + Sync>(
-    rt: &R,
-    alloc: Global,
-    it: &Run<'_>,
-    trouble: Trouble<'_>,
-    (status, line): (u8, &[u8]),
-    whole: &Ended,
-) -> bool {
-    match end(rt, alloc, it, trouble) {
+// Whether a run ended with this status and line, and with a beginning of the whole text.
+fn is_cut(ended: Result<Ended, AllocError>, status: u8, line: &[u8], whole: &Ended) -> bool {
+    match ended {
         Ok(cut) => cut.is_cut(status, line, whole),
         Err(_) => false,
     }
@@ -47,7 +40,7 @@ fn fails_at_each_read<R: Threads + Sync>(
             reads: &[read],
             ..NONE
         };
-        if !is_cut(rt, alloc, it, trouble, (3, line), whole) {
+        if !is_cut(end(rt, alloc, it, trouble), 3, line, whole) {
             return false;
         }
         read = read.saturating_add(1);
@@ -73,7 +66,8 @@ fn fails_at_each_put<R: Threads + Sync>(
             puts: [&[before + 1], &[]],
             ..NONE
         };
-        if !is_cut(rt, alloc, it, trouble, (4, b"fmm: write failed\n"), whole) {
+        let ended = end(rt, alloc, it, trouble);
+        if !is_cut(ended, 4, b"fmm: write failed\n", whole) {
             return false;
         }
     }

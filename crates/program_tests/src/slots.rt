@@ -7,6 +7,7 @@ ghost use Rattle.road_network.specs.Net.{HasNode};
 use crate::ended::{run_to_end, shelf};
 use bounded_table::{Entry, Row};
 use match_pool::Gate;
+use match_work::Env;
 use plain_list::List;
 use road_network::NodeId;
 use row_store::RowStore;
@@ -45,7 +46,7 @@ fn gives<R: Threads + Sync, G: Gate>(rt: &R, alloc: Global, drive: Drive, gate: 
         return false;
     };
     let words = ["match", "net", "tra", "--bound", "24000", "--workers", "2"];
-    match run_to_end(rt, alloc, &words, &mut shelf, [&[], &[]], gate) {
+    match run_to_end(&Env { rt, alloc, gate }, &words, &mut shelf, [&[], &[]]) {
         Ok(ended) => ended.is(0, text, b""),
         Err(_) => false,
     }

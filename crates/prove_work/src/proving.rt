@@ -8,11 +8,11 @@ ghost use Rattle.prove_work.specs.Prove.{prove_plan, prove_said};
 ghost use Rattle.prove_work.specs.inside.ProveDone.{WritesProofs};
 
 use crate::certifying::certify_traces;
-use cost_model::Params;
+use command_line::TraceFiles;
 use edge_io::{Shelf, Sink};
 use plain_list::List;
 use potential_certificate::{WriteFault, write_certificate};
-use program_frame::{NetworkFile, Refusal, Stop, load_network, load_traces, put_text, refuse};
+use program_frame::{Refusal, Request, Stop, load_network, load_traces, put_text, refuse};
 use std::alloc::Global;
 use trace_match::Matcher;
 use trace_reader::Trace;
@@ -26,10 +26,9 @@ fn write_proofs(
     requires { All IsLawfulTrace traces.now }
     ensures { WritesProofs matcher.now traces.now result }
 {
-    let params = matcher.params();
-    let certificate = certify_traces(alloc, matcher.network(), matcher.grid(), params, traces)?;
+    let certificate = certify_traces(alloc, matcher, traces)?;
     let mut text = List::new(alloc);
-    write_certificate(alloc, params, &certificate, &mut text)?;
+    write_certificate(alloc, matcher.params(), &certificate, &mut text)?;
     Ok(text)
 }
 
@@ -54,19 +53,18 @@ fn text_of_proofs(alloc: Global, matcher: &Matcher<'_>, traces: &[Trace]) -> Res
 /// too long.
 pub fn prove_traces<S: Shelf, K: Sink>(
     alloc: Global,
-    network: NetworkFile<'_>,
-    traces: &str,
-    options: Params,
+    request: &Request<TraceFiles<'_>>,
     shelf: &mut S,
     out: &mut K,
 ) -> Result<(), Stop>
-    requires { IsAccepted options }
-    ensures { Performs (Ok (prove_plan network.entry.limits network.entry.name.now traces.now options))
+    requires { IsAccepted request.now.options }
+    ensures { Performs (Ok (prove_plan request.now.limits request.now.files.network.now
+        request.now.files.traces.now request.now.options))
         (S.state shelf.old) (S.state shelf.new) (K.state out.old) (K.state out.new) result }
 {
-    let roads = load_network(alloc, shelf, network)?;
-    let taken = load_traces(alloc, shelf, traces)?;
-    let matcher = Matcher::open(alloc, &roads, options)?;
+    let roads = load_network(alloc, shelf, request.files.network, request.limits)?;
+    let taken = load_traces(alloc, shelf, request.files.traces)?;
+    let matcher = Matcher::open(alloc, &roads, request.options)?;
     let text = text_of_proofs(alloc, &matcher, taken.as_slice())?;
     put_text(out, text.as_slice())
 }

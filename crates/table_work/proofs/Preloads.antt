@@ -2,14 +2,14 @@
 use Rattle.std.proofs.Common.{◌≡◌, ℕ, List, ◌∷◌, length, Result, Ok, sym, ◌∙◌, ap, subst}
 use Rattle.bounded_table.specs.Table.{TableRow}
 use Rattle.command_line.specs.Options.{and_then}
-use Rattle.program_frame.specs.Loads.{Refuses}
+use Rattle.program_frame.specs.Loads.{Accepts, Refuses}
 use Rattle.program_frame.specs.declared.stop.Refusal.{Refusal}
 use Rattle.program_frame.specs.declared.stop.Refusal.TheVariants.{Table}
 use Rattle.program_frame.specs.declared.stop.Stop.{Stop}
 use Rattle.program_frame.specs.declared.stop.Stop.TheVariants.{Refused, NoMemory, Unread, Unwritten}
 use Rattle.road_network.specs.Net.{Net}
 use Rattle.table_work.specs.Reading.{table_of}
-use Rattle.table_work.specs.Preload.{row_said, rows_said}
+use Rattle.table_work.specs.Preload.{row_said, rows_in, rows_said, table_file_said}
 
 -- ---- the text
 
@@ -45,3 +45,17 @@ rows_left net bound row all left rest next is before =
 pub rows_refused : (net : Net) (bound : ℕ) (row : TableRow) (all left rest : List TableRow) (stop : Stop) → left ≡ row ∷ rest → rows_said net bound left ≡ rows_said net bound all → Refuses Table (row_said net bound row) stop → Refuses Table (rows_said net bound all) stop
 rows_refused net bound row all left rest stop next before refuses =
     subst (λ (s : Result (Unit {0}) (List ℕ)). Refuses Table s stop) (sym (ap (rows_said net bound) next) ∙ before) (first_refuses Table (row_said net bound row) (λ _. rows_said net bound rest) stop refuses)
+
+-- ---- the file
+
+-- the rows of a file were read and tried
+pub file_tried : (net : Net) (bound checked : ℕ) (bytes : List ℕ) (rows : List TableRow) (tried : Result (Unit {0}) Stop) → rows_in net bound bytes ≡ Ok rows → checked ≡ bound → Accepts Table (rows_said net checked rows) tried → Accepts Table (table_file_said net bound bytes) tried
+file_tried net bound checked bytes rows tried read same accepts =
+    subst (λ (said : Result (Unit {0}) (List ℕ)). Accepts Table said tried) (sym (ap (λ (r : Result (List TableRow) (List ℕ)). and_then r (rows_said net bound)) read))
+    (subst (λ (b : ℕ). Accepts Table (rows_said net b rows) tried) same accepts)
+
+-- the file is for this network and this bound
+pub file_for : (net net' : Net) (bound bound' : ℕ) (bytes : List ℕ) (tried : Result (Unit {0}) Stop) → net ≡ net' → bound ≡ bound' → Accepts Table (table_file_said net bound bytes) tried → Accepts Table (table_file_said net' bound' bytes) tried
+file_for net net' bound bound' bytes tried networks bounds accepts =
+    subst (λ (n : Net). Accepts Table (table_file_said n bound' bytes) tried) networks
+    (subst (λ (b : ℕ). Accepts Table (table_file_said net b bytes) tried) bounds accepts)

@@ -125,39 +125,34 @@ fn offer_rows(
 }
 
 // Checks the rows of a text, and offers them through a reader of their own.
-fn accept_table(
-    alloc: Global,
-    roads: &Network,
-    bound: u32,
-    text: Vec<u8>,
-    store: &RowStore<'_>,
-) -> Result<(), Stop>
-    requires bound { bound ≤ 10_000_000 }
-    requires store { (store.now.network ≡ roads.now) × (store.now.bound ≡ bound) }
-    ensures { Accepts Refusal.Table (table_file_said roads.now bound text.items) result }
+fn accept_table(alloc: Global, store: &RowStore<'_>, text: Vec<u8>) -> Result<(), Stop>
+    requires { store.now.bound ≤ 10_000_000 }
+    ensures { Accepts Refusal.Table
+        (table_file_said store.now.network store.now.bound text.items) result }
 {
+    let roads = store.network();
+    let bound = store.bound();
     let rows = read_rows(alloc, roads, bound, text)?;
     let mut checker = RowChecker::open(alloc, roads, bound)?;
     let mut reader = store.reader()?;
     offer_rows(alloc, roads, &mut checker, &mut reader, rows)
 }
 
-/// Reads a table file, and accepts or refuses it. All rows of an accepted file are offered to the store.
+/// Reads a table file for the network and the bound of a store, and accepts or refuses it. All rows of an
+/// accepted file are offered to the store.
 ///
 /// The text is in memory at once, and dropped once its rows are read. A row is moved into the store.
 pub fn preload<S: Shelf>(
     alloc: Global,
     shelf: &mut S,
     table: &str,
-    roads: &Network,
-    bound: u32,
     store: &RowStore<'_>,
 ) -> Result<(), Stop>
-    requires bound { bound ≤ 10_000_000 }
-    requires store { (store.now.network ≡ roads.now) × (store.now.bound ≡ bound) }
-    ensures { Loads Refusal.Table File.Table table.now text_limit (table_file_said roads.now bound)
+    requires { store.now.bound ≤ 10_000_000 }
+    ensures { Loads Refusal.Table File.Table table.now text_limit
+        (table_file_said store.now.network store.now.bound)
         (S.state shelf.old) (S.state shelf.new) result }
 {
     let text = read_file(alloc, shelf, File::Table, table, TEXT_LIMIT)?;
-    accept_table(alloc, roads, bound, text, store)
+    accept_table(alloc, store, text)
 }

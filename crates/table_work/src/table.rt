@@ -10,10 +10,10 @@ ghost use Rattle.table_work.specs.inside.TableDone.{AddsRows, WritesTable};
 use crate::fault::TableWriteFault;
 use crate::recent_rows::RecentRows;
 use crate::writing::TableWriter;
-use cost_model::Params;
+use command_line::TableFiles;
 use edge_io::{Shelf, Sink};
 use plain_list::List;
-use program_frame::{NetworkFile, Refusal, Stop, load_network, put_text, refuse};
+use program_frame::{Refusal, Request, Stop, load_network, put_text, refuse};
 use road_network::{Network, NodeId};
 use row_search::Searcher;
 use std::alloc::Global;
@@ -70,16 +70,16 @@ fn text_of_table(alloc: Global, network: &Network, bound: u32) -> Result<List<u8
 /// so that nothing is written if it is too long.
 pub fn write_table<S: Shelf, K: Sink>(
     alloc: Global,
-    network: NetworkFile<'_>,
-    options: Params,
+    request: &Request<TableFiles<'_>>,
     shelf: &mut S,
     out: &mut K,
 ) -> Result<(), Stop>
-    requires { IsAccepted options }
-    ensures { Performs (Ok (table_plan network.entry.limits network.entry.name.now options))
+    requires { IsAccepted request.now.options }
+    ensures { Performs
+        (Ok (table_plan request.now.limits request.now.files.network.now request.now.options))
         (S.state shelf.old) (S.state shelf.new) (K.state out.old) (K.state out.new) result }
 {
-    let roads = load_network(alloc, shelf, network)?;
-    let text = text_of_table(alloc, &roads, options.bound)?;
+    let roads = load_network(alloc, shelf, request.files.network, request.limits)?;
+    let text = text_of_table(alloc, &roads, request.options.bound)?;
     put_text(out, text.as_slice())
 }

@@ -8,7 +8,7 @@ ghost use Rattle.command_line.specs.works.Check.{check_kind};
 use crate::fault::WordsFault;
 use crate::read::text_of;
 use crate::syntax::Form;
-use crate::work::Work;
+use crate::work::{CheckFiles, Work};
 use clap::ArgMatches;
 
 /// The syntax of the command.
@@ -29,11 +29,11 @@ pub fn read_check<'a>(found: &ArgMatches<'a>) -> Result<Work<'a>, WordsFault>
         text_of(found, "TRACES"),
         text_of(found, "CERT"),
     ) {
-        (Some(network), Some(traces), Some(certificate)) => Ok(Work::Check {
+        (Some(network), Some(traces), Some(certificate)) => Ok(Work::Check(CheckFiles {
             network,
             traces,
             certificate,
-        }),
+        })),
         _ => Err(WordsFault::Usage),
     }
 }

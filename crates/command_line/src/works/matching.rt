@@ -8,7 +8,7 @@ ghost use Rattle.command_line.specs.works.Match.{match_kind};
 use crate::fault::WordsFault;
 use crate::read::text_of;
 use crate::syntax::Form;
-use crate::work::Work;
+use crate::work::{MatchFiles, Work};
 use clap::ArgMatches;
 
 /// The syntax of the command.
@@ -25,11 +25,11 @@ pub fn read_match<'a>(found: &ArgMatches<'a>) -> Result<Work<'a>, WordsFault>
     ensures within { IfOk result AreNumbersWithin }
 {
     match (text_of(found, "NET"), text_of(found, "TRACES")) {
-        (Some(network), Some(traces)) => Ok(Work::Match {
+        (Some(network), Some(traces)) => Ok(Work::Match(MatchFiles {
             network,
             traces,
             table: text_of(found, "table"),
-        }),
+        })),
         _ => Err(WordsFault::Usage),
     }
 }

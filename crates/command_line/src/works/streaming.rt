@@ -9,8 +9,8 @@ use crate::fault::WordsFault;
 use crate::read::read_option;
 use crate::syntax::Form;
 use crate::value::ValueName;
-use crate::work::Work;
-use crate::works::trace_files::{FileNames, file_names};
+use crate::work::{StreamFiles, TraceFiles, Work};
+use crate::works::trace_files::file_names;
 use clap::ArgMatches;
 
 /// The syntax of the command.
@@ -30,11 +30,11 @@ pub fn read_streams<'a>(found: &ArgMatches<'a>) -> Result<Work<'a>, WordsFault>
         ≡ streams_kind.work (given_for found.now) }
     ensures within { IfOk result AreNumbersWithin }
 {
-    let FileNames { network, traces } = file_names(found)?;
+    let TraceFiles { network, traces } = file_names(found)?;
     let idle = read_option(found, ValueName::Idle, DEFAULT_IDLE)?;
-    Ok(Work::Streams {
+    Ok(Work::Streams(StreamFiles {
         network,
         traces,
         idle,
-    })
+    }))
 }

@@ -8,7 +8,7 @@ ghost use Rattle.command_line.specs.works.Table.{table_kind};
 use crate::fault::WordsFault;
 use crate::read::text_of;
 use crate::syntax::Form;
-use crate::work::Work;
+use crate::work::{TableFiles, Work};
 use clap::ArgMatches;
 
 /// The syntax of the command.
@@ -24,7 +24,7 @@ pub fn read_table<'a>(found: &ArgMatches<'a>) -> Result<Work<'a>, WordsFault>
         ≡ table_kind.work (given_for found.now) }
 {
     match text_of(found, "NET") {
-        Some(network) => Ok(Work::Table { network }),
+        Some(network) => Ok(Work::Table(TableFiles { network })),
         None => Err(WordsFault::Usage),
     }
 }

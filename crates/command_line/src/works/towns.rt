@@ -11,7 +11,7 @@ use crate::fault::WordsFault;
 use crate::read::{read_value, text_of};
 use crate::syntax::Form;
 use crate::value::ValueName;
-use crate::work::Work;
+use crate::work::{TownNumbers, Work};
 use clap::ArgMatches;
 
 /// The syntax of the command.
@@ -39,9 +39,9 @@ pub fn read_town<'a>(found: &ArgMatches<'a>) -> Result<Work<'a>, WordsFault>
         ≡ town_kind.work (given_for found.now) }
     ensures within { IfOk result AreNumbersWithin }
 {
-    Ok(Work::Town {
+    Ok(Work::Town(TownNumbers {
         side: read_argument(found, ValueName::N)?,
         traces: read_argument(found, ValueName::T)?,
         seed: read_argument(found, ValueName::Seed)?,
-    })
+    }))
 }

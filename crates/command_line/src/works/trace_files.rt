@@ -9,7 +9,7 @@ ghost use Rattle.command_line.specs.works.TraceFiles.{file_names, follow_kind, p
 use crate::fault::WordsFault;
 use crate::read::text_of;
 use crate::syntax::Form;
-use crate::work::Work;
+use crate::work::{TraceFiles, Work};
 use clap::ArgMatches;
 
 /// The syntax of `follow`.
@@ -26,19 +26,13 @@ pub const PROVE: Form = Form {
     arguments: &["NET", "TRACES"],
 };
 
-/// The names of a network file and a trace file.
-pub struct FileNames<'a> {
-    pub network: &'a str,
-    pub traces: &'a str,
-}
-
 /// The names that the words give for `NET` and `TRACES`.
-pub fn file_names<'a>(found: &ArgMatches<'a>) -> Result<FileNames<'a>, WordsFault>
+pub fn file_names<'a>(found: &ArgMatches<'a>) -> Result<TraceFiles<'a>, WordsFault>
     ensures { result_map_both (λ names. (names.network.now, names.traces.now)) (λ fault. fault) result
         ≡ file_names (given_for found.now) }
 {
     match (text_of(found, "NET"), text_of(found, "TRACES")) {
-        (Some(network), Some(traces)) => Ok(FileNames { network, traces }),
+        (Some(network), Some(traces)) => Ok(TraceFiles { network, traces }),
         _ => Err(WordsFault::Usage),
     }
 }
@@ -49,8 +43,7 @@ pub fn read_follow<'a>(found: &ArgMatches<'a>) -> Result<Work<'a>, WordsFault>
         ≡ follow_kind.work (given_for found.now) }
     ensures within { IfOk result AreNumbersWithin }
 {
-    let FileNames { network, traces } = file_names(found)?;
-    Ok(Work::Follow { network, traces })
+    Ok(Work::Follow(file_names(found)?))
 }
 
 /// The work of `prove`.
@@ -59,6 +52,5 @@ pub fn read_prove<'a>(found: &ArgMatches<'a>) -> Result<Work<'a>, WordsFault>
         ≡ prove_kind.work (given_for found.now) }
     ensures within { IfOk result AreNumbersWithin }
 {
-    let FileNames { network, traces } = file_names(found)?;
-    Ok(Work::Prove { network, traces })
+    Ok(Work::Prove(file_names(found)?))
 }

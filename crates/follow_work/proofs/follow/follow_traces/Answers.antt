@@ -17,4 +17,4 @@ returns-in_err-job g c =
 
 pub returns : goal.returns
 returns g c =
-    loads_performs _ _ c.in_ok-roads.ensures (subst (λ job. Performs (Ok (works_traces c.args.traces.now job)) (g.S.Shelf.state c.load_network.new.shelf) (g.S.Shelf.state c.work_traces.new.shelf) (g.K.Sink.state c.args.out.now) (g.K.Sink.state c.work_traces.new.out) c.work_traces.result) c.in_ok-job.ensures.text c.work_traces.ensures)
+    loads_performs _ _ c.in_ok-roads.ensures (subst (λ job. Performs (Ok (works_traces c.args.request.now.files.traces.now job)) (g.S.Shelf.state c.load_network.new.shelf) (g.S.Shelf.state c.work_traces.new.shelf) (g.K.Sink.state c.args.out.now) (g.K.Sink.state c.work_traces.new.out) c.work_traces.result) c.in_ok-job.ensures.text c.work_traces.ensures)

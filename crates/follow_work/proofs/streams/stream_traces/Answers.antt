@@ -19,5 +19,5 @@ returns-in_err-matcher g c =
 pub returns : goal.returns
 returns g c =
     loads_performs _ _ c.in_ok-roads.ensures
-    (subst (λ on. Performs (Ok (works_traces c.args.traces.name.now (streams_within on c.args.traces.idle))) (g.S.Shelf.state c.load_network.new.shelf) (g.S.Shelf.state c.work_streams.new.shelf) (g.K.Sink.state c.args.out.now)
+    (subst (λ on. Performs (Ok (works_traces c.args.request.now.files.traces.now (streams_within on c.args.request.now.files.idle))) (g.S.Shelf.state c.load_network.new.shelf) (g.S.Shelf.state c.work_streams.new.shelf) (g.K.Sink.state c.args.out.now)
     (g.K.Sink.state c.work_streams.new.out) c.work_streams.result) c.in_ok-matcher.ensures c.work_streams.ensures)

@@ -1,5 +1,7 @@
-use Rattle.std.proofs.Common.{refl, sym, ◌∙◌, subst, arith}
+use Rattle.std.proofs.Common.{refl, sym, ◌∙◌, ap, subst, arith}
 use Rattle.std.proofs.lemmas.Result.{err_from_is_err_and}
+use Rattle.trace_reader.proofs.Laws.{closed-none}
+use Rattle.live_pipeline.specs.Pieces.{parts_of}
 use Rattle.program_frame.proofs.ChunkReads.{next_read, next_whole}
 use Rattle.live_pipeline.proofs.Reading.{IsFeeding, fed_all, fed_ends, fed_fault, fed_read, feeding_more, may_feed_on, nothing_fed}
 use Rattle.live_pipeline.proofs.reader.put_chunks.Goals as goal
@@ -7,8 +9,8 @@ use Rattle.live_pipeline.proofs.reader.put_chunks.Goals as goal
 pub loop-chunks-init : goal.loop-chunks-init
 loop-chunks-init g c = record {
   own = refl;
-  feeding = subst (λ at. IsFeeding c.args.name.now (g.S.Shelf.state c.args.shelf.now) at c.args.reader.now c.args.pass.now.parts) (sym c.open-chunks.ensures)
-      (nothing_fed c.args.name.now (g.S.Shelf.state c.args.shelf.now) c.args.reader.now c.args.pass.now.parts c.requires.first);
+  feeding = subst (λ at. IsFeeding c.args.name.now (g.S.Shelf.state c.args.shelf.now) at c.open-reader.result c.args.pass.now.parts) (sym c.open-chunks.ensures)
+      (nothing_fed c.args.name.now (g.S.Shelf.state c.args.shelf.now) c.open-reader.result c.args.pass.now.parts (record { stands = c.open-reader.ensures; put_are = c.requires.first ∙ sym (ap parts_of closed-none) }));
   within = omega (arith, c.open-chunks.ensures);
   same = refl;
 }

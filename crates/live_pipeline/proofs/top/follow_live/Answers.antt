@@ -19,5 +19,5 @@ returns-in_default-open g c =
 
 pub returns : goal.returns
 returns g c =
-    live_loads _ _ c.in-Ok.ensures (subst (λ n. LivePerforms (Ok (works_traces n (follow_job (record { network = c.in-Ok.roads; params = c.args.options })))) (g.S.Shelf.state c.load_network.new.shelf) (g.S.Shelf.state c.live_traces.result.1) (g.K.Sink.state c.args.out.now) (g.K.Sink.state c.live_traces.new.out) c.live_traces.result.0) c.in-Ok-from_str.ensures.ok
+    live_loads _ _ c.in-Ok.ensures (subst (λ n. LivePerforms (Ok (works_traces n (follow_job (record { network = c.in-Ok.roads; params = c.args.request.now.options })))) (g.S.Shelf.state c.load_network.new.shelf) (g.S.Shelf.state c.live_traces.result.1) (g.K.Sink.state c.args.out.now) (g.K.Sink.state c.live_traces.new.out) c.live_traces.result.0) c.in-Ok-from_str.ensures.ok
     (subst (λ job. LivePerforms (Ok (works_traces (string_bytes c.in-Ok-from_str.name) job)) (g.S.Shelf.state c.load_network.new.shelf) (g.S.Shelf.state c.live_traces.result.1) (g.K.Sink.state c.args.out.now) (g.K.Sink.state c.live_traces.new.out) c.live_traces.result.0) c.in-Ok-open.ensures.text c.live_traces.ensures))

@@ -19,7 +19,7 @@ returns-in-Err g c =
 pub returns-in-Follow : goal.returns-in-Follow
 returns-in-Follow g c =
     let same = ap (map string_bytes) c.as_slice.ensures.value ∙ c.in-Ok.ensures in
-    asked_follow (map string_bytes c.args.words.now) c.in-Ok-read_command.command c.in-Follow.network c.in-Follow.traces (g.S.Shelf.state c.args.shelf) (g.S.Shelf.state c.follow_live.result.1) (g.K.Sink.state c.args.out.now) (g.K.Sink.state c.follow_live.new.out) c.follow_live.result.0 (subst (λ ws. command_of ws ≡ Ok (plain c.in-Ok-read_command.command)) same c.in-Ok-read_command.ensures.ok) c.in-Follow.is c.follow_live.ensures
+    asked_follow (map string_bytes c.args.words.now) c.in-Ok-read_command.command c.in-Follow.files (g.S.Shelf.state c.args.shelf) (g.S.Shelf.state c.follow_live.result.1) (g.K.Sink.state c.args.out.now) (g.K.Sink.state c.follow_live.new.out) c.follow_live.result.0 (subst (λ ws. command_of ws ≡ Ok (plain c.in-Ok-read_command.command)) same c.in-Ok-read_command.ensures.ok) c.in-Follow.is c.follow_live.ensures
 
 pub returns : goal.returns
 returns g c =

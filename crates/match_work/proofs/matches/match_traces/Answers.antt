@@ -23,5 +23,5 @@ returns-in_err-store g c =
 
 pub returns : goal.returns
 returns g c =
-    loads_performs _ _ c.in_ok-roads.ensures (subst (λ on. Performs (Ok (works_traces c.args.traces.now (match_text on))) (g.S.Shelf.state c.load_network.new.shelf) (g.S.Shelf.state c.match_file.new.shelf) (g.K.Sink.state c.args.out.now) (g.K.Sink.state c.match_file.new.out) c.match_file.result)
+    loads_performs _ _ c.in_ok-roads.ensures (subst (λ on. Performs (Ok (works_traces c.args.request.now.files.traces.now (match_text on))) (g.S.Shelf.state c.load_network.new.shelf) (g.S.Shelf.state c.match_file.new.shelf) (g.K.Sink.state c.args.out.now) (g.K.Sink.state c.match_file.new.out) c.match_file.result)
     c.in_ok-matcher.ensures c.match_file.ensures)

@@ -23,17 +23,17 @@ add_up-costs-requires g c =
 
 pub add-requires : goal.add-requires
 add-requires g c =
-    tally_fits c.args.matcher.now c.args.traces.now c.in_ok-matches.matches _ c.add_up-costs.result c.requires.traces.0 c.in_ok-matches.ensures.matched
+    tally_fits c.args.shared.now.matcher.now c.args.traces.now c.in_ok-matches.matches _ c.add_up-costs.result c.requires.traces.0 c.in_ok-matches.ensures.matched
     (subst (λ m. AreCosts m c.add_up-costs.result) c.as_slice.ensures c.add_up-costs.ensures) refl refl refl
 
 pub known_count-requires : goal.known_count-requires
 known_count-requires g c =
-    let shared = share_on c.args.matcher.now c.in_ok-readers.readers c.match_batch.new.readers c.in_ok-readers.ensures.shared c.in_ok-matches.ensures.stay in
+    let shared = share_on c.args.shared.now.matcher.now c.in_ok-readers.readers c.match_batch.new.readers c.in_ok-readers.ensures.shared c.in_ok-matches.ensures.stay in
     (shared.store, rw c.as_slice-2.ensures shared.each)
 
 pub returns : goal.returns
 returns g c =
     let batch = c.in_ok-matches.ensures in
-    report_is c.args.matcher.now c.args.traces.now c.args.store.now c.in_ok-readers.readers c.match_batch.new.readers c.in_ok-matches.matches _ c.add.new.self c.add_up-costs.result c.from.result c.new-text.result c.append_line.new.into c.append_cost.new.into
+    report_is c.args.shared.now.matcher.now c.args.traces.now c.args.shared.now.store.now c.in_ok-readers.readers c.match_batch.new.readers c.in_ok-matches.matches _ c.add.new.self c.add_up-costs.result c.from.result c.new-text.result c.append_line.new.into c.append_cost.new.into
     c.in_ok-readers.ensures.fresh c.in_ok-readers.ensures.shared batch.stay batch.learn batch.matched (subst (λ m. AreCosts m c.add_up-costs.result) c.as_slice.ensures c.add_up-costs.ensures)
     c.add.ensures refl refl refl (c.from.ensures ∙ c.in_ok-rows.ensures ∙ ap count_known c.as_slice-2.ensures) c.new-text.ensures c.in_ok-append_line.ensures c.in_ok-append_cost.ensures

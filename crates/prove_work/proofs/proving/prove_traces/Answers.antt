@@ -31,7 +31,7 @@ returns-in_err-matcher g c =
 pub returns-in_err-text : goal.returns-in_err-text
 returns-in_err-text g c =
     let p = err_from_is_err_and c.from_residual-in_err-text.result c.from_residual-in_err-text.ensures.1 in
-    let on : Setting = record { network = c.in_ok-roads.roads; params = c.args.options } in
+    let on : Setting = record { network = c.in_ok-roads.roads; params = c.args.request.now.options } in
     loads_performs _ _ c.in_ok-roads.ensures
     (loads_performs _ _ c.in_ok-taken.ensures
     (rw (p.1, p.2) (accepts_refuses TooLong (prove_said on c.in_ok-taken.taken) _ (λ e. cc)
@@ -39,7 +39,7 @@ returns-in_err-text g c =
 
 pub returns : goal.returns
 returns g c =
-    let on : Setting = record { network = c.in_ok-roads.roads; params = c.args.options } in
+    let on : Setting = record { network = c.in_ok-roads.roads; params = c.args.request.now.options } in
     let same = said_of_taken c.in_ok-matcher.matcher on c.as_slice.result.now c.in_ok-taken.taken c.in_ok-matcher.ensures c.as_slice.ensures in
     loads_performs _ _ c.in_ok-roads.ensures
     (loads_performs _ _ c.in_ok-taken.ensures (accepts_performs _ _ (sym same ∙ c.in_ok-text.ensures) (ends_performs c.as_slice-2.ensures c.put_text.ensures)))

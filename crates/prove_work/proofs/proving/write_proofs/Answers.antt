@@ -7,16 +7,16 @@ use Rattle.prove_work.proofs.proving.write_proofs.Goals as goal
 pub returns-in_err-write_certificate : goal.returns-in_err-write_certificate
 returns-in_err-write_certificate c =
     let p = err_from_is_err_and c.from_residual-in_err-write_certificate.result c.from_residual-in_err-write_certificate.ensures.1 in
-    let made : IsMadeBy c.args.matcher.now c.network.result.now c.params-params.result.now c.args.traces.now c.in_ok-certificate.certificate =
-    record { network = c.network.ensures; params = c.params-params.ensures.is; certificate = c.in_ok-certificate.ensures } in
-    rw (p.1, p.2) (writing_fails c.args.matcher.now _ _ c.args.traces.now c.in_ok-certificate.certificate c.in_err-write_certificate.field-0.0 made c.in_err-write_certificate.ensures.too_long)
+    let made : IsMadeBy c.args.matcher.now c.params.result.now c.args.traces.now c.in_ok-certificate.certificate =
+    record { params = c.params.ensures.is; certificate = c.in_ok-certificate.ensures } in
+    rw (p.1, p.2) (writing_fails c.args.matcher.now _ c.args.traces.now c.in_ok-certificate.certificate c.in_err-write_certificate.field-0.0 made c.in_err-write_certificate.ensures.too_long)
 
 pub returns : goal.returns
 returns c =
-    let made : IsMadeBy c.args.matcher.now c.network.result.now c.params-params.result.now c.args.traces.now c.in_ok-certificate.certificate =
-    record { network = c.network.ensures; params = c.params-params.ensures.is; certificate = c.in_ok-certificate.ensures } in
-    let is = text_is c.args.matcher.now _ _ c.args.traces.now c.in_ok-certificate.certificate made in
-    let text = certificate_text c.params-params.result.now c.in_ok-certificate.certificate in
+    let made : IsMadeBy c.args.matcher.now c.params.result.now c.args.traces.now c.in_ok-certificate.certificate =
+    record { params = c.params.ensures.is; certificate = c.in_ok-certificate.ensures } in
+    let is = text_is c.args.matcher.now _ c.args.traces.now c.in_ok-certificate.certificate made in
+    let text = certificate_text c.params.result.now c.in_ok-certificate.certificate in
     let written = c.in_ok-write_certificate.ensures.ok ∙ ap (λ (t : List ℕ). t ++ text) c.new-text.ensures in (
       written ∙ is,
       subst (λ (t : List ℕ). length t ≤ text_limit) (sym written) c.in_ok-write_certificate.ensures.within,
