@@ -154,6 +154,6 @@ fn is_row_shared(alloc: Global) -> Option<bool> {
 
 // A worker that keeps the rows of far steps for itself, or that finds near rows for them, fails here.
 #[test]
-fn a_far_row_is_found_once_for_two_workers(rt: HostRuntime) {
+fn two_workers_share_the_row_of_a_far_step(rt: HostRuntime) {
     assert!(rt; is_row_shared(rt.alloc()) == Some(true));
 }

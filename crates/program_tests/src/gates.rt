@@ -1,12 +1,12 @@
 //! What no clause says of the workers: they run beside each other, draw the traces one by one, and share
-//! the rows of one store. Each gate shows it through `run`.
+//! the rows of one store. Each gate shows it through `run`. Those of `town` are in `town_gates`.
 ghost use Rattle.std.specs.Prelude.{◌≡◌, IfOk, IfSome};
 
 use crate::commands::{ONE_TRACE, TABLE};
-use crate::ended::{Ended, run_to_end, shelf};
+use crate::ended::{run_to_end, shelf};
 use crate::texts::{many_texts, many_traces};
 use bounded_table::Row;
-use match_pool::{Gate, OpenGate};
+use match_pool::Gate;
 use match_work::Env;
 use plain_list::List;
 use road_network::NodeId;
@@ -37,8 +37,8 @@ fn gives<R: Threads + Sync, G: Gate>(
     }
 }
 
-// The same for so many traces of one position, with their total line.
-fn gives_many<R: Threads + Sync, G: Gate>(
+/// The same for so many traces of one position, with their total line.
+pub fn gives_many<R: Threads + Sync, G: Gate>(
     rt: &R,
     alloc: Global,
     count: u64,
@@ -55,9 +55,9 @@ const TWO: &[u8] = b"total traces 2 points 2 pieces 2 rows 0\n";
 
 const FOUR: &[u8] = b"total traces 4 points 4 pieces 4 rows 0\n";
 
-// Holds a trace until so many others have ended, but no longer than its turns last.
+/// Holds a trace until so many others have ended, but no longer than its turns last.
 #[derive(Drop)]
-struct Holder {
+pub struct Holder {
     held: u64,
     others: u64,
     ended: AtomicU64,
@@ -65,13 +65,18 @@ struct Holder {
 }
 
 impl Holder {
-    fn new(held: u64, others: u64) -> Holder {
+    pub fn new(held: u64, others: u64) -> Holder {
         Holder {
             held,
             others,
             ended: AtomicU64::new(0),
             late: AtomicU64::new(0),
         }
+    }
+
+    /// Whether the turns did not last until then.
+    pub fn was_late(&self) -> bool {
+        self.late.load(SeqCst) != 0
     }
 }
 
@@ -105,7 +110,7 @@ fn end_beside<R: Threads + Sync>(
     total: &[u8],
 ) -> bool {
     let gate = Holder::new(held, others);
-    gives_many(rt, alloc, others.saturating_add(1), total, &gate) && gate.late.load(SeqCst) == 0
+    gives_many(rt, alloc, others.saturating_add(1), total, &gate) && !gate.was_late()
 }
 
 // Workers that run one after the other fail here: the second trace never ends while the first is held.
@@ -277,122 +282,4 @@ fn finds_rows_of_table<R: Threads + Sync>(rt: &R, alloc: Global) -> bool {
 #[test]
 fn rows_of_a_table_file_are_offered(rt: HostRuntime) {
     assert!(rt; finds_rows_of_table(&rt, rt.alloc()));
-}
-
-// How many traces begin and end at each place, and last how many at any other place.
-#[derive(Drop)]
-struct Places {
-    begun: Vec<AtomicU64>,
-    ended: Vec<AtomicU64>,
-}
-
-fn noughts(alloc: Global, count: u64) -> Result<Vec<AtomicU64>, AllocError> {
-    let mut all = Vec::new(alloc);
-    for _ in 0..count {
-        all.push(AtomicU64::new(0))?;
-    }
-    Ok(all)
-}
-
-fn count_at(counts: &[AtomicU64], place: u64) {
-    if let Some(count) = counts.get(place as usize).or(counts.last()) {
-        count.fetch_add(1, SeqCst);
-    }
-}
-
-// Whether each of these counts is 1, except the last, which is 0.
-fn are_once_each(counts: &[AtomicU64]) -> bool {
-    let [each @ .., others] = counts else {
-        return false;
-    };
-    for count in each {
-        if count.load(SeqCst) != 1 {
-            return false;
-        }
-    }
-    others.load(SeqCst) == 0
-}
-
-impl Gate for Places {
-    fn begin(&self, trace: u64, _store: &RowStore<'_>) {
-        count_at(self.begun.as_slice(), trace);
-    }
-
-    fn end(&self, trace: u64, _store: &RowStore<'_>) {
-        count_at(self.ended.as_slice(), trace);
-    }
-}
-
-const MANY: &[u8] = b"total traces 600 points 600 pieces 600 rows 0\n";
-
-fn make_places(alloc: Global, count: u64) -> Result<Places, AllocError> {
-    let begun = noughts(alloc, count)?;
-    let ended = noughts(alloc, count)?;
-    Ok(Places { begun, ended })
-}
-
-// Whether the gate hears of each place from 0 to 599 once.
-fn are_heard_once<R: Threads + Sync>(rt: &R, alloc: Global) -> bool {
-    let Ok(gate) = make_places(alloc, 601) else {
-        return false;
-    };
-    gives_many(rt, alloc, 600, MANY, &gate)
-        && are_once_each(gate.begun.as_slice())
-        && are_once_each(gate.ended.as_slice())
-}
-
-// A run that counts the places of each batch from 0 fails here.
-#[test]
-fn each_place_of_the_file_is_heard_once(rt: HostRuntime) {
-    assert!(rt; are_heard_once(&rt, rt.alloc()));
-}
-
-// Ends `town` with four traces by this many workers.
-fn end_town<R: Threads + Sync, G: Gate>(
-    rt: &R,
-    alloc: Global,
-    workers: &str,
-    gate: &G,
-) -> Result<Ended, AllocError> {
-    let mut shelf = shelf(alloc, &[], &[], u32::MAX)?;
-    let words = ["town", "3", "4", "1", "--workers", workers];
-    run_to_end(&Env { rt, alloc, gate }, &words, &mut shelf, [&[], &[]])
-}
-
-// Whether `town` by two workers writes what it writes by one.
-fn gives_town<R: Threads + Sync, G: Gate>(rt: &R, alloc: Global, gate: &G) -> bool {
-    let alone = end_town(rt, alloc, "1", &OpenGate);
-    match (alone, end_town(rt, alloc, "2", gate)) {
-        (Ok(alone), Ok(ended)) => ended.status == 0 && ended.is_same(&alone),
-        _ => false,
-    }
-}
-
-// Whether the gate hears of each trace of a town once.
-fn is_town_heard<R: Threads + Sync>(rt: &R, alloc: Global) -> bool {
-    let Ok(gate) = make_places(alloc, 5) else {
-        return false;
-    };
-    gives_town(rt, alloc, &gate)
-        && are_once_each(gate.begun.as_slice())
-        && are_once_each(gate.ended.as_slice())
-}
-
-#[test]
-fn each_trace_of_a_town_is_heard_once(rt: HostRuntime) {
-    assert!(rt; is_town_heard(&rt, rt.alloc()));
-}
-
-// Whether the other traces of a town end while this one is held.
-fn does_town_end_beside<R: Threads + Sync>(rt: &R, alloc: Global, held: u64) -> bool {
-    let gate = Holder::new(held, 3);
-    gives_town(rt, alloc, &gate) && gate.late.load(SeqCst) == 0
-}
-
-// A town that one worker matches, or whose workers have fixed parts, fails here.
-#[test]
-fn workers_of_a_town_run_beside_each_other(rt: HostRuntime) {
-    for held in 0..4 {
-        assert!(rt; does_town_end_beside(&rt, rt.alloc(), held));
-    }
 }

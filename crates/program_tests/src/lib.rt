@@ -24,3 +24,5 @@ mod runs;
 mod slots;
 #[cfg(test)]
 mod texts;
+#[cfg(test)]
+mod town_gates;

@@ -17,17 +17,18 @@ use std::sync::atomic::AtomicU64;
 use std::sync::atomic::Ordering::SeqCst;
 use std::thread::Threads;
 
-/// Two positions 3,000 cm apart, which is a near step within a bound of 24,000 cm.
-const NEAR: &[u8] = b"trace,x,y\n7,1000,300\n7,4000,-300\n";
+/// Two positions 4,000 cm apart. Within a bound of 24,000 cm near rows reach 8,000 cm, and a step of at most half of that
+/// is a near one.
+const NEAR: &[u8] = b"trace,x,y\n7,1000,300\n7,5000,300\n";
 
 const NEAR_TEXT: &[u8] =
-    b"trace 7\nat 0 edge 10 offset 1000 d2 90000\nat 1 edge 10 offset 4000 d2 90000\npiece 0 1 cost 149 route 10\nend 7\ntotal traces 1 points 2 pieces 1 rows 2\n";
+    b"trace 7\nat 0 edge 10 offset 1000 d2 90000\nat 1 edge 10 offset 5000 d2 90000\npiece 0 1 cost 90 route 10\nend 7\ntotal traces 1 points 2 pieces 1 rows 2\n";
 
-/// Two positions 8,000 cm apart, which is a far step within a bound of 24,000 cm.
-const FAR: &[u8] = b"trace,x,y\n7,1000,300\n7,9000,-300\n";
+/// Two positions a centimetre farther apart, which is a far step within this bound.
+const FAR: &[u8] = b"trace,x,y\n7,1000,300\n7,5001,300\n";
 
 const FAR_TEXT: &[u8] =
-    b"trace 7\nat 0 edge 10 offset 1000 d2 90000\nat 1 edge 10 offset 9000 d2 90000\npiece 0 1 cost 112 route 10\nend 7\ntotal traces 1 points 2 pieces 1 rows 2\n";
+    b"trace 7\nat 0 edge 10 offset 1000 d2 90000\nat 1 edge 10 offset 5001 d2 90000\npiece 0 1 cost 90 route 10\nend 7\ntotal traces 1 points 2 pieces 1 rows 2\n";
 
 #[derive(Clone, Copy)]
 enum Drive {
@@ -218,8 +219,8 @@ fn leaves<R: Threads + Sync>(
     gives(rt, alloc, drive, &gate) && gate.has_found(drive, sizes[0], sizes[1])
 }
 
-// The near row of node 1 has one entry, and its row two. Workers that keep near rows or whole rows for themselves, or
-// that find either where the other serves, fail here.
+// The near row of node 1 has one entry, and its row two. Workers that keep near rows or whole rows for themselves, that
+// find either where the other serves, or that take a quarter or half of the bound for a third fail here.
 #[test]
 fn each_step_fills_its_own_slot(rt: HostRuntime) {
     let none = [Plant::Nothing, Plant::Nothing];

@@ -1,8 +1,10 @@
 -- The two views of a reader, and the slots of its store.
-use Rattle.std.proofs.Common.{◌≡◌, ◌≤◌, ℕ, map, Option, Some, None, Bool, ◌&&◌, cond, false, true, true≢false, is_some, refl, sym, ap, ◌∙◌, subst, arith}
+use Rattle.std.proofs.Common.{◌≡◌, ◌≤◌, ℕ, [], map, length, Option, Some, None, Bool, ◌&&◌, cond, false, true, true≢false, is_some, refl, sym, ap, ◌∙◌, subst, arith}
 use Rattle.std.proofs.lemmas.Bool.{leb-true}
 use Rattle.std.specs.Option.{IfSome, option_map}
-use Rattle.std.specs.Prelude.{nat_le, slice_index_or}
+use Rattle.std.specs.Prelude.{MatchOption, nat_le, slice_index_or}
+use Rattle.std.proofs.lemmas.List.{length-map, length-replicate}
+use Rattle.bounded_table.specs.Table.{TableRow}
 use Rattle.row_store.specs.Store.{NearSlots, Reading, SlotSet, Stored, lender, looks_near, near_bound, near_of, near_slots, table_of, table_slots, takes_near}
 use Rattle.row_store.specs.inside.StoreInside.{AreOfOne, IsStored, near_of_set, stored}
 use Rattle.row_store.specs.inside.ReaderInside.{IsNearOf, IsNearView, near_seen}
@@ -69,7 +71,16 @@ pub seen_is : (slots : SlotSet) (view : Option View) → IfSome view (IsViewOf s
 seen_is slots None is = refl
 seen_is slots (Some view) is = λ i. record { slots = is.slots_are i; places = map (λ (p : Place). p.note.known) view.places.items }
 
--- so of the near slots of a reader
+-- a view has a place for each node
+pub view_places : (slots : SlotSet) (view : Option View) → IfSome view (IsViewOf slots) → length (seen_of slots view).places ≡ length slots.network.nodes
+view_places slots None is = length-replicate (length slots.network.nodes) (let none : Option TableRow = None in none)
+view_places slots (Some view) is = length-map view.places.items (λ (p : Place). p.note.known) ∙ is.is.places_count ∙ ap (λ (s : SlotSet). length s.network.nodes) is.slots_are
+
+pub near_places_count : (s : Stored) (near : Option NearSlots) (view : Option View) → IsNearView s near view → MatchOption near (near_seen s near view ≡ []) (λ _. length (near_seen s near view) ≡ length s.network.nodes)
+near_places_count s None view is = refl
+near_places_count s (Some near) view is = view_places (near_slots s near) view is
+
+-- what the view of the near slots of a reader shows
 pub seen_near : (s : Stored) (slots : SlotSet) (view : Option View) (of : IsNearOf s slots) → IfSome view (IsViewOf slots) → seen_of slots view ≡ record { slots = near_slots s of.0; places = near_seen s s.near view }
 seen_near s slots view of is = seen_is slots view is ∙ (λ i. record { slots = of.2 i; places = (sym (near_places s slots view of)) i })
 

@@ -1,11 +1,12 @@
 -- What a look at one slot leaves of a reader.
-use Rattle.std.proofs.Common.{◌≡◌, inl, inr, ℕ, zero, suc, List, [], ◌∷◌, ◌++◌, length, length-set, Option, Some, Result, refl, sym, ap, ◌∙◌, subst, ⊎_elim, arith}
+use Rattle.std.proofs.Common.{◌≡◌, inl, inr, ℕ, zero, suc, Bool, cond, true, false, List, [], ◌∷◌, ◌++◌, length, length-set, Option, Some, Result, Ok, Err, OnOk, refl, sym, ap, ◌∙◌, subst, ⊎_elim, arith}
 use Rattle.std.proofs.lemmas.List.Elements.{Contains-append_cases, Contains-append_left, Contains-append_right}
+use Rattle.std.specs.Prelude.{IsErr, slice_get}
 use Rattle.bounded_table.specs.Known.{Adds, Extends, known_nodes}
-use Rattle.bounded_table.specs.Rows.{AsksAll, AsksFor, AsksOnly}
+use Rattle.bounded_table.specs.Rows.{AsksAll, AsksOnly}
 use Rattle.bounded_table.specs.Table.{TableRow}
-use Rattle.bounded_table.proofs.Asking.{asks_nothing}
-use Rattle.row_store.specs.Store.{NearSlots, Reading, Sees, SeesNear, SeesTable, Stored, Viewing, near_of, rows_state, source_of, table_of}
+use Rattle.bounded_table.proofs.Asking.{asks_done, asks_err, asks_nothing, asks_ok}
+use Rattle.row_store.specs.Store.{AsksSlot, NearSlots, Reading, Sees, SeesNear, SeesTable, Stored, Viewing, lent_places, near_of, rows_state, source_of, table_of, takes_near}
 use Rattle.row_store.specs.inside.Views.{Fills}
 use Rattle.row_store.proofs.Places.{on_ok, sees_adds, sees_extends}
 
@@ -114,21 +115,56 @@ sees_near slots r n row after s = record {
 }
 
 -- what filling the table's slot of node n leaves
-pub table_fills : {A E : Type 0} (r : Reading) (n : ℕ) (result : Result A E) (after : Viewing) → Fills (table_of r) n result after → AsksFor (rows_state r) (λ v. v ≡ n) result (rows_state (with_table r after))
+pub table_fills : {A E : Type 0} (r : Reading) (n : ℕ) (result : Result A E) (after : Viewing) → Fills (table_of r) n result after → AsksSlot r n result (with_table r after) after.places
 table_fills r n result after fills = record {
-  only = ⊎_elim
-      (λ (same : after ≡ table_of r). subst (λ (v : Viewing). AsksOnly (rows_state r) (rows_state (with_table r v)) (λ w. w ≡ n)) (sym same) (asks_nothing (rows_state r) (λ w. w ≡ n)))
-      (λ (seen : (row : TableRow) × Sees (table_of r) n row after). (table_asks r n seen.0 (with_table r after) (sees_table r n seen.0 after seen.1)).only)
-      fills.learns;
-  all = on_ok _ _ result (λ seen. (table_asks r n seen.0 (with_table r after) (sees_table r n seen.0 after seen.1)).all) fills.seen;
+  asks = record {
+    only = ⊎_elim
+        (λ (same : after ≡ table_of r). subst (λ (v : Viewing). AsksOnly (rows_state r) (rows_state (with_table r v)) (λ w. w ≡ n)) (sym same) (asks_nothing (rows_state r) (λ w. w ≡ n)))
+        (λ (seen : (row : TableRow) × Sees (table_of r) n row after). (table_asks r n seen.0 (with_table r after) (sees_table r n seen.0 after seen.1)).only)
+        fills.learns;
+    all = on_ok _ _ result (λ seen. (table_asks r n seen.0 (with_table r after) (sees_table r n seen.0 after seen.1)).all) fills.seen;
+  };
+  seen = on_ok _ _ result (λ seen. (seen.0, seen.1.known)) fills.seen;
 }
 
 -- what filling the near slot of node n leaves
-pub near_fills : {A E : Type 0} (slots : NearSlots) (r : Reading) (n : ℕ) (result : Result A E) (after : Viewing) → Fills (near_of r slots) n result after → AsksFor (rows_state r) (λ v. v ≡ n) result (rows_state (with_near r after))
+pub near_fills : {A E : Type 0} (slots : NearSlots) (r : Reading) (n : ℕ) (result : Result A E) (after : Viewing) → Fills (near_of r slots) n result after → AsksSlot r n result (with_near r after) after.places
 near_fills slots r n result after fills = record {
-  only = ⊎_elim
-      (λ (same : after ≡ near_of r slots). subst (λ (v : Viewing). AsksOnly (rows_state r) (rows_state (with_near r v)) (λ w. w ≡ n)) (sym same) (asks_nothing (rows_state r) (λ w. w ≡ n)))
-      (λ (seen : (row : TableRow) × Sees (near_of r slots) n row after). (near_asks slots r n seen.0 (with_near r after) (sees_near slots r n seen.0 after seen.1)).only)
-      fills.learns;
-  all = on_ok _ _ result (λ seen. (near_asks slots r n seen.0 (with_near r after) (sees_near slots r n seen.0 after seen.1)).all) fills.seen;
+  asks = record {
+    only = ⊎_elim
+        (λ (same : after ≡ near_of r slots). subst (λ (v : Viewing). AsksOnly (rows_state r) (rows_state (with_near r v)) (λ w. w ≡ n)) (sym same) (asks_nothing (rows_state r) (λ w. w ≡ n)))
+        (λ (seen : (row : TableRow) × Sees (near_of r slots) n row after). (near_asks slots r n seen.0 (with_near r after) (sees_near slots r n seen.0 after seen.1)).only)
+        fills.learns;
+    all = on_ok _ _ result (λ seen. (near_asks slots r n seen.0 (with_near r after) (sees_near slots r n seen.0 after seen.1)).all) fills.seen;
+  };
+  seen = on_ok _ _ result (λ seen. (seen.0, seen.1.known)) fills.seen;
 }
+
+-- ---- the same of a call that answers what it makes of this
+
+abbrev Places : Type 0
+Places = List (Option TableRow)
+
+unseen_err : {A E : Type 0} (P : Type 0) (result : Result A E) → IsErr result → OnOk result P
+unseen_err P (Ok x) err = absurd (cc)
+unseen_err P (Err e) err = tt
+
+pub slot_err : {A B E F : Type 0} {r new : Reading} {n : ℕ} {given : Result A E} {result : Result B F} {places : Places} → AsksSlot r n given new places → IsErr result → AsksSlot r n result new places
+slot_err {result = result} slot err = record { asks = asks_err slot.asks.only err; seen = unseen_err _ result err }
+
+seen_any : {A E : Type 0} (P : Type 0) (result : Result A E) → P → OnOk result P
+seen_any P (Ok x) p = p
+seen_any P (Err e) p = tt
+
+pub slot_ok : {A B E F : Type 0} {r new : Reading} {n : ℕ} {given : Result A E} {result : Result B F} {x : A} {places : Places} → AsksSlot r n given new places → given ≡ Ok x → AsksSlot r n result new places
+slot_ok {n = n} {result = result} {places = places} slot is = record {
+  asks = asks_done (asks_ok slot.asks is);
+  seen = seen_any _ result (subst (λ g. OnOk g ((row : TableRow) × (slice_get places n ≡ Some (Some row)))) is slot.seen);
+}
+
+-- the slot that was taken
+pub lent_near : {A E : Type 0} {old new : Reading} {n : ℕ} {result : Result A E} (reach : ℕ) → takes_near old old.store.near reach n ≡ true → AsksSlot old n result new new.near → AsksSlot old n result new (lent_places old new reach n)
+lent_near {old = old} {new = new} {n = n} {result = result} reach takes slot = subst (λ (b : Bool). AsksSlot old n result new (cond b new.near new.places)) (sym takes) slot
+
+pub lent_table : {A E : Type 0} {old new : Reading} {n : ℕ} {result : Result A E} (reach : ℕ) → takes_near old old.store.near reach n ≡ false → AsksSlot old n result new new.places → AsksSlot old n result new (lent_places old new reach n)
+lent_table {old = old} {new = new} {n = n} {result = result} reach takes slot = subst (λ (b : Bool). AsksSlot old n result new (cond b new.near new.places)) (sym takes) slot

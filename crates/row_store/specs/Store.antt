@@ -1,9 +1,9 @@
 -- What contracts see of a store of rows, and of one who reads in it.
-use Rattle.std.specs.Prelude.{◌≡◌, ℕ, ◌/◌, Bool, false, ◌||◌, ◌&&◌, if◌then◌else◌, IsSomeAnd, List, [], ◌∷◌, ◌++◌, Option, Some, None, is_some, length, nat_le, not, replicate, slice_get, slice_index_or, slice_set, count_by}
+use Rattle.std.specs.Prelude.{◌≡◌, ℕ, ◌/◌, Bool, false, ◌||◌, ◌&&◌, if◌then◌else◌, IsSomeAnd, OnOk, Result, List, [], ◌∷◌, ◌++◌, Option, Some, None, is_some, length, nat_le, not, replicate, slice_get, slice_index_or, slice_set, count_by}
 use Rattle.std.specs.List.{list_any, range_with_len}
 use Rattle.road_network.specs.Net.{Net}
 use Rattle.bounded_table.specs.Known.{known_nodes}
-use Rattle.bounded_table.specs.Rows.{RowsState}
+use Rattle.bounded_table.specs.Rows.{AsksFor, RowsState}
 use Rattle.bounded_table.specs.Table.{TableRow, IsRow}
 
 -- ---- the slots for one bound, and who looks at them
@@ -164,3 +164,13 @@ rows_state r = record {
   known = known_nodes r.places ++ known_nodes r.near;
   held = rows_seen r;
 }
+
+-- The reader asked for the row of node v, and learned no more. After Ok it has seen a row of v in the slot of these places.
+pub record AsksSlot {A E : Type 0} (old : Reading) (v : ℕ) (result : Result A E) (new : Reading)
+    (places : List (Option TableRow)) : Type 0 where
+  pub asks : AsksFor (rows_state old) (λ w. w ≡ v) result (rows_state new)
+  pub seen : OnOk result ((row : TableRow) × (slice_get places v ≡ Some (Some row)))
+
+-- the places of the slots where the reader looked for such a row
+abbrev pub lent_places : (old new : Reading) → (reach v : ℕ) → List (Option TableRow)
+lent_places old new reach v = if takes_near old old.store.near reach v then new.near else new.places

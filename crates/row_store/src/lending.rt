@@ -7,7 +7,7 @@ ghost use Rattle.bounded_table.specs.Rows.{AsksFor};
 ghost use Rattle.bounded_table.specs.Table.{IsNearRow, IsRow};
 ghost use Rattle.row_store.specs.Lenders.{reader_type};
 ghost use Rattle.row_store.specs.inside.ReaderInside.{IsNearOf};
-ghost use Rattle.row_store.specs.Store.{SeesRow, lender, looks_near, near_of, rows_state, table_of, takes_near};
+ghost use Rattle.row_store.specs.Store.{AsksSlot, SeesRow, lender, lent_places, looks_near, near_of, rows_state, table_of, takes_near};
 
 use crate::opening::{fill_both, fill_in, knows_in, lend_from};
 use crate::reader::Reader;
@@ -19,11 +19,7 @@ use std::alloc::AllocError;
 impl<'s> Rows for Reader<'s> {
     ghost state = { λ r. rows_state r };
 
-    /// The row of n within the bound of the store, by the table's slot.
-    ///
-    /// If the slot contains another row, the reader makes the row of n for itself. It keeps this row for
-    /// later calls, which the clauses do not promise. If the known row is the row of n, the call is Ok,
-    /// even if memory is refused.
+    /// The row of n within the bound of the store, by `ask`.
     fn row(&mut self, n: NodeId) -> Result<&Row, AllocError>
         requires { HasNode self.old.store.network n.0 }
         ensures value { IfOk result (λ row. IsRow self.old.store.network self.old.store.bound n.0 row.now) }
@@ -31,13 +27,10 @@ impl<'s> Rows for Reader<'s> {
         ensures* after { sem 𝓛 (Rests reader_type self.entry
             (λ new. AsksFor (rows_state self.old) (λ v. v ≡ n.0) result (rows_state new))) }
     {
-        let store = self.store;
-        fill_in(&mut self.table, &store.table, &store.fans, n)?;
-        Ok(lend_from(&self.table, &store.table, n))
+        self.ask(n)
     }
 
-    /// The row of n by its near slot, if near rows reach that far, and otherwise by the table's slot. If only a row of
-    /// the table's slot is known, that one is taken, which also reaches that far.
+    /// The row of n, or its near row where that reaches so far, by `ask_near`.
     fn near_row(&mut self, n: NodeId, reach: u32) -> Result<&Row, AllocError>
         requires node { HasNode self.old.store.network n.0 }
         requires reach { reach ≤ self.old.store.bound }
@@ -49,14 +42,48 @@ impl<'s> Rows for Reader<'s> {
         ensures* after { sem 𝓛 (Rests reader_type self.entry
             (λ new. AsksFor (rows_state self.old) (λ v. v ≡ n.0) result (rows_state new))) }
     {
-        if !self.takes_near(n, reach) {
-            return self.row(n);
-        }
-        self.near_slot_row(n)
+        self.ask_near(n, reach)
     }
 }
 
 impl<'s> Reader<'s> {
+    /// The row of n within the bound of the store, by the table's slot, in which a row was then seen.
+    ///
+    /// If the slot contains another row, the reader makes the row of n for itself. It keeps this row for
+    /// later calls, which the clauses do not promise. If the known row is the row of n, the call is Ok,
+    /// even if memory is refused.
+    pub fn ask(&mut self, n: NodeId) -> Result<&Row, AllocError>
+        requires { HasNode self.old.store.network n.0 }
+        ensures value { IfOk result (λ row. IsRow self.old.store.network self.old.store.bound n.0 row.now) }
+        ensures again { SeesRow (table_of self.old) n.0 → IsOk result }
+        ensures* after { sem 𝓛 (Rests reader_type self.entry (λ new. AsksSlot self.old n.0 result new new.places)) }
+    {
+        let store = self.store;
+        fill_in(&mut self.table, &store.table, &store.fans, n)?;
+        Ok(lend_from(&self.table, &store.table, n))
+    }
+
+    /// The row of n by its near slot, if near rows reach that far, and otherwise by the table's slot. If only a row of
+    /// the table's slot is known, that one is taken, which also reaches that far. A row was then seen in the slot that
+    /// was taken.
+    #[tactic(auto, using(crate::proofs::Readings::lent_near, crate::proofs::Readings::lent_table))]
+    pub fn ask_near(&mut self, n: NodeId, reach: u32) -> Result<&Row, AllocError>
+        requires node { HasNode self.old.store.network n.0 }
+        requires reach { reach ≤ self.old.store.bound }
+        ensures value { IfOk result
+            (λ row. IsNearRow self.old.store.network reach self.old.store.bound n.0 row.now) }
+        ensures lent { IfOk result (λ row. IsRow self.old.store.network
+            (lender self.old self.old.store.near reach n.0).slots.bound n.0 row.now) }
+        ensures again { SeesRow (lender self.old self.old.store.near reach n.0) n.0 → IsOk result }
+        ensures* after { sem 𝓛 (Rests reader_type self.entry
+            (λ new. AsksSlot self.old n.0 result new (lent_places self.old new reach n.0))) }
+    {
+        if !self.takes_near(n, reach) {
+            return self.ask(n);
+        }
+        self.near_slot_row(n)
+    }
+
     /// Whether a row of n that reaches so far is to be taken from the near slot.
     fn takes_near(&self, n: NodeId, reach: u32) -> bool
         requires { HasNode self.now.store.network n.0 }
@@ -85,8 +112,7 @@ impl<'s> Reader<'s> {
         ensures value { IfOk result (λ row. IfSome self.old.store.near (λ near. (near.bound ≤ self.old.store.bound)
             × IsRow self.old.store.network near.bound n.0 row.now)) }
         ensures again { IfSome self.old.store.near (λ near. SeesRow (near_of self.old near) n.0 → IsOk result) }
-        ensures* after { sem 𝓛 (Rests reader_type self.entry
-            (λ new. AsksFor (rows_state self.old) (λ v. v ≡ n.0) result (rows_state new))) }
+        ensures* after { sem 𝓛 (Rests reader_type self.entry (λ new. AsksSlot self.old n.0 result new new.near)) }
     {
         let store = self.store;
         let Some(slots) = &store.near else {

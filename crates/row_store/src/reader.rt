@@ -1,5 +1,5 @@
 //! What one thread knows of a store. Serves those who look and offer; decided by `Reading`.
-ghost use Rattle.std.specs.Prelude.{◌≡◌, ◌↔◌, IfOk, IsOk, IsSome, OnErr, Some, slice_get};
+ghost use Rattle.std.specs.Prelude.{◌≡◌, ◌↔◌, [], IfOk, IsOk, IsSome, MatchOption, OnErr, Some, length, slice_get};
 ghost use Rattle.road_network.specs.Net.{HasNode};
 ghost use Rattle.bounded_table.specs.Table.{IsRow};
 ghost use Rattle.row_store.specs.Store.{IsSeen, SeesNear, SeesTable, fresh_reading, knows, table_of};
@@ -64,6 +64,15 @@ impl<'s> Reader<'s> {
         ensures { result.now ≡ self.now.store }
     {
         self.store
+    }
+
+    /// How many places there are: one for each node, and for near rows as many or, without slots for them, none.
+    pub fn invariants(&self)
+        ensures places { length self.now.places ≡ length self.now.store.network.nodes }
+        ensures near { MatchOption self.now.store.near (self.now.near ≡ [])
+            (λ _. length self.now.near ≡ length self.now.store.network.nodes) }
+    {
+        let _ = &self.table;
     }
 
     /// Whether a row is known for node n, in either slot. Allocates nothing.

@@ -79,14 +79,34 @@ fn offer_and_see(store: &RowStore<'_>, row: Row, second: Option<Entry>) -> Resul
     Ok(seen && see_late(store, second)? && see_late(store, second)?)
 }
 
-/// Whether readers see the row that the first finds.
+/// Whether a reader that has given the row of node 1 sees it in its slot and gives it once more. It is proved that neither
+/// of these calls can fail.
+fn find_and_give_again(store: &RowStore<'_>) -> Result<bool, AllocError>
+    requires { HasNode store.now.network 1 }
+{
+    let mut reader = store.reader()?;
+    reader.ask(NodeId(1))?;
+    let Ok(sight) = reader.look(NodeId(1)) else {
+        unreachable!()
+    };
+    let Sight::Table(_) = sight else {
+        return Ok(false);
+    };
+    let Ok(row) = reader.ask(NodeId(1)) else {
+        unreachable!()
+    };
+    Ok(has_second(row, right()))
+}
+
+/// Whether readers see the row that the first finds, and the first gives it twice.
 fn see_found(alloc: Global) -> Option<bool> {
     let net = read_network(alloc, TWO_EDGES).ok()?;
     if net.node_count() < 2 {
         return None;
     }
     let store = RowStore::open(alloc, &net, 300_000).ok()?;
-    find_and_see(&store).ok()
+    let twice = RowStore::open(alloc, &net, 300_000).ok()?;
+    Some(find_and_see(&store).ok()? && find_and_give_again(&twice).ok()?)
 }
 
 /// Whether readers see the row of node 1 with this second entry after the first has offered it.
