@@ -149,19 +149,6 @@ all-ended idle ids i d0 d t0 t high has on ended drives drove =
       written = sym (append-nil t) ∙ ap (λ ds. t ++ concat (closing_lines n p ds)) (sym none) ∙ after.written;
     }
 
--- none is idle
-pub no-idle : (idle : ℕ) (d : Drives) (drives : List Pair) → d.times ≡ times_of drives → idle_ids idle d.clock d.times ≡ [] → filter (is_idle idle d.clock) drives ≡ []
-no-idle idle d drives are none = none-of (filter (is_idle idle d.clock) drives) (sym (idle-found idle d.clock d.times drives are) ∙ none)
-
--- the times are the same
-pub same-times : (on : Setting) (ended drives : List Pair) (test : Pair → Bool) (d d1 d2 : Drives) (t t' : List ℕ) → EndsAll on ended drives test d d1 t t' → d2.sessions ≡ d1.sessions → d2.rows ≡ d1.rows → d2.tally ≡ d1.tally
-    → d2.clock ≡ d1.clock → d2.times ≡ d1.times → EndsAll on ended drives test d d2 t t'
-same-times on ended drives test d d1 d2 t t' ends sessions rows tally clock times = record {
-  drove = rw (sessions, rows, tally, times) ends.drove;
-  stays = record { clock = clock ∙ ends.stays.clock; points = ap (λ (y : Tally). y.points) tally ∙ ends.stays.points };
-  written = ends.written;
-}
-
 -- ---- the full drive of an id
 
 -- by the number of positions that the sessions have of it

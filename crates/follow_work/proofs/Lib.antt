@@ -14,6 +14,9 @@ pub mod DriveEnds
 pub mod DriveRows
 pub mod DriveJobs
 pub mod StreamsWithin
-pub mod TimeBounds
+pub mod Places
+pub mod TimesKept
+pub mod TimesQueued
+pub mod IdlePlaces
 pub mod StreamOutcomes
 pub mod FollowedDrives

@@ -79,8 +79,8 @@ impl<'m> Drives<'m> {
         }
     }
 
-    // Ends the drives whose newest position is more than this many seconds older than the clock. Looks at all.
-    fn end_each_idle(&mut self, idle: u32, into: &mut List<u8>) -> Result<(), AllocError>
+    // Ends the drives whose newest position is more than this many seconds older than the clock. Looks at no other.
+    fn end_idle(&mut self, idle: u32, into: &mut List<u8>) -> Result<(), AllocError>
         requires { HasDrives self.old AreAny }
         ensures { OnOk result ((on : Setting) (ended drives : ListOf Pair)
             → Drove on self.old ended drives
@@ -90,21 +90,6 @@ impl<'m> Drives<'m> {
         for id in ids.as_slice() {
             self.end(*id, into)?;
         }
-        Ok(())
-    }
-
-    // The same, but looks at none while none can be idle.
-    fn end_idle(&mut self, idle: u32, into: &mut List<u8>) -> Result<(), AllocError>
-        requires { HasDrives self.old AreAny }
-        ensures { OnOk result ((on : Setting) (ended drives : ListOf Pair)
-            → Drove on self.old ended drives
-            → EndsAll on ended drives (is_idle idle self.old.clock) self.old self.new into.old into.new) }
-    {
-        if !self.times.may_be_idle(idle, self.clock) {
-            return Ok(());
-        }
-        self.end_each_idle(idle, into)?;
-        self.times.find_oldest();
         Ok(())
     }
 

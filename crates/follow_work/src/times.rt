@@ -1,20 +1,34 @@
 //! The newest times of open drives. Serves `Drives`; decided by `idle_ids`.
-ghost use Rattle.std.specs.Prelude.{◌≡◌, [], false, IfOk, OnErr, OnOk, nat_eq};
-ghost use Rattle.std.specs.Map.{remove_entry};
+ghost use Rattle.std.specs.Prelude.{◌≡◌, ◌<◌, [], None, Some, IfOk, OnErr, OnOk, nat_eq};
+ghost use Rattle.std.specs.BTreeMap.{IsFromIterResult};
+ghost use Rattle.std.specs.Map.{lookup, remove_entry, values_of};
+ghost use Rattle.std.specs.Ordering.{nat_cmp};
 ghost use Rattle.indexmap.specs.IndexMap.{insert_entry};
-ghost use Rattle.follow_work.specs.inside.Times.{AreFrom, idle_ids, time_with};
+ghost use Rattle.follow_work.specs.inside.Times.{Moves, idle_ids, numbered, places_before, time_with};
 
-use indexmap::IndexMap;
+use arrivals::Arrivals;
 use plain_list::List;
 use std::alloc::{AllocError, Global};
+use std::collections::{BTreeMap, BTreeSet};
 use std::marker::Model;
 
-// The newest time of each open drive by its id, in the order of the first positions of the drives. No time is before
-// `oldest`, so that no drive is looked at while none can be idle.
+// The newest time of an open drive, and its number: the drives are numbered in the order of their first positions.
+#[derive(Clone, Copy)]
+struct Drive {
+    newest: u32,
+    number: u64,
+}
+
+// The place of a drive in the queue: its newest time, its number, and its id.
+type Place = (u32, u64, u32);
+
+// The open drives by their ids, in the order of their first positions, and the queue of their places by time. The next
+// drive that begins has the number `begun`.
 #[derive(Drop)]
 pub(crate) struct Times {
-    newest: IndexMap<u32, u32>,
-    oldest: u32,
+    drives: Arrivals<Drive>,
+    queue: BTreeSet<Place>,
+    begun: u64,
 }
 
 impl Model for Times {
@@ -28,45 +42,38 @@ impl Model for Times {
     ghost invariant = { AreKept };
 }
 
-// Notes the time of a position of the id.
-fn note_time(times: &mut IndexMap<u32, u32>, id: u32, time: u32) -> Result<(), AllocError>
-    ensures ok { OnOk result (times.new.entries
-        ≡ insert_entry nat_eq times.old.entries id (time_with times.old.entries id time)) }
-    ensures err { OnErr result (times.new.entries ≡ times.old.entries) }
+// Puts a place in the stead of another. On `Err`, the queue is as before.
+fn move_place(queue: &mut BTreeSet<Place>, before: Place, after: Place) -> Result<(), AllocError>
+    ensures ok { OnOk result (Moves queue.old queue.new before after) }
+    ensures err { OnErr result (queue.new.keys ≡ queue.old.keys) }
 {
-    let newest = match times.get(&id) {
-        Some(before) => time.max(*before),
-        None => time,
-    };
-    times.insert(id, newest)?;
+    queue.insert(after)?;
+    queue.remove(&before);
     Ok(())
 }
 
-// The least of these times.
-fn least_of(times: &IndexMap<u32, u32>) -> u32
-    ensures { AreFrom result times.now.entries }
+// The ids of the places of times before this one, by the numbers of their drives.
+fn places_by_number(
+    alloc: Global,
+    queue: &BTreeSet<Place>,
+    limit: u32,
+) -> Result<BTreeMap<u64, u32>, AllocError>
+    ensures { IfOk result (IsFromIterResult nat_cmp (numbered (places_before limit queue.now))) }
 {
-    let mut least = u32::MAX;
-    for (_, time) in times.iter() {
-        least = least.min(*time);
+    let mut noted = BTreeMap::new(alloc);
+    for place in queue.range(..(limit, 0, 0)) {
+        noted.insert(place.1, place.2)?;
     }
-    least
+    Ok(noted)
 }
 
-// The ids whose time is more than this many seconds before the clock.
-fn ids_before(
-    alloc: Global,
-    times: &IndexMap<u32, u32>,
-    idle: u32,
-    clock: u32,
-) -> Result<List<u32>, AllocError>
-    ensures { IfOk result (λ ids. ids ≡ idle_ids idle clock times.now.entries) }
+// These ids, in the order of their numbers.
+fn ids_of(alloc: Global, noted: &BTreeMap<u64, u32>) -> Result<List<u32>, AllocError>
+    ensures { IfOk result (λ ids. ids ≡ values_of noted.now.entries) }
 {
     let mut ids = List::new(alloc);
-    for (id, time) in times.iter() {
-        if u64::from(*time) + u64::from(idle) < u64::from(clock) {
-            ids.push(*id)?;
-        }
+    for (_, id) in noted {
+        ids.push(*id)?;
     }
     Ok(ids)
 }
@@ -77,9 +84,36 @@ impl Times {
         ensures { result ≡ [] }
     {
         Times {
-            newest: IndexMap::new(alloc),
-            oldest: u32::MAX,
+            drives: Arrivals::new(alloc),
+            queue: BTreeSet::new(alloc),
+            begun: 0,
         }
+    }
+
+    // Notes the time of the first position of a drive.
+    fn begin(&mut self, id: u32, time: u32) -> Result<(), AllocError>
+        requires { lookup (nat_eq id) self.old ≡ None }
+        ensures { OnOk result (self.new ≡ insert_entry nat_eq self.old id time) }
+    {
+        let number = self.begun;
+        let Some(begun) = number.checked_add(1) else {
+            return Err(AllocError);
+        };
+        let place = (time, number, id);
+        self.queue.insert(place)?;
+        let kept = self.drives.insert(
+            id,
+            Drive {
+                newest: time,
+                number,
+            },
+        );
+        if kept.is_err() {
+            self.queue.remove(&place);
+            return Err(AllocError);
+        }
+        self.begun = begun;
+        Ok(())
     }
 
     // Notes the time of a position of the id.
@@ -87,8 +121,20 @@ impl Times {
         ensures { OnOk result
             (self.new ≡ insert_entry nat_eq self.old id (time_with self.old id time)) }
     {
-        note_time(&mut self.newest, id, time)?;
-        self.oldest = self.oldest.min(time);
+        let Some(drive) = self.drives.get(id).copied() else {
+            return self.begin(id, time);
+        };
+        if time <= drive.newest {
+            return Ok(());
+        }
+        let before = (drive.newest, drive.number, id);
+        move_place(&mut self.queue, before, (time, drive.number, id))?;
+        if let Some(held) = self.drives.get_mut(id) {
+            *held = Drive {
+                newest: time,
+                number: drive.number,
+            };
+        }
         Ok(())
     }
 
@@ -96,17 +142,13 @@ impl Times {
     pub(crate) fn remove(&mut self, id: u32)
         ensures { self.new ≡ remove_entry (nat_eq id) self.old }
     {
-        self.newest.shift_remove(&id);
+        if let Some(drive) = self.drives.remove(id) {
+            self.queue.remove(&(drive.newest, drive.number, id));
+        }
     }
 
-    // Whether a newest time can be more than this many seconds before the clock. Looks at no time.
-    pub(crate) fn may_be_idle(&self, idle: u32, clock: u32) -> bool
-        ensures { result ≡ false → idle_ids idle clock self.now ≡ [] }
-    {
-        u64::from(self.oldest) + u64::from(idle) < u64::from(clock)
-    }
-
-    // The ids whose newest time is more than this many seconds before the clock.
+    // The ids whose newest time is more than this many seconds before the clock. Looks at the queue up to the first
+    // that is not.
     pub(crate) fn idle_ids(
         &self,
         alloc: Global,
@@ -115,13 +157,7 @@ impl Times {
     ) -> Result<List<u32>, AllocError>
         ensures { IfOk result (λ ids. ids ≡ idle_ids idle clock self.now) }
     {
-        ids_before(alloc, &self.newest, idle, clock)
-    }
-
-    // Finds the oldest of the newest times.
-    pub(crate) fn find_oldest(&mut self)
-        ensures { self.new ≡ self.old }
-    {
-        self.oldest = least_of(&self.newest);
+        let noted = places_by_number(alloc, &self.queue, clock.saturating_sub(idle))?;
+        ids_of(alloc, &noted)
     }
 }

@@ -1,12 +1,11 @@
 -- What is done to the session of one id, in the words of its fixes.
-use Rattle.std.proofs.Common.{◌≡◌, ◌⊎◌, inl, inr, ℕ, suc, ◌+◌, ◌<◌, ◌≤◌, List, [], ◌∷◌, ◌++◌, Option, Some, None, Result, Ok, Err, IfOk, IfErr, OnOk, OnErr, IsErr, IsSome, refl, sym, ap, subst, ◌∙◌, arith, length, map, take, drop, nat_eq, slice_get, unwrap_or, length-append}
+use Rattle.std.proofs.Common.{◌≡◌, ◌⊎◌, inl, inr, ℕ, suc, ◌+◌, ◌<◌, ◌≤◌, List, [], ◌∷◌, ◌++◌, Option, Some, None, Result, Ok, Err, IfOk, IfErr, OnOk, OnErr, IsErr, IsSome, refl, sym, ap, subst, ◌∙◌, arith, length, map, take, drop, nat_eq, unwrap_or, length-append}
 use Rattle.std.specs.Prelude.{Contains}
 use Rattle.std.specs.List.{IsDistinct}
 use Rattle.std.specs.Map.{keys_of, lookup, set_value}
 use Rattle.std.specs.Option.{option_map}
 use Rattle.std.proofs.lemmas.List.{drop_at, length-map, map-append, take_all, take_at}
 use Rattle.std.proofs.lemmas.Map.Steps.{set_value_same}
-use Rattle.std.proofs.lemmas.Option.{slice_get-map}
 use Rattle.polyline_geometry.specs.Plane.{InRange}
 use Rattle.cost_model.specs.declared.params.Params.{Params}
 use Rattle.cost_model.specs.Options.{IsAccepted}
@@ -263,11 +262,6 @@ close-asks n p id es rows new asks =
     }
 
 -- ---- what is read
-
-pub id-at : (n : Net) (p : Params) (es : List (ℕ × Session)) (pairs : List Pair) (place : ℕ) → Keeps (state n p es) pairs
-    → slice_get (keys_of pairs) place ≡ option_map (λ (e : ℕ × Session). e.0) (slice_get es place)
-id-at n p es pairs place h =
-    ap (λ (ks : List ℕ). slice_get ks place) (sym (kept-keys n p es pairs h.each)) ∙ slice_get-map (λ (e : ℕ × Session). e.0) es place
 
 length_case : (n : Net) (p : Params) (a : Option Session) (b : Option (List Fix)) → Both n p a b → option_map points_of a ≡ option_map length b
 length_case n p None None h = refl

@@ -100,6 +100,16 @@ pub remove-set : (t : ℕ → Bool) (es : List (ℕ × Session)) (s : Session) �
 remove-set t [] s = refl
 remove-set t (e ∷ es) s = remove_step t e es s (t e.0) refl (remove-set t es s)
 
+none_step : (t : ℕ → Bool) (e : ℕ × Session) (es : List (ℕ × Session)) (b : Bool) → cond b (Some e.1) (lookup t es) ≡ None → (lookup t es ≡ None → remove_entry t es ≡ es)
+    → cond b es (e ∷ remove_entry t es) ≡ e ∷ es
+none_step t e es true none rest = absurd cc
+none_step t e es false none rest = ap (λ (l : List (ℕ × Session)). e ∷ l) (rest none)
+
+-- an id that is not there leaves all
+pub remove-none : (t : ℕ → Bool) (es : List (ℕ × Session)) → lookup t es ≡ None → remove_entry t es ≡ es
+remove-none t [] none = refl
+remove-none t (e ∷ es) none = none_step t e es (t e.0) none (remove-none t es)
+
 -- ---- sessions of one network and options
 
 are_if : (n : Net) (p : Params) (b : Bool) (xs ys : List (ℕ × Session)) → AreOf n p xs → AreOf n p ys → AreOf n p (cond b xs ys)

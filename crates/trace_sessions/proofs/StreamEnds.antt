@@ -19,6 +19,7 @@ use Rattle.trace_reader.specs.declared.trace.Fix.{Fix}
 use Rattle.trace_reader.specs.Trace.{IsLawfulTrace}
 use Rattle.online_commit.specs.Items.{handed}
 use Rattle.online_commit.specs.Session.{AsksFinished, AsksPoints, Session, StandsFor}
+use Rattle.trace_sessions.specs.Calls.{IsEmpty}
 use Rattle.trace_sessions.specs.Following.{pieces_among}
 use Rattle.trace_sessions.specs.ItemText.{AddsPrefix}
 use Rattle.trace_sessions.specs.Sessions.{IsPairOf, IsSessionOf, Keeps, KeepsEach, Pair, SessionsState, fixes_of}
@@ -228,3 +229,16 @@ all-ended s left t0 t r0 r pieces none has pairs keeps =
       written = old.written ∙ ap (λ ps. t0 ++ concat (closing_lines s.network s.params ps)) front;
       counted = sym (ap (pieces_of_all s.network s.params) front) ∙ old.counted ∙ ap (λ ps. pieces_told s.network s.params ps + pieces) front;
     }
+
+no-keys : IsDistinct nat_eq (keys_of {K = ℕ} {X = List Fix} [])
+unfolding IsDistinct
+no-keys = tt
+
+-- sessions of which none is left
+pub emptied : (s : SessionsState) (net : Net) (p : Params) (es : List (ℕ × Session)) → net ≡ s.network → p ≡ s.params → es ≡ []
+    → IsEmpty s.network s.params (record { network = net; params = p; sessions = es })
+emptied s net p es network params none = record {
+  network = network;
+  params = params;
+  none = record { each = subst (λ (l : List (ℕ × Session)). KeepsEach net p l []) (sym none) tt; different = no-keys };
+}

@@ -12,10 +12,10 @@ ghost use Rattle.trace_sessions.specs.declared.sessions.SessionFault.TheVariants
 ghost use Rattle.trace_sessions.specs.Sessions.{AsksClosed, AsksFedTo, Closes, IsCloseFault, Keeps, Pair, RefusesFix, TakesFix, length_of};
 ghost use Rattle.trace_sessions.specs.inside.SessionsInside.{FeedsAt, FinishesAt, session_at, session_in};
 
+use arrivals::Arrivals;
 use bounded_table::Rows;
 use cost_model::Params;
 use grid_index::Grid;
-use indexmap::IndexMap;
 use matching::Layer;
 use online_commit::{Item, Online};
 use plain_list::List;
@@ -54,7 +54,7 @@ pub struct Sessions<'n> {
     net: &'n Network,
     grid: &'n Grid<'n>,
     params: Params,
-    sessions: IndexMap<u32, Online<'n>>,
+    sessions: Arrivals<Online<'n>>,
 }
 
 // By hand, so that the functions that drop one call this.
@@ -83,21 +83,21 @@ impl<'n> Model for Sessions<'n> {
 
 // Feeds the session of the id, or else this newly opened one, which is kept if it took the position.
 fn feed_session<'n, R: Rows>(
-    sessions: &mut IndexMap<u32, Online<'n>>,
+    sessions: &mut Arrivals<Online<'n>>,
     id: u32,
     opened: Online<'n>,
     layer: Layer,
     rows: &mut R,
 ) -> Result<List<Item>, AllocError>
-    requires rows { let s = session_at sessions.old.entries id opened in
+    requires rows { let s = session_at sessions.old id opened in
         AreRowsOf (R.state rows.old) s.network s.params.bound }
-    requires layer { CanFeed (session_at sessions.old.entries id opened) layer }
-    ensures fed { IfOk result (FeedsAt sessions.old.entries id opened.entry layer sessions.new.entries) }
-    ensures err { OnErr result (sessions.new.entries ≡ sessions.old.entries) }
-    ensures asks { AsksFed (session_at sessions.old.entries id opened.entry) layer
+    requires layer { CanFeed (session_at sessions.old id opened) layer }
+    ensures fed { IfOk result (FeedsAt sessions.old id opened.entry layer sessions.new) }
+    ensures err { OnErr result (sessions.new ≡ sessions.old) }
+    ensures asks { AsksFed (session_at sessions.old id opened.entry) layer
         (R.state rows.old) result (R.state rows.new) }
 {
-    match sessions.get_mut(&id) {
+    match sessions.get_mut(id) {
         Some(session) => session.feed(layer, rows),
         None => {
             let mut session = opened;
@@ -110,24 +110,24 @@ fn feed_session<'n, R: Rows>(
 
 // Finishes the session of the id and removes it.
 fn finish_session<'n, R: Rows>(
-    sessions: &mut IndexMap<u32, Online<'n>>,
+    sessions: &mut Arrivals<Online<'n>>,
     id: u32,
     rows: &mut R,
 ) -> Result<List<Item>, SessionFault>
-    requires rows { IfSome (lookup (nat_eq id) sessions.old.entries)
+    requires rows { IfSome (lookup (nat_eq id) sessions.old)
         (λ s. AreRowsOf (R.state rows.old) s.network s.params.bound) }
-    ensures finished { IfOk result (FinishesAt sessions.old.entries id sessions.new.entries) }
+    ensures finished { IfOk result (FinishesAt sessions.old id sessions.new) }
     ensures fault { IfErr result (λ fault. (fault ≡ Memory)
-        ⊎ ((fault ≡ NotOpen id) × (lookup (nat_eq id) sessions.old.entries ≡ None))) }
-    ensures err { OnErr result (sessions.new.entries ≡ sessions.old.entries) }
-    ensures asks { (d : Session) → AsksFinished (session_at sessions.old.entries id d)
+        ⊎ ((fault ≡ NotOpen id) × (lookup (nat_eq id) sessions.old ≡ None))) }
+    ensures err { OnErr result (sessions.new ≡ sessions.old) }
+    ensures asks { (d : Session) → AsksFinished (session_at sessions.old id d)
         (R.state rows.old) (R.state rows.new) }
 {
-    let Some(session) = sessions.get_mut(&id) else {
+    let Some(session) = sessions.get_mut(id) else {
         return Err(SessionFault::NotOpen(id));
     };
     let items = session.finish(rows)?;
-    sessions.shift_remove(&id);
+    sessions.remove(id);
     Ok(items)
 }
 
@@ -144,7 +144,7 @@ impl<'n> Sessions<'n> {
             net,
             grid,
             params: *p,
-            sessions: IndexMap::new(alloc),
+            sessions: Arrivals::new(alloc),
         }
     }
 
@@ -169,22 +169,20 @@ impl<'n> Sessions<'n> {
         self.sessions.len() as u64
     }
 
-    /// The id whose session is at this index, from 0, in order of first appearance.
+    /// The id whose session is at this index, from 0, in order of first appearance. Takes time for each session
+    /// after that one.
     pub fn id_at(&self, place: u64) -> Option<u32>
         ensures { (pairs : List Pair) → Keeps self.now pairs
             → result ≡ slice_get (keys_of pairs) place }
     {
-        match self.sessions.get_index(place as usize) {
-            Some((id, _)) => Some(*id),
-            None => None,
-        }
+        self.sessions.id_at(place as usize)
     }
 
     /// The number of positions of the id, or `None` if it has no session.
     pub fn length(&self, id: u32) -> Option<u32>
         ensures { (pairs : List Pair) → Keeps self.now pairs → result ≡ length_of pairs id }
     {
-        match self.sessions.get(&id) {
+        match self.sessions.get(id) {
             Some(session) => Some(session.count()),
             None => None,
         }
@@ -202,7 +200,7 @@ impl<'n> Sessions<'n> {
     fn points(&self, id: u32) -> u32
         ensures { result ≡ points_of (session_in self.now id) }
     {
-        match self.sessions.get(&id) {
+        match self.sessions.get(id) {
             Some(session) => session.count(),
             None => 0,
         }
@@ -236,7 +234,7 @@ impl<'n> Sessions<'n> {
 
     /// Ends the trace of the id, returns the remaining items, and removes its session; the others
     /// keep their order. `NotOpen` means that the id has no session; on a fault the sessions are
-    /// unchanged. Takes time for each session after that of the id.
+    /// unchanged. Takes the time of the items, however many sessions there are.
     ///
     /// Rows become known as by [`Online::finish`] on the positions of this id.
     pub fn close<R: Rows>(&mut self, id: u32, rows: &mut R) -> Result<List<Item>, SessionFault>

@@ -13,7 +13,7 @@ use Rattle.trace_sessions.specs.declared.sessions.Sessions.TheInside.{Inside}
 use Rattle.trace_sessions.specs.Sessions.{SessionsState}
 
 abbrev pub shown_sessions : Inside → SessionsState
-shown_sessions a = record { network = a.net.now; params = a.params; sessions = a.sessions.entries }
+shown_sessions a = record { network = a.net.now; params = a.params; sessions = a.sessions }
 
 -- sessions of this network and these options
 abbrev pub AreOf : Net → Params → List (ℕ × Session) → Type 0
@@ -22,7 +22,7 @@ AreOf n p (entry ∷ entries) = (entry.1.network ≡ n) × (entry.1.params ≡ p
 
 pub record IsKept (a : Inside) : Type 0 where
   pub ground : IsGridFor a.net.now a.params a.grid.now
-  pub are : AreOf a.net.now a.params a.sessions.entries
+  pub are : AreOf a.net.now a.params a.sessions
 
 -- the session of the id, or this one where it has none
 abbrev pub session_at : List (ℕ × Session) → ℕ → Session → Session

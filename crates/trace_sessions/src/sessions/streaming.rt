@@ -16,8 +16,8 @@ ghost use Rattle.trace_sessions.specs.inside.StreamingInside.{heading, lines_of_
 use super::{SessionFault, Sessions};
 use crate::following::{count_pieces, write_rest, write_step};
 use crate::items::{Writer, write_lead};
+use arrivals::Arrivals;
 use bounded_table::Rows;
-use indexmap::IndexMap;
 use match_text::write_trace;
 use online_commit::{Item, Online};
 use plain_list::List;
@@ -101,7 +101,7 @@ impl<'n> Sessions<'n> {
 
     /// Ends the trace of the id: appends its last lines, removes its session, and returns how many pieces it closed; the
     /// others keep their order. `NotOpen` means that the id has no session; then nothing is changed. After `Memory`, the
-    /// session is gone, and a prefix of the lines is appended. Takes time for each session after that of the id.
+    /// session is gone, and a prefix of the lines is appended. Takes the time of the items.
     ///
     /// Rows become known as by [`Online::finish`] on the positions of this id.
     pub fn end_trace<R: Rows>(
@@ -117,7 +117,7 @@ impl<'n> Sessions<'n> {
         ensures asks { AsksClosed self.old id (R.state rows.old) (R.state rows.new) }
     {
         self.invariants();
-        let Some(session) = self.sessions.shift_remove(&id) else {
+        let Some(session) = self.sessions.remove(id) else {
             return Err(SessionFault::NotOpen(id));
         };
         let by = Writer {
@@ -145,14 +145,14 @@ impl<'n> Sessions<'n> {
             → AsksOnly (R.state rows.old) (R.state rows.new) (AsksSome self.old pairs) }
     {
         self.invariants();
-        let none = IndexMap::new(self.alloc);
-        let sessions = std::mem::replace(&mut self.sessions, none);
+        let none = Arrivals::new(self.alloc);
+        let mut sessions = std::mem::replace(&mut self.sessions, none);
         let by = Writer {
             alloc: self.alloc,
             net: self.net,
         };
         let mut pieces = 0;
-        for (id, session) in sessions {
+        while let Some((id, session)) = sessions.take_first() {
             let count = end_session(&by, id, session, rows, into)?;
             pieces += count;
         }

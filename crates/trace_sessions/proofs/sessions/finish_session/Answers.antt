@@ -1,5 +1,5 @@
-use Rattle.std.proofs.Common.{nat_eq, sym, ap, ◌∙◌, rules}
-use Rattle.std.specs.Map.{remove_entry, set_value}
+use Rattle.std.proofs.Common.{nat_eq, sym, ap, ◌∙◌}
+use Rattle.std.specs.Map.{set_value}
 use Rattle.std.proofs.lemmas.Map.Steps.{set_value_same}
 use Rattle.trace_sessions.proofs.SessionPairs.{remove-set}
 use Rattle.trace_sessions.proofs.SessionFixes.{on-err}
@@ -7,21 +7,19 @@ use Rattle.trace_sessions.proofs.sessions.finish_session.Goals as goal
 
 pub returns-in_err-items-clause-err : goal.returns-in_err-items-clause-err
 returns-in_err-items-clause-err g c =
-    let es = c.args.sessions.now.entries in
+    let es = c.args.sessions.now in
     let t = nat_eq c.args.id in
-    on-err c.from_residual.result
-    ((c.get_mut.follows.holds c.finish.new.self).0 ∙ ap (set_value t es) c.in_err-items.ensures.err
-    ∙ set_value_same t es c.in-Some.session.now (sym c.in-Some.ensures.value))
+    on-err c.from_residual.result (ap (set_value t es) c.in_err-items.ensures.err ∙ set_value_same t es c.in-Some.session.now (sym c.in-Some.ensures.value))
 
 pub returns-clause-finished : goal.returns-clause-finished
 returns-clause-finished g c =
-    let es = c.args.sessions.now.entries in
+    let es = c.args.sessions.now in
     let t = nat_eq c.args.id in
     record {
       session = c.in-Some.session.now;
       opened = c.finish.new.self;
       was = sym c.in-Some.ensures.value;
       finished = c.in_ok-items.ensures.finished;
-      entries = c.shift_remove.ensures.entries ∙ ap (remove_entry t) (c.get_mut.follows.holds c.finish.new.self).0 ∙ remove-set t es c.finish.new.self;
-      different = search rules;
+      entries = c.remove.ensures.entries ∙ remove-set t es c.finish.new.self;
+      different = c.remove.ensures.unique;
     }

@@ -1,13 +1,16 @@
-use Rattle.std.proofs.Common.{refl}
-use Rattle.trace_sessions.specs.Drives.{is_idle}
-use Rattle.follow_work.proofs.DriveEnds.{no-idle, none-full, same-times}
+use Rattle.std.proofs.Common.{◌∙◌, refl}
+use Rattle.follow_work.proofs.DriveEnds.{all-ended, next-ended, next-open, none-ended}
 use Rattle.follow_work.proofs.drives.Drives.end_idle.Goals as goal
 
-pub returns-then-not-may_be_idle : goal.returns-then-not-may_be_idle
-returns-then-not-may_be_idle c on ended drives drove =
-    none-full on ended drives (is_idle c.args.idle c.args.self.now.clock) c.args.self.now c.args.into.now drove (no-idle c.args.idle c.args.self.now drives drove.times_are (c.if-not-may_be_idle.ensures refl))
+pub loop-id-init : goal.loop-id-init
+loop-id-init c = none-ended c.args.idle _ c.args.self.now c.args.into.now (c.as_slice-id-items.ensures ∙ c.in_ok-ids.ensures)
+
+pub end-requires : goal.end-requires
+end-requires c = next-open c.args.idle _ c.loop-id.id-index _ _ c.args.self.now _ _ _ c.loop-id-test.true refl c.requires c.loop-id.invariant
+
+pub loop-id-preserved : goal.loop-id-preserved
+loop-id-preserved c =
+    next-ended c.args.idle _ c.loop-id.id-index _ _ c.args.self.now c.loop-id.self _ _ _ _ c.loop-id-test.true refl c.loop-id.invariant c.in_ok-end.ensures
 
 pub returns : goal.returns
-returns c on ended drives drove =
-    same-times on ended drives (is_idle c.args.idle c.args.self.now.clock) c.args.self.now c.end_each_idle.new.self _ c.args.into.now c.end_each_idle.new.into (c.in_ok-end_each_idle.ensures on ended drives drove) refl refl refl refl
-    c.find_oldest.ensures
+returns c = all-ended c.args.idle _ c.loop-id.id-index c.args.self.now _ _ _ c.loop-id-test.false c.loop-id.invariant

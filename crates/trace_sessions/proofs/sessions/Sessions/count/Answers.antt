@@ -6,4 +6,4 @@ use Rattle.trace_sessions.proofs.sessions.Sessions.count.Goals as goal
 pub returns : goal.returns
 returns c pairs keeps =
     let a = c.self.inside in
-    c.len.ensures.len ∙ kept-length a.net.now a.params a.sessions.entries pairs (subst (λ x. Keeps x pairs) (sym c.self.view_is) keeps).each
+    c.len.ensures.len ∙ kept-length a.net.now a.params a.sessions pairs (subst (λ x. Keeps x pairs) (sym c.self.view_is) keeps).each

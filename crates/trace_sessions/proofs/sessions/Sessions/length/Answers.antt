@@ -8,11 +8,11 @@ use Rattle.trace_sessions.proofs.sessions.Sessions.length.Goals as goal
 pub returns-in-Some : goal.returns-in-Some
 returns-in-Some c pairs keeps =
     let a = c.self.inside in
-    ap (λ k. Some k) c.count.ensures ∙ ap (option_map points_of) c.in-Some.ensures.value
-    ∙ length-in a.net.now a.params c.args.id a.sessions.entries pairs (subst (λ x. Keeps x pairs) (sym c.self.view_is) keeps)
+    ap (λ k. Some k) c.count.ensures ∙ ap (option_map points_of) c.in-Some.ensures
+    ∙ length-in a.net.now a.params c.args.id a.sessions pairs (subst (λ x. Keeps x pairs) (sym c.self.view_is) keeps)
 
 pub returns-in-None : goal.returns-in-None
 returns-in-None c pairs keeps =
     let a = c.self.inside in
-    ap (option_map points_of) c.in-None.ensures.value
-    ∙ length-in a.net.now a.params c.args.id a.sessions.entries pairs (subst (λ x. Keeps x pairs) (sym c.self.view_is) keeps)
+    ap (option_map points_of) c.in-None.ensures
+    ∙ length-in a.net.now a.params c.args.id a.sessions pairs (subst (λ x. Keeps x pairs) (sym c.self.view_is) keeps)
