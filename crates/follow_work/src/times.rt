@@ -90,7 +90,7 @@ impl Times {
         }
     }
 
-    // Notes the time of the first position of a drive.
+    // Notes the time of the first position of a drive. No run is long enough for the numbers to come to their end.
     fn begin(&mut self, id: u32, time: u32) -> Result<(), AllocError>
         requires { lookup (nat_eq id) self.old ≡ None }
         ensures { OnOk result (self.new ≡ insert_entry nat_eq self.old id time) }
@@ -147,8 +147,8 @@ impl Times {
         }
     }
 
-    // The ids whose newest time is more than this many seconds before the clock. Looks at the queue up to the first
-    // that is not.
+    // The ids whose newest time is more than this many seconds before the clock. Takes the time of a look-up, and of one
+    // for each of these ids.
     pub(crate) fn idle_ids(
         &self,
         alloc: Global,
