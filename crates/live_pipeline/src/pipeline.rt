@@ -12,7 +12,7 @@ use crate::matcher::match_parts;
 use crate::part::Part;
 use crate::read_done::{ReadDone, ReadPromise, Reading, TraceFile};
 use crate::reader::read_unless;
-use crate::relay::{PutPass, Relay, TakePass};
+use crate::relay::{Relay, TakePass};
 use edge_io::{Shelf, Sink};
 use program_frame::{Job, Stop, work_traces};
 use std::alloc::Global;
