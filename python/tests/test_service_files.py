@@ -49,20 +49,23 @@ def test_a_gpx_file_is_answered_by_positions_and_roads(service: Service) -> None
     assert layer(posted(service, text, "application/gpx+xml", "?layers=edges"), "edges")[0]["properties"]["entry"].endswith("Z")
 
 
-def test_it_is_the_match_of_the_package(service: Service, monkeypatch: pytest.MonkeyPatch) -> None:
+def test_it_is_the_match_of_the_package(service: Service) -> None:
     import fmm
     network = fmm.Network.from_osm(SMALL / "village.osm")
     positions = fmm.read_positions(SMALL / "fleet.csv")
-    thin = fmm.suggest(positions).options.thin
-    assert thin and posted(service, (SMALL / "fleet.csv").read_bytes(), "text/csv")["report"]["options"]["thin"] == thin
-    matches = fmm.match(network, positions, options=fmm.Options(gap=300, thin=0))
-    answer = posted(service, (SMALL / "fleet.csv").read_bytes(), "text/csv", "?thin=0")
-    routes = [route["properties"] for route in layer(answer, "routes")]
-    assert [(route["id"], route["edges"], route["cost"]) for route in routes] == \
-        list(zip(matches.routes["id"], matches.routes["edges"], matches.routes["cost"]))
-    edges = [point["properties"]["edge"] for point in layer(answer, "points")]
-    assert edges == [None if edge is None else edge for edge in matches.points["edge"].astype(object).where(
-        matches.points["edge"].notna(), None)]
+    wanted = fmm.suggest(positions).options
+    assert wanted.thin and wanted.back > fmm.Options().back
+    suggested = fmm.Options(gap=300, thin=wanted.thin, back=wanted.back)
+    for query, options in (("", suggested), ("?thin=0", fmm.Options(gap=300, thin=0))):
+        matches = fmm.match(network, positions, options=options)
+        answer = posted(service, (SMALL / "fleet.csv").read_bytes(), "text/csv", query)
+        assert answer["report"]["options"]["thin"] == options.thin and answer["report"]["options"]["back"] == options.back
+        routes = [route["properties"] for route in layer(answer, "routes")]
+        assert [(route["id"], route["edges"], route["cost"]) for route in routes] == \
+            list(zip(matches.routes["id"], matches.routes["edges"], matches.routes["cost"]))
+        edges = [point["properties"]["edge"] for point in layer(answer, "points")]
+        assert edges == [None if edge is None else edge for edge in matches.points["edge"].astype(object).where(
+            matches.points["edge"].notna(), None)]
 
 
 def test_each_form_of_rows_has_the_same_match(service: Service) -> None:

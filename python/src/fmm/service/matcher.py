@@ -22,7 +22,7 @@ Read = TypeVar("Read")
 
 
 class Matcher:
-    """Has a program with the options of the service, and one for the last request with another sigma.
+    """Has a program with the options of the service, and one for the last request with another sigma or back.
 
     A program that ends, or does not answer in time, is replaced. One that became too large, or has matched enough drives, is
     replaced by a next one as soon as that has loaded the network.
@@ -36,24 +36,27 @@ class Matcher:
         self.program = self._started(options)
         self.next: Optional[Program] = None
         self.other: Optional[Program] = None
-        self.other_sigma = 0.0
+        self.other_options = options
         self.replaced = 0
         _first_answer(self.program, time.monotonic() + START)
 
     def match(self, rows: np.ndarray, counts: np.ndarray, sigma: Optional[float], until: float) -> MatchText:
         """The match of drives of so many rows each, int64[n, 3] of x and y in centimetres and of seconds. Refused: it takes too
         long; a program fails twice."""
-        return self._read(rows, counts, sigma, until, lambda got, first: drives_text(got, first, counts))
+        options = self.options if sigma is None else self.options.but(sigma=sigma)
+        return self._read(rows, counts, options, until, lambda got, first: drives_text(got, first, counts))
 
-    def follow(self, rows: np.ndarray, name: int, sigma: Optional[float], until: float) -> bytes:
-        """The follow text of a drive as trace `name`. Refused: as `match`."""
-        return self._read(rows, np.array([len(rows)]), sigma, until, lambda got, drive: follow_text(got, drive, len(rows), name))
+    def follow(self, rows: np.ndarray, name: int, options: Options, until: float) -> bytes:
+        """The follow text of a drive as trace `name`. `options` differ from those of the service at most in sigma, back, gap and
+        thin. Refused: as `match`."""
+        asked = self.options.but(sigma=options.sigma, back=options.back)
+        return self._read(rows, np.array([len(rows)]), asked, until, lambda got, drive: follow_text(got, drive, len(rows), name))
 
-    def _read(self, rows: np.ndarray, counts: np.ndarray, sigma: Optional[float], until: float,
+    def _read(self, rows: np.ndarray, counts: np.ndarray, options: Options, until: float,
               read: Callable[[bytes, int], Read]) -> Read:
         """What `read` makes of the lines of some drives and the id of the first one."""
         for last_try in (False, True):
-            program = self._program_for(sigma)
+            program = self._program_for(options)
             try:
                 first = program.ask_all(rows, counts)
                 found = read(program.answer(until), first)
@@ -90,16 +93,16 @@ class Matcher:
         words = [*options.but(gap=None).arguments(), "--gap", str(2 ** 32 - 1 if options.gap is None else int(options.gap))]
         return Program(self.program_path, self.network.path, words, self.far)
 
-    def _program_for(self, sigma: Optional[float]) -> Program:
-        if sigma is None or sigma == self.options.sigma:
+    def _program_for(self, options: Options) -> Program:
+        if options == self.options:
             self._exchange()
             if self.program.is_closed:
                 self.program = self._started(self.options)
             return self.program
-        if self.other is None or self.other_sigma != sigma:
+        if self.other is None or self.other_options != options:
             if self.other:
                 self.other.close()
-            self.other, self.other_sigma = self._started(self.options.but(sigma=sigma)), sigma
+            self.other, self.other_options = self._started(options), options
         return self.other
 
     def _exchange(self) -> None:

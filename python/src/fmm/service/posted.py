@@ -70,14 +70,15 @@ def match(matcher: Matcher, network: Network, settings: Settings, posted: Posted
     options = settings.options.but(**words)
     positions = read_posted(posted, settings.limits.positions)
     if "thin" not in words:  # else each jump of a vehicle that stands would be a drive round the block
-        options = options.but(thin=suggest(positions).options.thin)
+        wanted = suggest(positions).options
+        options = options.but(thin=wanted.thin, back=max(options.back, wanted.back))
     with tempfile.TemporaryDirectory(prefix="fmm-") as folder:
         traces = write_traces(positions, network, options, Path(folder))
         table = pd.read_csv(traces.path)
     drives: List[bytes] = []
     for number, drive in table.groupby("trace"):
         rows = np.stack([drive["x"].to_numpy(), drive["y"].to_numpy(), np.zeros(len(drive), np.int64)], axis=1)
-        drives.append(matcher.follow(rows, int(number), options.sigma, until))
+        drives.append(matcher.follow(rows, int(number), options, until))
     text = read(b"".join(drives), len(drives), len(table)) if drives else None
     if text is None:
         raise Refused("NoMatch", "no position can be used: " + "; ".join(sorted(set(positions.left_out["reason"])))[:200])
