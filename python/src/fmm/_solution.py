@@ -14,6 +14,7 @@ from ._match_text import MatchText
 from ._places import DrivenLines, Places
 from ._traces import Traces
 from .network import Network
+from .options import Options, centimetres
 from .positions import Positions
 
 UNKNOWN = -1
@@ -46,13 +47,15 @@ class Between:
 class Solution:
     """What the tables and summaries are made of."""
 
-    def __init__(self, network: Network, positions: Positions, traces: Traces, text: MatchText, back: Optional[int]) -> None:
-        """`back` is the option of the match in centimetres, None if it is unknown."""
-        self.network, self.positions, self.traces, self.text = network, positions, traces, text
+    def __init__(self, network: Network, positions: Positions, traces: Traces, text: MatchText,
+                 options: Optional[Options]) -> None:
+        """`options` are those of the match, None if they are not known."""
+        self.network, self.positions, self.traces, self.text, self.options = network, positions, traces, text, options
         self.ids = traces.drives["id"].to_numpy(dtype=object)  # of each trace
         self.times = positions.frame["time"].to_numpy()  # of each row
         self.streets = Places(network.streets)
         self.street_of_edge = network.streets.position_of(network.parts.street)
+        back = None if options is None else centimetres(options.back)
         matched = along_routes(text, traces.row, Places(network.lines), back)
         self.routes: Routes = matched.routes.joined(
             self.street_of_edge, network.parts.begin, network.parts.end, self.streets.length)

@@ -8,14 +8,12 @@ import numpy as np
 import pandas as pd
 
 from . import _match_tables, _summaries
-from ._match_text import MatchText
 from ._places import DrivenLines
 from ._solution import RowPlaces, Solution
-from ._traces import Traces
 from .errors import OptionError, PathText
 from .network import Network
-from .options import Options, centimetres
-from .positions import Positions, crs_given
+from .options import Options
+from .positions import crs_given
 from .projection import Projection
 from .report import Report, report_of
 
@@ -49,18 +47,16 @@ class Matches:
         self._report = Report()
 
     @classmethod
-    def solved(cls, network: Network, positions: Positions, traces: Traces, text: MatchText, options: Optional[Options],
-               evidence: Dict[str, Any], *, suggestion: Any = None, given: Optional[Dict[str, Any]] = None,
+    def solved(cls, solution: Solution, evidence: Dict[str, Any], *, reasons: Optional[Dict[str, str]] = None,
                crs: Any = None) -> Matches:
-        """The matches that a text says. `options` is None if they are not known."""
-        if crs is not None and network.projection.crs is None:
+        """The matches of a solution. `reasons` say by name why an option was chosen."""
+        projection, positions = solution.network.projection, solution.positions
+        if crs is not None and projection.crs is None:
             raise OptionError("the network's projection is not known, so its places have no CRS: open the network with its crs")
         chosen = positions.crs if crs is None else crs_given(crs)
-        matches = cls(network, options, evidence, network.projection.crs if chosen is None else chosen)
-        back = None if options is None else centimetres(options.back)
-        matches.solution = Solution(network, positions, traces, text, back)
-        matches.left_out = positions.left_out
-        matches._report = report_of(matches, suggestion, given or {})
+        matches = cls(solution.network, solution.options, evidence, projection.crs if chosen is None else chosen)
+        matches.solution, matches.left_out = solution, positions.left_out
+        matches._report = report_of(matches, reasons or {})
         return matches
 
     @property

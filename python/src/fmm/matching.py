@@ -7,6 +7,7 @@ from pathlib import Path
 from typing import Any, Optional, Union
 
 from ._runs import Means, solve
+from ._solution import Solution
 from ._traces import write_traces
 from .errors import FmmWarning, MismatchError, PathText
 from .matches import Matches
@@ -42,18 +43,19 @@ def match(network: NetworkSource, positions: Any, *, options: Optional[Options] 
     network = network if isinstance(network, Network) else Network.open(network)
     positions = positions if isinstance(positions, Positions) else read_positions(positions)
     check_crs(network, positions)
-    suggestion = None
+    reasons = {}
     if options is None:
         from .suggestions import suggest
         suggestion = suggest(positions, network)
-        options = suggestion.options
+        options, reasons = suggestion.options, suggestion.reasons
     options = options.but(**words)
     with tempfile.TemporaryDirectory(prefix="fmm-") as own:
         traces = write_traces(positions, network, options, Path(own))
         text, evidence = solve(network, traces, options, means, Path(own))
     evidence["positions_crs"] = None if positions.crs is None else positions.crs.to_wkt()
     evidence["sources"] = [{"path": source.path, "sha256": source.sha256, "rows": source.rows} for source in positions.sources]
-    matches = Matches.solved(network, positions, traces, text, options, evidence, suggestion=suggestion, given=words, crs=crs)
+    solution = Solution(network, positions, traces, text, options)
+    matches = Matches.solved(solution, evidence, reasons={**reasons, **dict.fromkeys(words, "as asked for")}, crs=crs)
     for warning in matches.report.warnings:
         warnings.warn(warning, FmmWarning, stacklevel=2)
     return matches

@@ -14,13 +14,12 @@ from . import _geometry, _network_file
 from ._evidence import checksum_of, compare, part, read_side_file, refuse_pipe, state, unchanged, write_side_file
 from ._lines import EdgeLines, Parts
 from ._network_report import NetworkReport
+from ._network_sides import empty_table, links_away, read_edges, side_paths, side_table
 from ._output import Outputs
 from ._streets import COLUMNS
-from ._tables import numbers, read_table, whole_numbers, write_rows
+from ._tables import write_rows
 from .errors import InputError, MismatchError, PathText
-from .projection import DEGREES, FARTHEST, Extent, Projection
-
-SIDE = ("edge", "direction", "street", "part_from", "part_to", "way", "class", "name", "ref", "maxspeed", "oneway")
+from .projection import DEGREES, Extent, Projection
 
 
 class Network:
@@ -129,7 +128,7 @@ class Network:
         with Outputs(inputs) as outputs:
             files = outputs.open(path), outputs.open(table_path)
             _network_file.write_network(files[0], self.lines, self.parts)
-            write_rows(files[1], self.side_table(), os.fspath(table_path))
+            write_rows(files[1], side_table(self.table, self.lines, self.parts), os.fspath(table_path))
             for file in files:
                 file.flush()
             checksums = [checksum_of(output.unfinished) for output in outputs.outputs]
@@ -258,16 +257,6 @@ class Network:
             self._edges = geopandas.GeoDataFrame(frame, geometry=geometry, crs=self.projection.crs)
         return self._edges
 
-    def side_table(self) -> pd.DataFrame:
-        """The table of the edges as it is written: like `edges`, without geometry."""
-        table = self.table.copy()
-        table["oneway"] = table["oneway"].astype(int)
-        table.insert(0, "edge", self.lines.ids)
-        table["street"] = self.parts.street
-        for name, values in (("part_from", self.parts.begin), ("part_to", self.parts.end)):
-            table[name] = [f"{value // 100}.{value % 100:02}" for value in values.tolist()]
-        return table[[*SIDE, *(name for name in table if name not in SIDE)]]
-
     def _describe(self) -> None:
         """Completes the report by what every network has."""
         report = self.report
@@ -281,37 +270,3 @@ class Network:
         for what, most in _network_file.LIMITS.items():
             if report.size[what] > most:
                 report.note(f"fmm takes at most {most} {what}; fmm_large takes this network")
-
-
-def side_paths(path: PathText) -> tuple[Path, Path]:
-    """The names of the two side files of a network file."""
-    name = os.fspath(path)
-    stem = name[:-4] if name.endswith(".csv") else name
-    return Path(f"{stem}.edges.csv"), Path(f"{stem}.json")
-
-
-def empty_table(count: int) -> pd.DataFrame:
-    """What is known of the edges of a network file without side files."""
-    table = pd.DataFrame({name: np.full(count, "", dtype=object) for name in ("direction", "way", "class", "name", "ref")})
-    table["maxspeed"], table["oneway"] = np.nan, False
-    return table[list(COLUMNS)]
-
-
-def links_away(side: dict[str, Any], path: Path) -> tuple[int, int]:
-    away = part(side, path, "links_away", kind=list)
-    if len(away) != 2 or not all(type(v) is int and abs(v) <= 2 * FARTHEST for v in away):
-        raise InputError("is damaged: links_away is no pair of whole numbers", path)
-    return away[0], away[1]
-
-
-def read_edges(path: Path, lines: EdgeLines, away: tuple[int, int]) -> tuple[pd.DataFrame, Parts]:
-    """The table of the edges and their parts. Refused with InputError: a table that is not of these edges."""
-    frame = read_table(path, required=SIDE, unique=["edge"])
-    edges, street = (whole_numbers(frame, name, 0, _network_file.GREATEST_EDGE) for name in ("edge", "street"))
-    if len(edges) != len(lines) or (edges != lines.ids).any():
-        raise InputError("has other edges than the network file", path)
-    begin, end = (np.rint(100 * numbers(frame, name, 0)).astype(np.int64) for name in ("part_from", "part_to"))
-    table = pd.DataFrame(frame.drop(columns=["edge", "street", "part_from", "part_to"]))
-    table["maxspeed"] = numbers(frame, "maxspeed", 0, empty=np.nan)
-    table["oneway"] = whole_numbers(frame, "oneway", 0, 1).astype(bool)
-    return table[[*COLUMNS, *(name for name in table if name not in COLUMNS)]], Parts(street, begin, end, away)

@@ -64,24 +64,21 @@ class Report:
         return self.text
 
 
-def report_of(matches: Matches, suggestion: Any, given: Dict[str, Any]) -> Report:
-    """The report of matches that were just solved."""
+def report_of(matches: Matches, reasons: Dict[str, str]) -> Report:
+    """The report of matches that were just solved. `reasons` say by name why an option was chosen."""
     solution = matches.solution
     assert solution is not None
     places = matches.row_places()
-    reasons, counts = np.unique(places.reason[places.street < 0].astype(str), return_counts=True)
+    left_out, counts = np.unique(places.reason[places.street < 0].astype(str), return_counts=True)
     order = np.argsort(-counts, kind="stable")
     report = Report(
         positions=len(places.street), matched=int((places.street >= 0).sum()), vehicles=len(set(solution.ids.tolist())),
         drives=len(solution.text.traces), pieces=len(solution.text.cost), metres=float(solution.driven.metres.sum()),
-        projection=solution.network.projection.name, left_out=dict(zip(reasons[order].tolist(), counts[order].tolist())),
-        broken=broken_of(matches), warnings=list(solution.positions.warnings),
+        projection=solution.network.projection.name, left_out=dict(zip(left_out[order].tolist(), counts[order].tolist())),
+        reasons=dict(reasons), broken=broken_of(matches), warnings=list(solution.positions.warnings),
         notes=[*solution.positions.notes, *solution.traces.notes])
     if matches.options is not None:
         report.options = {name: value for name, value in asdict(matches.options).items() if name != "workers"}
-    if suggestion is not None:
-        report.reasons = {name: "as asked for" if name in given else reason for name, reason in suggestion.reasons.items()}
-    report.reasons.update({name: "as asked for" for name in given})
     unread = int((solution.positions.left_out["row"] < 0).sum()) if len(solution.positions.left_out) else 0
     if unread:
         report.warnings.append(f"{unread:,} records could not be read as positions")

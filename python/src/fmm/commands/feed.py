@@ -67,7 +67,7 @@ def check_ids(options: Parser, args: argparse.Namespace) -> None:
         return
     kept = [args.state, *(Path(f"{args.state}{ending}") for ending in ("-wal", "-shm", "-journal")), *filter(None, [args.into])]
     if args.network is not None:
-        from ..network import side_paths
+        from .._network_sides import side_paths
         kept += [args.network, *side_paths(args.network)]
     for made in (args.ids, args.ids.with_suffix(".csvt")):
         for path in kept:

@@ -25,6 +25,7 @@ from .._evidence import checksum_of, compare, part, read_side_file, refuse_pipe,
 from .._match_text import MatchText, read_match
 from .._plain_numbers import plain_numbers
 from .._ragged import runs
+from .._solution import Solution
 from .._tables import numbers, read_table, whole_numbers
 from .._traces import Traces
 from ..errors import InputError, MismatchError, OptionError
@@ -102,7 +103,7 @@ def tables(args: Any, options: Options, words: Sequence[str]) -> Matches:
     positions = Positions(frame, network.projection.crs, nothing_left_out(), [Source(args.traces, "", len(frame))])
     traces = traces_of(args.traces, frame, text, order)
     known = None if args.trust and not words else options
-    return Matches.solved(network, positions, traces, text, known, evidence, crs=args.crs)
+    return Matches.solved(Solution(network, positions, traces, text, known), evidence, crs=args.crs)
 
 
 def drives_of(text: MatchText, traces: np.ndarray, counts: np.ndarray) -> Tuple[np.ndarray, np.ndarray]:

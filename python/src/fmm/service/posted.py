@@ -18,6 +18,7 @@ from .._reading.csv import read_csv
 from .._reading.frames import DEGREES, rows_of_frame
 from .._reading.gpx import read_gpx
 from .._reading.rows import Rows, Wanted
+from .._solution import Solution
 from .._traces import write_traces
 from ..errors import InputError
 from ..matches import Matches
@@ -82,7 +83,7 @@ def match(matcher: Matcher, network: Network, settings: Settings, posted: Posted
     text = read(b"".join(drives), len(drives), len(table)) if drives else None
     if text is None:
         raise Refused("NoMatch", "no position can be used: " + "; ".join(sorted(set(positions.left_out["reason"])))[:200])
-    return Matches.solved(network, positions, traces, text, options, {}, crs=DEGREES)
+    return Matches.solved(Solution(network, positions, traces, text, options), {}, crs=DEGREES)
 
 
 def read_posted(posted: Posted, most: int) -> Positions:
