@@ -4,18 +4,17 @@ from __future__ import annotations
 import contextlib
 import os
 import signal
-import subprocess
 import sys
 import tempfile
-import traceback
-from collections.abc import Callable, Iterator, Mapping, Sequence
+from collections.abc import Iterator, Mapping
 from dataclasses import dataclass
 from pathlib import Path
-from typing import Any, NoReturn, Optional
+from typing import Optional
 
 from fork_parts import forker, server
+from fork_parts.process import Process
 
-from fmm import _programs, commands
+from fmm import _programs
 
 
 @dataclass(frozen=True)
@@ -25,20 +24,6 @@ class Done:
     returncode: int
     stdout: str
     stderr: str
-
-
-class Process(subprocess.Popen):  # type: ignore[type-arg]
-    """`fmm WORDS` in a fork, with the files, the folder and the environment that Popen takes."""
-
-    def _execute_child(self, args: Any, executable: Any, preexec_fn: Any, close_fds: Any, pass_fds: Any, cwd: Any, env: Any,
-                       startupinfo: Any, flags: Any, shell: Any, *ends: Any) -> None:
-        """What Popen calls to start the process. Ends of pipes come in pairs: of the child and ours, ours and of the child."""
-        read, gives, reads, write, hears, says = ends[:6]
-        self.pid = os.fork()
-        if self.pid == 0:
-            _perform([str(word) for word in args], (read, write, says), cwd, env, preexec_fn)
-        self._child_created = True
-        self._close_pipe_fds(read, gives, reads, write, hears, says)  # type: ignore[attr-defined]
 
 
 def run(*words: str, given: str = "", folder: Optional[Path] = None, env: Optional[Mapping[str, str]] = None) -> Done:
@@ -69,42 +54,3 @@ def python() -> Iterator[str]:
         finally:
             os.kill(pid, signal.SIGTERM)
             os.waitpid(pid, 0)
-
-
-def _perform(words: list[str], files: Sequence[int], folder: Any, environment: Optional[Mapping[str, str]],
-             prepare: Optional[Callable[[], None]]) -> NoReturn:
-    """Does what a new Python does with these words, with these files as standard input, output and error; -1 is that of now."""
-    status = 99
-    try:
-        signal.signal(signal.SIGINT, signal.default_int_handler)  # ignored if a shell runs the tests in the background
-        signal.signal(signal.SIGTERM, signal.SIG_DFL)
-        for number, file in enumerate(files):
-            if file >= 0:
-                os.dup2(file, number)
-        _let_go()
-        sys.stdin, sys.stdout, sys.stderr = (open(number, "w" if number else "r", closefd=False) for number in range(3))
-        if environment is not None:
-            os.environ.clear()
-            os.environ.update(environment)
-        os.chdir(folder or ".")
-        if prepare:
-            prepare()
-        status = commands.main(words)
-        sys.stdout.flush()
-    except SystemExit as end:
-        status = end.code if isinstance(end.code, int) else 1
-    except BaseException:
-        traceback.print_exc()
-    finally:
-        os._exit(status)
-
-
-def _let_go() -> None:
-    """Lets go of all other files. Their numbers stay in use, so that objects of this process that are dropped later close nothing
-    that the command has opened."""
-    nothing = os.open(os.devnull, os.O_RDWR)
-    for name in os.listdir("/dev/fd"):
-        if int(name) > 2:
-            with contextlib.suppress(OSError):  # that of the folder itself is closed
-                os.fstat(int(name))
-                os.dup2(nothing, int(name))

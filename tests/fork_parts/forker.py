@@ -10,7 +10,7 @@ from pathlib import Path
 
 from . import client
 
-SERVER, CLIENT = (Path(__file__).with_name(f"{name}.py") for name in ("server", "client"))
+CLIENT = Path(__file__).with_name("client.py")
 
 
 def write_python(path: Path, python: str, address: str) -> None:
@@ -26,8 +26,9 @@ class Forker:
     def __init__(self, python: str, sources: str, modules: Sequence[str]) -> None:
         self.folder = tempfile.TemporaryDirectory(prefix="fmm-forks-")
         self.address = str(Path(self.folder.name, "socket"))
-        self.process = subprocess.Popen([python, str(SERVER), self.address, *modules], stdin=subprocess.DEVNULL,
-                                        stdout=subprocess.PIPE, env={**os.environ, "PYTHONPATH": sources})
+        self.process = subprocess.Popen([python, "-m", "fork_parts.server", self.address, *modules], stdin=subprocess.DEVNULL,
+                                        stdout=subprocess.PIPE, env={
+                                            **os.environ, "PYTHONPATH": f"{sources}{os.pathsep}{CLIENT.parents[1]}"})
         self.python = Path(self.folder.name, "python")
         write_python(self.python, python, self.address)
         assert self.process.stdout

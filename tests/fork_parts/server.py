@@ -1,4 +1,5 @@
-"""`server.py ADDRESS MODULE ..` imports modules of the package, and forks a child for each command that comes to a socket."""
+"""`python3 -m fork_parts.server ADDRESS MODULE ..` imports modules of the package, and forks a child for each command that comes
+to a socket."""
 from __future__ import annotations
 
 import gc
@@ -8,35 +9,11 @@ import os
 import signal
 import socket
 import sys
-import traceback
-from collections.abc import Sequence
 from contextlib import suppress
 from types import FrameType
 from typing import NoReturn, Optional
 
-
-def perform(words: list[str], folder: str, environment: dict[str, str], files: Sequence[int]) -> NoReturn:
-    """Does what `python3 -m fmm WORDS` does, with these files as standard input, output and error."""
-    status = 99
-    try:
-        signal.signal(signal.SIGINT, signal.default_int_handler)  # ignored if a shell runs the tests in the background
-        signal.signal(signal.SIGTERM, signal.SIG_DFL)
-        for number, file in enumerate(files):
-            os.dup2(file, number)
-        os.closerange(3, 64)
-        sys.stdin, sys.stdout, sys.stderr = (open(number, "w" if number else "r", closefd=False) for number in range(3))
-        os.environ.clear()
-        os.environ.update(environment)
-        os.chdir(folder)
-        from fmm.commands import main
-        status = main(words) or 0
-        sys.stdout.flush()
-    except SystemExit as end:
-        status = end.code if isinstance(end.code, int) else 1 if end.code else 0
-    except BaseException:
-        traceback.print_exc()
-    finally:
-        os._exit(status)
+from .process import perform, start_task
 
 
 def answer(connection: socket.socket) -> None:
@@ -44,7 +21,8 @@ def answer(connection: socket.socket) -> None:
     text, files, _, _ = socket.recv_fds(connection, 1 << 20, 3)
     child = os.fork()
     if child == 0:
-        perform(*json.loads(text), files)
+        words, folder, environment = json.loads(text)
+        perform(words, files, folder, environment)
     for number in files:
         os.close(number)
     with suppress(OSError):  # the client may be gone
@@ -96,6 +74,9 @@ if __name__ == "__main__":
     with suppress(Exception):
         from fmm import _programs
         _programs.program(False)  # so that a fork need not ask for it
+    with suppress(ImportError):
+        from fmm.fleet import engines
+        engines.start_task = start_task
     gc.freeze()  # so that no child looks at all these objects again, and takes copies of their pages
     socket_of_commands = listen(sys.argv[1])
     print("ready", flush=True)

@@ -69,6 +69,12 @@ def task_command(run: Run, number: int) -> list[str]:
     return [sys.executable, str(Path(__file__).with_name("task.py")), str(run.folder), str(number)]
 
 
+def start_task(run: Run, number: int) -> subprocess.Popen:
+    """Starts a task as a process of this one."""
+    return subprocess.Popen(task_command(run, number), stdin=subprocess.DEVNULL, stdout=subprocess.DEVNULL,
+                            stderr=subprocess.PIPE, env={**os.environ, "FLEET_PARENT": str(os.getpid())})
+
+
 def last_line(text: bytes) -> str:
     """The last line of what a task said."""
     lines = text.decode(errors="replace").strip().splitlines()
@@ -109,8 +115,7 @@ class Attempts:
         with self.lock:
             if self.is_stopped:
                 return None
-            process = subprocess.Popen(task_command(self.run, number), stdin=subprocess.DEVNULL, stdout=subprocess.DEVNULL,
-                                       stderr=subprocess.PIPE, env={**os.environ, "FLEET_PARENT": str(os.getpid())})
+            process = start_task(self.run, number)
             self.processes.add(process)
             return process
 
