@@ -62,7 +62,9 @@ def mistakes_in(top: Path) -> list[str]:
     crates: dict[str, dict[str, str]] = {}
     reached = ""
     for at, step in enumerate(steps):
-        bodies = crates.setdefault(step.crate, bodies_of(top, step.crate))
+        if step.crate not in crates:
+            crates[step.crate] = bodies_of(top, step.crate)
+        bodies = crates[step.crate]
         if step.name not in bodies:
             found.append(f"{PAGE}: {step.crate} has no function {step.name}")
         elif at and not calls(reached, step.name):

@@ -53,7 +53,7 @@ class Definitions:
     def __init__(self, top: Path, crates: Iterable[str]) -> None:
         self.by_path: dict[str, Definition] = {}
         self._modules: dict[str, _Module] = {}
-        self._cited: dict[str, set[str]] = {}
+        self._cited: dict[str, list[str]] = {}
         self._passed_on: dict[str, str] = {}
         for crate in crates:
             for file in sorted((top / "crates" / crate / "specs").rglob("*.antt")):
@@ -117,8 +117,10 @@ class Definitions:
         return list(found)
 
     def cited_by(self, path: str) -> list[str]:
-        definition = self.by_path[path]
-        return self.named_in(definition.text, self._modules[definition.module].names)
+        if path not in self._cited:
+            definition = self.by_path[path]
+            self._cited[path] = self.named_in(definition.text, self._modules[definition.module].names)
+        return self._cited[path]
 
     def reached(self, roots: Iterable[str], without: Iterable[str] = ()) -> list[str]:
         """The definitions that these rest on, themselves first, in reading order. Those of `without` are left out."""

@@ -3,21 +3,17 @@ from __future__ import annotations
 
 import re
 
-_SKIPPED = re.compile(r"//[^\n]*|\"(?:\\.|[^\"\\])*\"|b?'(?:\\.|[^'\\\n])'", re.S)
+# Comments, strings and characters, whose braces do not count, and braces.
+_MET = re.compile(r"//[^\n]*|\"(?:\\.|[^\"\\])*\"|b?'(?:\\.|[^'\\\n])'|[{}]", re.S)
 
 
 def end_of_block(text: str, start: int) -> int:
     """The place after the brace that closes the one at `start`. Comments, strings and characters are skipped."""
-    depth, at = 0, start
-    while at < len(text):
-        skipped = _SKIPPED.match(text, at) if text[at] in "/\"'b" else None
-        if skipped:
-            at = skipped.end()
-            continue
-        depth += (text[at] == "{") - (text[at] == "}")
-        at += 1
+    depth = 0
+    for met in _MET.finditer(text, start):
+        depth += (met[0] == "{") - (met[0] == "}")
         if depth == 0:
-            return at
+            return met.end()
     raise ValueError("a block has no end")
 
 
