@@ -15,9 +15,8 @@ from ._match_text import MatchText, read_match
 from ._traces import Traces
 from .errors import OptionError, PathText
 from .network import Network
-from .options import Options, centimetres
+from .options import ENGINES, Options, centimetres
 
-ENGINES = ("local", "slurm", "dask")
 JOB = 2000  # MB of a job of a cluster, unless told otherwise
 SHARE = 0.8  # of the free memory that jobs of this machine use
 

@@ -8,6 +8,7 @@ from typing import Any, Dict, List, Optional, Tuple
 
 from .errors import OptionError
 
+ENGINES = ("local", "slurm", "dask")  # that match in groups
 FASTEST = 70.0  # metres a second: no road vehicle drives faster
 # The least and the greatest value of each option, in the unit of the field.
 RANGES: Dict[str, Tuple[float, float]] = {

@@ -16,9 +16,9 @@ from ._parser import Parser
 
 
 def main(words: list[str]) -> int:
+    values = parser().parse_args(words)
     from .. import open_matches
     from . import say
-    values = parser().parse_args(words)
     matches = open_matches(values.result)
     page = matches.explore(margins=values.margins, network=values.network, limit=values.limit, tiles=values.tiles,
                            title=values.title)

@@ -109,8 +109,7 @@ def add_inputs(made: Parser) -> None:
 
 def add_matching(made: Parser) -> None:
     """The options of the match."""
-    from .._runs import ENGINES
-    from ..options import Options
+    from ..options import ENGINES, Options
     matching = made.add_argument_group("matching")
     for field in dataclasses.fields(Options):
         matching.add_argument(f"--{field.name}", metavar=UNITS.get(field.name, "METRES"), help=TEXTS.get(field.name))

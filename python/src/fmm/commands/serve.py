@@ -23,11 +23,11 @@ OPTIONS = ("k", "radius", "sigma", "beta", "bound", "back", "gap")
 
 
 def main(words: list[str]) -> int:
+    values = vars(parser().parse_args(words))
     from ..network import Network
     from ..options import Options
     from ..service.server import serve
     from ..service.settings import Limits, Settings
-    values = vars(parser().parse_args(words))
     path = values.pop("map")
     chosen = {name: values.pop(name) for name in OPTIONS}
     options = Options.of(**{"gap": 300.0, **{name: value for name, value in chosen.items() if value is not None}})
