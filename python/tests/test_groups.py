@@ -24,7 +24,7 @@ OPTIONS = Options.of(back=20, gap=300)
 
 @pytest.fixture(scope="module")
 def small_fleet(tmp_path_factory: pytest.TempPathFactory) -> Any:
-    town, positions, _ = simulated.fleet(5, interval=15)
+    town, positions, _ = simulated.fleet(7, interval=15)
     return network_of(town, tmp_path_factory.mktemp("groups")), positions
 
 

@@ -14,15 +14,18 @@ import signal
 import sys
 import tempfile
 import time
+from contextlib import suppress
 from dataclasses import dataclass
 from pathlib import Path
 
 PYTHON = Path(__file__).resolve().parents[2] / "python"
 LIBRARIES = (
-    "fiona", "fmm.commands", "fmm.commands.run", "fmm.commands.serve", "fmm.commands.track", "fmm.feed.broker", "fmm.map",
-    "fmm.matches", "fmm.matching", "fmm.network", "fmm.positions", "fmm.report", "fmm.service.server", "fmm.suggestions",
-    "fmm.track.parts", "fmm._exports", "fmm._osm", "fmm._picture", "fmm._runs", "geopandas", "httpx", "hypothesis.strategies",
-    "matplotlib.backends.backend_agg", "matplotlib.figure", "numpy.random", "pyproj", "pytest", "shapely", "sqlite3", "tqdm",
+    "fiona", "fmm.commands", "fmm.commands.network", "fmm.commands.run", "fmm.commands.serve", "fmm.commands.track",
+    "fmm.feed.broker", "fmm.fleet", "fmm.map.margins", "fmm.map.page", "fmm.matches", "fmm.matching", "fmm.network",
+    "fmm.positions", "fmm.report", "fmm.service.server", "fmm.suggestions", "fmm.track.parts", "fmm._exports", "fmm._map_files",
+    "fmm._osm.network", "fmm._picture", "fmm._runs", "geopandas", "httpx", "hypothesis.strategies",
+    "matplotlib.backends.backend_agg", "matplotlib.figure", "numpy.random", "osmium", "PIL.TiffImagePlugin", "pyproj", "pytest",
+    "shapely", "sqlite3", "tqdm",
     *(f"_pytest.{name}" for name in (
         "doctest", "faulthandler", "junitxml", "logging", "pastebin", "runner", "skipping", "stepwise", "terminal",
         "threadexception", "tmpdir", "unittest", "unraisableexception")))
@@ -114,13 +117,15 @@ def run_files(names: list[str], output: Path, room: Path, words: list[str]) -> i
 
 
 def preload() -> None:
-    """Imports what most files import."""
+    """Imports what most files import, and finds the programs that most run."""
     sys.path[:0] = [str(PYTHON / "src")]
     for name in LIBRARIES:
-        try:
+        with suppress(ImportError):  # the tests that need it say so
             importlib.import_module(name)
-        except ImportError:
-            pass  # the tests that need it say so
+    with suppress(Exception):
+        from fmm import _programs
+        for large in (False, True):
+            _programs.program(large)
     gc.freeze()  # so that no child looks at all these objects again, and takes copies of their pages
 
 
