@@ -47,8 +47,9 @@ def process(tmp_path_factory: pytest.TempPathFactory) -> Process:
                    "QGIS_CUSTOM_CONFIG_PATH": str(folder / "profile"), "XDG_RUNTIME_DIR": str(folder),
                    "PATH": f"/usr/bin:{os.environ['PATH']}"}  # QGIS takes its modules from beside the first python3
     environment.pop("PYTHONPATH", None)
-    (folder / "profile").mkdir()
-    subprocess.run([PROGRAM, "plugins", "enable", "fmm_qgis"], env=environment, capture_output=True, check=True)
+    settings = folder / "profile" / "profiles" / "default" / "QGIS" / "QGIS3.ini"
+    settings.parent.mkdir(parents=True)
+    settings.write_text("[PythonPlugins]\nfmm_qgis=true\n")  # what `qgis_process plugins enable fmm_qgis` writes
     return lambda *words: subprocess.run([PROGRAM, *words], env=environment, capture_output=True, text=True)
 
 
