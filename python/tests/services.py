@@ -26,6 +26,8 @@ httpx = pytest.importorskip("httpx", reason="python3-httpx is not installed")
 TOP = Path(__file__).resolve().parents[2]
 X, Y = 500_000.0, 6_000_000.0  # metres of EPSG:32632
 STEP = 100.0
+# How tests ask a service: reading the certificates, which no test needs, takes longer than most requests.
+PLAIN: dict[str, Any] = {"timeout": 60, "verify": False}
 
 
 class Service:
@@ -33,7 +35,7 @@ class Service:
 
     def __init__(self, process: subprocess.Popen[str], url: str) -> None:
         self.process, self.url = process, url
-        self.client = httpx.Client(base_url=url, timeout=60)
+        self.client = httpx.Client(base_url=url, **PLAIN)
 
     def match(self, places: np.ndarray, **options: Any) -> dict[str, Any]:
         """The answer of GET /match/v1."""

@@ -17,7 +17,7 @@ import httpx
 import numpy as np
 import pytest
 from profiles import PROFILE, REQUESTS
-from services import TOP, Service, alive, answered, coordinates, degrees, drives, grid, matched, pieces_of, running
+from services import PLAIN, TOP, Service, alive, answered, coordinates, degrees, drives, grid, matched, pieces_of, running
 
 from fmm import Network
 from fmm.service.frames import Frames, packed
@@ -201,7 +201,7 @@ def test_sixteen_clients_get_the_answers_of_match(service: Service, network: Net
             found[number] = answered(answer.json())
 
     async def clients() -> None:
-        async with httpx.AsyncClient(base_url=service.url, timeout=60) as http:
+        async with httpx.AsyncClient(base_url=service.url, **PLAIN) as http:
             await asyncio.gather(*(client(http) for _ in range(16)))
 
     asyncio.run(clients())
@@ -226,7 +226,7 @@ def test_a_killed_program_or_worker_loses_no_request(service: Service, network: 
 
     def ask() -> None:
         while not done.is_set():
-            answers.append(answered(httpx.get(f"{service.url}/match/v1/car/{coordinates(drive)}", timeout=60).json()))
+            answers.append(answered(httpx.get(f"{service.url}/match/v1/car/{coordinates(drive)}", **PLAIN).json()))
 
     threads = [threading.Thread(target=ask) for _ in range(3)]
     for thread in threads:
@@ -247,11 +247,11 @@ def test_a_stopped_program_harms_its_own_request_only(network: Network, drive: n
     with running(network.path, "--processes", "2", "--seconds", "2") as service:
         stopped = service.children()[1][0]
         os.kill(stopped, signal.SIGSTOP)
-        statuses = [httpx.get(f"{service.url}/match/v1/car/{coordinates(drive)}", timeout=60).status_code for _ in range(6)]
+        statuses = [httpx.get(f"{service.url}/match/v1/car/{coordinates(drive)}", **PLAIN).status_code for _ in range(6)]
         assert sorted(set(statuses)) in ([200], [200, 504]) and statuses.count(504) <= 1
         until = time.monotonic() + 20
         while alive(stopped) and time.monotonic() < until:
-            httpx.get(f"{service.url}/match/v1/car/{coordinates(drive)}", timeout=60)
+            httpx.get(f"{service.url}/match/v1/car/{coordinates(drive)}", **PLAIN)
         assert not alive(stopped)
         host, _, port = service.url.rpartition("/")[2].partition(":")
         with socket.create_connection((host, int(port)), 20) as slow:
@@ -266,7 +266,7 @@ def test_waiting_is_bounded(network: Network, drive: np.ndarray) -> None:
         os.kill(service.children()[1][0], signal.SIGSTOP)
 
         async def all_at_once() -> list[httpx.Response]:
-            async with httpx.AsyncClient(base_url=service.url, timeout=60) as http:
+            async with httpx.AsyncClient(base_url=service.url, **PLAIN) as http:
                 return list(await asyncio.gather(*(http.get(f"/match/v1/car/{coordinates(drive)}") for _ in range(6))))
 
         answers = asyncio.run(all_at_once())

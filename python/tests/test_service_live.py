@@ -14,7 +14,7 @@ from pathlib import Path
 from typing import Any
 
 import pytest
-from services import TOP, Service, httpx, running
+from services import PLAIN, TOP, Service, httpx, running
 
 pytest.importorskip("starlette", reason="python3-starlette is not installed")
 pytest.importorskip("uvicorn", reason="python3-uvicorn is not installed")
@@ -41,7 +41,7 @@ def live() -> Iterator[Live]:
     with running(TOP / "recipes" / "small" / "village.osm", "--processes", "1", "--live", "-", given=read) as service:
         os.close(read)
         yield Live(service, write)
-        with httpx.stream("GET", f"{service.url}/live", timeout=60) as answer:
+        with httpx.stream("GET", f"{service.url}/live", **PLAIN) as answer:
             blocks = answer.iter_raw()
             next(blocks)
             service.process.send_signal(signal.SIGTERM)  # an answer without end does not hold it up
@@ -74,7 +74,7 @@ def test_clients_get_the_newest_places_and_then_all_objects(live: Live) -> None:
     tram = {**PLACE, "vehicle": "tram", "kind": "provisional"}
     live.give(PLACE, tram, {**tram, "time": "2024-05-06T07:00:00Z"})
     time.sleep(0.5)
-    with httpx.stream("GET", f"{live.service.url}/live", timeout=60) as answer:
+    with httpx.stream("GET", f"{live.service.url}/live", **PLAIN) as answer:
         assert answer.status_code == 200 and answer.headers["content-type"].startswith("text/event-stream")
         assert answer.headers["x-frame-options"] == "DENY" and "default-src 'none'" in answer.headers["content-security-policy"]
         assert "access-control-allow-origin" not in answer.headers and answer.headers["cache-control"] == "no-store"
@@ -114,7 +114,7 @@ def test_a_slow_client_is_dropped_and_the_others_go_on(live: Live) -> None:
         slow.setsockopt(socket.SOL_SOCKET, socket.SO_RCVBUF, 4096)
         slow.sendall(b"GET /live HTTP/1.1\r\nhost: a\r\n\r\n")
         assert slow.recv(100).startswith(b"HTTP/1.1 200 ")
-        with httpx.stream("GET", f"{live.service.url}/live", timeout=60) as answer:
+        with httpx.stream("GET", f"{live.service.url}/live", **PLAIN) as answer:
             lines = lines_of(answer)
             long = {"kind": "drive", "vehicle": "x" * 400_000}
             for number in range(40):
