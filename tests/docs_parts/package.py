@@ -12,8 +12,9 @@ from contextlib import contextmanager
 from fork_parts.forker import Forker
 
 # What most commands import.
-MODULES = ("fmm.commands.run", "fmm.map", "fmm.matches", "fmm.matching", "fmm._exports", "fmm._osm", "fmm._picture", "fmm._runs",
-           "matplotlib.backends.backend_agg")
+MODULES = ("fiona", "fmm.commands.network", "fmm.commands.positions", "fmm.commands.run", "fmm.commands.tables", "fmm.fleet",
+           "fmm.map", "fmm.map.margins", "fmm.map.page", "fmm.matches", "fmm.matching", "fmm._exports", "fmm._map_files",
+           "fmm._osm.network", "fmm._picture", "fmm._runs", "matplotlib.backends.backend_agg", "osmium", "PIL.TiffImagePlugin")
 TOOLS = ("sqlite3", "ogrinfo", "ogr2ogr", "osmium")
 LIBRARIES = "geopandas gpxpy numpy osmium pandas pyproj shapely tqdm".split()
 SESSION = """
