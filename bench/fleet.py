@@ -2,8 +2,9 @@
 """fleet.py PROGRAM NETWORK TRACES [options]: sends a simulated fleet through `PROGRAM streams`, and measures it.
 
 Each of the vehicles drives one drive of a trace file in centimetres after the other, a position each two seconds, and rests 1.5
-times as long as a drive. Of 1,000 vehicles 400 report at a time if the drives are equally long: 200 rows a second. The rows come
-in the order of their times. They go into a pipe as fast as the program takes them, or at a rate.
+times as long as a drive. Of 1,000 vehicles 400 report at a time if the drives are equally long: 200 rows a second. The vehicles
+take the drives of the file in turn, and begin again with the first one. The rows come in the order of their times. They go into a
+pipe as fast as the program takes them, or at a rate.
 
 The lines of output have the rows so far, the rows a second, and the memory of the program. The last one has also the most memory
 that it had, the processor seconds, and the total line. With --rate it has the 50th and 99th percentile and the greatest of the
@@ -49,7 +50,7 @@ class Drives:
         late = [np.zeros((0, 4), np.int64)]
         for turn in range(seconds // period + 1):
             vehicle = np.arange(vehicles)
-            drive = (vehicle + 7919 * turn) % len(self.counts)
+            drive = (vehicle + vehicles * turn) % len(self.counts)
             counts = self.counts[drive]
             place = np.arange(counts.sum()) - np.repeat(np.cumsum(counts) - counts, counts)
             name = np.repeat(vehicle + 1 + (0 if has_idle else turn * vehicles), counts)
