@@ -1,9 +1,9 @@
 -- The route of a piece: over its chosen candidates, in order of travel.
-use Rattle.std.specs.Prelude.{ℕ, zero, suc, ◌≡◌, ◌+◌, ◌-◌, ◌<◌, ◌≤◌, List, [], ◌∷◌, ◌++◌, Option, Some, None, pos, reverse, slice_index_or, unwrap_or}
+use Rattle.std.specs.Prelude.{ℕ, zero, suc, ◌≡◌, ◌+◌, ◌-◌, ◌<◌, ◌≤◌, List, [], ◌∷◌, ◌++◌, Option, Some, None, length, pos, reverse, slice_index_or, unwrap_or}
 use Rattle.cost_model.specs.declared.params.Params.{Params}
 use Rattle.matching.specs.declared.parts.Layer.{Layer}
 use Rattle.matching.specs.declared.parts.Piece.{Piece}
-use Rattle.matching.specs.Layers.{candidate_of_rank}
+use Rattle.matching.specs.Layers.{candidate_of_rank, no_candidate}
 use Rattle.matching.specs.Routes.{Route, Direct, Over, IsTheRoute}
 use Rattle.matching.specs.RouteBetween.{route_between}
 use Rattle.road_network.specs.Net.{Net, target}
@@ -41,6 +41,16 @@ pub record IsRouteOf (n : Net) (p : Params) (layers : List Layer) (ranks : List 
   pub legs_are : AreLegs n p.bound p.back (chosen_at layers ranks) piece.first
       (piece.last - piece.first) rest
 
+-- candidate i of those that were chosen
+abbrev pub candidate_in : List Candidate → ℕ → Candidate
+candidate_in chosen i = slice_index_or chosen i no_candidate
+
+-- es is the route over chosen candidates: the edge of the first, and the legs to the others
+pub record IsRouteOver (n : Net) (p : Params) (chosen : List Candidate) (es : List ℕ) : Type 0 where
+  pub rest : List ℕ
+  pub begins : es ≡ (candidate_in chosen 0).edge.0 ∷ rest
+  pub legs_are : AreLegs n p.bound p.back (candidate_in chosen) 0 (length chosen - 1) rest
+
 -- the same as a value: the edges that the way to candidate b adds, and those over the next k positions after
 -- position i
 abbrev pub edges_to : Candidate → Option Route → List ℕ
@@ -67,6 +77,13 @@ IsWalkStart n p layers ranks piece v =
     × (k < piece.last)
     × (IsDirect p.back (chosen_at layers ranks k) (chosen_at layers ranks (k + 1)) → ⊥)
     × (v ≡ target n (chosen_at layers ranks k).edge.0)
+
+-- the same over chosen candidates
+abbrev pub IsWalkStartOver : Net → Params → List Candidate → ℕ → Type 0
+IsWalkStartOver n p chosen v =
+    (k : ℕ) × (k + 1 < length chosen)
+    × (IsDirect p.back (candidate_in chosen k) (candidate_in chosen (k + 1)) → ⊥)
+    × (v ≡ target n (candidate_in chosen k).edge.0)
 
 -- the piece of this number
 abbrev pub piece_at : List Piece → ℕ → Piece

@@ -3,7 +3,7 @@
 //! - [`walk`] gives the least walk from a row's origin to a listed node.
 //! - [`route`] gives the edges of a matched piece in order of travel: the first position's edge,
 //!   then for each neighbouring pair nothing if its route is direct, and otherwise its walk and the
-//!   next position's edge. [`route_over`] gives the same for any positions with chosen candidates.
+//!   next position's edge. [`route_over`] gives the same for any chosen candidates.
 //!
 //! Neighbouring edges of a route join, and their lengths add up; the clause of `route` says so, and
 //! [`laws`] says it of whatever meets the definition. [`laws`] also shows that the route is the value

@@ -1,21 +1,21 @@
-//! The route of a piece. Serves `route`; decided by `IsRouteOf`.
-ghost use Rattle.std.specs.Prelude.{◌≡◌, ◌<◌, ◌≤◌, IfOk, OnOk, length, reverse};
+//! The route of a piece. Serves `route`; decided by `IsRouteOf` and `IsRouteOver`.
+ghost use Rattle.std.specs.Prelude.{◌≡◌, ◌+◌, ◌<◌, IfOk, OnOk, length, reverse};
 ghost use Rattle.road_network.specs.Net.{HasNode};
 ghost use Rattle.road_network.specs.Walk.{IsLeastWalk};
 ghost use Rattle.bounded_table.specs.Rows.{AreRowsOf, AsksFor};
-ghost use Rattle.route_rebuild.specs.Chosen.{IsChosenRun, IsSolved};
+ghost use Rattle.route_rebuild.specs.Chosen.{IsCandidateRun, IsSolved};
 ghost use Rattle.route_rebuild.specs.Laws.{IsJoinedRoute};
 ghost use Rattle.route_rebuild.specs.Numbers.{numbers};
-ghost use Rattle.route_rebuild.specs.Routes.{IsRouteOf, IsWalkStart, piece_at};
+ghost use Rattle.route_rebuild.specs.Routes.{IsRouteOver, IsWalkStart, IsWalkStartOver, piece_at};
 ghost use Rattle.route_rebuild.specs.inside.Runs.{AreJoined, AreRowsForRun, IsLegAdded, IsRouteOfRun, IsWalkStartAt, IsWalkStartOf};
 
-use crate::run::{Run, chosen};
+use crate::run::{Run, chosen, chosen_of};
 use crate::walks::walk;
 use bounded_table::Rows;
 use cost_model::Params;
-use matching::{Layer, Piece};
+use matching::Layer;
 use plain_list::List;
-use road_network::{EdgeId, Network, NodeId};
+use road_network::{Candidate, EdgeId, Network, NodeId};
 use std::alloc::{AllocError, Global};
 use trellis::{Solved, near_reach};
 
@@ -44,33 +44,28 @@ pub fn route<R: Rows>(
 {
     net.invariants();
     let piece = solved.pieces.as_slice()[piece as usize];
-    route_over(alloc, net, p, rows, layers, solved.ranks.as_slice(), piece)
+    let chosen = chosen_of(alloc, layers, solved.ranks.as_slice(), piece)?;
+    route_over(alloc, net, p, rows, &chosen)
 }
 
-/// The route over positions with chosen candidates, as [`route`] gives it for a matched piece. It asks for the same
-/// rows.
+/// The route over chosen candidates, as [`route`] gives it for a matched piece. It asks for the same rows.
 pub fn route_over<R: Rows>(
     alloc: Global,
     net: &Network,
     p: &Params,
     rows: &mut R,
-    layers: &[Layer],
-    ranks: &[Option<u32>],
-    piece: Piece,
+    chosen: &[Candidate],
 ) -> Result<List<EdgeId>, AllocError>
     requires rows { AreRowsOf (R.state rows.old) net.now p.now.bound }
-    requires run { IsChosenRun net.now p.now layers.now ranks.now piece }
-    ensures route { IfOk result
-        (λ es. IsRouteOf net.now p.now layers.now ranks.now piece (numbers es)) }
-    ensures asks { AsksFor (R.state rows.old) (IsWalkStart net.now p.now layers.now ranks.now piece)
+    requires run { IsCandidateRun net.now p.now chosen.now }
+    ensures route { IfOk result (λ es. IsRouteOver net.now p.now chosen.now (numbers es)) }
+    ensures asks { AsksFor (R.state rows.old) (IsWalkStartOver net.now p.now chosen.now)
         result (R.state rows.new) }
 {
     let run = Run {
         net,
         params: p,
-        layers,
-        ranks,
-        piece,
+        chosen,
     };
     follow(alloc, rows, &run)
 }
@@ -81,11 +76,9 @@ fn follow<R: Rows>(alloc: Global, rows: &mut R, run: &Run) -> Result<List<EdgeId
     ensures route { IfOk result (λ es. IsRouteOfRun run.now (numbers es)) }
     ensures asks { AsksFor (R.state rows.old) (IsWalkStartOf run.now) result (R.state rows.new) }
 {
-    let first = run.piece.first as usize;
-    let last = run.piece.last as usize;
     let mut edges = List::new(alloc);
-    edges.push(chosen(run, first).edge)?;
-    for i in first..last {
+    edges.push(chosen(run, 0).edge)?;
+    for i in 0..run.chosen.len() - 1 {
         append_leg(alloc, rows, run, i, &mut edges)?;
     }
     Ok(edges)
@@ -101,7 +94,7 @@ fn append_leg<R: Rows>(
     edges: &mut List<EdgeId>,
 ) -> Result<(), AllocError>
     requires rows { AreRowsForRun (R.state rows.old) run.now }
-    requires point { (run.now.piece.first ≤ i) × (i < run.now.piece.last) }
+    requires point { i + 1 < length run.now.chosen.now }
     ensures leg { OnOk result (IsLegAdded run.now i (numbers edges.old) (numbers edges.new)) }
     ensures asks { AsksFor (R.state rows.old) (IsWalkStartAt run.now i) result (R.state rows.new) }
 {

@@ -1,12 +1,12 @@
 -- The route over a run, in the words of the run.
-use Rattle.std.specs.Prelude.{ℕ, ◌≡◌, ◌+◌, ◌≤◌, ◌++◌, List}
+use Rattle.std.specs.Prelude.{ℕ, ◌≡◌, ◌+◌, ◌-◌, ◌≤◌, ◌++◌, List, length}
 use Rattle.bounded_table.specs.Rows.{RowsState, AreRowsOf}
 use Rattle.matching.specs.Routes.{Route, IsTheRoute}
 use Rattle.road_network.specs.Net.{Net, source, target}
 use Rattle.road_network.specs.Walk.{IsWalk, walk_length}
 use Rattle.road_network.specs.declared.Candidate.{Candidate}
 use Rattle.route_rebuild.specs.declared.run.Run.{Run}
-use Rattle.route_rebuild.specs.Routes.{IsRouteOf, IsWalkStart, chosen_at, edges_of}
+use Rattle.route_rebuild.specs.Routes.{IsRouteOver, IsWalkStartOver, candidate_in, edges_of}
 use Rattle.trellis.specs.Links.{IsDirect}
 
 -- they are the rows that the run asks for
@@ -15,12 +15,15 @@ AreRowsForRun state run = AreRowsOf state run.net.now run.params.now.bound
 
 -- the chosen candidate of position i
 abbrev pub chosen_in : Run → ℕ → Candidate
-chosen_in run i = chosen_at run.layers.now run.ranks.now i
+chosen_in run i = candidate_in run.chosen.now i
+
+-- its last position
+abbrev pub last_in : Run → ℕ
+last_in run = length run.chosen.now - 1
 
 -- es is the route over the run
 abbrev pub IsRouteOfRun : Run → List ℕ → Type 0
-IsRouteOfRun run es =
-    IsRouteOf run.net.now run.params.now run.layers.now run.ranks.now run.piece es
+IsRouteOfRun run es = IsRouteOver run.net.now run.params.now run.chosen.now es
 
 -- there is a direct route from position i to the next
 abbrev pub IsDirectLeg : Run → ℕ → Type 0
@@ -32,8 +35,7 @@ IsWalkStartAt run i v = (IsDirectLeg run i → ⊥) × (v ≡ target run.net.now
 
 -- v is such a node of the run
 abbrev pub IsWalkStartOf : Run → ℕ → Type 0
-IsWalkStartOf run v =
-    IsWalkStart run.net.now run.params.now run.layers.now run.ranks.now run.piece v
+IsWalkStartOf run v = IsWalkStartOver run.net.now run.params.now run.chosen.now v
 
 -- the edges of the route from position i to the next were appended
 pub record IsLegAdded (run : Run) (i : ℕ) (old new : List ℕ) : Type 0 where

@@ -1,28 +1,23 @@
-use Rattle.std.proofs.Common.{◌≤◌, ◌+◌, ◌++◌, ◌∷◌, [], List, Result, Ok, Err, OnOk, ap, reverse, sym, subst, ◌∙◌, arith}
+use Rattle.std.proofs.Common.{◌++◌, ◌∷◌, [], List, Result, Ok, Err, OnOk, ap, reverse, sym, ◌∙◌, arith}
 use Rattle.std.proofs.lemmas.Bool.{eqb-true}
 use Rattle.std.proofs.lemmas.Bool.Decides.{nat_tests}
-use Rattle.bounded_table.specs.Table.{entry_in, label_of}
 use Rattle.bounded_table.proofs.Asking.{asks_done, asks_err, asks_known, asks_ok}
 use Rattle.matching.specs.Routes.{Direct, IsRoute}
 use Rattle.road_network.specs.Net.{HasEdge, source, target}
-use Rattle.road_network.specs.Walk.{IsLeastWalk, IsWalk, walk_length}
+use Rattle.road_network.specs.Walk.{IsLeastWalk}
 use Rattle.road_network.specs.declared.Candidate.{Candidate}
 use Rattle.road_network.specs.declared.EdgeId.{EdgeId}
 use Rattle.route_rebuild.specs.Numbers.{numbers}
 use Rattle.route_rebuild.specs.inside.Runs.{HasWalk, IsDirectLeg}
 use Rattle.route_rebuild.proofs.RouteSoFar.{asks_walk, direct_leg, leg_edges, leg_walk, offset_fits, walk_leg}
-use Rattle.route_rebuild.proofs.StepsBack.{is_there}
 use Rattle.route_rebuild.proofs.routes.append_leg.Goals as goal
 use Rattle.route_rebuild.proofs.routes.append_leg.Goals.{else-eq-via-then-eq+else-a-b, else-eq-via-else-eq}
 
 pub chosen-a-requires : goal.chosen-a-requires
-chosen-a-requires g c = c.args.run.now.is.points c.args.i c.requires.point.0 (omega (arith, c.requires.point.1))
-
-pub chosen-b-requires : goal.chosen-b-requires
-chosen-b-requires g c = c.args.run.now.is.points (c.args.i + 1) (omega (arith, c.requires.point.0)) (omega (arith, c.requires.point.1))
+chosen-a-requires g c = omega (arith, c.requires.point)
 
 pub overflow_add-b : goal.overflow_add-b
-overflow_add-b g c = rw c.chosen-b.ensures (omega (arith, offset_fits c.args.run.now c.args.i c.invariants.ensures c.requires.point.0 c.requires.point.1))
+overflow_add-b g c = rw c.chosen-b.ensures (omega (arith, offset_fits c.args.run.now c.args.i c.invariants.ensures c.requires.point))
 
 pub returns-then-a-b-clause-leg : goal.returns-then-a-b-clause-leg
 returns-then-a-b-clause-leg g c =
@@ -38,14 +33,14 @@ returns-then-a-b-clause-asks g c =
     asks_done (asks_known (λ v start. absurd (start.0 direct)))
 
 pub to-requires : goal.to-requires
-to-requires g c = rw c.chosen-a.ensures (leg_edges c.args.run.now c.args.i c.requires.point.0 c.requires.point.1).0
+to-requires g c = rw c.chosen-a.ensures (leg_edges c.args.run.now c.args.i c.requires.point).0
 
 pub from-requires : goal.from-requires
-from-requires g c = rw c.chosen-b.ensures (leg_edges c.args.run.now c.args.i c.requires.point.0 c.requires.point.1).1
+from-requires g c = rw c.chosen-b.ensures (leg_edges c.args.run.now c.args.i c.requires.point).1
 
 pub walk_between-requires-clause-node : goal.walk_between-requires-clause-node
 walk_between-requires-clause-node g c =
-    let has : HasEdge c.args.run.now.net.now c.chosen-a.result.edge.0 = rw c.chosen-a.ensures (leg_edges c.args.run.now c.args.i c.requires.point.0 c.requires.point.1).0 in
+    let has : HasEdge c.args.run.now.net.now c.chosen-a.result.edge.0 = rw c.chosen-a.ensures (leg_edges c.args.run.now c.args.i c.requires.point).0 in
     rw c.to.ensures (c.invariants.ensures.targets c.chosen-a.result.edge.0 has)
 
 pub walk_between-requires-clause-joined : goal.walk_between-requires-clause-joined
@@ -55,7 +50,7 @@ walk_between-requires-clause-joined g c =
     let is : IsRoute run.net.now run.params.now.bound run.params.now.back c.chosen-a.result c.chosen-b.result Direct = rw (c.chosen-a.ensures, c.chosen-b.ensures) direct in
     elim c.else-eq.branch [ else-eq-via-then-eq+else-a-b w ↦ omega (arith, is.1) | else-eq-via-else-eq w ↦ let same = is.0 in grind (arith, nat_tests) ] in
     let found : HasWalk run.net.now run.params.now.bound c.chosen-a.result.edge.0 c.chosen-b.result.edge.0 =
-    rw (c.chosen-a.ensures, c.chosen-b.ensures) (leg_walk run c.args.i c.invariants.ensures c.requires.point.0 c.requires.point.1 none) in
+    rw (c.chosen-a.ensures, c.chosen-b.ensures) (leg_walk run c.args.i c.invariants.ensures c.requires.point none) in
     rw (c.to.ensures, c.from.ensures) found
 
 pub returns-in_err-between-clause-asks : goal.returns-in_err-between-clause-asks
@@ -88,7 +83,7 @@ returns-clause-leg g c =
     let n = run.net.now in
     let least : IsLeastWalk n (target n c.chosen-a.result.edge.0) (reverse (numbers walk)) (source n c.chosen-b.result.edge.0) =
     rw (c.to.ensures, c.from.ensures) at c.in_ok-between.ensures.walk in
-    let found = leg_walk run i c.invariants.ensures c.requires.point.0 c.requires.point.1 none in
+    let found = leg_walk run i c.invariants.ensures c.requires.point none in
     on_by c.push.result c.push.ensures.ok (λ pushed.
     walk_leg run i edges walk c.push.new.self found none (rw (c.chosen-a.ensures, c.chosen-b.ensures) at least)
     (pushed
