@@ -22,7 +22,7 @@ use Rattle.matching.proofs.Splits.{Splits, ranks_of, split_open}
 use Rattle.online_commit.specs.declared.items.Item.{Item}
 use Rattle.online_commit.specs.declared.items.Item.TheVariants.{Missing}
 use Rattle.online_commit.specs.Items.{closed_at, handed}
-use Rattle.online_commit.specs.inside.Pieces.{IsBegun, MayGrow, Piece, empty_piece, session_with}
+use Rattle.online_commit.specs.inside.Pieces.{IsBegun, MayGrow, Piece, alone, empty_piece, session_with}
 use Rattle.online_commit.specs.Session.{IsFed, IsFedLayer, StandsFor, points_of}
 use Rattle.online_commit.specs.inside.Steps.{IsClosing, IsSession, KeptSession, last_cells, last_layer, seen}
 use Rattle.online_commit.proofs.Beginning.{ended, ended-handed, missing-items, new_items, opened, opened-handed}
@@ -41,11 +41,11 @@ use Rattle.online_commit.proofs.AnewSession.{BeginsAnew, BeginsPiece, begun-fres
 -- with a piece of one point
 new-some : (n : Net) (p : Params) (all : List Layer) (s : Splits (trellis n p) 0 all) (i j : ℕ) (l : Layer) (cells : List Cell) (new : Piece) (items : List Item) → BeginsPiece n p i l cells new items
     → s.closed ≡ i → drop s.closed all ≡ l ∷ [] → i + 1 ≡ length all
-    → StandsFor (seen (session_with n p new)) all × (new_items n p all s j 0 ≡ items)
+    → StandsFor (seen (session_with n p (alone new))) all × (new_items n p all s j 0 ≡ items)
 new-some n p all s i j l cells new items b at rest count =
     let t = trellis n p in
     let ext = b.grown in
-    let made = session_with n p new in
+    let made = session_with n p (alone new) in
     let fresh = begun-fresh n p i l cells new items b in
     let committed = fresh-committed made [] l 0 items fresh in
     let first : s.closed ≡ new.first = at ∙ sym ext.first in
@@ -61,10 +61,10 @@ new-some n p all s i j l cells new items b at rest count =
 
 -- with no piece
 new-none : (n : Net) (p : Params) (all : List Layer) (s : Splits (trellis n p) 0 all) (i : ℕ) → s.closed ≡ i + 1 → i + 1 ≡ length all → get_or s.ranks i None ≡ None → closed_at n p all s.ranks s.pieces i ≡ []
-    → StandsFor (seen (session_with n p (empty_piece (i + 1)))) all × (new_items n p all s i 1 ≡ Missing i ∷ [])
+    → StandsFor (seen (session_with n p (alone (empty_piece (i + 1))))) all × (new_items n p all s i 1 ≡ Missing i ∷ [])
 new-none n p all s i at count rank closed =
     let rest : drop (i + 1) all ≡ [] = drop_all (i + 1) all (omega (arith, count)) in (
-      stands-by (seen (session_with n p (empty_piece (i + 1)))) all s at (sym rest) (omega (arith, count)) (front-none (trellis n p)),
+      stands-by (seen (session_with n p (alone (empty_piece (i + 1))))) all s at (sym rest) (omega (arith, count)) (front-none (trellis n p)),
       missing-items n p all s i rank closed (ap (λ k. drop k all) at ∙ rest),
     )
 
@@ -72,7 +72,7 @@ new-none n p all s i at count rank closed =
 
 abbrev Hands : KeptSession → Layer → Piece → List Item → List Layer → Type 0
 Hands s l new items fed =
-    StandsFor (seen (session_with s.network s.params new)) (fed ++ l ∷ []) × (handed s.network s.params (fed ++ l ∷ []) ≡ handed s.network s.params fed ++ items)
+    StandsFor (seen (session_with s.network s.params (alone new))) (fed ++ l ∷ []) × (handed s.network s.params (fed ++ l ∷ []) ≡ handed s.network s.params fed ++ items)
 
 -- no piece was open
 anew-open-some : (s : KeptSession) (l : Layer) (cells : List Cell) (new : Piece) (items : List Item) (fed : List Layer) → length s.layers ≡ 0 → StandsFor (seen s) fed
@@ -141,7 +141,7 @@ ends-before s l h some =
         is = sym (ap (λ k. get_or xs k l) count ∙ get_or-append_seam s.layers l [] l);
       };
     } in
-    subst (λ k. IsPiece t xs k) count (so_far_ends n p xs s.tables (last_layer s) l (last_cells s) (so_far-longer n p s.layers (l ∷ []) s.tables (is.open_is some).so_far) step (h.ends some))
+    subst (λ k. IsPiece t xs k) count (so_far_ends n p xs s.tables (last_layer s) l (last_cells s) (so_far-longer n p s.layers (l ∷ []) s.tables (is.open_is some)) step (h.ends some))
 
 over-of : (s : KeptSession) (l : Layer) (items : List Item) (fed : List Layer) (split : Splits (trellis s.network s.params) 0 fed) (c : IsClosing s items) → IsSession s → 0 < length s.layers → IsSplitAt (seen s) fed split
     → IsPiece (trellis s.network s.params) (drop split.closed fed ++ l ∷ []) (length (drop split.closed fed)) → IsOver s.network s.params fed (l ∷ []) split c.cost c.ranks
@@ -263,7 +263,7 @@ anew-hands s l new first-items items fed h left st b =
     ⊎_elim (λ some. anew-some s l new first-items items fed h left st b some) (λ few. anew-none s l new first-items items fed h left st b (omega (arith, few))) (cases_lt 0 (length l.candidates))
 
 pub anew-fed : (s : KeptSession) (l : Layer) (new : Piece) (first-items items : List Item) → BeginsAnew s l → IsLeft s first-items → IsBegun s.params (points_of (seen s)) l new items
-    → IsFed (seen s) l (seen (session_with s.network s.params new)) (first-items ++ items)
+    → IsFed (seen s) l (seen (session_with s.network s.params (alone new))) (first-items ++ items)
 anew-fed s l new first-items items h left b = record {
   network = refl;
   params = refl;

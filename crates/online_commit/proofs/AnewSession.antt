@@ -11,16 +11,15 @@ use Rattle.matching.specs.Layers.{IsLayer, trellis}
 use Rattle.matching.specs.Local.{AreFirst}
 use Rattle.matching.specs.Pieces.{IsPiece}
 use Rattle.matching.specs.PieceSteps.{PieceEndsBefore}
-use Rattle.matching.proofs.CommittedValues.{front}
 use Rattle.matching.proofs.Ends.{can_begin, ends_here}
 use Rattle.matching.proofs.Fronts.{front-none}
 use Rattle.matching.proofs.Lists.{all-cons}
 use Rattle.matching.proofs.PieceSoFar.{IsGround, IsPieceSoFar, so_far_first}
 use Rattle.online_commit.specs.declared.items.Item.{Item}
-use Rattle.online_commit.specs.inside.Masks.{HasFewRanks}
-use Rattle.online_commit.specs.inside.Pieces.{IsBegun, IsExtended, Piece, empty_piece, session_with}
+use Rattle.online_commit.specs.inside.Masks.{AreMasks, HasFewRanks, mask_at}
+use Rattle.online_commit.specs.inside.Pieces.{IsBegun, IsExtended, Piece, alone, empty_piece, session_with}
 use Rattle.online_commit.specs.Session.{IsFedLayer, points_of}
-use Rattle.online_commit.specs.inside.Steps.{IsSession, KeptSession, last_cells, last_layer, seen}
+use Rattle.online_commit.specs.inside.Steps.{IsKeptOf, IsSession, KeptSession, last_cells, last_layer, seen}
 use Rattle.online_commit.proofs.Fresh.{IsFresh, fresh-committed}
 use Rattle.online_commit.proofs.Passing.{IsTabled}
 use Rattle.online_commit.proofs.Ranks.{first-ranks}
@@ -31,13 +30,26 @@ pub one-piece : (n : Net) (p : Params) (l : Layer) → 0 < length l.candidates �
 one-piece n p l some =
     ends_here (trellis n p) (l ∷ []) 1 (omega arith) (can_begin (trellis n p) (l ∷ []) l (record { below = omega arith; is = refl }) some) (λ lt can. omega (arith, lt))
 
+-- a piece of which all points are kept
+alone-kept : (n : Net) (p : Params) (a : Piece) → length a.masks ≡ length a.layers → (0 < length a.layers → AreMasks a.tables (mask_at a.masks) (length a.layers)) → IsKeptOf (session_with n p (alone a))
+alone-kept n p a count masks = record {
+  within = omega arith;
+  first = omega arith;
+  told = omega arith;
+  layers = refl;
+  tables = refl;
+  masks_count = count;
+  masks = masks;
+  chosen = λ j i live lt. absurd (omega (arith, lt));
+}
+
 -- a point begins a piece
 pub record BeginsPiece (n : Net) (p : Params) (i : ℕ) (l : Layer) (cells : List Cell) (new : Piece) (items : List Item) : Type 0 where
   pub some : 0 < length l.candidates
   pub first : AreFirst (trellis n p) l cells
   pub grown : IsExtended (empty_piece i) l cells new items
 
-pub begun-fresh : (n : Net) (p : Params) (i : ℕ) (l : Layer) (cells : List Cell) (new : Piece) (items : List Item) → BeginsPiece n p i l cells new items → IsFresh (session_with n p new) [] l 0 items
+pub begun-fresh : (n : Net) (p : Params) (i : ℕ) (l : Layer) (cells : List Cell) (new : Piece) (items : List Item) → BeginsPiece n p i l cells new items → IsFresh (session_with n p (alone new)) [] l 0 items
 begun-fresh n p i l cells new items h =
     let t = trellis n p in
     let ext = h.grown in
@@ -47,7 +59,10 @@ begun-fresh n p i l cells new items h =
       layers = ext.layers;
       told_is = ext.told;
       tabled = subst (λ ys. IsTabled t ys new.tables) (sym ext.layers) (subst (λ ts. IsTabled t (l ∷ []) ts) (sym ext.tables) tabled);
-      masks = ext.masks;
+      low = 0;
+      below = omega arith;
+      mask = mask_at new.masks;
+      masks = record { live = ext.masks.live; back = λ i high. ext.masks.back i };
       settled = ext.settled;
       rank = 0;
       live = subst (λ ts. IsLive (get_or ts (length ts - 1) []) 0) (sym ext.tables) (t.emission l 0, ap (λ c. c.cost) first-cell);
@@ -65,7 +80,7 @@ pub record BeginsAnew (s : KeptSession) (l : Layer) : Type 0 where
   pub ends : 0 < length s.layers → PieceEndsBefore (trellis s.network s.params) (last_layer s) (last_cells s) l
 
 begun-session : (s : KeptSession) (l : Layer) (cells : List Cell) (new : Piece) (items : List Item) → BeginsAnew s l → BeginsPiece s.network s.params (points_of (seen s)) l cells new items
-    → IsSession (session_with s.network s.params new)
+    → IsSession (session_with s.network s.params (alone new))
 begun-session s l cells new items h b =
     let n = s.network in
     let p = s.params in
@@ -95,30 +110,27 @@ begun-session s l cells new items h b =
       layers = subst (All (IsFedLayer n p)) (sym ext.layers) (all-cons (IsFedLayer n p) l [] h.layer (λ k d lt. absurd (omega (arith, lt))));
       ranks = subst (All HasFewRanks) (sym ext.tables) (all-cons HasFewRanks cells [] (first-ranks (trellis n p) l cells b.first h.layer.few) (λ k d lt. absurd (omega (arith, lt))));
       tables_count = omega (arith, len, lent);
-      masks_count = ext.masks_count;
-      open_is = λ some. record {
-        so_far = subst (λ ys. IsPieceSoFar n p ys new.tables) (sym ext.layers) (subst (λ ts. IsPieceSoFar n p (l ∷ []) ts) (sym ext.tables) so_far);
-        masks = ext.masks;
-      };
-      front = fresh-committed (session_with n p new) [] l 0 items fresh;
+      open_is = λ some. subst (λ ys. IsPieceSoFar n p ys new.tables) (sym ext.layers) (subst (λ ts. IsPieceSoFar n p (l ∷ []) ts) (sym ext.tables) so_far);
+      kept = alone-kept n p new ext.masks_count (λ some. ext.masks);
+      front = fresh-committed (session_with n p (alone new)) [] l 0 items fresh;
     }
 
-empty-session : (s : KeptSession) (l : Layer) (new : Piece) → BeginsAnew s l → new ≡ empty_piece (points_of (seen s) + 1) → IsSession (session_with s.network s.params new)
+empty-session : (s : KeptSession) (l : Layer) (new : Piece) → BeginsAnew s l → new ≡ empty_piece (points_of (seen s) + 1) → IsSession (session_with s.network s.params (alone new))
 empty-session s l new h e =
     let room = h.room in
-    subst (λ a. IsSession (session_with s.network s.params a)) (sym e)
+    subst (λ a. IsSession (session_with s.network s.params (alone a))) (sym e)
     (record {
       options = h.session.options;
       few = omega (arith, room);
       layers = λ k d lt. absurd (omega (arith, lt));
       ranks = λ k d lt. absurd (omega (arith, lt));
       tables_count = refl;
-      masks_count = refl;
       open_is = λ some. absurd (omega (arith, some));
+      kept = alone-kept s.network s.params (empty_piece (points_of (seen s) + 1)) refl (λ some. absurd (omega (arith, some)));
       front = front-none (trellis s.network s.params);
     })
 
-pub anew-session : (s : KeptSession) (l : Layer) (new : Piece) (items : List Item) → BeginsAnew s l → IsBegun s.params (points_of (seen s)) l new items → IsSession (session_with s.network s.params new)
+pub anew-session : (s : KeptSession) (l : Layer) (new : Piece) (items : List Item) → BeginsAnew s l → IsBegun s.params (points_of (seen s)) l new items → IsSession (session_with s.network s.params (alone new))
 anew-session s l new items h b =
     ⊎_elim
     (λ some. let g = b.some some in begun-session s l g.0 new items h (record { some = some; first = g.1 s.network; grown = g.2 }))

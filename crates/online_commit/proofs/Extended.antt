@@ -1,18 +1,17 @@
 -- A piece that took a point, as it is made. In this file layers and tables stand in the order of the points.
-use Rattle.std.proofs.Common.{◌≡◌, ℕ, ◌+◌, ◌-◌, ◌<◌, List, [], ◌∷◌, ◌++◌, Result, Ok, Err, IfOk, OnErr, sym, ap, ◌∙◌, subst, arith, length, get_or}
+use Rattle.std.proofs.Common.{◌≡◌, ℕ, ◌+◌, ◌-◌, ◌<◌, List, [], ◌∷◌, ◌++◌, sym, ap, ◌∙◌, subst, arith, length, get_or}
 use Rattle.std.proofs.lemmas.List.{length_push}
-use Rattle.cost_model.specs.declared.params.Params.{Params}
-use Rattle.road_network.specs.Net.{Net, IsLawful}
+use Rattle.road_network.specs.Net.{IsLawful}
 use Rattle.matching.specs.declared.parts.Cell.{Cell}
 use Rattle.matching.specs.declared.parts.Layer.{Layer}
 use Rattle.std.specs.Prelude.{None, Some}
 use Rattle.online_commit.specs.declared.items.Item.{Item}
 use Rattle.online_commit.specs.inside.Masks.{AreMasks, IsBehind, IsLiveMask, IsNotOne, IsOnly, mask_after, mask_at}
-use Rattle.online_commit.specs.inside.Pieces.{IsAppended, IsExtended, MayGrow, Piece, session_with}
-use Rattle.online_commit.specs.Session.{IsFed, IsFedLayer, Session, points_of}
-use Rattle.online_commit.specs.inside.Steps.{AreSettled, EndsBefore, IsSession, KeptSession, TakesAnew, TellsCells, seen}
+use Rattle.online_commit.specs.inside.Pieces.{IsAppended, IsExtended, MayGrow, Piece}
+use Rattle.online_commit.specs.Session.{IsFedLayer, Session, points_of}
+use Rattle.online_commit.specs.inside.Steps.{AreSettled, EndsBefore, IsSession, KeptSession, TellsCells, seen}
 use Rattle.online_commit.proofs.AnewSession.{BeginsAnew}
-use Rattle.online_commit.proofs.Extending.{GoesOnTo, grown-fed, grown-session, piece_part}
+use Rattle.online_commit.proofs.Extending.{GoesOnTo}
 
 masks-same : (tables : List (List Cell)) (mask mask' : ℕ → ℕ) (n : ℕ) → 0 < n → ((i : ℕ) → i < n → mask' i ≡ mask i) → AreMasks tables mask n → AreMasks tables mask' n
 masks-same tables mask mask' n some same h = record {
@@ -79,23 +78,3 @@ ends-at s old l e is room fed ends = record {
 
 pub begins-anew : (s : KeptSession) (l : Layer) → IsLawful s.network → EndsBefore s l → BeginsAnew s l
 begins-anew s l lawful h = record { lawful = lawful; session = h.session; room = h.room; layer = h.layer; ends = h.ends }
-
-pub kept-session : {E : Type 0} (n : Net) (p : Params) (old new : Piece) (l : Layer) (r : Result (List Item) E) → IsSession (session_with n p old)
-    → IfOk r (TakesAnew (session_with n p old) l (session_with n p new)) → OnErr r (new ≡ old) → IsSession (session_with n p new)
-kept-session n p old new l (Ok items) is ok err = ok.session
-kept-session n p old new l (Err e) is ok err = subst (λ a. IsSession (session_with n p a)) (sym err) is
-
-pub taken-fed : {E : Type 0} (n : Net) (p : Params) (old new : Piece) (l : Layer) (r : Result (List Item) E) → IfOk r (TakesAnew (session_with n p old) l (session_with n p new))
-    → IfOk r (IsFed (seen (session_with n p old)) l (seen (session_with n p new)))
-taken-fed n p old new l (Ok items) ok = ok.fed
-taken-fed n p old new l (Err e) ok = tt
-
-pub still-session : {E : Type 0} (n : Net) (p : Params) (old new : Piece) (l : Layer) (cells : List Cell) (r : Result (List Item) E) → GoesOnTo (session_with n p old) l cells
-    → IfOk r (IsExtended (piece_part (session_with n p old)) l cells new) → OnErr r (new ≡ old) → IsSession (session_with n p new)
-still-session n p old new l cells (Ok items) h ok err = grown-session (session_with n p old) l cells new items h ok
-still-session n p old new l cells (Err e) h ok err = subst (λ a. IsSession (session_with n p a)) (sym err) h.session
-
-pub fed-grown : {E : Type 0} (n : Net) (p : Params) (old new : Piece) (l : Layer) (cells : List Cell) (r : Result (List Item) E) → GoesOnTo (session_with n p old) l cells
-    → IfOk r (IsExtended (piece_part (session_with n p old)) l cells new) → IfOk r (IsFed (seen (session_with n p old)) l (seen (session_with n p new)))
-fed-grown n p old new l cells (Ok items) h ok = grown-fed (session_with n p old) l cells new items h ok
-fed-grown n p old new l cells (Err e) h ok = tt

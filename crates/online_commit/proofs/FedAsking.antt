@@ -22,7 +22,7 @@ last-point s fed split is some at =
     let t = trellis s.network s.params in
     let same = sym at.layers in
     record {
-      run = subst (λ xs. IsRun t xs s.tables) same (is.open_is some).so_far.run;
+      run = subst (λ xs. IsRun t xs s.tables) same (is.open_is some).run;
       count = is.tables_count ∙ ap length same;
       ends = subst (λ xs. EndsWith xs s.tables (last_layer s) (last_cells s)) same (last-ends s is some);
     }

@@ -1,5 +1,5 @@
 -- What a piece with a settled front stands on, whether it went on or begins.
-use Rattle.std.proofs.Common.{◌≡◌, ℕ, ◌+◌, ◌-◌, List, [], ◌∷◌, ◌++◌, sym, ap, ◌∙◌, subst, arith, length, take, drop, reverse, get_or}
+use Rattle.std.proofs.Common.{◌≡◌, ℕ, ◌+◌, ◌≤◌, List, [], ◌∷◌, ◌++◌, sym, ap, ◌∙◌, subst, arith, length, take, drop, reverse, get_or}
 use Rattle.std.proofs.lemmas.List.{reverse-reverse}
 use Rattle.std.proofs.Math.Seq.{take-length}
 use Rattle.matching.specs.declared.parts.Layer.{Layer}
@@ -8,23 +8,25 @@ use Rattle.matching.specs.Committed.{IsCommitted}
 use Rattle.matching.specs.Layers.{trellis}
 use Rattle.matching.specs.Sequences.{IsBest}
 use Rattle.matching.specs.Value.{best_of}
-use Rattle.matching.proofs.CommittedValues.{front}
 use Rattle.matching.proofs.SolutionMatches.{best_of-is}
 use Rattle.matching.proofs.Splits.{Splits}
 use Rattle.online_commit.specs.declared.items.Item.{Item}
-use Rattle.online_commit.specs.inside.Masks.{AreMasks, IsOnly, mask_at}
+use Rattle.online_commit.specs.inside.Masks.{IsOnly}
 use Rattle.online_commit.specs.inside.Steps.{AreSettled, KeptSession, rank_in, ranked_items}
 use Rattle.online_commit.proofs.Handed.{labels_between}
 use Rattle.online_commit.proofs.Labels.{IsBestOf, open-labels, tail-rank}
-use Rattle.online_commit.proofs.Passing.{IsBoundary, IsTabled, chosen-single, committed-boundary, last_of}
+use Rattle.online_commit.proofs.Passing.{AreMasksFrom, IsBoundary, IsTabled, chosen-single, committed-boundary, last_of}
 
 -- what a piece with a settled front stands on, whether it went on or begins
 pub record IsFresh (t-new : KeptSession) (xs : List Layer) (l : Layer) (told : ℕ) (items : List Item) : Type 0 where
   pub layers : t-new.layers ≡ xs ++ l ∷ []
   pub told_is : t-new.told ≡ told + length items
   pub tabled : IsTabled (trellis t-new.network t-new.params) t-new.layers t-new.tables
-  pub masks : AreMasks t-new.tables (mask_at t-new.masks) (length t-new.layers)
-  pub settled : AreSettled t-new.first t-new.layers (mask_at t-new.masks) told items
+  pub low : ℕ
+  pub below : low ≤ told
+  pub mask : ℕ → ℕ
+  pub masks : AreMasksFrom low t-new.tables mask (length t-new.layers)
+  pub settled : AreSettled t-new.first t-new.layers mask told items
   pub rank : ℕ
   pub live : IsLive (last_of t-new.tables) rank
   pub front : IsCommitted (trellis t-new.network t-new.params) (reverse xs) told
@@ -34,11 +36,11 @@ fresh-committed new xs l told items h =
     let t = trellis new.network new.params in
     let settled = h.settled in
     let within = settled.within in
-    let boundary : IsBoundary (mask_at new.masks) told (told + length items) (length new.layers) = record { low = omega arith; high = within; single = settled.single; ends = settled.ends } in
+    let boundary : IsBoundary h.mask told (told + length items) (length new.layers) = record { low = omega arith; high = within; single = settled.single; ends = settled.ends } in
     let same = h.layers in
-    let is = committed-boundary t xs (l ∷ []) new.tables (mask_at new.masks) told (told + length items) h.rank
-    (subst (λ ys. IsTabled t ys new.tables) same h.tabled) (subst (λ ys. AreMasks new.tables (mask_at new.masks) (length ys)) same h.masks)
-    (subst (λ ys. IsBoundary (mask_at new.masks) told (told + length items) (length ys)) same boundary) h.live h.front in
+    let is = committed-boundary t xs (l ∷ []) new.tables h.mask h.low told (told + length items) h.rank
+    (subst (λ ys. IsTabled t ys new.tables) same h.tabled) (subst (λ ys. AreMasksFrom h.low new.tables h.mask (length ys)) same h.masks) h.below
+    (subst (λ ys. IsBoundary h.mask told (told + length items) (length ys)) same boundary) h.live h.front in
     subst (λ k. IsCommitted t (reverse new.layers) k) (sym h.told_is) (subst (λ ys. IsCommitted t (reverse ys) (told + length items)) (sym same) is)
 
 -- the best sequence of the open piece
@@ -60,9 +62,9 @@ fresh-items new xs l told c ranks items h best =
     h.settled.are (rank_in ranks) (λ j ge lt.
     let only = h.settled.single j ge lt in
     let same : get_or ranks j 0 ≡ only.0 =
-    chosen-single t new.layers new.tables (mask_at new.masks) j only.0 c ranks h.tabled h.masks (omega (arith, lt, within)) only.1
+    chosen-single t new.layers new.tables h.mask h.low j only.0 c ranks h.tabled h.masks (let below = h.below in omega (arith, below, ge)) (omega (arith, lt, within)) only.1
     (subst (λ ys. IsBest t (reverse ys) c (reverse ranks)) (take-length new.layers) best.best) in
-    subst (λ r. IsOnly (mask_at new.masks j) r) (sym same) only.1)
+    subst (λ r. IsOnly (h.mask j) r) (sym same) only.1)
 
 -- in terms of the labels of the trace
 pub fresh-labels : (new : KeptSession) (all : List Layer) (s : Splits (trellis new.network new.params) 0 all) (xs : List Layer) (l : Layer) (told : ℕ) (items : List Item) → IsFresh new xs l told items

@@ -26,3 +26,7 @@ pub mod Changing
 pub mod Opened
 pub mod ClosedRun
 pub mod Extended
+pub mod Kept
+pub mod Grown
+pub mod LettingGo
+pub mod Walks

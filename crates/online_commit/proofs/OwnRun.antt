@@ -40,7 +40,7 @@ own-from : (s : KeptSession) (last : Cell) (c : ℕ) (ranks : List ℕ) → IsEn
 own-from s last c ranks h =
     let count = h.session.tables_count in
     let followed : IsFollowed (trellis s.network s.params) (drop 0 s.layers) s.tables last c ranks = record {
-      run = (h.session.open_is h.some).so_far.run;
+      run = (h.session.open_is h.some).run;
       piece = subst (λ k. IsPiece (trellis s.network s.params) s.layers k) (sym count) (tabled-of s h.session h.some).piece;
       cells = h.cells;
       at = h.at;
@@ -91,7 +91,7 @@ own-asked s last c ranks v h start =
     let count = h.session.tables_count in
     let asked = chosen_asked n p s.layers solved 0 h.lawful (own-solved s last c ranks h) (omega arith) v start in
     let only : asked.0 ≡ q = one-of q asked.0 asked.1 in
-    in_asked n p s.layers 0 s.tables q v (h.session.open_is h.some).so_far.run refl (omega (arith, count)) (subst (λ x. IsAskedNodeIn (trellis n p) (end_of n) s.layers x v) only asked.2)
+    in_asked n p s.layers 0 s.tables q v (h.session.open_is h.some).run refl (omega (arith, count)) (subst (λ x. IsAskedNodeIn (trellis n p) (end_of n) s.layers x v) only asked.2)
 
 -- it has a rank for each point
 pub own-count : (s : KeptSession) (last : Cell) (c : ℕ) (ranks : List ℕ) → IsEndRead s last c ranks → length ranks ≡ length s.layers

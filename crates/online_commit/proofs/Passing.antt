@@ -1,8 +1,8 @@
 -- From the masks of the points of a piece to what is committed of it. In this file layers and tables stand in the order
 -- of the points.
-use Rattle.std.proofs.Common.{◌≡◌, ℕ, zero, suc, ◌+◌, ◌-◌, ◌<◌, ◌≤◌, List, [], ◌∷◌, ◌++◌, Option, Some, None, refl, sym, ap, ◌∙◌, subst, arith, length, take, reverse, get_or, unwrap_or, ⊎_elim}
+use Rattle.std.proofs.Common.{◌≡◌, ℕ, zero, suc, ◌+◌, ◌-◌, ◌<◌, ◌≤◌, List, [], ◌∷◌, ◌++◌, Option, Some, None, refl, sym, ap, ◌∙◌, subst, arith, length, take, drop, reverse, get_or, unwrap_or, ⊎_elim}
 use Rattle.std.proofs.lemmas.Bool.{cases_lt}
-use Rattle.std.proofs.lemmas.List.{length-reverse, reverse-append, reverse-reverse, take-take, get_or-take}
+use Rattle.std.proofs.lemmas.List.{length-reverse, reverse-append, reverse-reverse, take-take, get_or-drop, get_or-take}
 use Rattle.std.proofs.Math.Seq.{get_or-append_seam}
 use Rattle.matching.specs.declared.parts.Cell.{Cell}
 use Rattle.matching.specs.Sequences.{Trellis, IsBest, IsBestTo}
@@ -18,7 +18,7 @@ use Rattle.matching.proofs.Fronts.{ends-in, front-grows}
 use Rattle.matching.proofs.Lists.{at-get_or, reverse-take}
 use Rattle.matching.proofs.Meeting.{Passes, passes_back, passes_itself, meet, apart}
 use Rattle.matching.proofs.Splits.{OneOrNone}
-use Rattle.online_commit.specs.inside.Masks.{AreMasks, HasBit, IsBehind, IsNotOne, IsOnly}
+use Rattle.online_commit.specs.inside.Masks.{AreMasks, HasBit, IsBehind, IsLiveMask, IsNotOne, IsOnly, mask_at}
 
 -- an open piece with its tables
 pub record IsTabled {L : Type 0} (t : Trellis L) (xs : List L) (tables : List (List Cell)) : Type 0 where
@@ -28,7 +28,7 @@ pub record IsTabled {L : Type 0} (t : Trellis L) (xs : List L) (tables : List (L
   pub piece : IsPiece t xs (length xs)
 
 -- the ranks that pointers lead to from rank j of the last point
-abbrev chain : List (List Cell) → ℕ → List ℕ
+abbrev pub chain : List (List Cell) → ℕ → List ℕ
 chain tables j = by_pointers (reverse tables) (Some j)
 
 abbrev pub last_of : List (List Cell) → List Cell
@@ -37,14 +37,34 @@ last_of tables = get_or tables (length tables - 1) []
 setting : {L : Type 0} (t : Trellis L) (xs : List L) (tables : List (List Cell)) → IsTabled t xs tables → IsOpenRun t (reverse xs) tables (last_of tables)
 setting t xs tables h = setting_of t xs tables h.count h.some h.linked
 
+-- the masks of the points from `low` on
+pub record AreMasksFrom (low : ℕ) (tables : List (List Cell)) (mask : ℕ → ℕ) (n : ℕ) : Type 0 where
+  pub live : IsLiveMask (get_or tables (n - 1) []) (mask (n - 1))
+  pub back : (i : ℕ) → low ≤ i → i + 1 < n → IsBehind (get_or tables (i + 1) []) (mask (i + 1)) (mask i)
+
+-- those of the points after the first `low`
+pub masks-from : (low : ℕ) (tables : List (List Cell)) (masks : List ℕ) (n : ℕ) → low < n → AreMasks (drop low tables) (mask_at masks) (n - low) → AreMasksFrom low tables (λ i. mask_at masks (i - low)) n
+masks-from low tables masks n lt h =
+    let last : n - low - 1 ≡ n - 1 - low = omega arith in
+    let place : low + (n - 1 - low) ≡ n - 1 = omega (arith, lt) in
+    record {
+      live = subst (λ c. IsLiveMask c (mask_at masks (n - 1 - low))) (get_or-drop low tables (n - 1 - low) [] ∙ ap (λ k. get_or tables k []) place)
+          (subst (λ k. IsLiveMask (get_or (drop low tables) k []) (mask_at masks k)) last h.live);
+      back = λ i ge inside.
+          let next : i - low + 1 ≡ i + 1 - low = omega (arith, ge) in
+          let there : low + (i + 1 - low) ≡ i + 1 = omega (arith, ge) in
+          subst (λ c. IsBehind c (mask_at masks (i + 1 - low)) (mask_at masks (i - low))) (get_or-drop low tables (i + 1 - low) [] ∙ ap (λ k. get_or tables k []) there)
+          (subst (λ k. IsBehind (get_or (drop low tables) k []) (mask_at masks k) (mask_at masks (i - low))) next (h.back (i - low) (omega (arith, ge, inside))));
+    }
+
 -- the mask of point i has the ranks that the best sequences to the live ranks have there
 record Tells (tables : List (List Cell)) (mask i : ℕ) : Type 0 where
   covers : (j : ℕ) → IsLive (last_of tables) j → (a : ℕ) × HasBit mask a × Passes tables (chain tables j) (i + 1) a
   each : (a : ℕ) → HasBit mask a → (j : ℕ) × IsLive (last_of tables) j × Passes tables (chain tables j) (i + 1) a
 
-tells-last : {L : Type 0} (t : Trellis L) (xs : List L) (tables : List (List Cell)) (mask : ℕ → ℕ) (n i : ℕ) → IsTabled t xs tables → length tables ≡ n → AreMasks tables mask n → i + 1 ≡ n
+tells-last : {L : Type 0} (t : Trellis L) (xs : List L) (tables : List (List Cell)) (mask : ℕ → ℕ) (low n i : ℕ) → IsTabled t xs tables → length tables ≡ n → AreMasksFrom low tables mask n → i + 1 ≡ n
     → Tells tables (mask i) i
-tells-last t xs tables mask n i h count masks e =
+tells-last t xs tables mask low n i h count masks e =
     let s = setting t xs tables h in
     let k : length tables - 1 ≡ i = omega (arith, count, e) in
     let m : n - 1 ≡ i = omega (arith, e) in
@@ -88,15 +108,15 @@ tells-back tables mask behind i table at back h = record {
       (p.0, p.1, subst (λ y. Passes tables (chain tables p.0) (i + 1) (unwrap_or y 0)) r.2 q);
 }
 
-tells-from : {L : Type 0} (t : Trellis L) (xs : List L) (tables : List (List Cell)) (mask : ℕ → ℕ) (n i d : ℕ) → IsTabled t xs tables → length tables ≡ n → AreMasks tables mask n → i + 1 + d ≡ n
+tells-from : {L : Type 0} (t : Trellis L) (xs : List L) (tables : List (List Cell)) (mask : ℕ → ℕ) (low n i d : ℕ) → IsTabled t xs tables → length tables ≡ n → AreMasksFrom low tables mask n → low ≤ i → i + 1 + d ≡ n
     → Tells tables (mask i) i
-tells-from t xs tables mask n i zero h count masks e = tells-last t xs tables mask n i h count masks (omega (arith, e))
-tells-from t xs tables mask n i (suc d) h count masks e =
-    let on = tells-from t xs tables mask n (i + 1) d h count masks (omega (arith, e)) in
-    tells-back tables (mask (i + 1)) (mask i) i (get_or tables (i + 1) []) (at-get_or tables (i + 1) [] (omega (arith, count, e))) (masks.back i (omega (arith, e))) on
+tells-from t xs tables mask low n i zero h count masks high e = tells-last t xs tables mask low n i h count masks (omega (arith, e))
+tells-from t xs tables mask low n i (suc d) h count masks high e =
+    let on = tells-from t xs tables mask low n (i + 1) d h count masks (omega (arith, high)) (omega (arith, e)) in
+    tells-back tables (mask (i + 1)) (mask i) i (get_or tables (i + 1) []) (at-get_or tables (i + 1) [] (omega (arith, count, e))) (masks.back i high (omega (arith, e))) on
 
-tells : {L : Type 0} (t : Trellis L) (xs : List L) (tables : List (List Cell)) (mask : ℕ → ℕ) (i : ℕ) → IsTabled t xs tables → AreMasks tables mask (length xs) → i < length xs → Tells tables (mask i) i
-tells t xs tables mask i h masks lt = tells-from t xs tables mask (length xs) i (length xs - (i + 1)) h h.count masks (omega (arith, lt))
+tells : {L : Type 0} (t : Trellis L) (xs : List L) (tables : List (List Cell)) (mask : ℕ → ℕ) (low i : ℕ) → IsTabled t xs tables → AreMasksFrom low tables mask (length xs) → low ≤ i → i < length xs → Tells tables (mask i) i
+tells t xs tables mask low i h masks high lt = tells-from t xs tables mask low (length xs) i (length xs - (i + 1)) h h.count masks high (omega (arith, lt))
 
 -- where one rank is left, the sequences agree up to there
 
@@ -150,31 +170,31 @@ pub record IsBoundary (mask : ℕ → ℕ) («from» to n : ℕ) : Type 0 where
   pub single : (j : ℕ) → «from» ≤ j → j < to → (r : ℕ) × IsOnly (mask j) r
   pub ends : to < n → IsNotOne (mask to)
 
-agree-boundary : {L : Type 0} (t : Trellis L) (xs : List L) (tables : List (List Cell)) (mask : ℕ → ℕ) («from» to : ℕ) → IsTabled t xs tables → AreMasks tables mask (length xs)
+agree-boundary : {L : Type 0} (t : Trellis L) (xs : List L) (tables : List (List Cell)) (mask : ℕ → ℕ) (low «from» to : ℕ) → IsTabled t xs tables → AreMasksFrom low tables mask (length xs) → low ≤ «from»
     → IsBoundary mask «from» to (length xs) → Agree t (reverse xs) «from» → Agree t (reverse xs) to
-agree-boundary t xs tables mask «from» to h masks b old =
+agree-boundary t xs tables mask low «from» to h masks above b old =
     ⊎_elim
     (λ lt. let high = b.high in
     let i = to - 1 in
     let e : i + 1 ≡ to = omega (arith, lt) in
     let only = b.single i (omega (arith, lt)) (omega (arith, lt)) in
-    subst (λ k. Agree t (reverse xs) k) e (agree-at t xs tables (mask i) i only.0 h (tells t xs tables mask i h masks (omega (arith, lt, high))) only.1))
+    subst (λ k. Agree t (reverse xs) k) e (agree-at t xs tables (mask i) i only.0 h (tells t xs tables mask low i h masks (omega (arith, above, lt)) (omega (arith, lt, high))) only.1))
     (λ ge. let low = b.low in let e : «from» ≡ to = omega (arith, ge, low) in subst (λ k. Agree t (reverse xs) k) e old)
     (cases_lt «from» to)
 
-pub committed-boundary : {L : Type 0} (t : Trellis L) (xs more : List L) (tables : List (List Cell)) (mask : ℕ → ℕ) («from» to j : ℕ) → IsTabled t (xs ++ more) tables
-    → AreMasks tables mask (length (xs ++ more)) → IsBoundary mask «from» to (length (xs ++ more)) → IsLive (last_of tables) j → IsCommitted t (reverse xs) «from»
+pub committed-boundary : {L : Type 0} (t : Trellis L) (xs more : List L) (tables : List (List Cell)) (mask : ℕ → ℕ) (low «from» to j : ℕ) → IsTabled t (xs ++ more) tables
+    → AreMasksFrom low tables mask (length (xs ++ more)) → low ≤ «from» → IsBoundary mask «from» to (length (xs ++ more)) → IsLive (last_of tables) j → IsCommitted t (reverse xs) «from»
     → IsCommitted t (reverse (xs ++ more)) to
-committed-boundary t xs more tables mask «from» to j h masks b live old =
+committed-boundary t xs more tables mask low «from» to j h masks under b live old =
     let ys = xs ++ more in
     let high = b.high in
     let len = length-reverse ys in
     record {
       within = omega (arith, high, len);
-      agree = agree-boundary t ys tables mask «from» to h masks b (agree-old t xs more «from» (λ some. h.piece) old);
+      agree = agree-boundary t ys tables mask low «from» to h masks under b (agree-old t xs more «from» (λ some. h.piece) old);
       longest = λ m above le agree.
           let lt : to < length ys = omega (arith, above, le, len) in
-          apart-at t ys tables (mask to) to j h (tells t ys tables mask to h masks lt) live (b.ends lt) (agree-less t (reverse ys) m (to + 1) (omega (arith, above)) agree);
+          apart-at t ys tables (mask to) to j h (tells t ys tables mask low to h masks (let from-to = b.low in omega (arith, under, from-to)) lt) live (b.ends lt) (agree-less t (reverse ys) m (to + 1) (omega (arith, above)) agree);
     }
 
 -- the rank that is left is that of the best sequence
@@ -188,12 +208,12 @@ rank-passed tables whole i a table at p =
     sym (get_or-take (i + 1) (reverse whole) i 0 (omega arith)) ∙ ap (λ ys. get_or ys i 0) (p.same ∙ ap reverse step ∙ reverse-append (a ∷ []) rest)
     ∙ ap (λ k. get_or (reverse rest ++ a ∷ []) k 0) (sym back) ∙ get_or-append_seam (reverse rest) a [] 0
 
-best-rank : {L : Type 0} (t : Trellis L) (xs : List L) (tables : List (List Cell)) (mask : ℕ → ℕ) (i r c j : ℕ) (known : List ℕ) → IsTabled t xs tables → AreMasks tables mask (length xs)
-    → i < length xs → IsOnly (mask i) r → IsBestTo t (reverse xs) j c known → get_or (reverse (j ∷ known)) i 0 ≡ r
-best-rank t xs tables mask i r c j known h masks lt only best =
+best-rank : {L : Type 0} (t : Trellis L) (xs : List L) (tables : List (List Cell)) (mask : ℕ → ℕ) (low i r c j : ℕ) (known : List ℕ) → IsTabled t xs tables → AreMasksFrom low tables mask (length xs)
+    → low ≤ i → i < length xs → IsOnly (mask i) r → IsBestTo t (reverse xs) j c known → get_or (reverse (j ∷ known)) i 0 ≡ r
+best-rank t xs tables mask low i r c j known h masks high lt only best =
     let s = setting t xs tables h in
     let v = best_in t (reverse xs) tables (last_of tables) j c known s best in
-    let p = (tells t xs tables mask i h masks lt).covers j v.0 in
+    let p = (tells t xs tables mask low i h masks high lt).covers j v.0 in
     ap (λ ys. get_or (reverse ys) i 0) v.1
     ∙ rank-passed tables (chain tables j) i p.0 (get_or tables i []) (at-get_or tables i [] (omega (arith, lt, h.count))) p.2 ∙ only.1 p.0 p.1
 
@@ -201,9 +221,22 @@ best-ends : {L : Type 0} (t : Trellis L) (layers : List L) (c : ℕ) (ranks : Li
 best-ends t [] c ranks some best = absurd (omega (arith, some))
 best-ends t (l ∷ layers) c ranks some best = ends-in t l layers c ranks best
 
-pub chosen-single : {L : Type 0} (t : Trellis L) (xs : List L) (tables : List (List Cell)) (mask : ℕ → ℕ) (i r c : ℕ) (ranks : List ℕ) → IsTabled t xs tables → AreMasks tables mask (length xs)
-    → i < length xs → IsOnly (mask i) r → IsBest t (reverse xs) c (reverse ranks) → get_or ranks i 0 ≡ r
-chosen-single t xs tables mask i r c ranks h masks lt only best =
+pub chosen-single : {L : Type 0} (t : Trellis L) (xs : List L) (tables : List (List Cell)) (mask : ℕ → ℕ) (low i r c : ℕ) (ranks : List ℕ) → IsTabled t xs tables → AreMasksFrom low tables mask (length xs)
+    → low ≤ i → i < length xs → IsOnly (mask i) r → IsBest t (reverse xs) c (reverse ranks) → get_or ranks i 0 ≡ r
+chosen-single t xs tables mask low i r c ranks h masks high lt only best =
     let some = h.some in
     let e = best-ends t (reverse xs) c (reverse ranks) (omega (arith, some, length-reverse xs)) best in
-    ap (λ ys. get_or ys i 0) (sym (reverse-reverse ranks) ∙ ap reverse e.2) ∙ best-rank t xs tables mask i r c e.0 e.1 h masks lt only e.3
+    ap (λ ys. get_or ys i 0) (sym (reverse-reverse ranks) ∙ ap reverse e.2) ∙ best-rank t xs tables mask low i r c e.0 e.1 h masks high lt only e.3
+
+-- where one rank is left at a point, all sequences pass it
+pub passed-single : {L : Type 0} (t : Trellis L) (xs : List L) (tables : List (List Cell)) (mask : ℕ → ℕ) (low i r j : ℕ) → IsTabled t xs tables → AreMasksFrom low tables mask (length xs)
+    → low ≤ i → i < length xs → IsOnly (mask i) r → IsLive (last_of tables) j → get_or (reverse (chain tables j)) i 0 ≡ r
+passed-single t xs tables mask low i r j h masks high lt only live =
+    let p = (tells t xs tables mask low i h masks high lt).covers j live in
+    rank-passed tables (chain tables j) i p.0 (get_or tables i []) (at-get_or tables i [] (omega (arith, lt, h.count))) p.2 ∙ only.1 p.0 p.1
+
+-- the sequence has a rank for each point
+pub chain-count : {L : Type 0} (t : Trellis L) (xs : List L) (tables : List (List Cell)) (j : ℕ) → IsTabled t xs tables → IsLive (last_of tables) j → length (chain tables j) ≡ length xs
+chain-count t xs tables j h live =
+    let v = live_in t (reverse xs) tables (last_of tables) j (setting t xs tables h) live in
+    ap length (sym v.3) ∙ cost-length t (reverse xs) (j ∷ v.1) v.0 v.2.costs ∙ length-reverse xs

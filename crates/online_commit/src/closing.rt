@@ -1,17 +1,17 @@
 //! The end of a piece. Serves `feed` and `finish`; decided by `IsClosing`.
-ghost use Rattle.std.specs.Prelude.{◌≡◌, Some, ◌+◌, ◌-◌, ◌<◌, ◌≤◌, ◌^◌, [], IfOk, length, map};
+ghost use Rattle.std.specs.Prelude.{◌≡◌, ◌+◌, ◌-◌, ◌<◌, ◌≤◌, ◌^◌, [], IfOk, length};
 ghost use Rattle.bounded_table.specs.Rows.{AreRowsOf, AsksOnly};
 ghost use Rattle.matching.specs.PieceSteps.{AsksIn};
 ghost use Rattle.online_commit.specs.inside.Pieces.{session_of};
-ghost use Rattle.online_commit.specs.inside.Steps.{IsClosing, IsSession, rank_in, ranked_items};
+ghost use Rattle.online_commit.specs.inside.Steps.{AreAllChosen, IsClosing, IsSession, rank_in, ranked_items};
 
-use crate::feeding::OpenPiece;
 use crate::items::Item;
+use crate::open_piece::OpenPiece;
 use crate::settled::candidate;
 use bounded_table::Rows;
 use cost_model::Params;
 use plain_list::List;
-use road_network::Network;
+use road_network::{Candidate, Network};
 use route_rebuild::route_over;
 use std::alloc::{AllocError, Global};
 use trellis::{Layer, Piece, least_cell};
@@ -41,15 +41,21 @@ fn labelled(
     Ok(items)
 }
 
-/// The ranks of positions that all have one.
-fn as_some(alloc: Global, ranks: &[u32]) -> Result<Vec<Option<u32>>, AllocError>
-    ensures { IfOk result (λ some. some.items ≡ map (λ r. Some r) ranks.now) }
+/// The candidates of settled positions, and of those after them, which have these layers and ranks.
+fn chosen(
+    alloc: Global,
+    settled: &[Candidate],
+    layers: &[Layer],
+    ranks: &[u32],
+) -> Result<Vec<Candidate>, AllocError>
+    requires { length ranks.now ≡ length layers.now }
+    ensures { IfOk result (λ chosen. AreAllChosen settled.now layers.now ranks.now (length layers.now) chosen.items) }
 {
-    let mut some = Vec::with_capacity(alloc, ranks.len())?;
-    for rank in ranks {
-        some.push(Some(*rank))?;
+    let mut chosen = Vec::from_slice(alloc, settled)?;
+    for point in 0..layers.len() {
+        chosen.push(candidate(&layers[point], ranks[point]))?;
     }
-    Ok(some)
+    Ok(chosen)
 }
 
 /// The remaining items of the open piece, if there is one: those of its positions, and the piece.
@@ -61,40 +67,31 @@ pub fn closing_items<R: Rows>(
 ) -> Result<List<Item>, AllocError>
     requires rows { AreRowsOf (R.state rows.old) net.now p.now.bound }
     requires session { IsSession (session_of net.now p.now piece.now) }
-    ensures none { IfOk result (λ items. length piece.now.layers.items ≡ 0 → items ≡ []) }
-    ensures some { IfOk result (λ items. 0 < length piece.now.layers.items
+    ensures none { IfOk result (λ items. length piece.now.tail.layers.items ≡ 0 → items ≡ []) }
+    ensures some { IfOk result (λ items. 0 < length piece.now.tail.layers.items
         → IsClosing (session_of net.now p.now piece.now) items) }
     ensures asks { AsksOnly (R.state rows.old) (R.state rows.new)
         (AsksIn net.now p.now piece.now.layers.items piece.now.tables.items) }
 {
-    if piece.layers.len() == 0 {
-        return Ok(List::new(piece.alloc));
+    let tail = &piece.tail;
+    let alloc = tail.alloc;
+    if tail.layers.len() == 0 {
+        return Ok(List::new(alloc));
     }
     net.invariants();
-    let alloc = piece.alloc;
-    let end = piece.layers.len() - 1;
-    let tables = piece.tables.as_slice();
+    let end = tail.layers.len() - 1;
+    let tables = tail.tables.as_slice();
     let last = least_cell(tables[end].as_slice());
     let ranks = follow(alloc, tables, last.from)?;
-    let some = as_some(alloc, ranks.as_slice())?;
-    let mut items = labelled(
-        alloc,
-        piece.first,
-        &piece.layers,
-        ranks.as_slice(),
-        piece.told as usize,
-    )?;
-    let own = Piece {
-        first: 0,
-        last: end as u32,
-        cost: last.cost.unwrap_or(0),
-    };
-    let route = route_over(alloc, net, p, rows, &piece.layers, &some, own)?;
+    let ranks = ranks.as_slice();
+    let mut items = labelled(alloc, tail.first, &tail.layers, ranks, tail.told as usize)?;
+    let chosen = chosen(alloc, &piece.settled, &tail.layers, ranks)?;
+    let route = route_over(alloc, net, p, rows, &chosen)?;
     items.push(Item::Closed {
         piece: Piece {
             first: piece.first,
-            last: piece.first + end as u32,
-            cost: own.cost,
+            last: tail.first + end as u32,
+            cost: last.cost.unwrap_or(0),
         },
         route,
     })?;

@@ -1,4 +1,4 @@
-//! The open piece, and how a new position continues it. Serves `feed`; decided by `AreMasks` and `AreSettled`.
+//! The kept positions of the open piece, and how a new position continues it. Serves `feed`; decided by `AreMasks` and `AreSettled`.
 ghost use Rattle.std.specs.Prelude.{◌≡◌, ◌+◌, ◌<◌, ◌≤◌, ◌^◌, ◌∷◌, [], ◌++◌, ℕ, IsOk, IfOk, OnErr, OnOk, length, slice_index_or, vec_len, vec_capacity};
 ghost use Rattle.std.specs.List.{All};
 ghost use Rattle.bounded_table.specs.Rows.{AreRowsOf, AsksFor};
@@ -11,6 +11,7 @@ ghost use Rattle.online_commit.specs.inside.Pieces.{HasRoom, IsAppended, IsBegun
 
 use crate::items::Item;
 use crate::masks::changed_masks;
+use crate::open_piece::OpenPiece;
 use crate::settled::{Growing, settled_items};
 use bounded_table::Rows;
 use cost_model::Params;
@@ -19,9 +20,9 @@ use road_network::Network;
 use std::alloc::{AllocError, Global};
 use trellis::{Cell, Layer, Potentials, first_layer, is_near, least_cell, next_layer};
 
-/// The open piece, or the place where the next one may begin: its first position, how many of its positions were
-/// returned, and for each position the layer, the cells and the ranks that are still possible.
-pub struct OpenPiece {
+/// The positions of the open piece that are kept, or the place where the next one may begin: the first of them, how
+/// many of them were returned, and for each its layer, its cells and the ranks that are still possible.
+pub struct Tail {
     pub alloc: Global,
     pub first: u32,
     pub told: u32,
@@ -31,9 +32,9 @@ pub struct OpenPiece {
 }
 
 // By hand, so that the functions that drop one call this.
-impl Drop for OpenPiece {
+impl Drop for Tail {
     fn drop(self) {
-        let OpenPiece {
+        let Tail {
             alloc: _,
             first: _,
             told: _,
@@ -44,11 +45,11 @@ impl Drop for OpenPiece {
     }
 }
 
-/// A piece without positions. Allocates nothing.
-pub fn no_piece(alloc: Global, first: u32) -> OpenPiece
+/// No positions. Allocates nothing.
+pub fn no_tail(alloc: Global, first: u32) -> Tail
     ensures { piece_of result ≡ record { first = first; told = 0; layers = []; tables = []; masks = [] } }
 {
-    OpenPiece {
+    Tail {
         alloc,
         first,
         told: 0,
@@ -74,17 +75,18 @@ pub fn next_cells<R: Rows>(
     ensures asks { AsksFor (R.state rows.old) (AsksStep (session_of net.now p.now piece.now) layer.now)
         result (R.state rows.new) }
 {
-    if piece.layers.len() == 0 || layer.candidates.len() == 0 {
+    let tail = &piece.tail;
+    if tail.layers.len() == 0 || layer.candidates.len() == 0 {
         return Ok(None);
     }
     net.invariants();
-    let (layers, tables) = (piece.layers.as_slice(), piece.tables.as_slice());
+    let (layers, tables) = (tail.layers.as_slice(), tail.tables.as_slice());
     let last = layers.len() - 1;
     let (before, costs) = (&layers[last], &tables[last]);
     if !is_near(p, before, layer) {
         return Ok(None);
     }
-    let cells = next_layer(piece.alloc, net, p, rows, before, costs, layer)?;
+    let cells = next_layer(tail.alloc, net, p, rows, before, costs, layer)?;
     if least_cell(cells.as_slice()).cost.is_none() {
         return Ok(None);
     }
@@ -105,7 +107,7 @@ fn write_masks(masks: &mut [u32], changed: &[u32])
 
 /// Appends the position; there is room for it.
 fn append_point(
-    piece: &mut OpenPiece,
+    piece: &mut Tail,
     layer: Layer,
     cells: Potentials,
     changed: &[u32],
@@ -124,7 +126,7 @@ fn append_point(
 }
 
 /// Reserves room for one more position.
-fn make_room(piece: &mut OpenPiece) -> Result<(), AllocError>
+fn make_room(piece: &mut Tail) -> Result<(), AllocError>
     ensures same { piece_of piece.new ≡ piece_of piece.old }
     ensures room { OnOk result (HasRoom piece.new) }
 {
@@ -136,11 +138,7 @@ fn make_room(piece: &mut OpenPiece) -> Result<(), AllocError>
 
 /// The masks that change if a position with these cells follows the piece, and the items of the positions that it
 /// commits.
-fn settle(
-    piece: &OpenPiece,
-    layer: &Layer,
-    cells: &[Cell],
-) -> Result<(Vec<u32>, List<Item>), AllocError>
+fn settle(piece: &Tail, layer: &Layer, cells: &[Cell]) -> Result<(Vec<u32>, List<Item>), AllocError>
     requires { MayGrow (piece_of piece.now) cells.now }
     ensures { IfOk result (λ made. Settles (piece_of piece.now) layer.now cells.now made.0.items made.1) }
 {
@@ -157,11 +155,7 @@ fn settle(
 }
 
 /// Appends a position with its cells to the open piece, and returns the items of the positions that it commits.
-pub fn extend(
-    piece: &mut OpenPiece,
-    layer: Layer,
-    cells: Potentials,
-) -> Result<List<Item>, AllocError>
+pub fn extend(piece: &mut Tail, layer: Layer, cells: Potentials) -> Result<List<Item>, AllocError>
     requires { MayGrow (piece_of piece.old) cells }
     ensures ok { IfOk result (IsExtended (piece_of piece.old) layer cells (piece_of piece.new)) }
     ensures err { OnErr result (piece_of piece.new ≡ piece_of piece.old) }
@@ -180,13 +174,13 @@ pub fn begin(
     p: &Params,
     index: u32,
     layer: Layer,
-) -> Result<(OpenPiece, List<Item>), AllocError>
+) -> Result<(Tail, List<Item>), AllocError>
     requires options { IsAccepted p.now }
     requires few { index < 100_000 }
     requires layer { (net : Net) × IsFedLayer net p.now layer }
     ensures { IfOk result (λ begun. IsBegun p.now index layer (piece_of begun.0) begun.1) }
 {
-    let mut piece = no_piece(alloc, index);
+    let mut piece = no_tail(alloc, index);
     if layer.candidates.len() == 0 {
         let mut items = List::new(alloc);
         items.push(Item::Missing(index))?;

@@ -16,10 +16,13 @@
 
 mod closing;
 mod feeding;
+mod history;
 mod items;
 mod laws;
+mod letting_go;
 mod masks;
 mod online;
+mod open_piece;
 mod settled;
 
 pub use items::Item;

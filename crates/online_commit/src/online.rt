@@ -1,15 +1,17 @@
 //! The session. Serves those who follow a trace; decided by `IsFed` and `IsFinished`.
-ghost use Rattle.std.specs.Prelude.{◌≡◌, ◌<◌, [], ◌++◌, IfOk, OnErr, OnOk};
+ghost use Rattle.std.specs.Prelude.{◌≡◌, ◌+◌, ◌<◌, ◌^◌, [], ◌++◌, IfOk, OnErr, OnOk, length};
 ghost use Rattle.bounded_table.specs.Rows.{AreRowsOf, AsksOnly};
 ghost use Rattle.cost_model.specs.Options.{IsAccepted};
 ghost use Rattle.matching.specs.PieceSteps.{AsksIn};
 ghost use Rattle.online_commit.specs.Session.{AsksFed, AsksFinished, CanFeed, IsFed, IsFinished, StandsFor, no_points_of, points_of};
 ghost use Rattle.online_commit.specs.inside.Steps.{EndsBefore, TakesAnew};
-ghost use Rattle.online_commit.specs.inside.Pieces.{piece_of, session_of};
+ghost use Rattle.online_commit.specs.inside.Pieces.{session_of, whole_of};
 
 use crate::closing::closing_items;
-use crate::feeding::{OpenPiece, begin, extend, next_cells, no_piece};
+use crate::feeding::{begin, next_cells};
 use crate::items::Item;
+use crate::letting_go::go_on;
+use crate::open_piece::{OpenPiece, no_piece, piece_alone};
 use bounded_table::Rows;
 use cost_model::Params;
 use plain_list::List;
@@ -58,6 +60,14 @@ fn append_items(items: &mut List<Item>, more: List<Item>) -> Result<(), AllocErr
     Ok(())
 }
 
+/// The position after the last one of the piece.
+fn end_of(piece: &OpenPiece) -> u32
+    requires { piece.now.tail.first + length piece.now.tail.layers.items < 2 ^ 32 }
+    ensures { result ≡ piece.now.tail.first + length piece.now.tail.layers.items }
+{
+    piece.tail.first + piece.tail.layers.len() as u32
+}
+
 /// Closes the open piece, if there is one, before a position that does not continue it, and begins anew with the
 /// position.
 fn begin_anew<R: Rows>(
@@ -70,16 +80,15 @@ fn begin_anew<R: Rows>(
     requires rows { AreRowsOf (R.state rows.old) net.now p.now.bound }
     requires before { EndsBefore (session_of net.now p.now piece.old) layer }
     ensures taken { IfOk result (TakesAnew (session_of net.now p.now piece.old) layer (session_of net.now p.now piece.new)) }
-    ensures err { OnErr result (piece_of piece.new ≡ piece_of piece.old) }
+    ensures err { OnErr result (whole_of piece.new ≡ whole_of piece.old) }
     ensures asks { AsksOnly (R.state rows.old) (R.state rows.new)
         (AsksIn net.now p.now piece.old.layers.items piece.old.tables.items) }
 {
     net.invariants();
     let mut items = closing_items(net, p, rows, piece)?;
-    let index = piece.first + piece.layers.len() as u32;
-    let (begun, more) = begin(piece.alloc, p, index, layer)?;
+    let (begun, more) = begin(piece.tail.alloc, p, end_of(piece), layer)?;
     append_items(&mut items, more)?;
-    *piece = begun;
+    *piece = piece_alone(begun);
     Ok(items)
 }
 
@@ -115,7 +124,7 @@ impl<'n> Online<'n> {
     pub fn count(&self) -> u32
         ensures { result ≡ points_of self.now }
     {
-        self.piece.first + self.piece.layers.len() as u32
+        end_of(&self.piece)
     }
 
     /// Takes the next position, and returns the items that it commits, in the order of the positions. `Err` means
@@ -133,7 +142,7 @@ impl<'n> Online<'n> {
         self.net.invariants();
         let next = next_cells(self.net, &self.params, rows, &self.piece, &layer)?;
         match next {
-            Some(cells) => extend(&mut self.piece, layer, cells),
+            Some(cells) => go_on(&mut self.piece, layer, cells),
             None => begin_anew(self.net, &self.params, rows, &mut self.piece, layer),
         }
     }
@@ -147,7 +156,7 @@ impl<'n> Online<'n> {
         ensures asks { AsksFinished self.old (R.state rows.old) (R.state rows.new) }
     {
         let items = closing_items(self.net, &self.params, rows, &self.piece)?;
-        self.piece = no_piece(self.piece.alloc, 0);
+        self.piece = no_piece(self.piece.tail.alloc, 0);
         Ok(items)
     }
 }

@@ -1,19 +1,22 @@
 -- The open piece of a session, and how it grows.
-use Rattle.std.specs.Prelude.{◌≡◌, ℕ, ◌+◌, ◌<◌, ◌≤◌, List, [], ◌∷◌, ◌++◌, length, vec_len, vec_capacity}
+use Rattle.std.specs.Prelude.{◌≡◌, ℕ, ◌+◌, ◌-◌, ◌^◌, ◌<◌, ◌≤◌, List, [], ◌∷◌, ◌++◌, drop, length, slice_index_or, vec_len, vec_capacity}
 use Rattle.std.specs.List.{All}
 use Rattle.cost_model.specs.declared.params.Params.{Params}
 use Rattle.road_network.specs.Net.{Net}
+use Rattle.road_network.specs.declared.Candidate.{Candidate}
 use Rattle.matching.specs.declared.parts.Cell.{Cell}
 use Rattle.matching.specs.declared.parts.Layer.{Layer}
-use Rattle.matching.specs.Layers.{trellis}
+use Rattle.matching.specs.Layers.{candidate_of_rank, no_candidate, trellis}
 use Rattle.matching.specs.Local.{AreFirst}
-use Rattle.online_commit.specs.declared.feeding.OpenPiece.{OpenPiece}
+use Rattle.route_rebuild.specs.Routes.{no_layer}
+use Rattle.online_commit.specs.declared.feeding.Tail.{Tail}
 use Rattle.online_commit.specs.declared.items.Item.{Item}
 use Rattle.online_commit.specs.declared.items.Item.TheVariants.{Missing}
-use Rattle.online_commit.specs.inside.Masks.{AreMasks, HasFewRanks, mask_after, mask_at}
+use Rattle.online_commit.specs.declared.open_piece.OpenPiece.{OpenPiece}
+use Rattle.online_commit.specs.inside.Masks.{AreMasks, HasFewRanks, IsOnly, mask_after, mask_at}
 use Rattle.online_commit.specs.inside.Steps.{AreSettled, KeptSession}
 
--- what is seen of an open piece: not how much room it has
+-- what is seen of the kept positions of an open piece: not how much room they have
 pub record Piece : Type 0 where
   pub first : ℕ
   pub told : ℕ
@@ -21,7 +24,7 @@ pub record Piece : Type 0 where
   pub tables : List (List Cell)
   pub masks : List ℕ
 
-abbrev pub piece_of : OpenPiece → Piece
+abbrev pub piece_of : Tail → Piece
 piece_of a = record {
   first = a.first;
   told = a.told;
@@ -30,8 +33,31 @@ piece_of a = record {
   masks = a.masks.items;
 }
 
+-- what is seen of an open piece: all its positions, the candidates of those that were let go, and the kept ones
+pub record Whole : Type 0 where
+  pub first : ℕ
+  pub told : ℕ
+  pub layers : List Layer
+  pub tables : List (List Cell)
+  pub settled : List Candidate
+  pub tail : Piece
+
+abbrev pub whole_of : OpenPiece → Whole
+whole_of a = record {
+  first = a.first;
+  told = length a.settled.items + a.tail.told;
+  layers = a.layers.items;
+  tables = a.tables.items;
+  settled = a.settled.items;
+  tail = piece_of a.tail;
+}
+
+-- an open piece of which all positions are kept
+abbrev pub alone : Piece → Whole
+alone a = record { first = a.first; told = a.told; layers = a.layers; tables = a.tables; settled = []; tail = a }
+
 -- the session with this piece
-abbrev pub session_with : Net → Params → Piece → KeptSession
+abbrev pub session_with : Net → Params → Whole → KeptSession
 session_with n p a = record {
   network = n;
   params = p;
@@ -39,13 +65,18 @@ session_with n p a = record {
   told = a.told;
   layers = a.layers;
   tables = a.tables;
-  masks = a.masks;
+  settled = a.settled;
+  kept_first = a.tail.first;
+  kept_told = a.tail.told;
+  kept_layers = a.tail.layers;
+  kept_tables = a.tail.tables;
+  masks = a.tail.masks;
 }
 
 abbrev pub session_of : Net → Params → OpenPiece → KeptSession
-session_of n p a = session_with n p (piece_of a)
+session_of n p a = session_with n p (whole_of a)
 
-pub record HasRoom (a : OpenPiece) : Type 0 where
+pub record HasRoom (a : Tail) : Type 0 where
   pub layers : vec_len a.layers < vec_capacity a.layers
   pub tables : vec_len a.tables < vec_capacity a.tables
   pub masks : vec_len a.masks < vec_capacity a.masks
@@ -85,6 +116,57 @@ pub record IsExtended (old : Piece) (l : Layer) (cells : List Cell) (new : Piece
   pub masks_count : length new.masks ≡ length new.layers
   pub masks : AreMasks new.tables (mask_at new.masks) (length new.layers)
   pub settled : AreSettled new.first new.layers (mask_at new.masks) old.told items
+
+-- the same of the piece as a whole: no position was let go
+pub record IsGrown (old : Whole) (l : Layer) (cells : List Cell) (new : Whole) (items : List Item) : Type 0 where
+  pub tail : IsExtended old.tail l cells new.tail items
+  pub first : new.first ≡ old.first
+  pub told : new.told ≡ old.told + length items
+  pub layers : new.layers ≡ old.layers ++ l ∷ []
+  pub tables : new.tables ≡ old.tables ++ cells ∷ []
+  pub settled : new.settled ≡ old.settled
+
+-- each position that is kept has its layer, its cells and its mask
+pub record IsEven (a : Piece) : Type 0 where
+  pub few : a.first + length a.layers < 2 ^ 32
+  pub tables_count : length a.tables ≡ length a.layers
+  pub masks_count : length a.masks ≡ length a.layers
+  pub told : a.told ≤ length a.layers
+
+-- the candidates of its first `count` positions, which have one rank each, were appended
+pub record AreFirstSettled (a : Piece) (old : List Candidate) (count : ℕ) (new : List Candidate) : Type 0 where
+  pub more : List Candidate
+  pub appended : new ≡ old ++ more
+  pub count_is : length more ≡ count
+  pub each : (i : ℕ) → i < count → (r : ℕ) × IsOnly (mask_at a.masks i) r
+      × (slice_index_or more i no_candidate ≡ candidate_of_rank (slice_index_or a.layers i no_layer) r)
+
+-- the same piece without its first `count` positions
+abbrev pub shorter : Piece → ℕ → Piece
+shorter a count = record {
+  first = a.first + count;
+  told = a.told - count;
+  layers = drop count a.layers;
+  tables = drop count a.tables;
+  masks = drop count a.masks;
+}
+
+-- settled positions were let go, and not the last settled one
+pub record IsLetGo (old new : Whole) : Type 0 where
+  pub count : ℕ
+  pub within : count ≤ old.tail.told - 1
+  pub settled : AreFirstSettled old.tail old.settled count new.settled
+  pub tail : new.tail ≡ shorter old.tail count
+  pub first : new.first ≡ old.first
+  pub told : new.told ≡ old.told
+  pub layers : new.layers ≡ old.layers
+  pub tables : new.tables ≡ old.tables
+
+-- it took the position, and then settled ones were let go
+pub record GoesOn (old : Whole) (l : Layer) (cells : List Cell) (new : Whole) (items : List Item) : Type 0 where
+  pub grown : Whole
+  pub is_grown : IsGrown old l cells grown items
+  pub lets_go : IsLetGo grown new
 
 -- a piece without positions that may begin with position `first`
 abbrev pub empty_piece : ℕ → Piece

@@ -1,15 +1,18 @@
 -- One step of a session: what its parts do, in the words of the session. In this file layers and tables are in the
 -- order of the positions.
-use Rattle.std.specs.Prelude.{◌≡◌, ℕ, ◌+◌, ◌-◌, ◌<◌, ◌≤◌, List, [], ◌∷◌, ◌++◌, Option, Some, None, MatchOption, length, map, reverse, slice_index_or}
+use Rattle.std.specs.Prelude.{◌≡◌, ℕ, ◌+◌, ◌-◌, ◌<◌, ◌≤◌, List, [], ◌∷◌, ◌++◌, Option, Some, None, MatchOption, drop, length, map, reverse, slice_index_or}
 use Rattle.std.specs.List.{All, range_with_len}
 use Rattle.cost_model.specs.declared.params.Params.{Params}
 use Rattle.cost_model.specs.Options.{IsAccepted}
 use Rattle.road_network.specs.Net.{Net}
+use Rattle.road_network.specs.declared.Candidate.{Candidate}
 use Rattle.matching.specs.declared.parts.Cell.{Cell}
 use Rattle.matching.specs.declared.parts.Layer.{Layer}
 use Rattle.matching.specs.declared.parts.Piece.{Piece}
 use Rattle.matching.specs.Committed.{IsCommitted}
-use Rattle.matching.specs.Layers.{candidate_of_rank, trellis}
+use Rattle.matching.specs.Cells.{IsLive}
+use Rattle.matching.specs.Layers.{candidate_of_rank, no_candidate, trellis}
+use Rattle.matching.specs.Local.{by_pointers}
 use Rattle.matching.specs.PieceSteps.{AsksNext, PieceEndsBefore, PieceGoesOn}
 use Rattle.matching.specs.Sequences.{IsBest}
 use Rattle.matching.proofs.PieceSoFar.{IsPieceSoFar}
@@ -20,8 +23,9 @@ use Rattle.online_commit.specs.Items.{edge_ids}
 use Rattle.online_commit.specs.inside.Masks.{AreMasks, HasFewRanks, IsNotOne, IsOnly, mask_at}
 use Rattle.online_commit.specs.Session.{IsFed, IsFedLayer, Session, points_of}
 
--- a session with what it keeps of each position of the open piece: the layer, the cells and the ranks that are
--- still possible
+-- a session with the layers and the cells of all positions of its open piece, and what it keeps of them: of its first
+-- positions the chosen candidates, and of those from `kept_first` on the layer, the cells and the ranks that are still
+-- possible
 pub record KeptSession : Type 0 where
   pub network : Net
   pub params : Params
@@ -29,16 +33,35 @@ pub record KeptSession : Type 0 where
   pub told : ℕ
   pub layers : List Layer
   pub tables : List (List Cell)
+  pub settled : List Candidate
+  pub kept_first : ℕ
+  pub kept_told : ℕ
+  pub kept_layers : List Layer
+  pub kept_tables : List (List Cell)
   pub masks : List ℕ
 
 -- what contracts see of it
 abbrev pub seen : KeptSession → Session
 seen s = record { network = s.network; params = s.params; first = s.first; told = s.told; layers = s.layers }
 
--- the open piece: its tables, its masks and what is committed of it
-pub record IsOpen (s : KeptSession) : Type 0 where
-  pub so_far : IsPieceSoFar s.network s.params s.layers s.tables
-  pub masks : AreMasks s.tables (mask_at s.masks) (length s.layers)
+-- of each sequence that pointers lead to from a live rank of the last position, these are the candidates of the first
+-- positions
+abbrev pub AreChosen : List Layer → List (List Cell) → List Candidate → Type 0
+AreChosen layers tables settled =
+    (j i : ℕ) → IsLive (slice_index_or tables (length tables - 1) []) j → i < length settled
+    → slice_index_or settled i no_candidate ≡ candidate_of_rank (slice_index_or layers i no_layer)
+    (slice_index_or (reverse (by_pointers (reverse tables) (Some j))) i 0)
+
+-- what it keeps of its open piece
+pub record IsKeptOf (s : KeptSession) : Type 0 where
+  pub within : length s.settled ≤ length s.layers - 1
+  pub first : s.kept_first ≡ s.first + length s.settled
+  pub told : s.told ≡ length s.settled + s.kept_told
+  pub layers : s.kept_layers ≡ drop (length s.settled) s.layers
+  pub tables : s.kept_tables ≡ drop (length s.settled) s.tables
+  pub masks_count : length s.masks ≡ length s.kept_layers
+  pub masks : 0 < length s.kept_layers → AreMasks s.kept_tables (mask_at s.masks) (length s.kept_layers)
+  pub chosen : AreChosen s.layers s.tables s.settled
 
 -- what a session always keeps
 pub record IsSession (s : KeptSession) : Type 0 where
@@ -47,8 +70,8 @@ pub record IsSession (s : KeptSession) : Type 0 where
   pub layers : All (IsFedLayer s.network s.params) s.layers
   pub ranks : All HasFewRanks s.tables
   pub tables_count : length s.tables ≡ length s.layers
-  pub masks_count : length s.masks ≡ length s.layers
-  pub open_is : 0 < length s.layers → IsOpen s
+  pub open_is : 0 < length s.layers → IsPieceSoFar s.network s.params s.layers s.tables
+  pub kept : IsKeptOf s
   pub front : IsCommitted (trellis s.network s.params) (reverse s.layers) s.told
 
 -- the last position of the open piece, and its cells
@@ -100,6 +123,15 @@ pub record AreSettled (first : ℕ) (layers : List Layer) (mask : ℕ → ℕ) (
 
 abbrev pub rank_in : List ℕ → ℕ → ℕ
 rank_in ranks j = slice_index_or ranks j 0
+
+-- the candidates of settled positions, and of the first `count` of those after them, which have these layers and ranks
+pub record AreAllChosen (settled : List Candidate) (layers : List Layer) (ranks : List ℕ) (count : ℕ)
+    (chosen : List Candidate) : Type 0 where
+  pub count_is : length chosen ≡ length settled + count
+  pub old : (i : ℕ) → i < length settled
+      → slice_index_or chosen i no_candidate ≡ slice_index_or settled i no_candidate
+  pub new : (i : ℕ) → i < count → slice_index_or chosen (length settled + i) no_candidate
+      ≡ candidate_of_rank (slice_index_or layers i no_layer) (rank_in ranks i)
 
 -- ranks that all positions of a piece have
 abbrev pub as_ranks : List ℕ → List (Option ℕ)
