@@ -34,10 +34,11 @@ NO_TESTS = 5  # the status of pytest if it ran none, since all were left out or 
 # stand together share what takes long to start or to make: a browser, a server of databases, a simulated fleet. The others, which
 # are short, come last, FEW together.
 TOGETHER = (
-    ("test_types.py",), ("test_map_browser.py", "test_service_files.py", "test_service_live.py"), ("test_service.py",),
+    ("test_types.py",), ("test_feed_broker.py",), ("test_service.py",),
+    ("test_map_browser.py", "test_service_files.py", "test_service_live.py"), ("test_track.py",),
     ("test_qgis.py",), ("test_to_postgis.py", "test_track_postgis.py", "test_pages.py"), ("test_run.py",),
-    ("test_stops.py", "test_matches.py"), ("test_groups.py", "test_exports.py"), ("test_track.py",), ("test_track_broker.py",),
-    ("test_feed_broker.py",), ("test_attacks.py",), ("test_map.py",), ("test_feed.py",), ("test_match_text.py",),
+    ("test_stops.py", "test_matches.py"), ("test_groups.py", "test_exports.py"), ("test_track_broker.py",),
+    ("test_attacks.py",), ("test_map.py",), ("test_feed.py",), ("test_match_text.py",),
     ("test_restrictions.py", "test_osm.py"), ("test_extract.py",), ("test_suggestions.py",))
 FEW = 6
 
@@ -132,7 +133,7 @@ def preload() -> None:
 def main() -> int:
     """Runs the files that the words name."""
     parser = argparse.ArgumentParser(prog="tests/python", description="Runs tests of the Python package.")
-    parser.add_argument("--jobs", type=int, default=int(os.environ.get("JOBS", 0)) or os.cpu_count(),
+    parser.add_argument("--jobs", type=int, default=int(os.environ.get("JOBS", 0)) or (os.cpu_count() or 1) + 2,
                         help="how many processes at once (%(default)s)")
     parser.add_argument("--times", action="store_true", help="say the seconds of each process: of processors, and of the clock")
     parser.add_argument("files", nargs="*", metavar="FILE", help="a file of python/tests; all by default")
