@@ -21,7 +21,7 @@ use Rattle.match_text.specs.declared.matched.Routed.{Routed}
 use Rattle.route_rebuild.proofs.ChosenRun.{length_between, point_chosen}
 use Rattle.cert_checker.specs.Case.{Case, has_row, layer, rank, table, width}
 use Rattle.cert_checker.specs.Cells.{pointer_of}
-use Rattle.cert_checker.specs.Verdicts.{piece_of}
+use Rattle.cert_checker.specs.Verdicts.{piece_without_route}
 use Rattle.cert_checker.proofs.PieceTests.{IsIn, no_piece, piece_filled, piece_no}
 use Rattle.cert_checker.proofs.PointConditions.{IsLookedAt, IsRankOf}
 use Rattle.cert_checker.proofs.CellTests.{IsLeastRank}
@@ -87,7 +87,7 @@ least_cell cells r v h = record {
 same_some : (a b : ℕ) → ◌≡◌ {A = Option ℕ} (Some a) (Some b) → a ≡ b
 same_some a b e = cc
 
-held_matched : (c : Case) (k : ℕ) → IsHeld c → k < length c.proof.pieces → IsMatchedPiece (trellis_of c) c.layers c.proof.ranks c.proof.tables (piece_of (piece_no c.proof.pieces k))
+held_matched : (c : Case) (k : ℕ) → IsHeld c → k < length c.proof.pieces → IsMatchedPiece (trellis_of c) c.layers c.proof.ranks c.proof.tables (piece_without_route (piece_no c.proof.pieces k))
 held_matched c k h lt =
     let t = trellis_of c in
     let q = piece_no c.proof.pieces k in
@@ -154,8 +154,8 @@ held_is_match c h =
       ranks_count = ranks;
       tables_count = held_tables c h;
       pieces_are = held_pieces c h;
-      each = All-map (λ (p : Piece). IsMatchedPiece (trellis_of c) c.layers c.proof.ranks c.proof.tables p) piece_of c.proof.pieces
-          (λ k d lt. subst (λ (q : Routed). IsMatchedPiece (trellis_of c) c.layers c.proof.ranks c.proof.tables (piece_of q)) (get_or_default c.proof.pieces k no_piece d lt) (held_matched c k h lt));
+      each = All-map (λ (p : Piece). IsMatchedPiece (trellis_of c) c.layers c.proof.ranks c.proof.tables p) piece_without_route c.proof.pieces
+          (λ k d lt. subst (λ (q : Routed). IsMatchedPiece (trellis_of c) c.layers c.proof.ranks c.proof.tables (piece_without_route q)) (get_or_default c.proof.pieces k no_piece d lt) (held_matched c k h lt));
       missing = λ i l lt l-is none.
           let at = (h.each i lt).candidates in
           let few : width c i ≡ 0 = ap (trellis_of c).width (sym (l-is ∙ layer_is c i l lt)) ∙ none in (
@@ -172,10 +172,10 @@ same_at xs i x y p q = p.is ∙ get_or_default xs i x y p.below ∙ sym q.is
 held_asked : (c : Case) → IsHeld c → (v : ℕ) → AsksTrace c.net c.params c.layers (pieces_of c.proof.pieces) v → has_row c.rows v ≡ true
 held_asked c h v (p, among, asked) =
     let k = among.0 in
-    let long = length-map c.proof.pieces piece_of in
+    let long = length-map c.proof.pieces piece_without_route in
     let k_in : k < length c.proof.pieces = omega (arith, among.1, long) in
     let q = piece_no c.proof.pieces k in
-    let same : p ≡ piece_of q = sym among.2 ∙ get_or_default (pieces_of c.proof.pieces) k p (piece_of no_piece) among.1 ∙ piece_there c.proof.pieces k k_in in
+    let same : p ≡ piece_without_route q = sym among.2 ∙ get_or_default (pieces_of c.proof.pieces) k p (piece_without_route no_piece) among.1 ∙ piece_there c.proof.pieces k k_in in
     let run = held_run c k h k_in in
     let tables = run.tables in
     let inside = run.inside in

@@ -21,7 +21,7 @@ use Rattle.route_rebuild.proofs.ChosenRun.{length_between}
 use Rattle.cert_checker.specs.Case.{Case, layer, rank, table, width}
 use Rattle.cert_checker.specs.Cells.{pointer_of}
 use Rattle.cert_checker.specs.Pieces.{begins, goes_on, is_in_any}
-use Rattle.cert_checker.specs.Verdicts.{piece_of}
+use Rattle.cert_checker.specs.Verdicts.{piece_without_route}
 use Rattle.cert_checker.proofs.ListTests.{IsThere}
 use Rattle.cert_checker.proofs.PieceTests.{IsIn, IsLater, begun, gone_on, in_any, no_piece, one_piece, piece_no}
 use Rattle.cert_checker.proofs.PointConditions.{AreCandidates, AreFirstCells, AreLeast, AtBreak, BreaksRight, HasRows, IsLookedAt, IsRankOf, PointHolds}
@@ -82,9 +82,9 @@ asked_there c i a h lt look live =
         asks = record { some = look.1.1.0; near = look.1.1.1; asks = (a, (refl, live)) };
       },
     ) in (
-      piece_of q,
-      (there.0, omega (arith, there.1, length-map c.proof.pieces piece_of), get_or-map piece_of c.proof.pieces there.0 no_piece (piece_of q) there.1),
-      asked_in c.net c.params c.layers q.first (tables_in c q) (piece_of q) v run.run refl (omega (arith, count, filled)) asks,
+      piece_without_route q,
+      (there.0, omega (arith, there.1, length-map c.proof.pieces piece_without_route), get_or-map piece_without_route c.proof.pieces there.0 no_piece (piece_without_route q) there.1),
+      asked_in c.net c.params c.layers q.first (tables_in c q) (piece_without_route q) v run.run refl (omega (arith, count, filled)) asks,
     )
 
 rows_hold : (c : Case) (i : ℕ) → IsMatchOf c → i < length c.layers → HasRows c i

@@ -21,7 +21,7 @@ use Rattle.route_rebuild.specs.Routes.{route_of}
 use Rattle.trace_match.specs.Match.{asks, layers_of, match_of, routed_of, solution_of}
 use Rattle.potential_certificate.specs.declared.proof.TraceProof.{TraceProof}
 use Rattle.cert_checker.specs.Laws.{HasAskedRows, IsProofOf}
-use Rattle.cert_checker.specs.Verdicts.{case_of, piece_of}
+use Rattle.cert_checker.specs.Verdicts.{case_of, piece_without_route}
 use Rattle.cert_checker.proofs.PieceTests.{no_piece, piece_no}
 use Rattle.cert_checker.proofs.MatchedCases.{IsMatchOf, pieces_of}
 
@@ -36,7 +36,7 @@ pieces_are n p trace = refl
 -- each piece has its route
 abbrev HaveRoutes : Net → Params → List Layer → List (Option ℕ) → List Routed → Type 0
 HaveRoutes n p layers ranks pieces =
-    (k : ℕ) → k < length pieces → (piece_no pieces k).route ≡ map (edge_name n) (route_of n p layers ranks (piece_of (piece_no pieces k)))
+    (k : ℕ) → k < length pieces → (piece_no pieces k).route ≡ map (edge_name n) (route_of n p layers ranks (piece_without_route (piece_no pieces k)))
 
 unrouted : (n : Net) (p : Params) (layers : List Layer) (ranks : List (Option ℕ)) (pieces : List Piece) → pieces_of (map (routed_of n p layers ranks) pieces) ≡ pieces
 unrouted n p layers ranks [] = refl
@@ -46,9 +46,9 @@ have_routes : (n : Net) (p : Params) (layers : List Layer) (ranks : List (Option
 have_routes n p layers ranks pieces k lt =
     let none : Piece = record { first = 0; last = 0; cost = 0 } in
     let e = get_or-map (routed_of n p layers ranks) pieces k none no_piece (omega (arith, lt, length-map pieces (routed_of n p layers ranks))) in
-    subst (λ (q : Routed). q.route ≡ map (edge_name n) (route_of n p layers ranks (piece_of q))) (sym e) refl
+    subst (λ (q : Routed). q.route ≡ map (edge_name n) (route_of n p layers ranks (piece_without_route q))) (sym e) refl
 
-routed_is : (n : Net) (p : Params) (layers : List Layer) (ranks : List (Option ℕ)) (q : Routed) → q.route ≡ map (edge_name n) (route_of n p layers ranks (piece_of q)) → q ≡ routed_of n p layers ranks (piece_of q)
+routed_is : (n : Net) (p : Params) (layers : List Layer) (ranks : List (Option ℕ)) (q : Routed) → q.route ≡ map (edge_name n) (route_of n p layers ranks (piece_without_route q)) → q ≡ routed_of n p layers ranks (piece_without_route q)
 routed_is n p layers ranks q e i = record { first = q.first; last = q.last; cost = q.cost; route = e i }
 
 rerouted : (n : Net) (p : Params) (layers : List Layer) (ranks : List (Option ℕ)) (pieces : List Routed) → HaveRoutes n p layers ranks pieces
@@ -56,7 +56,7 @@ rerouted : (n : Net) (p : Params) (layers : List Layer) (ranks : List (Option �
 rerouted n p layers ranks [] h = refl
 rerouted n p layers ranks (q ∷ pieces) h =
     ap (λ x. x ∷ pieces) (routed_is n p layers ranks q (h 0 (omega arith)))
-    ∙ ap (λ ps. routed_of n p layers ranks (piece_of q) ∷ ps) (rerouted n p layers ranks pieces (λ k lt. h (suc k) (omega (arith, lt))))
+    ∙ ap (λ ps. routed_of n p layers ranks (piece_without_route q) ∷ ps) (rerouted n p layers ranks pieces (λ k lt. h (suc k) (omega (arith, lt))))
 
 pub asks_are : (n : Net) (p : Params) (trace : Trace) (v : ℕ) → asks n p trace v ≡ is_asked_node (trellis n p) (end_of n) (layers_of n p trace) (solution_of n p trace).pieces v
 unfolding asks

@@ -17,14 +17,14 @@ use Rattle.trellis.specs.declared.parts.Solved.{Solved}
 use Rattle.trace_match.proofs.Points.{point_lies}
 use Rattle.trace_match.proofs.Ranks.{are_ranked}
 use Rattle.cert_checker.specs.Case.{Case, has_row, layer, rank, width}
-use Rattle.cert_checker.specs.Verdicts.{piece_of}
+use Rattle.cert_checker.specs.Verdicts.{piece_without_route}
 use Rattle.cert_checker.proofs.PieceTests.{IsIn, RisesFrom, no_piece, piece_no}
 use Rattle.cert_checker.proofs.RunPoints.{IsRunOf, layers_from, tables_in, trellis_of}
 use Rattle.cert_checker.proofs.PieceConditions.{HasItsRoute}
 
 -- the pieces without their routes
 abbrev pub pieces_of : List Routed → List Piece
-pieces_of pieces = map piece_of pieces
+pieces_of pieces = map piece_without_route pieces
 
 -- what a case stands on
 abbrev pub IsGroundOf : Case → Type 0
@@ -47,14 +47,14 @@ piece_is t layers n (q ∷ pieces) zero are lt = (are.3, are.2)
 piece_is t layers n (q ∷ pieces) (suc k) are lt = piece_is t layers (q.last + 1) pieces k are.4 (omega (arith, lt))
 
 -- piece number k without its route
-pub piece_there : (pieces : List Routed) (k : ℕ) → k < length pieces → get_or (pieces_of pieces) k (piece_of no_piece) ≡ piece_of (piece_no pieces k)
-piece_there pieces k lt = get_or-map piece_of pieces k no_piece (piece_of no_piece) lt
+pub piece_there : (pieces : List Routed) (k : ℕ) → k < length pieces → get_or (pieces_of pieces) k (piece_without_route no_piece) ≡ piece_without_route (piece_no pieces k)
+piece_there pieces k lt = get_or-map piece_without_route pieces k no_piece (piece_without_route no_piece) lt
 
 pub matched_piece : (c : Case) (k : ℕ) → IsMatchOf c → k < length c.proof.pieces
-    → IsMatchedPiece (trellis_of c) c.layers c.proof.ranks c.proof.tables (piece_of (piece_no c.proof.pieces k))
+    → IsMatchedPiece (trellis_of c) c.layers c.proof.ranks c.proof.tables (piece_without_route (piece_no c.proof.pieces k))
 matched_piece c k h lt =
     subst (λ (p : Piece). IsMatchedPiece (trellis_of c) c.layers c.proof.ranks c.proof.tables p) (piece_there c.proof.pieces k lt)
-    (h.matched.each k (piece_of no_piece) (omega (arith, lt, length-map c.proof.pieces piece_of)))
+    (h.matched.each k (piece_without_route no_piece) (omega (arith, lt, length-map c.proof.pieces piece_without_route)))
 
 pub run_of : (c : Case) (k : ℕ) → IsMatchOf c → k < length c.proof.pieces → IsRunOf c (piece_no c.proof.pieces k)
 run_of c k h lt =
@@ -84,7 +84,7 @@ pub point_in : (c : Case) (i : ℕ) → IsMatchOf c → i < length c.layers → 
 point_in c i h lt some =
     let lies = point_lies (trellis_of c) c.layers 0 (pieces_of c.proof.pieces) i no_layer h.matched.pieces_are (omega arith) lt some in
     let below = lies.1.below in
-    let k_in : lies.0 < length c.proof.pieces = omega (arith, below, length-map c.proof.pieces piece_of) in
+    let k_in : lies.0 < length c.proof.pieces = omega (arith, below, length-map c.proof.pieces piece_without_route) in
     let same = piece_there c.proof.pieces lies.0 k_in in
     (lies.0, k_in, (subst (λ (p : Piece). p.first ≤ i) same lies.1.after_first, subst (λ (p : Piece). i ≤ p.last) same lies.1.to_last))
 

@@ -12,7 +12,7 @@ use Rattle.match_text.specs.declared.matched.Routed.{Routed}
 use Rattle.route_rebuild.specs.Routes.{route_of}
 use Rattle.cert_checker.specs.Case.{Case, rank, table}
 use Rattle.cert_checker.specs.Cells.{is_least_rank, pointer_of}
-use Rattle.cert_checker.specs.Verdicts.{follows_pointers, has_route, is_chosen, each_ended, piece_of}
+use Rattle.cert_checker.specs.Verdicts.{follows_pointers, has_route, is_chosen, each_ended, piece_without_route}
 use Rattle.cert_checker.proofs.ListTests.{each_below_n, each_element, implied, same_options}
 use Rattle.cert_checker.proofs.CellTests.{IsLeastRank, is_least, least_rank}
 use Rattle.cert_checker.proofs.PieceTests.{no_piece, piece_no}
@@ -52,11 +52,11 @@ chosen c q =
 
 -- the route is that of the piece
 abbrev pub HasItsRoute : Case → Routed → Type 0
-HasItsRoute c q = q.route ≡ map (edge_name c.net) (route_of c.net c.params c.layers c.proof.ranks (piece_of q))
+HasItsRoute c q = q.route ≡ map (edge_name c.net) (route_of c.net c.params c.layers c.proof.ranks (piece_without_route q))
 
 pub routed : (c : Case) (q : Routed) → Decides (has_route c q) (HasItsRoute c q)
 routed c q =
-    slice_eq-Decides (λ a b. Decides-eqb a b) q.route (map (edge_name c.net) (route_of c.net c.params c.layers c.proof.ranks (piece_of q))) (has_route c q) refl
+    slice_eq-Decides (λ a b. Decides-eqb a b) q.route (map (edge_name c.net) (route_of c.net c.params c.layers c.proof.ranks (piece_without_route q))) (has_route c q) refl
 
 -- a test of each piece that ends with point i
 abbrev pub EachEnded : (Routed → Type 0) → Case → ℕ → Type 0

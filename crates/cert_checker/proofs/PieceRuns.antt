@@ -19,13 +19,13 @@ use Rattle.matching.specs.Routes.{HasNoRoute}
 use Rattle.matching.proofs.Costs.{added-parts}
 use Rattle.matching.proofs.RouteLengths.{length_of_route-none}
 use Rattle.match_text.specs.declared.matched.Routed.{Routed}
-use Rattle.route_rebuild.specs.Chosen.{IsChosenPoint}
+use Rattle.route_rebuild.specs.inside.ChosenRuns.{IsChosenPoint}
 use Rattle.cert_checker.specs.Case.{Case, has_row, has_way, is_looked_at, layer, rank, table, way, ways, width}
-use Rattle.cert_checker.specs.inside.CaseSeen.{IsCheckable, IsReady}
+use Rattle.cert_checker.specs.inside.CaseSeen.{IsCheckable, IsPositionReady}
 use Rattle.cert_checker.specs.Cells.{is_cost, is_least_rank, is_tight, is_tight_by, pointer_of}
 use Rattle.cert_checker.specs.inside.Checked.{HasCells, IsAtEnd}
 use Rattle.cert_checker.specs.inside.InHand.{HasPoint, IsEnding}
-use Rattle.cert_checker.specs.inside.Legs.{IsRoutable, chosen_in}
+use Rattle.cert_checker.specs.inside.Legs.{IsRoutable, chosen_in_case}
 use Rattle.cert_checker.specs.Pieces.{begins, goes_on, is_in_any}
 use Rattle.cert_checker.specs.Verdicts.{breaks_right, each_below, has_candidates, is_chosen, is_rank_of}
 use Rattle.cert_checker.proofs.EachBelow.{each_at}
@@ -125,7 +125,7 @@ way_at c i a j s is =
     (cases_lt a (width c (i - 1)))
 
 -- the chosen candidate of a point by its rank
-chosen_by : (c : Case) (i : ℕ) (h : IsLiveAt c i) → chosen_in c i ≡ candidate_of_rank (layer c i) h.rank
+chosen_by : (c : Case) (i : ℕ) (h : IsLiveAt c i) → chosen_in_case c i ≡ candidate_of_rank (layer c i) h.rank
 chosen_by c i h = ap (λ o. candidate_of_rank (layer c i) (unwrap_or o 0)) h.rank-is
 
 not_none : (o : Option ℕ) (f : ℕ → ℕ) (w : ℕ) → option_map f o ≡ Some w → o ≡ None → ⊥
@@ -135,7 +135,7 @@ not_none (Some x) f w h e = cc
 -- the point before, where the chosen cell of this one points
 record IsLiveBefore (c : Case) (i : ℕ) : Type 0 where
   pub live : IsLiveAt c (i - 1)
-  pub routed : HasNoRoute c.net c.params.bound c.params.back (chosen_in c (i - 1)) (chosen_in c i) → ⊥
+  pub routed : HasNoRoute c.net c.params.bound c.params.back (chosen_in_case c (i - 1)) (chosen_in_case c i) → ⊥
 
 live_before : (c : Case) (i0 i : ℕ) (q : Routed) → IsLawful c.net → HasPoint c.proof.pieces i0 q → q.first < i → i ≤ q.last
     → HasCells c i → is_pointed_to c (i - 1) ≡ true → IsLiveAt c i → IsLiveBefore c i
@@ -160,7 +160,7 @@ live_before c i0 i q lawful has lt le cells points here =
       live = live;
       routed = λ none.
           let other : HasNoRoute c.net c.params.bound c.params.back from to = subst (λ x. HasNoRoute c.net c.params.bound c.params.back x to) (chosen_by c (i - 1) live)
-          (subst (λ x. HasNoRoute c.net c.params.bound c.params.back (chosen_in c (i - 1)) x) (chosen_by c i here) none) in
+          (subst (λ x. HasNoRoute c.net c.params.bound c.params.back (chosen_in_case c (i - 1)) x) (chosen_by c i here) none) in
           not_none (length_of_route c.net c.params.bound c.params.back from to) move parts.second parts.second-is (length_of_route-none c.net c.params.bound c.params.back from to lawful other);
     }
 
@@ -203,26 +203,26 @@ chosen_is_point c i below has live = record {
   among = subst (λ o. unwrap_or o 0 < width c i) (sym live.rank-is) live.among;
 }
 
-chosen_is_candidate : (c : Case) (i : ℕ) → IsCheckable c → i < length c.layers → IsLiveAt c i → IsCandidate c.net c.params (chosen_in c i)
+chosen_is_candidate : (c : Case) (i : ℕ) → IsCheckable c → i < length c.layers → IsLiveAt c i → IsCandidate c.net c.params (chosen_in_case c i)
 chosen_is_candidate c i checkable below live =
     subst (IsCandidate c.net c.params) (sym (chosen_by c i live)) ((point_layer c i checkable below).candidates live.rank no_candidate live.among)
 
 -- from point i to the next there is a route
-routed_on : (c : Case) (q : Routed) (i : ℕ) → IsCheckedPiece c q → q.first ≤ i → i < q.last → HasNoRoute c.net c.params.bound c.params.back (chosen_in c i) (chosen_in c (i + 1)) → ⊥
+routed_on : (c : Case) (q : Routed) (i : ℕ) → IsCheckedPiece c q → q.first ≤ i → i < q.last → HasNoRoute c.net c.params.bound c.params.back (chosen_in_case c i) (chosen_in_case c (i + 1)) → ⊥
 routed_on c q i h ge lt none =
     let e : i + 1 - 1 ≡ i = omega arith in
     let here = live_in c q (i + 1) h (omega (arith, ge)) (omega (arith, lt)) in
     let points : is_pointed_to c (i + 1 - 1) ≡ true = ap (is_pointed_to c) e ∙ pointed c q i h.chosen ge lt in
     let before = live_before c q.last (i + 1) q h.lawful h.has (omega (arith, ge)) (omega (arith, lt)) (h.points (i + 1) (omega (arith, lt))) points here in
-    before.routed (subst (λ k. HasNoRoute c.net c.params.bound c.params.back (chosen_in c k) (chosen_in c (i + 1))) (sym e) none)
+    before.routed (subst (λ k. HasNoRoute c.net c.params.bound c.params.back (chosen_in_case c k) (chosen_in_case c (i + 1))) (sym e) none)
 
 -- and the row of the node at the end of its chosen edge is there
-row_on : (c : Case) (q : Routed) (i : ℕ) → IsCheckedPiece c q → q.first ≤ i → i < q.last → has_row c.rows (target c.net (chosen_in c i).edge.0) ≡ true
+row_on : (c : Case) (q : Routed) (i : ℕ) → IsCheckedPiece c q → q.first ≤ i → i < q.last → has_row c.rows (target c.net (chosen_in_case c i).edge.0) ≡ true
 row_on c q i h ge lt =
     let e : i + 1 - 1 ≡ i = omega arith in
     let live : IsLiveAt c (i + 1 - 1) = subst (IsLiveAt c) (sym e) (live_in c q i h ge (omega (arith, lt))) in
     let below = h.below in
-    let ready : IsReady c (i + 1) = record {
+    let ready : IsPositionReady c (i + 1) = record {
       checkable = h.checkable;
       below = omega (arith, lt, below);
       looked = is_looked c q.last (i + 1) q h.has (omega (arith, ge)) (omega (arith, lt)) (h.points (i + 1) (omega (arith, lt)));
@@ -231,7 +231,7 @@ row_on c q i h ge lt =
       rows = (h.points (i + 1) (omega (arith, lt))).rows;
     } in
     let there : has_row c.rows (end_of c.net (layer c (i + 1 - 1)) live.rank) ≡ true = row_there c (i + 1) ready live.rank live.cost live.among live.live in
-    subst (λ k. has_row c.rows (target c.net (chosen_in c k).edge.0) ≡ true) e
+    subst (λ k. has_row c.rows (target c.net (chosen_in_case c k).edge.0) ≡ true) e
     (ap (λ (x : Candidate). has_row c.rows (target c.net x.edge.0)) (chosen_by c (i + 1 - 1) live) ∙ there)
 
 pub piece_routable : (c : Case) (q : Routed) → IsCheckedPiece c q → IsRoutable c q

@@ -22,11 +22,11 @@ use Rattle.match_text.specs.declared.matched.Routed.{Routed}
 use Rattle.route_rebuild.specs.Routes.{no_layer, route_of}
 use Rattle.trace_match.specs.Match.{labels_of, layer_of, layers_of, match_of}
 use Rattle.trace_match.proofs.Lawful.{match_lawful}
-use Rattle.potential_certificate.specs.HasText.{ArePoints, IsCell, IsCellWord, IsPoint, IsProof, label_of}
+use Rattle.potential_certificate.specs.HasText.{ArePoints, IsCellValue, IsCellWord, IsPoint, IsProof, label_of_proof}
 use Rattle.potential_certificate.specs.declared.proof.TraceProof.{TraceProof}
 use Rattle.cert_checker.specs.Case.{Case, layer, rank, table, way, width}
 use Rattle.cert_checker.specs.Laws.{HasAskedRows, IsProofOf}
-use Rattle.cert_checker.specs.Verdicts.{case_of, piece_of}
+use Rattle.cert_checker.specs.Verdicts.{case_of, piece_without_route}
 use Rattle.cert_checker.proofs.PieceTests.{piece_no}
 use Rattle.cert_checker.proofs.PointConditions.{IsRankOf}
 use Rattle.cert_checker.proofs.RunPoints.{first_of, later_of, trellis_of}
@@ -39,7 +39,7 @@ use Rattle.cert_checker.proofs.RisingRows.{rows_where_has}
 
 -- ---- points
 
-cells_by_place : (cells : List Cell) → ((j : ℕ) → j < length cells → IsCell (cell_at cells j)) → AllByRecursion IsCell cells
+cells_by_place : (cells : List Cell) → ((j : ℕ) → j < length cells → IsCellValue (cell_at cells j)) → AllByRecursion IsCellValue cells
 cells_by_place [] h = tt
 cells_by_place (cell ∷ cells) h = (h 0 (omega arith), cells_by_place cells (λ j lt. h (suc j) (omega (arith, lt))))
 
@@ -47,7 +47,7 @@ no_cells : (cells : List Cell) → length cells ≡ 0 → cells ≡ []
 no_cells [] e = refl
 no_cells (cell ∷ cells) e = absurd (omega (arith, e))
 
-point_by_cells : (w : ℕ) (o : Option ℕ) (cells : List Cell) → IsRankOf w o → length cells ≡ w → w ≤ 32 → ((j : ℕ) → j < length cells → IsCell (cell_at cells j)) → IsPoint o cells
+point_by_cells : (w : ℕ) (o : Option ℕ) (cells : List Cell) → IsRankOf w o → length cells ≡ w → w ≤ 32 → ((j : ℕ) → j < length cells → IsCellValue (cell_at cells j)) → IsPoint o cells
 point_by_cells w None cells of count few h = no_cells cells (count ∙ of)
 point_by_cells w (Some r) cells of count few h = (omega (arith, of, count), omega (arith, count, few), cells_by_place cells h)
 
@@ -70,7 +70,7 @@ later_word ways n limit (Some b) (Some a) h few small low =
     let le = small b refl in
     (omega (arith, le, low), omega (arith, at, few))
 
-cell_of_point : (c : Case) (i j : ℕ) → IsGroundOf c → IsMatchOf c → ((i : ℕ) → width c i ≤ 32) → i < length c.layers → j < width c i → IsCell (cell_at (table c i) j)
+cell_of_point : (c : Case) (i j : ℕ) → IsGroundOf c → IsMatchOf c → ((i : ℕ) → width c i ≤ 32) → i < length c.layers → j < width c i → IsCellValue (cell_at (table c i) j)
 cell_of_point c i j ground h few lt j_in =
     let there = point_in c i h lt (omega (arith, j_in)) in
     let q = piece_no c.proof.pieces there.0 in
@@ -91,7 +91,7 @@ cell_of_point c i j ground h few lt j_in =
     let cell-is = is j j_in in
     let b = (trellis_of c).emission (layer c i) j in
     let le_b : b ≤ limit = small j b (ap (λ (cell : Cell). cell.cost) cell-is) in
-    subst IsCell (sym cell-is) (omega (arith, le_b, low), tt))
+    subst IsCellValue (sym cell-is) (omega (arith, le_b, low), tt))
     (cases_lt q.first i)
 
 point_of_case : (c : Case) (i : ℕ) → IsGroundOf c → IsMatchOf c → ((i : ℕ) → width c i ≤ 32) → i < length c.layers → IsPoint (rank c i) (table c i)
@@ -134,14 +134,14 @@ piece_fits c k ground h names lt =
       last = omega (arith, inside, all);
       cost = omega (arith, small, inside, all);
       route = subst (λ (route : List ℕ). AllByRecursion (λ name. name < 2 ^ 32) route) (sym (h.routes k lt))
-          (names_short c.net (route_of c.net c.params c.layers c.proof.ranks (piece_of q)) names);
+          (names_short c.net (route_of c.net c.params c.layers c.proof.ranks (piece_without_route q)) names);
     }
 
 -- ---- labels
 
 -- the same points lie on roads
 same_roads : (n : Net) (layers : List Layer) (ranks : List (Option ℕ)) → length ranks ≡ length layers → (i : ℕ)
-    → IsMatched (map label_of ranks) i ↔ IsMatched (labels_of n layers ranks) i
+    → IsMatched (map label_of_proof ranks) i ↔ IsMatched (labels_of n layers ranks) i
 same_roads n [] [] e i = (λ h. h, λ h. h)
 same_roads n [] (rank ∷ ranks) e i = absurd (omega (arith, e))
 same_roads n (l ∷ layers) [] e i = absurd (omega (arith, e))
@@ -187,7 +187,7 @@ proof_has_text n p trace proof lawful accepted fixes names id is =
           λ covered. (same_roads n layers proof.ranks ranks i).1 (subst (λ (rs : List (Option ℕ)). IsMatched (labels_of n layers rs) i) (sym is.ranks) ((found.lawful.covers i).1 (subst (λ (ps : List Routed). IsCovered ps i) is.pieces covered))),
         );
         routes = subst (λ (ps : List Routed). AllByRecursion (λ piece. piece.route ≢ []) ps) (sym is.pieces) found.lawful.routes;
-        few = let some = fixes.few in omega (arith, length-map proof.ranks label_of, ranks, count, some);
+        few = let some = fixes.few in omega (arith, length-map proof.ranks label_of_proof, ranks, count, some);
       };
       id = id;
       pieces_fit = pieces_by_place proof.pieces (λ k lt. piece_fits c k ground h names lt);

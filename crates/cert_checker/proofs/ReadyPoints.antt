@@ -7,7 +7,7 @@ use Rattle.matching.specs.Cells.{cell_at}
 use Rattle.matching.specs.Layers.{AreNeighbours, IsLayer, end_of}
 use Rattle.route_rebuild.specs.Routes.{no_layer}
 use Rattle.cert_checker.specs.Case.{Case, has_row, is_looked_at, layer, table, width}
-use Rattle.cert_checker.specs.inside.CaseSeen.{IsCheckable, IsReady}
+use Rattle.cert_checker.specs.inside.CaseSeen.{IsCheckable, IsPositionReady}
 use Rattle.cert_checker.specs.inside.Columns.{has_row_of}
 use Rattle.cert_checker.specs.Verdicts.{each_below, has_candidates}
 use Rattle.cert_checker.proofs.EachBelow.{each_at}
@@ -27,7 +27,7 @@ or_from : (a b : Bool) → (not a || b) ≡ true → a ≡ true → b ≡ true
 or_from true b h e = h
 or_from false b h e = absurd (true≢false (sym e))
 
-module _ (c : Case) (i : ℕ) (ready : IsReady c i) where
+module _ (c : Case) (i : ℕ) (ready : IsPositionReady c i) where
   pub is_later : 0 < i
   is_later = ltb-true 0 i (both_true (nat_lt 0 i) _ ready.looked).0
 

@@ -12,7 +12,7 @@ use Rattle.bounded_table.proofs.RowValues.{row_of_is}
 use Rattle.road_network.specs.Net.{HasNode, IsLawful, Net}
 use Rattle.road_network.specs.declared.EdgeId.{EdgeId}
 use Rattle.row_text.specs.Laws.{EntryFits, IsRowValue}
-use Rattle.potential_certificate.specs.HasText.{AreRowsFrom}
+use Rattle.potential_certificate.specs.HasText.{AreRowValuesFrom}
 
 -- a label of at most this distance, by one of the first so many edges
 abbrev IsWithin : ℕ → ℕ → Option Label → Type 0
@@ -79,22 +79,22 @@ row_value n bound v lawful short node =
 abbrev rows_on : Net → ℕ → (ℕ → Bool) → ℕ → ℕ → List TableRow
 rows_on n bound test from m = map (row_of n bound) (filter test (range_with_len from m))
 
-below_too : (least from : ℕ) (rows : List TableRow) → least ≤ from → AreRowsFrom from rows → AreRowsFrom least rows
+below_too : (least from : ℕ) (rows : List TableRow) → least ≤ from → AreRowValuesFrom from rows → AreRowValuesFrom least rows
 below_too least from [] le h = tt
 below_too least from (row ∷ rows) le h = let low = h.1 in (h.0, omega (arith, low, le), h.2)
 
-one_more_row : (n : Net) (bound v : ℕ) (b : Bool) (nodes : List ℕ) → IsRowValue (row_of n bound v) → AreRowsFrom (v + 1) (map (row_of n bound) nodes)
-    → AreRowsFrom v (map (row_of n bound) (cond b (v ∷ nodes) nodes))
+one_more_row : (n : Net) (bound v : ℕ) (b : Bool) (nodes : List ℕ) → IsRowValue (row_of n bound v) → AreRowValuesFrom (v + 1) (map (row_of n bound) nodes)
+    → AreRowValuesFrom v (map (row_of n bound) (cond b (v ∷ nodes) nodes))
 one_more_row n bound v true nodes here h = (here, omega arith, h)
 one_more_row n bound v false nodes here h = below_too v (v + 1) (map (row_of n bound) nodes) (omega arith) h
 
-rows_from : (n : Net) (bound : ℕ) (test : ℕ → Bool) (from m : ℕ) → IsLawful n → bound ≤ 10_000_000 → from + m ≤ length n.nodes → AreRowsFrom from (rows_on n bound test from m)
+rows_from : (n : Net) (bound : ℕ) (test : ℕ → Bool) (from m : ℕ) → IsLawful n → bound ≤ 10_000_000 → from + m ≤ length n.nodes → AreRowValuesFrom from (rows_on n bound test from m)
 rows_from n bound test from zero lawful short le = tt
 rows_from n bound test from (suc m) lawful short le =
     one_more_row n bound from (test from) (filter test (range_with_len (from + 1) m)) (row_value n bound from lawful short (omega (arith, le)))
     (rows_from n bound test (from + 1) m lawful short (omega (arith, le)))
 
-pub rows_have_lines : (n : Net) (bound : ℕ) (test : ℕ → Bool) → IsLawful n → bound ≤ 10_000_000 → AreRowsFrom 0 (rows_where n bound test)
+pub rows_have_lines : (n : Net) (bound : ℕ) (test : ℕ → Bool) → IsLawful n → bound ≤ 10_000_000 → AreRowValuesFrom 0 (rows_where n bound test)
 rows_have_lines n bound test lawful short = rows_from n bound test 0 (length n.nodes) lawful short (omega arith)
 
 one_longer : (v m : ℕ) (b : Bool) (nodes : List ℕ) → length nodes ≤ m → length (cond b (v ∷ nodes) nodes) ≤ suc m

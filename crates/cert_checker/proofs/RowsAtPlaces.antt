@@ -9,7 +9,7 @@ use Rattle.road_network.specs.Net.{HasNode, IsLawful, Net, target}
 use Rattle.trellis.specs.declared.steps.Origin.{Origin}
 use Rattle.trellis.specs.declared.steps.Step.{Step}
 use Rattle.trellis.specs.Steps.{IsOriginAt, IsRowFor}
-use Rattle.cert_checker.specs.inside.RowPlaces.{AreRightRows, IsRowPlace}
+use Rattle.cert_checker.specs.inside.RowPlaces.{HaveNoBadRow, IsRowPlace}
 use Rattle.cert_checker.specs.Rows.{bad_row_from, first_bad_row, is_next_row}
 use Rattle.cert_checker.proofs.RightRows.{both_true, next_within, no_row}
 
@@ -32,7 +32,7 @@ at_least net bound least k (row ∷ rows) (suc i) d h lt =
     let rest = at_least net bound (row.origin + 1) (k + 1) rows i d p.1 (omega (arith, lt)) in
     omega (arith, rest, (next_within net bound least row p.0).0)
 
-pub place_at_most : (net : Net) (rows : List TableRow) (i : ℕ) (d : TableRow) → AreRightRows net rows → i < length rows → i ≤ (get_or rows i d).origin
+pub place_at_most : (net : Net) (rows : List TableRow) (i : ℕ) (d : TableRow) → HaveNoBadRow net rows → i < length rows → i ≤ (get_or rows i d).origin
 place_at_most net rows i d right lt = let le = at_least net right.bound 0 0 rows i d right.are lt in omega (arith, le)
 
 right_from : (net : Net) (bound least k : ℕ) (rows : List TableRow) (i : ℕ) (d : TableRow) → bad_row_from net bound least k rows ≡ None → i < length rows
@@ -42,7 +42,7 @@ right_from net bound least k (row ∷ rows) zero d h lt = (both_true _ (is_right
 right_from net bound least k (row ∷ rows) (suc i) d h lt =
     right_from net bound (row.origin + 1) (k + 1) rows i d (parts net bound least k row rows h).1 (omega (arith, lt))
 
-pub right_node : (net : Net) (rows : List TableRow) (i : ℕ) (d : TableRow) → AreRightRows net rows → i < length rows → HasNode net (get_or rows i d).origin
+pub right_node : (net : Net) (rows : List TableRow) (i : ℕ) (d : TableRow) → HaveNoBadRow net rows → i < length rows → HasNode net (get_or rows i d).origin
 right_node net rows i d right lt =
     let origin = (get_or rows i d).origin in
     ltb-true origin (length net.nodes) (both_true (nat_lt origin (length net.nodes)) _ (right_from net right.bound 0 0 rows i d right.are lt)).0

@@ -15,7 +15,7 @@ use Rattle.matching.specs.Local.{AreNext, IsTightCost}
 use Rattle.matching.proofs.Costs.{added-parts}
 use Rattle.matching.proofs.Growth.{emission_le, transition_le}
 use Rattle.cert_checker.specs.Case.{Case, has_way, layer, table, way, ways, width}
-use Rattle.cert_checker.specs.inside.CaseSeen.{IsReady}
+use Rattle.cert_checker.specs.inside.CaseSeen.{IsPositionReady}
 use Rattle.cert_checker.specs.Cells.{is_first_pointer, is_relaxed, is_tight}
 use Rattle.cert_checker.specs.inside.Columns.{AreWaysOf, each_cell}
 use Rattle.cert_checker.proofs.CellTests.{IsBound, pointer, relaxed, tight}
@@ -45,7 +45,7 @@ tight_there f n None y h e = absurd (let q = e.1 in cc)
 tight_there f n (Some c) None h e = absurd h
 tight_there f n (Some c) (Some a) h e = (a, h.0, (c, h.1))
 
-module _ (c : Case) (i : ℕ) (ready : IsReady c i) (lawful : IsLawful c.net) (small : CostAtMost (2 ^ 64 - 2 ^ 43) (table c (i - 1))) (stepped : AreStepped c i) where
+module _ (c : Case) (i : ℕ) (ready : IsPositionReady c i) (lawful : IsLawful c.net) (small : CostAtMost (2 ^ 64 - 2 ^ 43) (table c (i - 1))) (stepped : AreStepped c i) where
   fits : (a j s : ℕ) → a < width c (i - 1) → j < width c i → way c i a j ≡ Some s → s < 2 ^ 64
   fits a j s a_in j_in e =
       let t = trellis c.net c.params in
@@ -100,7 +100,7 @@ module _ (c : Case) (i : ℕ) (ready : IsReady c i) (lawful : IsLawful c.net) (s
   }
 
 -- such a step can be taken
-pub can_step : (c : Case) (i : ℕ) (m : Layer) (before : List Cell) (l : Layer) (apart : ℕ) → IsReady c i → AreParts c i m before l
+pub can_step : (c : Case) (i : ℕ) (m : Layer) (before : List Cell) (l : Layer) (apart : ℕ) → IsPositionReady c i → AreParts c i m before l
     → CostAtMost (2 ^ 64 - 2 ^ 43) before → apart ≡ straight m.point l.point → IsStep c.net c.params m before l apart
 can_step c i m before l apart ready parts small far =
     let width_is : length m.candidates ≡ width c (i - 1) = ap (λ (v : Layer). length v.candidates) parts.m-is in

@@ -93,12 +93,12 @@ abbrev pub is_chosen : Case → Routed → Bool
 is_chosen c q = is_least_rank (table c q.last) (rank c q.last) q.cost && follows_pointers c q
 
 -- the piece without its route
-abbrev pub piece_of : Routed → Piece
-piece_of q = record { first = q.first; last = q.last; cost = q.cost }
+abbrev pub piece_without_route : Routed → Piece
+piece_without_route q = record { first = q.first; last = q.last; cost = q.cost }
 
 abbrev pub has_route : Case → Routed → Bool
 has_route c q =
-    pointwise (λ a b. a == b) q.route (map (edge_name c.net) (route_of c.net c.params c.layers c.proof.ranks (piece_of q)))
+    pointwise (λ a b. a == b) q.route (map (edge_name c.net) (route_of c.net c.params c.layers c.proof.ranks (piece_without_route q)))
 
 -- the conditions at position i
 abbrev pub holds : Case → ℕ → Condition → Bool

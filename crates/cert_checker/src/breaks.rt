@@ -3,7 +3,7 @@
 ghost use Rattle.std.specs.Prelude.{◌≡◌, ◌&&◌, ◌∷◌, [], IfOk};
 ghost use Rattle.cert_checker.specs.Case.{has_way, is_looked_at};
 ghost use Rattle.cert_checker.specs.inside.CaseSeen.{case_seen};
-ghost use Rattle.cert_checker.specs.inside.Checked.{IsAtEnd, IsNext};
+ghost use Rattle.cert_checker.specs.inside.Checked.{IsAtEnd, IsNextPosition};
 ghost use Rattle.cert_checker.specs.Verdicts.{breaks_right, first_failing, has_breaks, holds};
 
 use crate::chosen::is_chosen;
@@ -16,7 +16,7 @@ use std::alloc::{AllocError, Global};
 
 /// Whether the position begins a piece, continues one or is in none, as its transitions require.
 fn breaks_right(case: &TraceCase, left: &[Routed], i: usize, is_reached: bool) -> bool
-    requires point { IsNext (case_seen case.now) i left.now }
+    requires point { IsNextPosition (case_seen case.now) i left.now }
     requires reached { is_reached
         ≡ (is_looked_at (case_seen case.now) i && has_way (case_seen case.now) i) }
     ensures { result ≡ breaks_right (case_seen case.now) i }
@@ -34,7 +34,7 @@ fn breaks_right(case: &TraceCase, left: &[Routed], i: usize, is_reached: bool) -
 /// Whether the pieces at a position are as its transitions require. `left` are the pieces that end at the position
 /// or later, and `is_reached` says whether some live cell of the previous position has a route to it.
 pub fn has_breaks(case: &TraceCase, left: &[Routed], i: usize, is_reached: bool) -> bool
-    requires point { IsNext (case_seen case.now) i left.now }
+    requires point { IsNextPosition (case_seen case.now) i left.now }
     requires reached { is_reached
         ≡ (is_looked_at (case_seen case.now) i && has_way (case_seen case.now) i) }
     ensures { result ≡ has_breaks (case_seen case.now) i }

@@ -2,7 +2,7 @@
 //! `FindsRow`.
 ghost use Rattle.std.specs.Prelude.{◌≡◌, ◌<◌, IfOk, length, slice_index_or};
 ghost use Rattle.bounded_table.specs.Table.{TableRow};
-ghost use Rattle.cert_checker.specs.inside.RowPlaces.{AreRightRows, FindsRow};
+ghost use Rattle.cert_checker.specs.inside.RowPlaces.{HaveNoBadRow, FindsRow};
 
 use bounded_table::Row;
 use road_network::{Network, NodeId};
@@ -23,17 +23,17 @@ impl<'a> Model for PlacedRows<'a> {
 
     ghost Value = { List TableRow };
 
-    ghost use Rattle.cert_checker.specs.inside.PlacedInside.{rows_placed, ArePlaced};
+    ghost use Rattle.cert_checker.specs.inside.PlacedInside.{rows_placed, AreRowsPlaced};
 
     ghost view = { rows_placed };
 
-    ghost invariant = { ArePlaced };
+    ghost invariant = { AreRowsPlaced };
 }
 
 impl<'a> PlacedRows<'a> {
     /// These rows; none of them is bad. Uses 4 bytes for each node.
     pub fn of(alloc: Global, net: &Network, rows: &'a [Row]) -> Result<PlacedRows<'a>, AllocError>
-        requires { AreRightRows net.now rows.now }
+        requires { HaveNoBadRow net.now rows.now }
         ensures { IfOk result (λ placed. placed ≡ rows.now) }
     {
         net.invariants();

@@ -2,7 +2,7 @@
 //! `AreWaysOf`.
 ghost use Rattle.std.specs.Prelude.{◌≡◌, ◌-◌, IfOk, length};
 ghost use Rattle.cert_checker.specs.Case.{width};
-ghost use Rattle.cert_checker.specs.inside.CaseSeen.{IsReady, case_seen};
+ghost use Rattle.cert_checker.specs.inside.CaseSeen.{IsPositionReady, case_seen};
 ghost use Rattle.cert_checker.specs.inside.Columns.{AreWaysOf, with_column};
 ghost use Rattle.trellis.specs.Pairs.{pairs_of};
 
@@ -41,7 +41,7 @@ fn with_column(found: PointWays, column: &[Option<u128>], cell: Cell) -> PointWa
 
 /// The result for all candidates, one column after the other.
 fn ways_by_columns(case: &TraceCase, i: usize, column: &mut [Option<u128>]) -> PointWays
-    requires ready { IsReady (case_seen case.now) i }
+    requires ready { IsPositionReady (case_seen case.now) i }
     requires count { length column.old ≡ width (case_seen case.now) (i - 1) }
     ensures { AreWaysOf (case_seen case.now) i (width (case_seen case.now) i) result }
 {
@@ -66,7 +66,7 @@ pub fn point_ways(
     pairs: &mut PairMemory,
     i: usize,
 ) -> Result<PointWays, AllocError>
-    requires ready { IsReady (case_seen case.now) i }
+    requires ready { IsPositionReady (case_seen case.now) i }
     requires pairs { pairs.old ≡ pairs_of case.now.net.now case.now.params.now.bound }
     ensures ways { IfOk result (AreWaysOf (case_seen case.now) i (width (case_seen case.now) i)) }
     ensures same { pairs.new ≡ pairs.old }

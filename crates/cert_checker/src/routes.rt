@@ -1,10 +1,10 @@
 //! The route of a piece, compared leg by leg. Serves `check_trace`; decided by `has_route`.
 ghost use Rattle.std.specs.Prelude.{◌≡◌, ◌+◌, ◌∷◌, [], All, IfOk, option_copied};
 ghost use Rattle.road_network.specs.Net.{HasEdge};
-ghost use Rattle.route_rebuild.specs.Chosen.{IsChosenPoint};
+ghost use Rattle.route_rebuild.specs.inside.ChosenRuns.{IsChosenPoint};
 ghost use Rattle.route_rebuild.specs.Numbers.{numbers};
 ghost use Rattle.cert_checker.specs.inside.CaseSeen.{case_seen};
-ghost use Rattle.cert_checker.specs.inside.Legs.{IsLeftAfter, IsLeg, IsRoutable, chosen_in, leg};
+ghost use Rattle.cert_checker.specs.inside.Legs.{IsLeftAfter, IsLeg, IsRoutable, chosen_in_case, leg};
 ghost use Rattle.cert_checker.specs.Verdicts.{has_route};
 
 use crate::trace_case::TraceCase;
@@ -39,7 +39,7 @@ fn after_edges<'a>(net: &Network, names: &'a [u32], edges: &[EdgeId]) -> Option<
 /// The chosen candidate of a position.
 fn chosen(case: &TraceCase, i: usize) -> Candidate
     requires { IsChosenPoint case.now.layers.now case.now.proof.now.ranks i }
-    ensures { result ≡ chosen_in (case_seen case.now) i }
+    ensures { result ≡ chosen_in_case (case_seen case.now) i }
 {
     let rank = case.rank(i).unwrap_or(0) as usize;
     case.layers[i].candidates.as_slice()[rank]

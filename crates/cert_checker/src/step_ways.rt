@@ -4,7 +4,7 @@ ghost use Rattle.std.specs.Prelude.{◌≡◌, ◌-◌, ◌^◌, None, IfSome, i
 ghost use Rattle.std.specs.Bool.{OnTrue};
 ghost use Rattle.std.specs.List.{list_any};
 ghost use Rattle.cert_checker.specs.Case.{width};
-ghost use Rattle.cert_checker.specs.inside.CaseSeen.{IsReady, case_seen};
+ghost use Rattle.cert_checker.specs.inside.CaseSeen.{IsPositionReady, case_seen};
 ghost use Rattle.cert_checker.specs.inside.Columns.{AreWaysOf};
 ghost use Rattle.cert_checker.specs.Rows.{first_bad_row};
 ghost use Rattle.matching.specs.Growth.{CostAtMost};
@@ -83,7 +83,7 @@ pub fn ways_by_step(
     pairs: &mut PairMemory,
     i: usize,
 ) -> Option<PointWays>
-    requires ready { IsReady (case_seen case.now) i }
+    requires ready { IsPositionReady (case_seen case.now) i }
     requires pairs { pairs.old ≡ pairs_of case.now.net.now case.now.params.now.bound }
     ensures ways { IfSome result (AreWaysOf (case_seen case.now) i (width (case_seen case.now) i)) }
     ensures same { pairs.new ≡ pairs.old }

@@ -4,7 +4,7 @@ ghost use Rattle.cost_model.specs.Options.{IsAccepted};
 ghost use Rattle.trace_reader.specs.Trace.{IsLawfulTrace};
 ghost use Rattle.trellis.specs.Pairs.{pairs_of};
 ghost use Rattle.cert_checker.specs.inside.CaseSeen.{IsCheckable, case_seen};
-ghost use Rattle.cert_checker.specs.inside.Checked.{IsMet, IsNext, TellsWays, of_cells};
+ghost use Rattle.cert_checker.specs.inside.Checked.{IsMet, IsNextPosition, TellsWays, of_cells};
 ghost use Rattle.cert_checker.specs.Pieces.{rise_from};
 ghost use Rattle.cert_checker.specs.Rows.{first_bad_row};
 ghost use Rattle.cert_checker.specs.Verdicts.{case_of, first_failing, has_candidates, holds, order, trace_verdict};
@@ -45,7 +45,7 @@ fn ways_to(
 
 /// The first failing condition of the pieces and the cells at a position.
 fn failing_cells(case: &TraceCase, left: &[Routed], i: usize, ways: PointWays) -> Option<Condition>
-    requires point { IsNext (case_seen case.now) i left.now }
+    requires point { IsNextPosition (case_seen case.now) i left.now }
     requires candidates { has_candidates (case_seen case.now) i ≡ true }
     requires ways { TellsWays (case_seen case.now) i ways }
     ensures { result ≡ first_failing (holds (case_seen case.now) i) of_cells }
@@ -79,7 +79,7 @@ fn failing(
     left: &[Routed],
     i: usize,
 ) -> Result<Option<Condition>, AllocError>
-    requires point { IsNext (case_seen case.now) i left.now }
+    requires point { IsNextPosition (case_seen case.now) i left.now }
     requires pairs { pairs.old ≡ pairs_of case.now.net.now case.now.params.now.bound }
     ensures found { IfOk result
         (λ found. found ≡ first_failing (holds (case_seen case.now) i) order) }

@@ -1,7 +1,7 @@
 //! The cost of reaching a candidate through a cell of the previous position. Serves `plain_ways`; decided by `way`.
 ghost use Rattle.std.specs.Prelude.{◌≡◌, ◌<◌, ◌-◌, length};
 ghost use Rattle.cert_checker.specs.Case.{layer, way, ways, width};
-ghost use Rattle.cert_checker.specs.inside.CaseSeen.{IsReady, case_seen};
+ghost use Rattle.cert_checker.specs.inside.CaseSeen.{IsPositionReady, case_seen};
 ghost use Rattle.bounded_table.specs.Table.{IsRow};
 ghost use Rattle.matching.specs.Layers.{end_of, trellis};
 
@@ -14,7 +14,7 @@ use trellis::link;
 /// The cost of the transition from candidate a of the previous position to candidate j of position i, by the row of
 /// the node where the edge of a ends. `None` if there is no route.
 fn transition_by_row(case: &TraceCase, i: usize, a: usize, j: usize, row: &Row) -> Option<u64>
-    requires ready { IsReady (case_seen case.now) i }
+    requires ready { IsPositionReady (case_seen case.now) i }
     requires a { a < width (case_seen case.now) (i - 1) }
     requires j { j < width (case_seen case.now) i }
     requires row { IsRow case.now.net.now case.now.params.now.bound
@@ -32,7 +32,7 @@ fn transition_by_row(case: &TraceCase, i: usize, a: usize, j: usize, row: &Row) 
 /// The cost of reaching candidate j of position i through cell a of the previous position, if that is live and has
 /// a route to j. It may not fit 64 bits.
 pub fn way(case: &TraceCase, i: usize, a: usize, j: usize) -> Option<u128>
-    requires ready { IsReady (case_seen case.now) i }
+    requires ready { IsPositionReady (case_seen case.now) i }
     requires a { a < width (case_seen case.now) (i - 1) }
     requires j { j < width (case_seen case.now) i }
     ensures { result ≡ way (case_seen case.now) i a j }
@@ -48,7 +48,7 @@ pub fn way(case: &TraceCase, i: usize, a: usize, j: usize) -> Option<u128>
 
 /// Fills a column with the ways to candidate j of position i.
 pub fn fill_column(case: &TraceCase, i: usize, j: usize, column: &mut [Option<u128>])
-    requires ready { IsReady (case_seen case.now) i }
+    requires ready { IsPositionReady (case_seen case.now) i }
     requires count { length column.old ≡ width (case_seen case.now) (i - 1) }
     requires j { j < width (case_seen case.now) i }
     ensures { column.new ≡ ways (case_seen case.now) i j }

@@ -6,10 +6,10 @@ use Rattle.std.proofs.lemmas.List.{append-nil}
 use Rattle.edge_io.specs.Shelf.{Reads, ReadsFile, IsNotRead}
 use Rattle.edge_io.specs.State.{ShelfState}
 use Rattle.edge_io.specs.declared.shelf.Taken.TheVariants.{End, Got}
-use Rattle.potential_certificate.specs.CertificateText.{text_limit}
+use Rattle.potential_certificate.specs.CertificateText.{certificate_text_limit}
 use Rattle.program_frame.specs.Read.{IsReadSoFar, IsReadWhole}
 use Rattle.program_frame.proofs.Streaming.{read_end, read_full, read_more}
-use Rattle.check_work.specs.inside.CertificateFiles.{IsRead, ReadsBlock}
+use Rattle.check_work.specs.inside.CertificateFiles.{IsReadUpTo, ReadsBlock}
 use Rattle.check_work.specs.declared.certificate_file.Block.{Block}
 
 abbrev Told : Type 0
@@ -52,17 +52,17 @@ end_told None name at old new reads = tt
 end_told (Some files) name at old new reads = end_of (files name) at old new reads
 
 -- the end was told behind a block
-pub block_ends : (shelf shelf' : ShelfState) (name : List ℕ) (from : ℕ) (old new : List ℕ) → shelf' ≡ shelf → from + length old ≤ text_limit → Front shelf name from old → new ≡ old → Reads shelf'.holds name (from + length old) old new End
-    → (fed : List ℕ) → length fed ≡ from → IsReadSoFar shelf.holds name fed → IsReadWhole shelf.holds name text_limit (fed ++ new)
+pub block_ends : (shelf shelf' : ShelfState) (name : List ℕ) (from : ℕ) (old new : List ℕ) → shelf' ≡ shelf → from + length old ≤ certificate_text_limit → Front shelf name from old → new ≡ old → Reads shelf'.holds name (from + length old) old new End
+    → (fed : List ℕ) → length fed ≡ from → IsReadSoFar shelf.holds name fed → IsReadWhole shelf.holds name certificate_text_limit (fed ++ new)
 block_ends shelf shelf' name from old new same within so_far is reads fed long front =
     let here : Reads shelf.holds name (from + length old) old new End = subst (λ (s : ShelfState). Reads s.holds name (from + length old) old new End) same reads in
     let at : from + length old ≡ length (fed ++ old) = omega (arith, long, length-append fed old) in
     let into : Reads shelf.holds name (length (fed ++ old)) [] new End = subst (λ (a : ℕ). Reads shelf.holds name a [] new End) at (end_told shelf.holds name (from + length old) old new here) in
-    let whole = read_end text_limit shelf.holds name (fed ++ old) new (so_far fed long front) (omega (arith, within, at)) into in
-    subst (λ (t : List ℕ). IsReadWhole shelf.holds name text_limit (fed ++ t)) (sym is) whole
+    let whole = read_end certificate_text_limit shelf.holds name (fed ++ old) new (so_far fed long front) (omega (arith, within, at)) into in
+    subst (λ (t : List ℕ). IsReadWhole shelf.holds name certificate_text_limit (fed ++ t)) (sym is) whole
 
 -- a block behind which the file does not go on
-pub last_block : (name : List ℕ) (shelf shelf' : ShelfState) (from : ℕ) (block : Block) → shelf' ≡ shelf → block.from ≡ from → ((fed : List ℕ) → length fed ≡ block.from → IsReadSoFar shelf.holds name fed → IsReadWhole shelf.holds name text_limit (fed ++ block.bytes.items)) → ReadsBlock name shelf shelf' from block false
+pub last_block : (name : List ℕ) (shelf shelf' : ShelfState) (from : ℕ) (block : Block) → shelf' ≡ shelf → block.from ≡ from → ((fed : List ℕ) → length fed ≡ block.from → IsReadSoFar shelf.holds name fed → IsReadWhole shelf.holds name certificate_text_limit (fed ++ block.bytes.items)) → ReadsBlock name shelf shelf' from block false
 last_block name shelf shelf' from block same place whole = record {
   same = same;
   place = place;
@@ -72,12 +72,12 @@ last_block name shelf shelf' from block same place whole = record {
 }
 
 -- a block that was read to its own end, which is behind the limit or is not
-pub block_full : (shelf : ShelfState) (name : List ℕ) (from end : ℕ) (block : List ℕ) (goes_on : Bool) → nat_le end text_limit ≡ goes_on → end ≤ text_limit + 1 → from + length block ≡ end → Front shelf name from block
-    → (fed : List ℕ) → length fed ≡ from → IsReadSoFar shelf.holds name fed → IsRead shelf.holds name (fed ++ block) goes_on
+pub block_full : (shelf : ShelfState) (name : List ℕ) (from end : ℕ) (block : List ℕ) (goes_on : Bool) → nat_le end certificate_text_limit ≡ goes_on → end ≤ certificate_text_limit + 1 → from + length block ≡ end → Front shelf name from block
+    → (fed : List ℕ) → length fed ≡ from → IsReadSoFar shelf.holds name fed → IsReadUpTo shelf.holds name (fed ++ block) goes_on
 block_full shelf name from end block true test low full so_far fed long front = so_far fed long front
 block_full shelf name from end block false test low full so_far fed long front =
-    let above : text_limit + 1 ≤ end = grind (arith, nat_tests, test) in
-    read_full text_limit shelf.holds name (fed ++ block) (so_far fed long front) (omega (arith, long, full, low, above, length-append fed block))
+    let above : certificate_text_limit + 1 ≤ end = grind (arith, nat_tests, test) in
+    read_full certificate_text_limit shelf.holds name (fed ++ block) (so_far fed long front) (omega (arith, long, full, low, above, length-append fed block))
 
 -- ---- block by block
 
@@ -89,7 +89,7 @@ taken_in reader full bytes more is same = is ∙ ap (λ (t : List ℕ). reader +
 pub read_on : (name : List ℕ) (shelf shelf' : ShelfState) (block : Block) (goes_on : Bool) (fed more : List ℕ) → ReadsBlock name shelf shelf' block.from block goes_on → goes_on ≡ true → length fed ≡ block.from → IsReadSoFar shelf.holds name fed → more ≡ fed ++ block.bytes.items
     → IsReadSoFar shelf.holds name more
 read_on name shelf shelf' block goes_on fed more reads on long front is =
-    subst (λ (t : List ℕ). IsReadSoFar shelf.holds name t) (sym is) (subst (λ (b : Bool). IsRead shelf.holds name (fed ++ block.bytes.items) b) on (reads.read fed long front))
+    subst (λ (t : List ℕ). IsReadSoFar shelf.holds name t) (sym is) (subst (λ (b : Bool). IsReadUpTo shelf.holds name (fed ++ block.bytes.items) b) on (reads.read fed long front))
 
 -- a block of the same shelf, from its own place on
 pub same_block : (name : List ℕ) (first shelf shelf' : ShelfState) (from : ℕ) (block : Block) (goes_on : Bool) → shelf ≡ first → ReadsBlock name shelf shelf' from block goes_on → ReadsBlock name first first block.from block goes_on
@@ -98,5 +98,5 @@ same_block name first shelf shelf' from block goes_on same reads = record {
   place = refl;
   some = reads.some;
   within = reads.within;
-  read = subst (λ (s : ShelfState). (fed : List ℕ) → length fed ≡ block.from → IsReadSoFar s.holds name fed → IsRead s.holds name (fed ++ block.bytes.items) goes_on) same reads.read;
+  read = subst (λ (s : ShelfState). (fed : List ℕ) → length fed ≡ block.from → IsReadSoFar s.holds name fed → IsReadUpTo s.holds name (fed ++ block.bytes.items) goes_on) same reads.read;
 }

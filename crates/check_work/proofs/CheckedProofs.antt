@@ -12,16 +12,16 @@ use Rattle.cert_checker.specs.declared.verdict.Verdict.TheVariants.{Proved, Refu
 use Rattle.cost_model.specs.declared.params.Params.{Params}
 use Rattle.match_text.specs.MatchText.{IsRising, PieceFits}
 use Rattle.match_text.specs.declared.matched.Routed.{Routed}
-use Rattle.potential_certificate.specs.CertificateText.{certificate_text, first_line, proof_text, text_limit}
+use Rattle.potential_certificate.specs.CertificateText.{certificate_text, certificate_first_line, proof_text, certificate_text_limit}
 use Rattle.potential_certificate.specs.HasText.{IsProof}
 use Rattle.potential_certificate.specs.Laws.{IsTextOf}
-use Rattle.potential_certificate.specs.Reading.{certificate_of}
+use Rattle.potential_certificate.specs.Reading.{certificate_of_text}
 use Rattle.potential_certificate.specs.declared.proof.Certificate.{Certificate}
 use Rattle.potential_certificate.specs.declared.proof.TraceProof.{TraceProof}
 use Rattle.potential_certificate.proofs.Certificates.{certificates_have_one_text}
 use Rattle.road_network.specs.Net.{Net}
 use Rattle.trace_reader.specs.declared.trace.Trace.{Trace}
-use Rattle.check_work.specs.Check.{pieces_in, pieces_proved, proofs_said, verdict_said}
+use Rattle.check_work.specs.Check.{proved_piece_count, pieces_proved, proofs_said, verdict_said}
 use Rattle.check_work.specs.inside.CheckDone.{finding_said}
 
 -- ---- how many pieces
@@ -36,12 +36,12 @@ pieces_few i (piece ∷ pieces) rising fit low =
     let rest = pieces_few (piece.last + 1) pieces rising.2 fit.1 (omega (arith, last)) in
     omega (arith, rest, from, ends)
 
-all_few : (proofs : List TraceProof) → AllByRecursion IsProof proofs → pieces_in proofs ≤ length proofs * 2 ^ 32
+all_few : (proofs : List TraceProof) → AllByRecursion IsProof proofs → proved_piece_count proofs ≤ length proofs * 2 ^ 32
 all_few [] are = omega arith
 all_few (proof ∷ proofs) are =
     let one = pieces_few 0 proof.pieces are.0.pieces.rising are.0.pieces_fit (omega arith) in
     let rest = all_few proofs are.1 in
-    let sum : pieces_in (proof ∷ proofs) ≡ length proof.pieces + pieces_in proofs = sum_by-cons (λ (x : TraceProof). length x.pieces) proof proofs in
+    let sum : proved_piece_count (proof ∷ proofs) ≡ length proof.pieces + proved_piece_count proofs = sum_by-cons (λ (x : TraceProof). length x.pieces) proof proofs in
     omega (arith, one, rest, sum)
 
 text_begins : (proof : TraceProof) → proof_text proof ≡ 116 ∷ drop 1 (proof_text proof)
@@ -58,11 +58,11 @@ middle_no_longer : (front middle back : List ℕ) → length middle ≤ length (
 middle_no_longer front middle back = omega (arith, length-append front (middle ++ back), length-append middle back)
 
 -- a text within the limit has not too many
-pub read_few : (p : Params) (text : List ℕ) (c : Certificate) → certificate_of p text ≡ Ok c → pieces_proved c < 2 ^ 63
+pub read_few : (p : Params) (text : List ℕ) (c : Certificate) → certificate_of_text p text ≡ Ok c → pieces_proved c < 2 ^ 63
 read_few p text c is =
     let of : IsTextOf p c text = certificates_have_one_text p c text is in
-    let within : length (certificate_text p c) ≤ 1_073_741_824 = subst (λ (t : List ℕ). length t ≤ text_limit) of.text_is of.short in
-    let part : length (flat_map proof_text c.proofs) ≤ length (certificate_text p c) = middle_no_longer (first_line p) (flat_map proof_text c.proofs) _ in
+    let within : length (certificate_text p c) ≤ 1_073_741_824 = subst (λ (t : List ℕ). length t ≤ certificate_text_limit) of.text_is of.short in
+    let part : length (flat_map proof_text c.proofs) ≤ length (certificate_text p c) = middle_no_longer (certificate_first_line p) (flat_map proof_text c.proofs) _ in
     omega (arith, within, part, proofs_few c.proofs, all_few c.proofs of.has.proofs)
 
 -- ---- the verdict

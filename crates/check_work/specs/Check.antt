@@ -11,8 +11,8 @@ use Rattle.cert_checker.specs.declared.verdict.Verdict.TheVariants.{Proved, Refu
 use Rattle.command_line.specs.Options.{and_then}
 use Rattle.cost_model.specs.declared.params.Params.{Params}
 use Rattle.decimal_text.specs.Number.{decimal}
-use Rattle.potential_certificate.specs.CertificateText.{text_limit}
-use Rattle.potential_certificate.specs.Reading.{certificate_of}
+use Rattle.potential_certificate.specs.CertificateText.{certificate_text_limit}
+use Rattle.potential_certificate.specs.Reading.{certificate_of_text}
 use Rattle.potential_certificate.specs.declared.fault.CertFault.{CertFault}
 use Rattle.potential_certificate.specs.declared.fault.CertFault.TheVariants.{BadLine, Cut, TooLong, Memory}
 use Rattle.potential_certificate.specs.declared.proof.Certificate.{Certificate}
@@ -42,7 +42,7 @@ certificate_fault_line Memory = []
 
 -- the certificate of a text, or the line of its fault
 abbrev pub certificate_in : Params → List ℕ → Result Certificate (List ℕ)
-certificate_in p bytes = result_map_both (λ c. c) certificate_fault_line (certificate_of p bytes)
+certificate_in p bytes = result_map_both (λ c. c) certificate_fault_line (certificate_of_text p bytes)
 
 -- ---- the verdict
 
@@ -94,11 +94,11 @@ proofs_said net p traces c =
 -- ---- what is written
 
 -- how many pieces the proofs have
-abbrev pub pieces_in : List TraceProof → ℕ
-pieces_in proofs = sum_by (λ proof. length proof.pieces) proofs
+abbrev pub proved_piece_count : List TraceProof → ℕ
+proved_piece_count proofs = sum_by (λ proof. length proof.pieces) proofs
 
 abbrev pub pieces_proved : Certificate → ℕ
-pieces_proved c = pieces_in c.proofs
+pieces_proved c = proved_piece_count c.proofs
 
 -- `proved traces T pieces Q rows R`
 abbrev pub proved_line : Certificate → List ℕ
@@ -127,6 +127,6 @@ abbrev pub check_plan : NetworkLimits → (network traces certificate : List ℕ
 check_plan limits network traces certificate options =
     loads Network network (file_limit limits) 5 (network_said limits)
     (λ net. loads Traces traces trace_limit 6 traces_said
-    (λ taken. loads OfCertificate certificate text_limit 7
+    (λ taken. loads OfCertificate certificate certificate_text_limit 7
     (check_said (record { network = net; params = options }) taken)
     (λ text. ends (done_with text))))

@@ -1,6 +1,6 @@
 //! Reads a certificate file block by block, while the previous block is being processed. Serves `check`; decided by `ReadsWhole`.
 ghost use Rattle.std.specs.Prelude.{◌≡◌, ◌+◌, ◌≤◌, ◌<◌, ◌^◌, ◌++◌, IfErr, IfOk, length};
-ghost use Rattle.potential_certificate.specs.CertificateText.{text_limit};
+ghost use Rattle.potential_certificate.specs.CertificateText.{certificate_text_limit};
 ghost use Rattle.program_frame.specs.Read.{FailsToRead, ReadsWhole};
 ghost use Rattle.check_work.specs.inside.CertificateFiles.{IsOfSize, IsToBeRead, ReadsBlock};
 
@@ -24,7 +24,7 @@ struct Block {
 
 // An empty block after this one, with memory of its own.
 fn next_block(block: &Block, memory: Vec<u8>, most: u64) -> Block
-    requires within { block.now.from + length block.now.bytes.items ≤ text_limit }
+    requires within { block.now.from + length block.now.bytes.items ≤ certificate_text_limit }
     requires most { (1 ≤ most) × (most < 2 ^ 40) }
     ensures place { result.from ≡ block.now.from + length block.now.bytes.items }
     ensures size { result.most ≡ most }
@@ -118,7 +118,7 @@ pub fn read_certificate_file<R: Threads + Sync, S: Shelf>(
     size: u64,
 ) -> Result<CertificateReader, Stop>
     requires { (1 ≤ size) × (size < 2 ^ 40) }
-    ensures ok { IfOk result (λ reader. ReadsWhole name.now text_limit
+    ensures ok { IfOk result (λ reader. ReadsWhole name.now certificate_text_limit
         (S.state shelf.old) (S.state shelf.new) reader) }
     ensures err { IfErr result (FailsToRead File.Certificate name.now
         (S.state shelf.old) (S.state shelf.new)) }

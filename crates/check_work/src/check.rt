@@ -1,10 +1,10 @@
 //! `check NET TRACES CERT`. Serves the program; decided by `check_plan`.
 ghost use Rattle.std.specs.Prelude.{◌≡◌, ◌++◌, ◌<◌, ◌^◌, All, Ok, IfOk, OnOk};
 ghost use Rattle.cost_model.specs.Options.{IsAccepted};
-ghost use Rattle.program_frame.specs.Loads.{Accepts};
+ghost use Rattle.program_frame.specs.inside.Refusing.{Accepts};
 ghost use Rattle.program_frame.specs.Performs.{Performs};
 ghost use Rattle.trace_reader.specs.Trace.{IsLawfulTrace};
-ghost use Rattle.check_work.specs.Check.{certificate_in, check_plan, check_said, pieces_in, pieces_proved, proofs_said, proved_line};
+ghost use Rattle.check_work.specs.Check.{certificate_in, check_plan, check_said, proved_piece_count, pieces_proved, proofs_said, proved_line};
 ghost use Rattle.check_work.specs.inside.CheckDone.{LoadsCertificate, setting};
 
 use crate::certificate_file::read_certificate_file;
@@ -49,8 +49,8 @@ fn read_proofs(
 
 // The number of pieces of these proofs.
 fn count_pieces(proofs: &[TraceProof]) -> u64
-    requires { pieces_in proofs.now < 2 ^ 63 }
-    ensures { result ≡ pieces_in proofs.now }
+    requires { proved_piece_count proofs.now < 2 ^ 63 }
+    ensures { result ≡ proved_piece_count proofs.now }
 {
     proofs.iter().map(|proof| proof.pieces.len() as u64).sum()
 }

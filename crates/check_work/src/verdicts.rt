@@ -1,6 +1,6 @@
 //! The lines with which a certificate is refused. Serves `check`; decided by `finding_said`.
 ghost use Rattle.std.specs.Prelude.{◌≡◌, ◌≢◌, ◌++◌, OnOk};
-ghost use Rattle.program_frame.specs.Loads.{Accepts};
+ghost use Rattle.program_frame.specs.inside.Refusing.{Accepts};
 ghost use Rattle.check_work.specs.Check.{certificate_fault_line, condition_name, named, refused_point_line, refused_trace_line, refused_whole_line};
 ghost use Rattle.check_work.specs.inside.CheckDone.{finding_said};
 
@@ -119,11 +119,11 @@ pub enum CertificateFault {
 }
 
 impl FaultLine for CertificateFault {
-    ghost use Rattle.check_work.specs.inside.CheckDone.{fault_line, has_fault_line};
+    ghost use Rattle.check_work.specs.inside.CheckDone.{checked_fault_line, has_checked_fault_line};
 
-    ghost has_line = { λ fault. has_fault_line fault };
+    ghost has_line = { λ fault. has_checked_fault_line fault };
 
-    ghost line = { λ fault. fault_line fault };
+    ghost line = { λ fault. checked_fault_line fault };
 
     fn append_line(&self, _alloc: Global, into: &mut List<u8>) -> Result<(), AllocError> {
         match *self {

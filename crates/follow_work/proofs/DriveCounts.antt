@@ -16,7 +16,7 @@ use Rattle.trace_match.specs.Totals.{is_asked_by}
 use Rattle.trace_match.proofs.Asking.{asked_parts}
 use Rattle.trace_reader.specs.Trace.{IsLawfulTrace}
 use Rattle.trace_reader.specs.declared.trace.Fix.{Fix}
-use Rattle.trace_sessions.specs.Sessions.{Pair, without}
+use Rattle.trace_sessions.specs.Sessions.{Pair, without_pair}
 use Rattle.trace_sessions.specs.StreamText.{trace_of}
 use Rattle.trace_sessions.specs.Streaming.{AreLawful, fixes_in, pieces_of_all, pieces_told}
 use Rattle.trace_sessions.proofs.StreamLines.{few-pieces, told-few}
@@ -24,20 +24,20 @@ use Rattle.trace_sessions.proofs.StreamLines.{few-pieces, told-few}
 -- ---- sums
 
 pub sum-without : (f : List Fix → ℕ) (id : ℕ) (fixes : List Fix) (drives : List Pair) → lookup (nat_eq id) drives ≡ Some fixes
-    → sum_by (λ (q : Pair). f q.1) drives ≡ f fixes + sum_by (λ (q : Pair). f q.1) (without drives id)
+    → sum_by (λ (q : Pair). f q.1) drives ≡ f fixes + sum_by (λ (q : Pair). f q.1) (without_pair drives id)
 sum-without f id fixes [] found = absurd (cc found)
 sum-without f id fixes (e ∷ drives) found = step (nat_eq id e.0) found (sum-without f id fixes drives)
   where
     step : (b : Bool) → cond b (Some e.1) (lookup (nat_eq id) drives) ≡ Some fixes
-        → (lookup (nat_eq id) drives ≡ Some fixes → sum_by (λ (q : Pair). f q.1) drives ≡ f fixes + sum_by (λ (q : Pair). f q.1) (without drives id))
-        → sum_by (λ (q : Pair). f q.1) (e ∷ drives) ≡ f fixes + sum_by (λ (q : Pair). f q.1) (cond b drives (e ∷ without drives id))
+        → (lookup (nat_eq id) drives ≡ Some fixes → sum_by (λ (q : Pair). f q.1) drives ≡ f fixes + sum_by (λ (q : Pair). f q.1) (without_pair drives id))
+        → sum_by (λ (q : Pair). f q.1) (e ∷ drives) ≡ f fixes + sum_by (λ (q : Pair). f q.1) (cond b drives (e ∷ without_pair drives id))
     step true found later =
         let same : e.1 ≡ fixes = cc found in
         sum_by-cons (λ (q : Pair). f q.1) e drives ∙ ap (λ fs. f fs + sum_by (λ (q : Pair). f q.1) drives) same
     step false found later =
         let inner = later found in
         let old = sum_by-cons (λ (q : Pair). f q.1) e drives in
-        let new = sum_by-cons (λ (q : Pair). f q.1) e (without drives id) in
+        let new = sum_by-cons (λ (q : Pair). f q.1) e (without_pair drives id) in
         omega (arith, inner, old, new)
 
 -- ---- lawful drives
@@ -45,13 +45,13 @@ sum-without f id fixes (e ∷ drives) found = step (nat_eq id e.0) found (sum-wi
 abbrev L : Pair → Type 0
 L q = IsLawfulTrace (trace_of q)
 
-pub lawful-without : (id : ℕ) (drives : List Pair) → AreLawful drives → AreLawful (without drives id)
+pub lawful-without : (id : ℕ) (drives : List Pair) → AreLawful drives → AreLawful (without_pair drives id)
 lawful-without id [] are = are
 lawful-without id (e ∷ drives) are = step (nat_eq id e.0) (lawful-without id drives (All-tail L e drives are))
   where
-    step : (b : Bool) → AreLawful (without drives id) → AreLawful (cond b drives (e ∷ without drives id))
+    step : (b : Bool) → AreLawful (without_pair drives id) → AreLawful (cond b drives (e ∷ without_pair drives id))
     step true later = All-tail L e drives are
-    step false later = All-cons L e (without drives id) (All-head L e drives are) later
+    step false later = All-cons L e (without_pair drives id) (All-head L e drives are) later
 
 pub lawful-found : (id : ℕ) (fixes : List Fix) (drives : List Pair) → AreLawful drives → lookup (nat_eq id) drives ≡ Some fixes → IsLawfulTrace (trace_of (id, fixes))
 lawful-found id fixes [] are found = absurd (cc found)
@@ -100,7 +100,7 @@ asks-cases on front back v asked =
 
 -- a drive by its id, and the others
 pub asks-without : (on : Setting) (v id : ℕ) (fixes : List Fix) (drives : List Pair) → lookup (nat_eq id) drives ≡ Some fixes
-    → Asks on drives v → Asks on ((id, fixes) ∷ without drives id) v
+    → Asks on drives v → Asks on ((id, fixes) ∷ without_pair drives id) v
 asks-without on v id fixes [] found asked = absurd (cc found)
 asks-without on v id fixes (e ∷ drives) found asked = step (nat_eq id e.0) refl found (asks-without on v id fixes drives)
   where
@@ -111,7 +111,7 @@ asks-without on v id fixes (e ∷ drives) found asked = step (nat_eq id e.0) ref
     first = asks on.network on.params (trace_of (id, fixes)) v
 
     rest : List Pair
-    rest = without drives id
+    rest = without_pair drives id
 
     step : (b : Bool) → nat_eq id e.0 ≡ b → cond b (Some e.1) (lookup (nat_eq id) drives) ≡ Some fixes
         → (lookup (nat_eq id) drives ≡ Some fixes → Asks on drives v → Asks on ((id, fixes) ∷ rest) v)
@@ -131,7 +131,7 @@ asks-without on v id fixes (e ∷ drives) found asked = step (nat_eq id e.0) ref
         (or_cases own (is_asked_by on (map trace_of drives) v) asked)
 
 pub asks-whole : (on : Setting) (v id : ℕ) (fixes : List Fix) (drives : List Pair) → lookup (nat_eq id) drives ≡ Some fixes
-    → Asks on ((id, fixes) ∷ without drives id) v → Asks on drives v
+    → Asks on ((id, fixes) ∷ without_pair drives id) v → Asks on drives v
 asks-whole on v id fixes [] found asked = absurd (cc found)
 asks-whole on v id fixes (e ∷ drives) found asked = step (nat_eq id e.0) refl found asked (asks-whole on v id fixes drives)
   where
@@ -142,7 +142,7 @@ asks-whole on v id fixes (e ∷ drives) found asked = step (nat_eq id e.0) refl 
     first = asks on.network on.params (trace_of (id, fixes)) v
 
     rest : List Pair
-    rest = without drives id
+    rest = without_pair drives id
 
     step : (b : Bool) → nat_eq id e.0 ≡ b → cond b (Some e.1) (lookup (nat_eq id) drives) ≡ Some fixes
         → Asks on ((id, fixes) ∷ cond b drives (e ∷ rest)) v

@@ -10,18 +10,18 @@ use Rattle.program_frame.specs.declared.total.Tally.{Tally}
 use Rattle.trace_match.specs.Setting.{Setting}
 use Rattle.trace_reader.specs.declared.trace.Fix.{Fix}
 use Rattle.trace_sessions.specs.Drives.{is_full_of, is_idle}
-use Rattle.trace_sessions.specs.Sessions.{HasPair, Pair, fixes_of, length_of, without}
+use Rattle.trace_sessions.specs.Sessions.{HasPair, Pair, fixes_of, length_of, without_pair}
 use Rattle.trace_sessions.specs.StreamText.{closing_lines, lines_at_end}
 use Rattle.follow_work.specs.declared.drives.Drives.{Drives}
-use Rattle.follow_work.specs.inside.DrivesDone.{AreAny, Drove, EndsAll, EndsDrive, HasDrives, HaveDriveOf, Stays, times_of}
+use Rattle.follow_work.specs.inside.DrivesDone.{AreAny, Drove, EndsAll, EndsDrive, HasDrives, HaveDriveOf, KeepsClock, times_of}
 use Rattle.follow_work.specs.inside.Times.{idle_ids}
 use Rattle.follow_work.proofs.DriveLists.{full-few, full-none, full-one, none-out, others, out-first}
 use Rattle.follow_work.proofs.DriveTimes.{idle-found}
 
-stays-still : (d : Drives) → Stays d d
+stays-still : (d : Drives) → KeepsClock d d
 stays-still d = record { clock = refl; points = refl }
 
-pub stays-then : (d0 d1 d2 : Drives) → Stays d0 d1 → Stays d1 d2 → Stays d0 d2
+pub stays-then : (d0 d1 d2 : Drives) → KeepsClock d0 d1 → KeepsClock d1 d2 → KeepsClock d0 d2
 stays-then d0 d1 d2 one two = record { clock = two.clock ∙ one.clock; points = two.points ∙ one.points }
 
 -- ---- the loop
@@ -31,7 +31,7 @@ pub record EndsSome (on : Setting) (ended drives : List Pair) (test : Pair → B
   pub now : List Pair
   pub open_drives : List Pair
   pub drove : Drove on d now open_drives
-  pub stays : Stays d0 d
+  pub stays : KeepsClock d0 d
   pub all : now ++ filter test open_drives ≡ ended ++ filter test drives
   pub kept : others test open_drives ≡ others test drives
   pub left_are : keys_of (filter test open_drives) ≡ left
@@ -111,7 +111,7 @@ next-ended idle ids i id e d0 d1 d2 t0 t1 t2 low at has ends on ended drives dro
     let passed = out.passed in
     record {
       now = before.now ++ (x.0, fixes_of open_drives x.0) ∷ [];
-      open_drives = without open_drives x.0;
+      open_drives = without_pair open_drives x.0;
       drove = one.drove;
       stays = stays-then d0 d1 d2 before.stays one.stays;
       all =
@@ -194,7 +194,7 @@ full-ended on ended drives id fixes d d' t t' drove found full ends =
     let own : fixes_of drives id ≡ fixes = ap (λ o. unwrap_or o []) found in
     let one : filter test drives ≡ (id, fixes_of drives id) ∷ [] = full-one id fixes drives drove.stands.different found full ∙ ap (λ fs. (id, fs) ∷ []) (sym own) in
     let out = out-first test drives (id, fixes_of drives id) [] drove.stands.different one in
-    let left : without drives id ≡ others test drives = sym (none-out test (without drives id) out.passed) ∙ out.kept in
+    let left : without_pair drives id ≡ others test drives = sym (none-out test (without_pair drives id) out.passed) ∙ out.kept in
     record {
       drove = subst (λ ds. Drove on d' ds (others test drives)) (ap (λ ds. ended ++ ds) (sym one)) (subst (Drove on d' (ended ++ (id, fixes_of drives id) ∷ [])) left ends.drove);
       stays = ends.stays;

@@ -11,25 +11,26 @@ use Rattle.bounded_table.proofs.Asking.{still_of}
 use Rattle.bounded_table.proofs.Counting.{count_listed}
 use Rattle.cost_model.specs.Options.{IsAccepted}
 use Rattle.program_frame.specs.Counts.{total_of}
-use Rattle.program_frame.specs.Jobs.{Grows, IsBounded, points_of}
+use Rattle.program_frame.specs.Jobs.{GrowsByTexts, IsBounded, position_count}
 use Rattle.program_frame.specs.Total.{total_line}
 use Rattle.program_frame.specs.declared.total.Tally.{Tally}
 use Rattle.program_frame.proofs.PointCounts.{points-append as counts-append}
 use Rattle.trace_match.specs.Match.{match_of}
 use Rattle.trace_match.specs.Setting.{Setting}
-use Rattle.trace_match.specs.Totals.{is_asked_by, pieces_of, rows_of}
+use Rattle.trace_match.specs.Totals.{is_asked_by, piece_count, asked_count}
 use Rattle.trace_reader.specs.Trace.{IsLawfulTrace}
 use Rattle.trace_reader.specs.declared.trace.Trace.{Trace}
-use Rattle.trace_sessions.specs.Drives.{drive_lines, ended_among, no_drives, with_rows}
-use Rattle.trace_sessions.specs.Sessions.{Keeps, Pair, SessionsState}
+use Rattle.trace_sessions.specs.Drives.{drive_lines, ended_among, no_drives, fleet_after_all}
+use Rattle.trace_sessions.specs.Sessions.{RepresentsPairs, Pair, SessionsState}
 use Rattle.trace_sessions.specs.StreamText.{closing_lines, points_in, trace_of}
 use Rattle.trace_sessions.specs.Streaming.{AsksSome, EndsPairs, fixes_in, pieces_of_all, pieces_told}
 use Rattle.trace_sessions.proofs.StreamLines.{few-pieces}
-use Rattle.follow_work.specs.DriveTexts.{driven-text, ended-append, rows-append}
+use Rattle.follow_work.specs.DriveTexts.{driven-text}
+use Rattle.follow_work.proofs.DriveSums.{ended-append, rows-append}
 use Rattle.follow_work.specs.Drives.{drives_job, fleet_of}
 use Rattle.follow_work.specs.StreamTexts.{points-append}
 use Rattle.follow_work.specs.declared.drives.Drives.{Drives}
-use Rattle.follow_work.specs.inside.DrivesDone.{AreAny, HasDriven, HasDrives, HasDrove, IsAt, TakesAll, ending_of}
+use Rattle.follow_work.specs.inside.DrivesDone.{AreAny, HasDriven, HasDrives, HasDrove, IsAtFleet, TakesAll, ending_of}
 use Rattle.follow_work.proofs.StreamJobs.{points-length}
 use Rattle.follow_work.proofs.StreamTakes.{at-setting, no-node}
 use Rattle.follow_work.proofs.StreamTotals.{whole-sum}
@@ -38,7 +39,7 @@ use Rattle.follow_work.proofs.DriveSteps.{of-some}
 
 -- ---- before the first trace
 
-pub begun : (on : Setting) (s : SessionsState) (times : List (ℕ × ℕ)) (rows : RowsState) (tally : Tally) → IsAccepted on.params → s.network ≡ on.network → s.params ≡ on.params → Keeps s [] → times ≡ []
+pub begun : (on : Setting) (s : SessionsState) (times : List (ℕ × ℕ)) (rows : RowsState) (tally : Tally) → IsAccepted on.params → s.network ≡ on.network → s.params ≡ on.params → RepresentsPairs s [] → times ≡ []
     → rows ≡ no_rows on.network on.params.bound → tally.traces ≡ 0 → tally.points ≡ 0 → tally.pieces ≡ 0 → HasDrove on s times rows tally [] []
 begun on s times rows tally accepted network params stands none fresh traces points pieces = record {
   accepted = accepted;
@@ -67,7 +68,7 @@ driven-any on idle d before has = record {
   has = tt;
 }
 
-pub driven-few : (on : Setting) (idle : ℕ) (d : Drives) (before more : List Trace) → HasDriven on idle d before → IsBounded (before ++ more) → d.tally.points + points_of more < 2 ^ 62
+pub driven-few : (on : Setting) (idle : ℕ) (d : Drives) (before more : List Trace) → HasDriven on idle d before → IsBounded (before ++ more) → d.tally.points + position_count more < 2 ^ 62
 driven-few on idle d before more has bounded =
     let few = bounded.few_points in
     let both = counts-append before more in
@@ -79,17 +80,17 @@ driven-more on idle d d' before more t t' has takes =
     let back = points_in more in
     let rows = takes on (ended_among idle no_drives front) (fleet_of idle before) has.at in
     let all = points-append before more in
-    let joined = subst (λ f. IsAt on d' (ended_among idle no_drives (front ++ back)) f) (sym (rows-append idle no_drives front back))
-    (subst (λ ds. IsAt on d' ds (with_rows idle (fleet_of idle before) back)) (sym (ended-append idle no_drives front back)) rows.at) in
+    let joined = subst (λ f. IsAtFleet on d' (ended_among idle no_drives (front ++ back)) f) (sym (rows-append idle no_drives front back))
+    (subst (λ ds. IsAtFleet on d' ds (fleet_after_all idle (fleet_of idle before) back)) (sym (ended-append idle no_drives front back)) rows.at) in
     record {
-      at = subst (λ ps. IsAt on d' (ended_among idle no_drives ps) (with_rows idle no_drives ps)) (sym all) joined;
+      at = subst (λ ps. IsAtFleet on d' (ended_among idle no_drives ps) (fleet_after_all idle no_drives ps)) (sym all) joined;
       count = (
           let both = counts-append before more in
           let long = points-length more in
           omega (arith, has.count, rows.count, both, long));
     }
 
-pub driven-grows : (on : Setting) (idle : ℕ) (d d' : Drives) (before more : List Trace) (t t' : List ℕ) → HasDriven on idle d before → TakesAll idle (points_in more) d d' t t' → Grows (drives_job on idle) before more t t'
+pub driven-grows : (on : Setting) (idle : ℕ) (d d' : Drives) (before more : List Trace) (t t' : List ℕ) → HasDriven on idle d before → TakesAll idle (points_in more) d d' t t' → GrowsByTexts (drives_job on idle) before more t t'
 driven-grows on idle d d' before more t t' has takes =
     let rows = takes on (ended_among idle no_drives (points_in before)) (fleet_of idle before) has.at in
     record {
@@ -112,16 +113,16 @@ few-in-all on s times rows tally ended drives old new many pieces has ends opene
     let few = has.few in
     (omega (arith, few, has.traces_are, has.points_are, some, some_before, opened), omega (arith, few, has.pieces_are, has.points_are, counted, most, most_before))
 
-total-points : (ended drives : List Pair) → points_of (map trace_of (ended ++ drives)) ≡ fixes_in ended + fixes_in drives
+total-points : (ended drives : List Pair) → position_count (map trace_of (ended ++ drives)) ≡ fixes_in ended + fixes_in drives
 total-points ended drives = whole-sum (λ trace. length trace.fixes) (ended ++ drives) ∙ sum_by-append (λ (q : Pair). length q.1) ended drives
 
-total-pieces : (on : Setting) (ended drives : List Pair) → pieces_of on (map trace_of (ended ++ drives)) ≡ pieces_of_all on.network on.params ended + pieces_of_all on.network on.params drives
+total-pieces : (on : Setting) (ended drives : List Pair) → piece_count on (map trace_of (ended ++ drives)) ≡ pieces_of_all on.network on.params ended + pieces_of_all on.network on.params drives
 total-pieces on ended drives =
     whole-sum (λ trace. length (match_of on.network on.params trace).pieces) (ended ++ drives)
     ∙ sum_by-append (λ (q : Pair). length (match_of on.network on.params (trace_of q)).pieces) ended drives
 
 rows-counted : (on : Setting) (s : SessionsState) (times : List (ℕ × ℕ)) (rows rows' : RowsState) (tally : Tally) (ended drives : List Pair) → HasDrove on s times rows tally ended drives
-    → AsksOnly rows rows' (AsksSome s drives) → IsKnownList rows'.network rows'.known → length rows'.known ≡ rows_of on (map trace_of (ended ++ drives))
+    → AsksOnly rows rows' (AsksSome s drives) → IsKnownList rows'.network rows'.known → length rows'.known ≡ asked_count on (map trace_of (ended ++ drives))
 rows-counted on s times rows rows' tally ended drives has asks listed =
     let are : AreRowsOf rows' on.network on.params.bound = still_of asks.keeps has.rows_are in
     let knows : (v : ℕ) → Contains rows'.known v ↔ Asks on (ended ++ drives) v = λ v. (
@@ -143,15 +144,15 @@ ending-is on s times rows rows' tally ended drives many pieces count old new has
     let both = length-append ended drives in
     let all = length-map (ended ++ drives) trace_of in
     omega (arith, has.traces_are, opened, both, all)) in
-    let points_are : tally.points ≡ points_of whole = has.points_are ∙ sym (total-points ended drives) in
-    let pieces_are : tally.pieces + pieces ≡ pieces_of on whole = (
+    let points_are : tally.points ≡ position_count whole = has.points_are ∙ sym (total-points ended drives) in
+    let pieces_are : tally.pieces + pieces ≡ piece_count on whole = (
     let all = total-pieces on ended drives in
     omega (arith, has.pieces_are, told, all)) in
-    let rows_are : count ≡ rows_of on whole = counted ∙ rows-counted on s times rows rows' tally ended drives has asks listed in
+    let rows_are : count ≡ asked_count on whole = counted ∙ rows-counted on s times rows rows' tally ended drives has asks listed in
     ap (λ t. t ++ total_line (tally.traces + many) tally.points (tally.pieces + pieces) count) written
     ∙ ap (λ t. (old ++ lines) ++ t)
     (ap (λ n. total_line n tally.points (tally.pieces + pieces) count) traces_are
     ∙ ap (λ n. total_line (length whole) n (tally.pieces + pieces) count) points_are
-    ∙ ap (λ n. total_line (length whole) (points_of whole) n count) pieces_are
-    ∙ ap (total_line (length whole) (points_of whole) (pieces_of on whole)) rows_are)
-    ∙ append_assoc old lines (total_of (pieces_of on) (rows_of on) whole)
+    ∙ ap (λ n. total_line (length whole) (position_count whole) n count) pieces_are
+    ∙ ap (total_line (length whole) (position_count whole) (piece_count on whole)) rows_are)
+    ∙ append_assoc old lines (total_of (piece_count on) (asked_count on) whole)

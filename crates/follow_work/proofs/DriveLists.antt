@@ -6,7 +6,7 @@ use Rattle.std.proofs.lemmas.Bool.Decides.{nat_tests}
 use Rattle.std.proofs.lemmas.Map.Keys.{IsDistinct-head, IsDistinct-tail}
 use Rattle.trace_reader.specs.declared.trace.Fix.{Fix}
 use Rattle.trace_sessions.specs.Drives.{is_full_of}
-use Rattle.trace_sessions.specs.Sessions.{Pair, without}
+use Rattle.trace_sessions.specs.Sessions.{Pair, without_pair}
 use Rattle.trace_sessions.specs.StreamText.{has_room}
 use Rattle.follow_work.proofs.StreamTotals.{absent}
 
@@ -16,8 +16,8 @@ others test drives = filter (λ drive. not (test drive)) drives
 -- the first drive that passes the test, taken out by its id
 pub record IsOut (test : Pair → Bool) (drives : List Pair) (x : Pair) (rest : List Pair) : Type 0 where
   pub found : lookup (nat_eq x.0) drives ≡ Some x.1
-  pub passed : filter test (without drives x.0) ≡ rest
-  pub kept : others test (without drives x.0) ≡ others test drives
+  pub passed : filter test (without_pair drives x.0) ≡ rest
+  pub kept : others test (without_pair drives x.0) ≡ others test drives
 
 own-id : (id : ℕ) → nat_eq id id ≡ true
 own-id id = grind (arith, nat_tests)
@@ -46,13 +46,13 @@ out-first test (e ∷ drives) x rest different is =
         let own = own-id e.0 in
         subst (λ y. IsOut test (e ∷ drives) y rest) same (record {
           found = ap (λ b. cond b (Some e.1) (lookup (nat_eq e.0) drives)) own;
-          passed = ap (λ b. filter test (cond b drives (e ∷ without drives e.0))) own ∙ tail;
-          kept = ap (λ b. others test (cond b drives (e ∷ without drives e.0))) own
+          passed = ap (λ b. filter test (cond b drives (e ∷ without_pair drives e.0))) own ∙ tail;
+          kept = ap (λ b. others test (cond b drives (e ∷ without_pair drives e.0))) own
               ∙ sym (ap (λ b. cond (not b) (e ∷ others test drives) (others test drives)) passes);
         })
     step false fails is later =
         let inner = later is in
-        let left = without drives x.0 in
+        let left = without_pair drives x.0 in
         let apart = apart-from x.0 e drives x.1 (IsDistinct-head nat_eq e.0 (keys_of drives) different) inner.found in
         record {
           found = ap (λ b. cond b (Some e.1) (lookup (nat_eq x.0) drives)) apart ∙ inner.found;

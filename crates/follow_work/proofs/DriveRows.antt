@@ -5,18 +5,19 @@ use Rattle.std.proofs.lemmas.List.{append_assoc, append-nil, length-append, leng
 use Rattle.std.proofs.lemmas.List.Concat.{flat_map-append}
 use Rattle.std.proofs.lemmas.List.Folds.{concat-append}
 use Rattle.std.proofs.lemmas.List.Sums.{sum_by-cons}
-use Rattle.program_frame.specs.Jobs.{points_of}
+use Rattle.program_frame.specs.Jobs.{position_count}
 use Rattle.program_frame.proofs.PointCounts.{points-append as counts-append}
 use Rattle.trace_match.specs.Setting.{Setting}
 use Rattle.trace_match.proofs.Traces.{next_trace}
 use Rattle.trace_reader.specs.declared.trace.Fix.{Fix}
 use Rattle.trace_reader.specs.declared.trace.Trace.{Trace}
-use Rattle.trace_sessions.specs.Drives.{Fleet, awake_at, clock_at, drive_lines, ended_among, ended_at, is_full_of, is_idle, open_at, row_lines, with_row, with_rows}
+use Rattle.trace_sessions.specs.Drives.{Fleet, awake_at, clock_at, drive_lines, ended_among, ended_at, is_full_of, is_idle, open_at, fleet_lines, fleet_after, fleet_after_all}
 use Rattle.trace_sessions.specs.Sessions.{Pair, fixes_of}
 use Rattle.trace_sessions.specs.StreamText.{Point, closing_lines, fragment_points, led_by, lines_at_end, lines_of_fix, points_in}
-use Rattle.follow_work.specs.DriveTexts.{driven-text, ended-append, rows-append}
+use Rattle.follow_work.specs.DriveTexts.{driven-text}
+use Rattle.follow_work.proofs.DriveSums.{ended-append, rows-append}
 use Rattle.follow_work.specs.declared.drives.Drives.{Drives}
-use Rattle.follow_work.specs.inside.DrivesDone.{AreAny, Drove, EndsAll, HasDrives, HaveRoomFor, IsAt, TakesAll, TakesFix, TakesRows}
+use Rattle.follow_work.specs.inside.DrivesDone.{AreAny, Drove, EndsAll, HasDrives, HaveRoomFor, IsAtFleet, TakesAll, DrivesTakePosition, TakesRows}
 use Rattle.follow_work.proofs.DriveLists.{others, room-left}
 use Rattle.follow_work.proofs.StreamJobs.{first-points, points-length}
 
@@ -56,13 +57,13 @@ row-text on idle fleet x t0 t1 t2 t3 one two three =
     (sym (append_assoc a b (concat own))
     ∙ ap (λ t. t ++ concat own) (sym (concat-append (closing_lines n p first) (closing_lines n p second)) ∙ ap concat (sym (flat_map-append (lines_at_end n p) first second)))
     ∙ sym (concat-append (closing_lines n p (ended_at idle fleet x)) own)
-    ∙ ap concat (sym (append-nil (row_lines n p idle fleet x))))
+    ∙ ap concat (sym (append-nil (fleet_lines n p idle fleet x))))
 
 pub row-taken : (on : Setting) (idle id : ℕ) (fix : Fix) (ended : List Pair) (fleet : Fleet) (clock : ℕ) (d0 d1 d2 d3 d4 : Drives) (t0 t1 t2 t3 : List ℕ) → clock ≡ max d0.clock fix.time → d1.clock ≡ clock → d1.tally.points ≡ d0.tally.points
-    → IsAt on d0 ended fleet
+    → IsAtFleet on d0 ended fleet
     → EndsAll on ended fleet.drives (is_idle idle clock) d1 d2 t0 t1
     → EndsAll on (ended ++ filter (is_idle idle clock) fleet.drives) (others (is_idle idle clock) fleet.drives) (is_full_of id) d2 d3 t1 t2
-    → TakesFix on ((ended ++ filter (is_idle idle clock) fleet.drives) ++ filter (is_full_of id) (others (is_idle idle clock) fleet.drives)) (others (is_full_of id) (others (is_idle idle clock) fleet.drives)) id fix d3 d4 t2 t3
+    → DrivesTakePosition on ((ended ++ filter (is_idle idle clock) fleet.drives) ++ filter (is_full_of id) (others (is_idle idle clock) fleet.drives)) (others (is_full_of id) (others (is_idle idle clock) fleet.drives)) id fix d3 d4 t2 t3
     → TakesRows on idle ended fleet ((id, fix) ∷ []) d0 d4 t0 t3
 row-taken on idle id fix ended fleet clock d0 d1 d2 d3 d4 t0 t1 t2 t3 clock_is clock1 points1 at first second third =
     let x : Point = (id, fix) in
@@ -70,14 +71,14 @@ row-taken on idle id fix ended fleet clock d0 d1 d2 d3 d4 t0 t1 t2 t3 clock_is c
     let one = subst (λ c. EndsAll on ended fleet.drives (is_idle idle c) d1 d2 t0 t1) same first in
     let two = subst (λ c. EndsAll on (ended ++ filter (is_idle idle c) fleet.drives) (others (is_idle idle c) fleet.drives) (is_full_of id) d2 d3 t1 t2) same second in
     let three = subst
-    (λ c. TakesFix on ((ended ++ filter (is_idle idle c) fleet.drives) ++ filter (is_full_of id) (others (is_idle idle c) fleet.drives)) (others (is_full_of id) (others (is_idle idle c) fleet.drives)) id fix d3 d4 t2 t3)
+    (λ c. DrivesTakePosition on ((ended ++ filter (is_idle idle c) fleet.drives) ++ filter (is_full_of id) (others (is_idle idle c) fleet.drives)) (others (is_full_of id) (others (is_idle idle c) fleet.drives)) id fix d3 d4 t2 t3)
     same third in
     let front = filter (is_idle idle (clock_at fleet x)) fleet.drives in
     let back = filter (is_full_of id) (awake_at idle fleet x) in
     let parts : (ended ++ front) ++ back ≡ ended ++ ((front ++ back) ++ []) = append_assoc ended front back ∙ ap (λ ds. ended ++ ds) (sym (append-nil (front ++ back))) in
     record {
       at = record {
-        drove = subst (λ ds. Drove on d4 ds (with_row idle fleet x).drives) parts three.drove;
+        drove = subst (λ ds. Drove on d4 ds (fleet_after idle fleet x).drives) parts three.drove;
         clock_is = three.clock ∙ two.stays.clock ∙ one.stays.clock ∙ clock1 ∙ same;
       };
       count = three.points ∙ ap (λ k. k + 1) (two.stays.points ∙ one.stays.points ∙ points1);
@@ -88,7 +89,7 @@ row-taken on idle id fix ended fleet clock d0 d1 d2 d3 d4 t0 t1 t2 t3 clock_is c
 
 pub none-taken : (idle : ℕ) (d : Drives) (t : List ℕ) → TakesAll idle [] d d t t
 none-taken idle d t on ended fleet at = record {
-  at = subst (λ ds. IsAt on d ds fleet) (sym (append-nil ended)) at;
+  at = subst (λ ds. IsAtFleet on d ds fleet) (sym (append-nil ended)) at;
   count = omega arith;
   written = sym (append-nil t);
 }
@@ -98,7 +99,7 @@ rows-then idle front back d0 d1 d2 t0 t1 t2 first second on ended fleet at =
     let n = on.network in
     let p = on.params in
     let one = first on ended fleet at in
-    let next = with_rows idle fleet front in
+    let next = fleet_after_all idle fleet front in
     let gone = ended_among idle fleet front in
     let two = second on (ended ++ gone) next one.at in
     let parts : (ended ++ gone) ++ ended_among idle next back ≡ ended ++ ended_among idle fleet (front ++ back) =
@@ -106,7 +107,7 @@ rows-then idle front back d0 d1 d2 t0 t1 t2 first second on ended fleet at =
     let a = concat (drive_lines n p idle fleet front) in
     let b = concat (drive_lines n p idle next back) in
     record {
-      at = subst (λ f. IsAt on d2 (ended ++ ended_among idle fleet (front ++ back)) f) (sym (rows-append idle fleet front back)) (subst (λ ds. IsAt on d2 ds (with_rows idle next back)) parts two.at);
+      at = subst (λ f. IsAtFleet on d2 (ended ++ ended_among idle fleet (front ++ back)) f) (sym (rows-append idle fleet front back)) (subst (λ ds. IsAtFleet on d2 ds (fleet_after_all idle next back)) parts two.at);
       count = (let sum = length-append front back in omega (arith, one.count, two.count, sum));
       written = two.written ∙ ap (λ t. t ++ b) one.written ∙ append_assoc t0 a b ∙ ap (λ t. t0 ++ t) (sym (driven-text n p idle fleet front back));
     }
@@ -121,7 +122,7 @@ taken-any idle points d0 d t0 t some takes =
     let fleet : Fleet = record { clock = d0.clock; drives = some.drives } in
     let rows = takes some.on some.ended fleet (record { drove = some.drove; clock_is = refl }) in
     record {
-      any = record { on = some.on; ended = some.ended ++ ended_among idle fleet points; drives = (with_rows idle fleet points).drives; drove = rows.at.drove; has = tt };
+      any = record { on = some.on; ended = some.ended ++ ended_among idle fleet points; drives = (fleet_after_all idle fleet points).drives; drove = rows.at.drove; has = tt };
       count = rows.count;
     }
 
@@ -151,11 +152,11 @@ point-few trace fixes i before points same low count few =
 
 -- ---- fragments
 
-pub fragment-few : (traces : List Trace) (i : ℕ) (trace : Trace) (before points : ℕ) → i < length traces → trace ≡ get_or traces i trace → points ≡ before + length (points_in (take i traces)) → before + points_of traces < 2 ^ 62
+pub fragment-few : (traces : List Trace) (i : ℕ) (trace : Trace) (before points : ℕ) → i < length traces → trace ≡ get_or traces i trace → points ≡ before + length (points_in (take i traces)) → before + position_count traces < 2 ^ 62
     → points + length trace.fixes < 2 ^ 62
 fragment-few traces i trace before points low is there few =
     let count = points-length (take i traces) in
-    let next : points_of (take (i + 1) traces) ≡ points_of (take i traces) + points_of (trace ∷ []) = ap points_of (next_trace traces i trace low is) ∙ counts-append (take i traces) (trace ∷ []) in
+    let next : position_count (take (i + 1) traces) ≡ position_count (take i traces) + position_count (trace ∷ []) = ap position_count (next_trace traces i trace low is) ∙ counts-append (take i traces) (trace ∷ []) in
     let one = sum_by-cons (λ (t : Trace). length t.fixes) trace [] in
     let most = first-points traces (i + 1) in
     omega (arith, count, next, one, most, there, few)

@@ -22,7 +22,7 @@ use Rattle.trace_reader.specs.declared.trace.Fix.{Fix}
 use Rattle.trace_sessions.specs.declared.sessions.SessionFault.{SessionFault}
 use Rattle.trace_sessions.specs.declared.sessions.SessionFault.TheVariants.{Memory, NotOpen, TooLong}
 use Rattle.trace_sessions.specs.Following.{pieces_among}
-use Rattle.trace_sessions.specs.Sessions.{AsksClosed, HasPair, Keeps, Pair, SessionsState, fixes_of, with_fix, without}
+use Rattle.trace_sessions.specs.Sessions.{AsksClosed, HasPair, RepresentsPairs, Pair, SessionsState, fixes_of, with_fix, without_pair}
 use Rattle.trace_sessions.specs.StreamText.{Point, full_id, has_room, led_by, lines_at_end, lines_of_fix, stream_lines, trace_of}
 use Rattle.trace_sessions.specs.Streaming.{AsksSome, AsksStream, CanStream, EndsId, EndsPair, EndsTrace, Streams, TakesPoints, pieces_told}
 use Rattle.trace_sessions.proofs.StreamPoints.{fixes_in-with, one-full}
@@ -72,18 +72,18 @@ found-of : (o : Option (List Fix)) → IsSome o → o ≡ Some (unwrap_or o [])
 found-of None some = absurd (cc some)
 found-of (Some fixes) some = refl
 
-moved : (on : Setting) (v id : ℕ) (fixes : List Fix) (ended drives : List Pair) → lookup (nat_eq id) drives ≡ Some fixes → Asks on (ended ++ drives) v → Asks on ((ended ++ (id, fixes) ∷ []) ++ without drives id) v
+moved : (on : Setting) (v id : ℕ) (fixes : List Fix) (ended drives : List Pair) → lookup (nat_eq id) drives ≡ Some fixes → Asks on (ended ++ drives) v → Asks on ((ended ++ (id, fixes) ∷ []) ++ without_pair drives id) v
 moved on v id fixes ended drives found asked =
-    let rest = without drives id in
+    let rest = without_pair drives id in
     subst (λ ds. Asks on ds v) (sym (append_assoc ended ((id, fixes) ∷ []) rest))
     (⊎_elim
     (λ front. asks-front on ended ((id, fixes) ∷ rest) v front)
     (λ back. asks-back on ended ((id, fixes) ∷ rest) v (asks-without on v id fixes drives found back))
     (asks-cases on ended drives v asked))
 
-unmoved : (on : Setting) (v id : ℕ) (fixes : List Fix) (ended drives : List Pair) → lookup (nat_eq id) drives ≡ Some fixes → Asks on ((ended ++ (id, fixes) ∷ []) ++ without drives id) v → Asks on (ended ++ drives) v
+unmoved : (on : Setting) (v id : ℕ) (fixes : List Fix) (ended drives : List Pair) → lookup (nat_eq id) drives ≡ Some fixes → Asks on ((ended ++ (id, fixes) ∷ []) ++ without_pair drives id) v → Asks on (ended ++ drives) v
 unmoved on v id fixes ended drives found asked =
-    let rest = without drives id in
+    let rest = without_pair drives id in
     ⊎_elim
     (λ front. asks-front on ended drives v front)
     (λ back. asks-back on ended drives v (asks-whole on v id fixes drives found back))
@@ -98,7 +98,7 @@ sum-push f ended x =
 pub drive-ended : (on : Setting) (s s' : SessionsState) (times times' : List (ℕ × ℕ)) (rows rows' : RowsState) (tally tally' : Tally) (ended drives : List Pair) (id pieces : ℕ) (text text' : List ℕ)
     → HasDrove on s times rows tally ended drives → EndsTrace {E = SessionFault} s drives id s' text text' (Ok pieces) → AsksClosed s id rows rows' → times' ≡ remove_entry (nat_eq id) times
     → tally'.traces ≡ tally.traces + 1 → tally'.points ≡ tally.points → tally'.pieces ≡ tally.pieces + pieces
-    → HasDrove on s' times' rows' tally' (ended ++ (id, fixes_of drives id) ∷ []) (without drives id)
+    → HasDrove on s' times' rows' tally' (ended ++ (id, fixes_of drives id) ∷ []) (without_pair drives id)
 drive-ended on s s' times times' rows rows' tally tally' ended drives id pieces text text' has ends asks left one same more =
     let n = on.network in
     let p = on.params in
@@ -140,7 +140,7 @@ pub end-few : (on : Setting) (s s' : SessionsState) (times : List (ℕ × ℕ)) 
     → HasDrove on s times rows tally ended drives → EndsTrace {E = SessionFault} s drives id s' text text' (Ok pieces) → AsksClosed s id rows rows' → tally.pieces + pieces < 2 ^ 62
 end-few on s s' times rows rows' tally ended drives id pieces text text' has ends asks =
     let after : Tally = record { traces = tally.traces + 1; points = tally.points; pieces = tally.pieces + pieces } in
-    (counts-few on s' (remove_entry (nat_eq id) times) rows' after (ended ++ (id, fixes_of drives id) ∷ []) (without drives id)
+    (counts-few on s' (remove_entry (nat_eq id) times) rows' after (ended ++ (id, fixes_of drives id) ∷ []) (without_pair drives id)
     (drive-ended on s s' times (remove_entry (nat_eq id) times) rows rows' tally after ended drives id pieces text text' has ends asks refl refl refl refl)).pieces
 
 -- and its last lines were written
@@ -188,8 +188,8 @@ lines-one n p drives id fix room = step (has_room drives id) room
     step true is = append-nil own
     step false is = absurd (cc is)
 
-some-more : (on : Setting) (s s' : SessionsState) (rows rows' : RowsState) (ended drives : List Pair) (id : ℕ) (fix : Fix) (pieces v : ℕ) → s.network ≡ on.network → s.params ≡ on.params → Keeps s drives
-    → Keeps s' (with_fix drives id fix) → ((v : ℕ) → Contains rows.known v → Asks on (ended ++ drives) v) → AsksStream {A = ℕ} {E = SessionFault} s ((id, fix) ∷ []) rows (Ok pieces) rows'
+some-more : (on : Setting) (s s' : SessionsState) (rows rows' : RowsState) (ended drives : List Pair) (id : ℕ) (fix : Fix) (pieces v : ℕ) → s.network ≡ on.network → s.params ≡ on.params → RepresentsPairs s drives
+    → RepresentsPairs s' (with_fix drives id fix) → ((v : ℕ) → Contains rows.known v → Asks on (ended ++ drives) v) → AsksStream {A = ℕ} {E = SessionFault} s ((id, fix) ∷ []) rows (Ok pieces) rows'
     → Contains rows'.known v → Asks on (ended ++ with_fix drives id fix) v
 some-more on s s' rows rows' ended drives id fix pieces v network params keeps keeps' knows asks now =
     let x : Point = (id, fix) in
@@ -203,8 +203,8 @@ some-more on s s' rows rows' ended drives id fix pieces v network params keeps k
     (λ asked. asks-back on ended after v (of-some on s after v network params (among-some s drives (x ∷ []) v asked)))
     ((asks.only drives keeps).nothing_else v now)
 
-all-more : (on : Setting) (s s' : SessionsState) (rows rows' : RowsState) (ended drives : List Pair) (id : ℕ) (fix : Fix) (pieces v : ℕ) → s.network ≡ on.network → s.params ≡ on.params → Keeps s drives
-    → Keeps s' (with_fix drives id fix) → ((v : ℕ) → Asks on (ended ++ drives) v → Contains rows.known v) → AsksStream {A = ℕ} {E = SessionFault} s ((id, fix) ∷ []) rows (Ok pieces) rows'
+all-more : (on : Setting) (s s' : SessionsState) (rows rows' : RowsState) (ended drives : List Pair) (id : ℕ) (fix : Fix) (pieces v : ℕ) → s.network ≡ on.network → s.params ≡ on.params → RepresentsPairs s drives
+    → RepresentsPairs s' (with_fix drives id fix) → ((v : ℕ) → Asks on (ended ++ drives) v → Contains rows.known v) → AsksStream {A = ℕ} {E = SessionFault} s ((id, fix) ∷ []) rows (Ok pieces) rows'
     → Asks on (ended ++ with_fix drives id fix) v → Contains rows'.known v
 all-more on s s' rows rows' ended drives id fix pieces v network params keeps keeps' knows asks asked =
     let after = with_fix drives id fix in

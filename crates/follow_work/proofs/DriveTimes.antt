@@ -5,7 +5,7 @@ use Rattle.std.specs.Map.{keys_of, lookup, remove_entry}
 use Rattle.indexmap.specs.IndexMap.{insert_entry}
 use Rattle.trace_reader.specs.declared.trace.Fix.{Fix}
 use Rattle.trace_sessions.specs.Drives.{is_idle, newest}
-use Rattle.trace_sessions.specs.Sessions.{Pair, fixes_and, fixes_of, with_fix, without}
+use Rattle.trace_sessions.specs.Sessions.{Pair, fixes_and, fixes_of, with_fix, without_pair}
 use Rattle.follow_work.specs.inside.DrivesDone.{times_of}
 use Rattle.follow_work.specs.inside.Times.{idle_ids, time_with}
 
@@ -29,12 +29,12 @@ times-insert id fixes (e ∷ drives) = step (nat_eq id e.0) (times-insert id fix
     step true later = refl
     step false later = ap (λ (ts : List (ℕ × ℕ)). (e.0, newest e.1) ∷ ts) later
 
-pub times-without : (id : ℕ) (drives : List Pair) → remove_entry (nat_eq id) (times_of drives) ≡ times_of (without drives id)
+pub times-without : (id : ℕ) (drives : List Pair) → remove_entry (nat_eq id) (times_of drives) ≡ times_of (without_pair drives id)
 times-without id [] = refl
 times-without id (e ∷ drives) = step (nat_eq id e.0) (times-without id drives)
   where
-    step : (b : Bool) → remove_entry (nat_eq id) (times_of drives) ≡ times_of (without drives id)
-        → cond b (times_of drives) ((e.0, newest e.1) ∷ remove_entry (nat_eq id) (times_of drives)) ≡ times_of (cond b drives (e ∷ without drives id))
+    step : (b : Bool) → remove_entry (nat_eq id) (times_of drives) ≡ times_of (without_pair drives id)
+        → cond b (times_of drives) ((e.0, newest e.1) ∷ remove_entry (nat_eq id) (times_of drives)) ≡ times_of (cond b drives (e ∷ without_pair drives id))
     step true later = refl
     step false later = ap (λ (ts : List (ℕ × ℕ)). (e.0, newest e.1) ∷ ts) later
 

@@ -3,15 +3,15 @@ use Rattle.std.proofs.Common.{◌≡◌, ℕ, false, true, List, [], ◌++◌, l
 use Rattle.bounded_table.specs.Known.{IsKnownList}
 use Rattle.bounded_table.specs.Rows.{AreRowsOf, RowsState, no_rows}
 use Rattle.bounded_table.proofs.Counting.{count_listed}
-use Rattle.program_frame.specs.Jobs.{points_of}
-use Rattle.program_frame.specs.Total.{Adds, total_line}
+use Rattle.program_frame.specs.Jobs.{position_count}
+use Rattle.program_frame.specs.Total.{AddsCounts, total_line}
 use Rattle.program_frame.specs.declared.total.Tally.{Tally}
 use Rattle.trace_reader.specs.declared.trace.Trace.{Trace}
 use Rattle.trace_match.specs.inside.Asked.{AsksTraces, LearnsAsked}
-use Rattle.program_frame.specs.Counts.{ArePieces}
+use Rattle.program_frame.specs.inside.Tallies.{IsCountOfPieces}
 use Rattle.trace_match.specs.Setting.{Setting}
 use Rattle.program_frame.specs.Counts.{total_of}
-use Rattle.trace_match.specs.Totals.{is_asked_by, pieces_of, rows_of}
+use Rattle.trace_match.specs.Totals.{is_asked_by, piece_count, asked_count}
 use Rattle.trace_match.proofs.Asking.{asked_parts}
 use Rattle.program_frame.proofs.Counting.{counts_more}
 use Rattle.follow_work.specs.inside.FollowDone.{HasFollowed, KnowsAsked}
@@ -30,7 +30,7 @@ asked_none : (on : Setting) (known : List ℕ) → known ≡ [] → KnowsAsked o
 asked_none on known none v = (λ has. let low = has.1 in absurd (let e : length known ≡ 0 = ap length none in omega (arith, low, e)), λ (is : false ≡ true). cc)
 
 -- how many rows are known, where exactly those that are asked for are
-counted_rows : (on : Setting) (matched : List Trace) (rows : RowsState) → AreRowsOf rows on.network on.params.bound → KnowsAsked on matched rows.known → IsKnownList rows.network rows.known → length rows.known ≡ rows_of on matched
+counted_rows : (on : Setting) (matched : List Trace) (rows : RowsState) → AreRowsOf rows on.network on.params.bound → KnowsAsked on matched rows.known → IsKnownList rows.network rows.known → length rows.known ≡ asked_count on matched
 counted_rows on matched rows are knows listed =
     let inside = subst (λ n. IsKnownList n rows.known) are.network listed in
     count_listed (length on.network.nodes) rows.known (is_asked_by on matched) inside.rising inside.nodes (λ v low. knows v)
@@ -43,17 +43,17 @@ begun on rows tally fresh traces points pieces = record {
 }
 
 -- more traces were matched and counted
-pub followed_more : (on : Setting) (before more : List Trace) (rows rows' : RowsState) (tally tally' : Tally) (pieces : ℕ) → HasFollowed on rows tally before → ArePieces (pieces_of on) more pieces → AsksTraces on more rows rows' → Adds more pieces tally tally' → HasFollowed on rows' tally' (before ++ more)
+pub followed_more : (on : Setting) (before more : List Trace) (rows rows' : RowsState) (tally tally' : Tally) (pieces : ℕ) → HasFollowed on rows tally before → IsCountOfPieces (piece_count on) more pieces → AsksTraces on more rows rows' → AddsCounts more pieces tally tally' → HasFollowed on rows' tally' (before ++ more)
 followed_more on before more rows rows' tally tally' pieces has are asks adds = record {
   rows_are = asks.rows;
   asked = asked_more on before more rows.known rows'.known has.asked asks.learns;
-  counts = counts_more (pieces_of on) (pieces-append on) before more tally tally' pieces has.counts are adds;
+  counts = counts_more (piece_count on) (pieces-append on) before more tally tally' pieces has.counts are adds;
 }
 
 -- the total line of what was counted
-pub total_is : (on : Setting) (taken : List Trace) (rows : RowsState) (tally : Tally) (count : ℕ) → HasFollowed on rows tally taken → IsKnownList rows.network rows.known → count ≡ length rows.known → total_line tally.traces tally.points tally.pieces count ≡ total_of (pieces_of on) (rows_of on) taken
+pub total_is : (on : Setting) (taken : List Trace) (rows : RowsState) (tally : Tally) (count : ℕ) → HasFollowed on rows tally taken → IsKnownList rows.network rows.known → count ≡ length rows.known → total_line tally.traces tally.points tally.pieces count ≡ total_of (piece_count on) (asked_count on) taken
 total_is on taken rows tally count has listed counted =
     ap (λ n. total_line n tally.points tally.pieces count) has.counts.traces_are
     ∙ ap (λ n. total_line (length taken) n tally.pieces count) has.counts.points_are
-    ∙ ap (λ n. total_line (length taken) (points_of taken) n count) has.counts.pieces_are.are
-    ∙ ap (total_line (length taken) (points_of taken) (pieces_of on taken)) (counted ∙ counted_rows on taken rows has.rows_are has.asked listed)
+    ∙ ap (λ n. total_line (length taken) (position_count taken) n count) has.counts.pieces_are.are
+    ∙ ap (total_line (length taken) (position_count taken) (piece_count on taken)) (counted ∙ counted_rows on taken rows has.rows_are has.asked listed)

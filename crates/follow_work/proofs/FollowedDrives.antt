@@ -5,7 +5,7 @@ use Rattle.std.proofs.lemmas.Bool.Decides.{nat_tests}
 use Rattle.std.proofs.lemmas.List.{append_assoc}
 use Rattle.std.proofs.lemmas.List.Folds.{concat-append}
 use Rattle.program_frame.specs.Counts.{total_of}
-use Rattle.program_frame.specs.Jobs.{JobText, points_of}
+use Rattle.program_frame.specs.Jobs.{JobText, position_count}
 use Rattle.program_frame.specs.Outcome.{Outcome}
 use Rattle.program_frame.specs.Plan.{loads, outcome_of}
 use Rattle.program_frame.specs.Refusals.{network_said}
@@ -13,7 +13,7 @@ use Rattle.program_frame.specs.Stream.{works_traces}
 use Rattle.program_frame.specs.declared.stop.File.TheVariants.{Network}
 use Rattle.road_network.specs.Limits.{file_limit}
 use Rattle.trace_match.specs.Setting.{Setting}
-use Rattle.trace_match.specs.Totals.{pieces_of, rows_of}
+use Rattle.trace_match.specs.Totals.{piece_count, asked_count}
 use Rattle.trace_reader.specs.Reading.{file_fault, file_traces}
 use Rattle.trace_reader.specs.declared.trace.Trace.{Trace}
 use Rattle.trace_sessions.specs.Drives.{all_drive_lines, drive_lines, drives_of, no_drives}
@@ -32,11 +32,11 @@ use Rattle.follow_work.proofs.ReadIds.{read_ids}
 use Rattle.follow_work.proofs.StreamOutcomes.{outcome-says}
 
 text-is : (idle : ℕ) (on : Setting) (traces : List Trace) → driven_of on idle traces ++ drive_ending on idle traces
-    ≡ concat (all_drive_lines on.network on.params idle (points_in traces)) ++ total_of (pieces_of on) (rows_of on) (drive_traces idle traces)
+    ≡ concat (all_drive_lines on.network on.params idle (points_in traces)) ++ total_of (piece_count on) (asked_count on) (drive_traces idle traces)
 text-is idle on traces =
     let lines = drive_lines on.network on.params idle no_drives (points_in traces) in
     let last = closing_lines on.network on.params (fleet_of idle traces).drives in
-    let total = total_of (pieces_of on) (rows_of on) (drive_traces idle traces) in
+    let total = total_of (piece_count on) (asked_count on) (drive_traces idle traces) in
     sym (append_assoc (concat lines) (concat last) total) ∙ ap (λ t. t ++ total) (sym (concat-append lines last))
 
 traces-text : (on : Setting) (drives : List Pair) → flat_map (λ drive. follow_text on.network on.params (trace_of drive)) drives ≡ followed_of on (map trace_of drives)
@@ -50,14 +50,14 @@ follows idle on bytes whole none =
     let points = points_in traces in
     let all = drive_traces idle traces in
     let are = small-points traces (read_ids bytes) in
-    let total = total_of (pieces_of on) (rows_of on) all in
+    let total = total_of (piece_count on) (asked_count on) all in
     record {
       no_fault = whole;
       followed = λ id small.
           ap (text_led_by id) (text-is idle on traces)
           ∙ drives_have_follow_texts_before on.network on.params idle points id total are small
-          (total-one (length all) (points_of all) (pieces_of on all) (rows_of on all))
-          (none-leads id total small (no-number (length all) (points_of all) (pieces_of on all) (rows_of on all)))
+          (total-one (length all) (position_count all) (piece_count on all) (asked_count on all))
+          (none-leads id total small (no-number (length all) (position_count all) (piece_count on all) (asked_count on all)))
           ∙ traces-text on (drives_with id (drives_of idle points));
       lines = concat (all_drive_lines on.network on.params idle points);
       ended = text-is idle on traces;

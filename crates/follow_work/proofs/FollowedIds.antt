@@ -9,17 +9,17 @@ use Rattle.std.proofs.lemmas.List.Folds.{concat-append}
 use Rattle.decimal_text.specs.Number.{decimal, unsigned_within}
 use Rattle.match_text.specs.Reading.{number_at}
 use Rattle.program_frame.specs.Counts.{total_of}
-use Rattle.program_frame.specs.Jobs.{points_of}
+use Rattle.program_frame.specs.Jobs.{position_count}
 use Rattle.program_frame.specs.Total.{total_line, worded}
 use Rattle.trace_match.specs.Setting.{Setting}
-use Rattle.trace_match.specs.Totals.{pieces_of, rows_of}
+use Rattle.trace_match.specs.Totals.{piece_count, asked_count}
 use Rattle.trace_reader.specs.Reading.{file_fault, file_traces}
 use Rattle.trace_reader.specs.declared.trace.Fix.{Fix}
 use Rattle.trace_reader.specs.declared.trace.Trace.{Trace}
 use Rattle.trace_sessions.specs.StreamText.{Point, all_lines, closing_lines, fixes_among, full_id, points_in, stream_lines, text_led_by}
 use Rattle.trace_sessions.proofs.ByteLines.{IsOneLine, IsPlain, decimal-plain, ids_have_follow_texts_before, none-leads, plain-word}
 use Rattle.follow_work.specs.FollowedIds.{FollowsEachId, StreamsFollowEachId}
-use Rattle.follow_work.specs.Streams.{pairs_of, streamed_of, stream_ending, stream_refusal, streams_job, too_long_line, whole_traces}
+use Rattle.follow_work.specs.Streams.{pairs_in_order, streamed_of, stream_ending, stream_refusal, streams_job, too_long_line, whole_traces}
 use Rattle.follow_work.proofs.IdTraces.{traces-of_ids}
 use Rattle.follow_work.proofs.ReadIds.{HasShortId, read_ids}
 use Rattle.follow_work.proofs.StreamOutcomes.{outcome-says}
@@ -79,11 +79,11 @@ no-number traces points pieces rows = refl
 -- ---- the text
 
 text-is : (on : Setting) (traces : List Trace) → streamed_of on traces ++ stream_ending on traces
-    ≡ concat (all_lines on.network on.params (points_in traces)) ++ total_of (pieces_of on) (rows_of on) (whole_traces traces)
+    ≡ concat (all_lines on.network on.params (points_in traces)) ++ total_of (piece_count on) (asked_count on) (whole_traces traces)
 text-is on traces =
     let lines = stream_lines on.network on.params [] (points_in traces) in
-    let last = closing_lines on.network on.params (pairs_of traces) in
-    let total = total_of (pieces_of on) (rows_of on) (whole_traces traces) in
+    let last = closing_lines on.network on.params (pairs_in_order traces) in
+    let total = total_of (piece_count on) (asked_count on) (whole_traces traces) in
     sym (append_assoc (concat lines) (concat last) total) ∙ ap (λ t. t ++ total) (sym (concat-append lines last))
 
 none-full : (line_of : ℕ → List ℕ) (full : Option ℕ) → option_map line_of full ≡ None → full ≡ None
@@ -98,15 +98,15 @@ follows on bytes whole none =
     let all = whole_traces traces in
     let are = small-points traces (read_ids bytes) in
     let room = none-full too_long_line (full_id [] points) none in
-    let total = total_of (pieces_of on) (rows_of on) all in
+    let total = total_of (piece_count on) (asked_count on) all in
     record {
       no_fault = whole;
       followed = λ id some. (
           let small = small-id id points are some in
           ap (text_led_by id) (text-is on traces)
           ∙ ids_have_follow_texts_before on.network on.params points id total are small room some
-          (total-one (length all) (points_of all) (pieces_of on all) (rows_of on all))
-          (none-leads id total small (no-number (length all) (points_of all) (pieces_of on all) (rows_of on all))));
+          (total-one (length all) (position_count all) (piece_count on all) (asked_count on all))
+          (none-leads id total small (no-number (length all) (position_count all) (piece_count on all) (asked_count on all))));
       traces = all;
       traces_are = traces-of_ids bytes;
       lines = concat (all_lines on.network on.params points);

@@ -1,15 +1,15 @@
 -- The follow texts of the next of some traces, and their pieces.
 use Rattle.std.proofs.Common.{◌≡◌, ℕ, ◌+◌, ◌<◌, List, [], ◌∷◌, ◌++◌, length, take, get_or, sym, ◌∙◌, ap, append-nil, append_assoc, arith}
 use Rattle.std.proofs.lemmas.List.Concat.{flat_map-append}
-use Rattle.program_frame.specs.Jobs.{Grows, points_of}
+use Rattle.program_frame.specs.Jobs.{GrowsByTexts, position_count}
 use Rattle.program_frame.proofs.PointCounts.{points-append}
 use Rattle.trace_reader.specs.declared.trace.Trace.{Trace}
 use Rattle.trace_sessions.specs.FollowText.{follow_text}
 use Rattle.trace_sessions.specs.Following.{IsPieceCount}
 use Rattle.trace_match.specs.Setting.{Setting}
 use Rattle.follow_work.specs.Follow.{follow_job, followed_of}
-use Rattle.trace_match.specs.Totals.{pieces_of}
-use Rattle.program_frame.specs.Counts.{ArePieces}
+use Rattle.trace_match.specs.Totals.{piece_count}
+use Rattle.program_frame.specs.inside.Tallies.{IsCountOfPieces}
 use Rattle.trace_match.proofs.Traces.{pieces-append}
 use Rattle.trace_match.proofs.Traces.{next_trace}
 
@@ -29,17 +29,17 @@ followed_next on traces i trace base old new low is texts grown =
     ∙ ap (λ (t : List ℕ). base ++ t) (sym (followed-append on (take i traces) (trace ∷ [])) ∙ ap (followed_of on) (sym (next_trace traces i trace low is)))
 
 pub pieces_followed : (on : Setting) (traces : List Trace) (i : ℕ) (trace : Trace) (pieces count : ℕ) → i < length traces → trace ≡ get_or traces i trace
-    → IsPieceCount on.network on.params trace count → ArePieces (pieces_of on) (take i traces) pieces → ArePieces (pieces_of on) (take (i + 1) traces) (pieces + count)
+    → IsPieceCount on.network on.params trace count → IsCountOfPieces (piece_count on) (take i traces) pieces → IsCountOfPieces (piece_count on) (take (i + 1) traces) (pieces + count)
 pieces_followed on traces i trace pieces count low is one before =
     let next = next_trace traces i trace low is in
-    let all : pieces_of on (take (i + 1) traces) ≡ pieces_of on (take i traces) + pieces_of on (trace ∷ []) = ap (pieces_of on) next ∙ pieces-append on (take i traces) (trace ∷ []) in
-    let points : points_of (take (i + 1) traces) ≡ points_of (take i traces) + points_of (trace ∷ []) = ap points_of next ∙ points-append (take i traces) (trace ∷ []) in
+    let all : piece_count on (take (i + 1) traces) ≡ piece_count on (take i traces) + piece_count on (trace ∷ []) = ap (piece_count on) next ∙ pieces-append on (take i traces) (trace ∷ []) in
+    let points : position_count (take (i + 1) traces) ≡ position_count (take i traces) + position_count (trace ∷ []) = ap position_count next ∙ points-append (take i traces) (trace ∷ []) in
     record {
       are = omega (arith, before.are, one.is, all);
       few = omega (arith, one.few, before.few, points);
     }
 
-pub followed_grows : (on : Setting) (before more : List Trace) (old new : List ℕ) → new ≡ old ++ followed_of on more → Grows (follow_job on) before more old new
+pub followed_grows : (on : Setting) (before more : List Trace) (old new : List ℕ) → new ≡ old ++ followed_of on more → GrowsByTexts (follow_job on) before more old new
 followed_grows on before more old new grown = record {
   text = followed_of on more;
   grown = grown;

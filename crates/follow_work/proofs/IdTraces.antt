@@ -10,7 +10,7 @@ use Rattle.trace_sessions.specs.Sessions.{Pair, fixes_and, fixes_of, with_fix}
 use Rattle.trace_sessions.specs.StreamText.{Point, fixes_among, points_in, trace_of, with_points}
 use Rattle.trace_sessions.proofs.StreamPoints.{Once, fixes-behind, insert-lookup, once-insert}
 use Rattle.follow_work.specs.FollowedIds.{AreTracesOfIds, with_id}
-use Rattle.follow_work.specs.Streams.{pairs_of, whole_traces}
+use Rattle.follow_work.specs.Streams.{pairs_in_order, whole_traces}
 
 abbrev Anything : ℕ → Type 0
 Anything id = Unit {0}
@@ -70,7 +70,7 @@ pub traces-of_ids : (bytes : List ℕ) → AreTracesOfIds bytes (whole_traces (f
 unfolding HaveFixes
 traces-of_ids bytes =
     let points = points_in (file_traces bytes) in
-    let pairs = pairs_of (file_traces bytes) in
+    let pairs = pairs_in_order (file_traces bytes) in
     let once = once-behind [] points tt in
     let have = some-behind [] points none-at-first in
     record {

@@ -20,3 +20,4 @@ pub mod TimesQueued
 pub mod IdlePlaces
 pub mod StreamOutcomes
 pub mod FollowedDrives
+pub mod DriveSums

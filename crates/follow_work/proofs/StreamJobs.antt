@@ -9,13 +9,13 @@ use Rattle.cost_model.specs.Options.{IsAccepted}
 use Rattle.polyline_geometry.specs.Plane.{InRange}
 use Rattle.bounded_table.specs.Rows.{AreRowsOf, RowsState}
 use Rattle.bounded_table.proofs.Asking.{still_of}
-use Rattle.program_frame.specs.Jobs.{IsBounded, points_of}
+use Rattle.program_frame.specs.Jobs.{IsBounded, position_count}
 use Rattle.program_frame.proofs.PointCounts.{points-append}
 use Rattle.trace_reader.specs.Trace.{IsLawfulTrace, point_of_fix}
 use Rattle.trace_reader.specs.declared.trace.Fix.{Fix}
 use Rattle.trace_reader.specs.declared.trace.Trace.{Trace}
 use Rattle.trace_sessions.specs.declared.sessions.SessionFault.{SessionFault}
-use Rattle.trace_sessions.specs.Sessions.{Keeps, Pair, SessionsState}
+use Rattle.trace_sessions.specs.Sessions.{RepresentsPairs, Pair, SessionsState}
 use Rattle.trace_sessions.specs.StreamText.{Point, fragment_points, points_in, with_points}
 use Rattle.trace_sessions.specs.Streaming.{AsksStream, CanStream, Streams, TakesPoints}
 use Rattle.trace_sessions.proofs.StreamLines.{told-few}
@@ -25,7 +25,7 @@ use Rattle.trace_match.proofs.Traces.{next_trace}
 
 -- ---- points of fragments
 
-pub points-length : (traces : List Trace) → length (points_in traces) ≡ points_of traces
+pub points-length : (traces : List Trace) → length (points_in traces) ≡ position_count traces
 points-length [] = refl
 points-length (trace ∷ traces) =
     let one = length-map {B = Point} trace.fixes (λ fix. (trace.id, fix)) in
@@ -43,9 +43,9 @@ places-in (trace ∷ traces) lawful =
     All-append (λ (x : Point). InRange (point_of_fix x.1)) (fragment_points trace) (points_in traces) own (places-in traces (All-tail IsLawfulTrace trace traces lawful))
 
 -- the first of them have no more points
-pub first-points : (traces : List Trace) (i : ℕ) → points_of (take i traces) ≤ points_of traces
+pub first-points : (traces : List Trace) (i : ℕ) → position_count (take i traces) ≤ position_count traces
 first-points traces i =
-    let all = ap points_of (take-append-drop i traces) in
+    let all = ap position_count (take-append-drop i traces) in
     let parts = points-append (take i traces) (drop i traces) in
     omega (arith, all, parts)
 
@@ -68,7 +68,7 @@ fragments-parts traces i trace low is =
 
 -- these fragments were taken
 pub record HasTaken (s0 s : SessionsState) (traces : List Trace) (t0 t : List ℕ) (r0 r : RowsState) (pieces : ℕ) : Type 0 where
-  pub takes : (pairs : List Pair) → Keeps s0 pairs → TakesPoints s0 pairs (points_in traces) s t0 t pieces
+  pub takes : (pairs : List Pair) → RepresentsPairs s0 pairs → TakesPoints s0 pairs (points_in traces) s t0 t pieces
   pub asks : AsksStream {A = ℕ} {E = SessionFault} s0 (points_in traces) r0 (Ok pieces) r
 
 pub no-fragments : (s : SessionsState) (t : List ℕ) (r : RowsState) → HasTaken s s [] t t r r 0
@@ -86,7 +86,7 @@ taken-rows s0 s traces more t0 t r0 r pieces can are has =
 
 pub taken-next : (s0 s1 s2 : SessionsState) (traces : List Trace) (i : ℕ) (trace : Trace) (more : ℕ) (t0 t1 t2 : List ℕ) (r0 r1 r2 : RowsState) (pieces count : ℕ) (result : Result ℕ SessionFault)
     → i < length traces → trace ≡ get_or traces i trace → CanStream s0 more → HasTaken s0 s1 (take i traces) t0 t1 r0 r1 pieces
-    → ((pairs : List Pair) → Keeps s1 pairs → Streams s1 pairs (fragment_points trace) s2 t1 t2 result) → AsksStream s1 (fragment_points trace) r1 result r2 → result ≡ Ok count
+    → ((pairs : List Pair) → RepresentsPairs s1 pairs → Streams s1 pairs (fragment_points trace) s2 t1 t2 result) → AsksStream s1 (fragment_points trace) r1 result r2 → result ≡ Ok count
     → HasTaken s0 s2 (take (i + 1) traces) t0 t2 r0 r2 (pieces + count)
 taken-next s0 s1 s2 traces i trace more t0 t1 t2 r0 r1 r2 pieces count result low at can has streams asks is =
     let front = points_in (take i traces) in
@@ -105,8 +105,8 @@ taken-next s0 s1 s2 traces i trace more t0 t1 t2 r0 r1 r2 pieces count result lo
 
 pub taken-refused : (s0 s1 s2 : SessionsState) (traces : List Trace) (i : ℕ) (trace : Trace) (t0 t1 t2 : List ℕ) (r0 r1 : RowsState) (pieces : ℕ) (fault : SessionFault) → i < length traces
     → trace ≡ get_or traces i trace → HasTaken s0 s1 (take i traces) t0 t1 r0 r1 pieces
-    → ((pairs : List Pair) → Keeps s1 pairs → Streams s1 pairs (fragment_points trace) s2 t1 t2 (Err fault))
-    → (pairs : List Pair) → Keeps s0 pairs → Streams s0 pairs (points_in traces) s2 t0 t2 (Err fault)
+    → ((pairs : List Pair) → RepresentsPairs s1 pairs → Streams s1 pairs (fragment_points trace) s2 t1 t2 (Err fault))
+    → (pairs : List Pair) → RepresentsPairs s0 pairs → Streams s0 pairs (points_in traces) s2 t0 t2 (Err fault)
 taken-refused s0 s1 s2 traces i trace t0 t1 t2 r0 r1 pieces fault low at has streams pairs h =
     let one = has.takes pairs h in
     let front = points_in (take i traces) in
@@ -127,13 +127,13 @@ taken-refused-asks s0 s1 traces i trace more t0 t1 r0 r1 r2 pieces result told l
 
 -- the next may follow
 pub taken-can : (s0 s : SessionsState) (traces : List Trace) (i : ℕ) (trace : Trace) (t0 t : List ℕ) (r0 r : RowsState) (pieces : ℕ) → i < length traces → trace ≡ get_or traces i trace → IsBounded traces
-    → CanStream s0 (points_of traces) → HasTaken s0 s (take i traces) t0 t r0 r pieces → CanStream s (length trace.fixes)
+    → CanStream s0 (position_count traces) → HasTaken s0 s (take i traces) t0 t r0 r pieces → CanStream s (length trace.fixes)
 taken-can s0 s traces i trace t0 t r0 r pieces low at bounded can has =
     let takes = has.takes can.pairs can.keeps in
     let front = take i traces in
     let sum = fixes_in-behind can.pairs (points_in front) in
     let count = points-length front in
-    let next : points_of (take (i + 1) traces) ≡ points_of front + points_of (trace ∷ []) = ap points_of (next_trace traces i trace low at) ∙ points-append front (trace ∷ []) in
+    let next : position_count (take (i + 1) traces) ≡ position_count front + position_count (trace ∷ []) = ap position_count (next_trace traces i trace low at) ∙ points-append front (trace ∷ []) in
     let one = sum_by-cons (λ (t : Trace). length t.fixes) trace [] in
     let most = first-points traces (i + 1) in
     let few = can.few in
@@ -145,7 +145,7 @@ taken-can s0 s traces i trace t0 t r0 r pieces low at bounded can has =
     }
 
 -- the number of pieces stays in its range
-pub taken-few : (s0 s : SessionsState) (traces : List Trace) (i : ℕ) (t0 t : List ℕ) (r0 r : RowsState) (pieces : ℕ) → IsAccepted s0.params → IsBounded traces → CanStream s0 (points_of traces)
+pub taken-few : (s0 s : SessionsState) (traces : List Trace) (i : ℕ) (t0 t : List ℕ) (r0 r : RowsState) (pieces : ℕ) → IsAccepted s0.params → IsBounded traces → CanStream s0 (position_count traces)
     → HasTaken s0 s (take i traces) t0 t r0 r pieces → pieces < 2 ^ 62
 taken-few s0 s traces i t0 t r0 r pieces accepted bounded can has =
     let takes = has.takes can.pairs can.keeps in

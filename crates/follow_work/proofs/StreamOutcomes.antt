@@ -1,8 +1,8 @@
 -- What holds of the text of a job that was done holds of what a plan of that job wrote.
 use Rattle.std.proofs.Common.{◌≡◌, ℕ, List, ◌++◌, Option, Some, None, Result, Ok, Err, refl, sym, ap, subst, arith}
 use Rattle.cost_model.specs.declared.params.Params.{Params}
-use Rattle.program_frame.specs.Jobs.{JobText, bytes_give, given_by}
-use Rattle.program_frame.specs.Outcome.{Outcome, refused_with, seen}
+use Rattle.program_frame.specs.Jobs.{JobText, bytes_give, outcome_given_by}
+use Rattle.program_frame.specs.Outcome.{Outcome, refused_with, bytes_seen}
 use Rattle.program_frame.specs.Plan.{accepts, and_then, loads, outcome_of}
 use Rattle.program_frame.specs.Refusals.{network_said, trace_limit}
 use Rattle.program_frame.specs.Stream.{works_traces}
@@ -20,7 +20,7 @@ pub record IsDone (refusal : Option (List ℕ)) (fault : Option TraceFault) (tex
   pub whole : fault ≡ None
   pub out_is : o.out ≡ texts ++ ending
 
-done-of : (refusal : Option (List ℕ)) (fault : Option TraceFault) (texts ending : List ℕ) (o : Outcome) → given_by refusal fault texts ending ≡ o → o.status ≡ 0 → IsDone refusal fault texts ending o
+done-of : (refusal : Option (List ℕ)) (fault : Option TraceFault) (texts ending : List ℕ) (o : Outcome) → outcome_given_by refusal fault texts ending ≡ o → o.status ≡ 0 → IsDone refusal fault texts ending o
 done-of (Some line) fault texts ending o is done =
     let status : 6 ≡ o.status = ap (λ (x : Outcome). x.status) is in absurd (omega (arith, status, done))
 done-of None (Some fault) texts ending o is done =
@@ -49,8 +49,8 @@ pub record IsAcceptedNet (says : Says) (options : Params) (said : Result Net (Li
 
 pub record IsReadNet (says : Says) (limits : NetworkLimits) (network traces : List ℕ) (options : Params) (files : List ℕ → Option (List ℕ)) (text : List ℕ) : Type 0 where
   pub roads : List ℕ
-  pub roads_are : seen (file_limit limits) (files network) ≡ Some roads
-  pub accepted : IsAcceptedNet says options (network_said limits roads) (seen trace_limit (files traces)) text
+  pub roads_are : bytes_seen (file_limit limits) (files network) ≡ Some roads
+  pub accepted : IsAcceptedNet says options (network_said limits roads) (bytes_seen trace_limit (files traces)) text
 
 by-bytes : (job : Setting → JobText) (says : Says) → HoldsOf job says → (on : Setting) (bytes : List ℕ) (o : Outcome) → bytes_give (job on) bytes ≡ o → o.status ≡ 0 → says on bytes o.out
 by-bytes job says holds on bytes o is done =
@@ -65,9 +65,9 @@ by-held job says holds on (Some bytes) o is done = record { bytes = bytes; held_
 
 by-said : (job : Setting → JobText) (says : Says) → HoldsOf job says → (traces : List ℕ) (options : Params) (files : List ℕ → Option (List ℕ)) (said : Result Net (List ℕ)) (o : Outcome)
     → outcome_of (accepts 5 said (λ net. works_traces traces (job (record { network = net; params = options })))) files ≡ Some o → o.status ≡ 0
-    → IsAcceptedNet says options said (seen trace_limit (files traces)) o.out
+    → IsAcceptedNet says options said (bytes_seen trace_limit (files traces)) o.out
 by-said job says holds traces options files (Ok net) o is done =
-    record { net = net; said_is = refl; read = by-held job says holds (record { network = net; params = options }) (seen trace_limit (files traces)) o is done }
+    record { net = net; said_is = refl; read = by-held job says holds (record { network = net; params = options }) (bytes_seen trace_limit (files traces)) o is done }
 by-said job says holds traces options files (Err line) o is done =
     let same : refused_with 5 line ≡ o = cc is in
     let status : 5 ≡ o.status = ap (λ (x : Outcome). x.status) same in
@@ -76,9 +76,9 @@ by-said job says holds traces options files (Err line) o is done =
 pub outcome-says : (job : Setting → JobText) (says : Says) → HoldsOf job says → (limits : NetworkLimits) (network traces : List ℕ) (options : Params) (files : List ℕ → Option (List ℕ)) (o : Outcome)
     → outcome_of (loads Network network (file_limit limits) 5 (network_said limits) (λ net. works_traces traces (job (record { network = net; params = options })))) files ≡ Some o → o.status ≡ 0
     → IsReadNet says limits network traces options files o.out
-outcome-says job says holds limits network traces options files o = step (seen (file_limit limits) (files network)) refl
+outcome-says job says holds limits network traces options files o = step (bytes_seen (file_limit limits) (files network)) refl
   where
-    step : (held : Option (List ℕ)) → seen (file_limit limits) (files network) ≡ held
+    step : (held : Option (List ℕ)) → bytes_seen (file_limit limits) (files network) ≡ held
         → and_then held (λ roads. outcome_of (accepts 5 (network_said limits roads) (λ net. works_traces traces (job (record { network = net; params = options })))) files) ≡ Some o
         → o.status ≡ 0 → IsReadNet says limits network traces options files o.out
     step None held_is is done = absurd (cc is)

@@ -8,8 +8,8 @@ use Rattle.bounded_table.proofs.Asking.{still_of}
 use Rattle.cost_model.specs.Options.{IsAccepted}
 use Rattle.cost_model.specs.declared.params.Params.{Params}
 use Rattle.online_commit.specs.Session.{AsksPoints}
-use Rattle.program_frame.specs.Jobs.{Grows, IsBounded, TakesTraces, points_of}
-use Rattle.program_frame.specs.Total.{Adds, Fits}
+use Rattle.program_frame.specs.Jobs.{GrowsByTexts, IsBounded, TakesTraces, position_count}
+use Rattle.program_frame.specs.Total.{AddsCounts, CountsFit}
 use Rattle.program_frame.specs.declared.stop.Stop.{Stop}
 use Rattle.program_frame.specs.declared.stop.Stop.TheVariants.{Refused, NoMemory, Unread, Unwritten}
 use Rattle.program_frame.specs.declared.total.Tally.{Tally}
@@ -20,7 +20,7 @@ use Rattle.trace_match.specs.Match.{layer_of}
 use Rattle.trace_reader.specs.declared.trace.Trace.{Trace}
 use Rattle.trace_sessions.specs.declared.sessions.SessionFault.{SessionFault}
 use Rattle.trace_sessions.specs.declared.sessions.SessionFault.TheVariants.{Memory, NotOpen, TooLong}
-use Rattle.trace_sessions.specs.Sessions.{Keeps, Pair, SessionsState, fixes_of}
+use Rattle.trace_sessions.specs.Sessions.{RepresentsPairs, Pair, SessionsState, fixes_of}
 use Rattle.trace_sessions.specs.StreamText.{full_id, points_in, stream_lines, with_points}
 use Rattle.trace_sessions.specs.Streaming.{AreLawful, AsksSome, AsksStream, CanStream, Streams, TakesPoints, fixes_in, pieces_told}
 use Rattle.trace_sessions.proofs.FollowedRows.{none_asked}
@@ -28,7 +28,7 @@ use Rattle.trace_sessions.proofs.StreamLines.{told-few}
 use Rattle.trace_sessions.proofs.StreamPoints.{fixes_in-behind, full-append, lines-append, with-append}
 use Rattle.trace_sessions.proofs.StreamTakes.{among-some, asks-grow, lawful-behind}
 use Rattle.trace_match.specs.Setting.{Setting}
-use Rattle.follow_work.specs.Streams.{pairs_of, streams_job, too_long_line}
+use Rattle.follow_work.specs.Streams.{pairs_in_order, streams_job, too_long_line}
 use Rattle.follow_work.specs.inside.StreamsDone.{HasStreamed, KnowsSome, StopsAtFault}
 use Rattle.follow_work.proofs.StreamJobs.{places-in, points-length}
 use Rattle.follow_work.specs.StreamTexts.{points-append}
@@ -53,7 +53,7 @@ no-node v known T none has = let low = has.1 in absurd (let e : length known ≡
 pub nothing-asked : (on : Setting) (v : ℕ) (T : Type 0) → AsksPoints on.network on.params [] v → T
 nothing-asked on v T asked = no-node v [] T refl ((none_asked on.network on.params (no_rows on.network on.params.bound)).all v asked)
 
-pub begun : (on : Setting) (s : SessionsState) (rows : RowsState) (tally : Tally) → IsAccepted on.params → s.network ≡ on.network → s.params ≡ on.params → Keeps s []
+pub begun : (on : Setting) (s : SessionsState) (rows : RowsState) (tally : Tally) → IsAccepted on.params → s.network ≡ on.network → s.params ≡ on.params → RepresentsPairs s []
     → rows ≡ no_rows on.network on.params.bound → tally.traces ≡ 0 → tally.points ≡ 0 → tally.pieces ≡ 0 → HasStreamed on s rows tally []
 begun on s rows tally accepted network params stands fresh traces points pieces = record {
   accepted = accepted;
@@ -75,17 +75,17 @@ begun on s rows tally accepted network params stands fresh traces points pieces 
 
 -- ---- what more traces need
 
-pub pairs-append : (before more : List Trace) → pairs_of (before ++ more) ≡ with_points (pairs_of before) (points_in more)
+pub pairs-append : (before more : List Trace) → pairs_in_order (before ++ more) ≡ with_points (pairs_in_order before) (points_in more)
 pairs-append before more = ap (with_points []) (points-append before more) ∙ with-append [] (points_in before) (points_in more)
 
 -- the ids have as many fixes as the traces have points
-pub pairs-count : (traces : List Trace) → fixes_in (pairs_of traces) ≡ points_of traces
+pub pairs-count : (traces : List Trace) → fixes_in (pairs_in_order traces) ≡ position_count traces
 pairs-count traces =
-    let sum : fixes_in (pairs_of traces) ≡ 0 + length (points_in traces) = fixes_in-behind [] (points_in traces) in
+    let sum : fixes_in (pairs_in_order traces) ≡ 0 + length (points_in traces) = fixes_in-behind [] (points_in traces) in
     let count = points-length traces in
     omega (arith, sum, count)
 
-room-append : (before more : List Trace) → full_id [] (points_in before) ≡ None → full_id [] (points_in (before ++ more)) ≡ full_id (pairs_of before) (points_in more)
+room-append : (before more : List Trace) → full_id [] (points_in before) ≡ None → full_id [] (points_in (before ++ more)) ≡ full_id (pairs_in_order before) (points_in more)
 room-append before more room = ap (full_id []) (points-append before more) ∙ full-append [] (points_in before) (points_in more) room
 
 pub rows-are : (on : Setting) (s : SessionsState) (rows : RowsState) (tally : Tally) (taken : List Trace) → HasStreamed on s rows tally taken → AreRowsOf rows s.network s.params.bound
@@ -97,9 +97,9 @@ rows-are on s rows tally taken has = record {
 pub accepted-in : (on : Setting) (s : SessionsState) (rows : RowsState) (tally : Tally) (taken : List Trace) → HasStreamed on s rows tally taken → IsAccepted s.params
 accepted-in on s rows tally taken has = subst IsAccepted (sym has.params) has.accepted
 
-pub can-stream : (on : Setting) (s : SessionsState) (rows : RowsState) (tally : Tally) (before more : List Trace) → HasStreamed on s rows tally before → IsBounded (before ++ more) → CanStream s (points_of more)
+pub can-stream : (on : Setting) (s : SessionsState) (rows : RowsState) (tally : Tally) (before more : List Trace) → HasStreamed on s rows tally before → IsBounded (before ++ more) → CanStream s (position_count more)
 can-stream on s rows tally before more has bounded = record {
-  pairs = pairs_of before;
+  pairs = pairs_in_order before;
   keeps = has.stands;
   lawful = has.lawful;
   few =
@@ -111,16 +111,16 @@ can-stream on s rows tally before more has bounded = record {
 
 -- the counts of more traces fit
 pub fits : (on : Setting) (s s' : SessionsState) (rows : RowsState) (tally : Tally) (before more : List Trace) (old new : List ℕ) (pieces : ℕ) → HasStreamed on s rows tally before → IsBounded (before ++ more)
-    → TakesPoints s (pairs_of before) (points_in more) s' old new pieces → Fits more pieces tally
+    → TakesPoints s (pairs_in_order before) (points_in more) s' old new pieces → CountsFit more pieces tally
 fits on s s' rows tally before more old new pieces has bounded takes =
     let few = bounded.few in
     let few_points = bounded.few_points in
     let both = counts-append before more in
-    let all = with_points (pairs_of before) (points_in more) in
-    let lawful = lawful-behind (pairs_of before) (points_in more) has.lawful (places-in more (lawful_back before more bounded.lawful)) takes.room in
+    let all = with_points (pairs_in_order before) (points_in more) in
+    let lawful = lawful-behind (pairs_in_order before) (points_in more) has.lawful (places-in more (lawful_back before more bounded.lawful)) takes.room in
     let most = told-few on.network on.params all has.accepted lawful in
-    let counted = at-setting (λ m q. pieces_told m q all ≡ pieces_told m q (pairs_of before) + pieces) on s has.network has.params takes.counted in
-    let sum = fixes_in-behind (pairs_of before) (points_in more) in
+    let counted = at-setting (λ m q. pieces_told m q all ≡ pieces_told m q (pairs_in_order before) + pieces) on s has.network has.params takes.counted in
+    let sum = fixes_in-behind (pairs_in_order before) (points_in more) in
     let front = pairs-count before in
     let back = points-length more in
     let told = has.pieces_are in
@@ -132,10 +132,10 @@ fits on s s' rows tally before more old new pieces has bounded takes =
 
 -- ---- more traces were taken
 
-asked-more : (s s' : SessionsState) (before more : List Trace) (rows rows' : RowsState) (pieces : ℕ) → s'.network ≡ s.network → s'.params ≡ s.params → Keeps s (pairs_of before)
-    → KnowsSome s (pairs_of before) rows.known → AsksStream {A = ℕ} {E = SessionFault} s (points_in more) rows (Ok pieces) rows' → KnowsSome s' (pairs_of (before ++ more)) rows'.known
+asked-more : (s s' : SessionsState) (before more : List Trace) (rows rows' : RowsState) (pieces : ℕ) → s'.network ≡ s.network → s'.params ≡ s.params → RepresentsPairs s (pairs_in_order before)
+    → KnowsSome s (pairs_in_order before) rows.known → AsksStream {A = ℕ} {E = SessionFault} s (points_in more) rows (Ok pieces) rows' → KnowsSome s' (pairs_in_order (before ++ more)) rows'.known
 asked-more s s' before more rows rows' pieces network params keeps knows asks =
-    let pairs = pairs_of before in
+    let pairs = pairs_in_order before in
     let points = points_in more in
     subst (λ ps. KnowsSome s' ps rows'.known) (sym (pairs-append before more))
     (λ v. (
@@ -148,19 +148,19 @@ asked-more s s' before more rows rows' pieces network params keeps knows asks =
     ))
 
 pub streamed-more : (on : Setting) (s s' : SessionsState) (before more : List Trace) (rows rows' : RowsState) (tally tally' : Tally) (old new : List ℕ) (pieces : ℕ) → HasStreamed on s rows tally before
-    → IsBounded (before ++ more) → TakesPoints s (pairs_of before) (points_in more) s' old new pieces → AsksStream {A = ℕ} {E = SessionFault} s (points_in more) rows (Ok pieces) rows' → Adds more pieces tally tally'
+    → IsBounded (before ++ more) → TakesPoints s (pairs_in_order before) (points_in more) s' old new pieces → AsksStream {A = ℕ} {E = SessionFault} s (points_in more) rows (Ok pieces) rows' → AddsCounts more pieces tally tally'
     → HasStreamed on s' rows' tally' (before ++ more)
 streamed-more on s s' before more rows rows' tally tally' old new pieces has bounded takes asks adds =
     let all = pairs-append before more in
     let both = counts-append before more in
-    let counted = at-setting (λ m q. pieces_told m q (with_points (pairs_of before) (points_in more)) ≡ pieces_told m q (pairs_of before) + pieces) on s has.network has.params takes.counted in
+    let counted = at-setting (λ m q. pieces_told m q (with_points (pairs_in_order before) (points_in more)) ≡ pieces_told m q (pairs_in_order before) + pieces) on s has.network has.params takes.counted in
     record {
       accepted = has.accepted;
       few = bounded.few_points;
       network = takes.network ∙ has.network;
       params = takes.params ∙ has.params;
-      stands = subst (Keeps s') (sym all) takes.stands;
-      lawful = subst AreLawful (sym all) (lawful-behind (pairs_of before) (points_in more) has.lawful (places-in more (lawful_back before more bounded.lawful)) takes.room);
+      stands = subst (RepresentsPairs s') (sym all) takes.stands;
+      lawful = subst AreLawful (sym all) (lawful-behind (pairs_in_order before) (points_in more) has.lawful (places-in more (lawful_back before more bounded.lawful)) takes.room);
       room = room-append before more has.room ∙ takes.room;
       rows_are = still_of asks.keeps has.rows_are;
       asked = asked-more s s' before more rows rows' pieces takes.network takes.params has.stands has.asked asks;
@@ -171,14 +171,14 @@ streamed-more on s s' before more rows rows' tally tally' old new pieces has bou
 
 -- and their lines were written
 pub streamed-grows : (on : Setting) (s : SessionsState) (rows : RowsState) (tally : Tally) (before more : List Trace) (old new : List ℕ) → HasStreamed on s rows tally before
-    → new ≡ old ++ concat (stream_lines s.network s.params (pairs_of before) (points_in more)) → Grows (streams_job on) before more old new
+    → new ≡ old ++ concat (stream_lines s.network s.params (pairs_in_order before) (points_in more)) → GrowsByTexts (streams_job on) before more old new
 streamed-grows on s rows tally before more old new has written =
     let n = on.network in
     let p = on.params in
-    let more_lines = stream_lines n p (pairs_of before) (points_in more) in
+    let more_lines = stream_lines n p (pairs_in_order before) (points_in more) in
     record {
       text = concat more_lines;
-      grown = at-setting (λ m q. new ≡ old ++ concat (stream_lines m q (pairs_of before) (points_in more))) on s has.network has.params written;
+      grown = at-setting (λ m q. new ≡ old ++ concat (stream_lines m q (pairs_in_order before) (points_in more))) on s has.network has.params written;
       is =
           ap (λ ps. concat (stream_lines n p [] ps)) (points-append before more)
           ∙ ap concat (lines-append n p [] (points_in before) (points_in more) has.room)
@@ -187,12 +187,12 @@ streamed-grows on s rows tally before more old new has written =
 
 -- nothing is refused
 pub not-refused : (on : Setting) (s s' : SessionsState) (rows : RowsState) (tally : Tally) (before more : List Trace) (old new : List ℕ) (pieces : ℕ) → HasStreamed on s rows tally before
-    → TakesPoints s (pairs_of before) (points_in more) s' old new pieces → (streams_job on).refusal (before ++ more) ≡ None
+    → TakesPoints s (pairs_in_order before) (points_in more) s' old new pieces → (streams_job on).refusal (before ++ more) ≡ None
 not-refused on s s' rows tally before more old new pieces has takes = ap (option_map too_long_line) (room-append before more has.room ∙ takes.room)
 
 -- or an id is too long
 pub stopped : (on : Setting) (s s' : SessionsState) (rows : RowsState) (tally : Tally) (after : List Trace → Type 0) (before more : List Trace) (old new : List ℕ) (fault : SessionFault) (stop : Stop)
-    → HasStreamed on s rows tally before → Streams s (pairs_of before) (points_in more) s' old new (Err fault) → StopsAtFault fault stop
+    → HasStreamed on s rows tally before → Streams s (pairs_in_order before) (points_in more) s' old new (Err fault) → StopsAtFault fault stop
     → TakesTraces (streams_job on) after before more old new (Err stop)
 stopped on s s' rows tally after before more old new (TooLong id) (Refused refusal line) has streams stops = (
   stops.1,

@@ -16,20 +16,20 @@ use Rattle.matching.specs.Layers.{end_of, trellis}
 use Rattle.matching.specs.Value.{solution}
 use Rattle.matching.proofs.Asking.{is_asked_node-tells}
 use Rattle.online_commit.specs.Session.{AsksPoints}
-use Rattle.program_frame.specs.Jobs.{points_of}
+use Rattle.program_frame.specs.Jobs.{position_count}
 use Rattle.program_frame.specs.Total.{total_line}
 use Rattle.program_frame.specs.declared.total.Tally.{Tally}
 use Rattle.trace_match.specs.Match.{asks, layer_of, layers_of, match_of}
 use Rattle.trace_reader.specs.declared.trace.Fix.{Fix}
 use Rattle.trace_reader.specs.declared.trace.Trace.{Trace}
-use Rattle.trace_sessions.specs.Sessions.{Keeps, Pair, SessionsState, fixes_of}
+use Rattle.trace_sessions.specs.Sessions.{RepresentsPairs, Pair, SessionsState, fixes_of}
 use Rattle.trace_sessions.specs.StreamText.{closing_lines, trace_of}
 use Rattle.trace_sessions.specs.Streaming.{AsksSome, CanStream, EndsPairs, pieces_of_all, pieces_told}
 use Rattle.trace_sessions.proofs.StreamLines.{few-pieces}
 use Rattle.trace_match.specs.Setting.{Setting}
 use Rattle.program_frame.specs.Counts.{total_of}
-use Rattle.trace_match.specs.Totals.{is_asked_by, pieces_of, rows_of}
-use Rattle.follow_work.specs.Streams.{pairs_of, stream_ending, whole_traces}
+use Rattle.trace_match.specs.Totals.{is_asked_by, piece_count, asked_count}
+use Rattle.follow_work.specs.Streams.{pairs_in_order, stream_ending, whole_traces}
 use Rattle.follow_work.specs.inside.StreamsDone.{HasStreamed, KnowsSome}
 use Rattle.follow_work.proofs.StreamTakes.{at-setting, nothing-asked, pairs-count}
 
@@ -42,11 +42,11 @@ whole-sum f (x ∷ pairs) =
     ∙ ap (λ k. f (trace_of x) + k) (whole-sum f pairs)
     ∙ sym (sum_by-cons (λ (q : Pair). f (trace_of q)) x pairs)
 
-whole-points : (traces : List Trace) → points_of (whole_traces traces) ≡ points_of traces
-whole-points traces = whole-sum (λ trace. length trace.fixes) (pairs_of traces) ∙ pairs-count traces
+whole-points : (traces : List Trace) → position_count (whole_traces traces) ≡ position_count traces
+whole-points traces = whole-sum (λ trace. length trace.fixes) (pairs_in_order traces) ∙ pairs-count traces
 
-whole-pieces : (on : Setting) (traces : List Trace) → pieces_of on (whole_traces traces) ≡ pieces_of_all on.network on.params (pairs_of traces)
-whole-pieces on traces = whole-sum (λ trace. length (match_of on.network on.params trace).pieces) (pairs_of traces)
+whole-pieces : (on : Setting) (traces : List Trace) → piece_count on (whole_traces traces) ≡ pieces_of_all on.network on.params (pairs_in_order traces)
+whole-pieces on traces = whole-sum (λ trace. length (match_of on.network on.params trace).pieces) (pairs_in_order traces)
 
 -- ---- what whole traces ask for
 
@@ -102,10 +102,10 @@ asked-some on v (x ∷ pairs) different is =
     step id false other asked = asked
 
 -- exactly what the whole traces ask for is known
-whole-known : (on : Setting) (s : SessionsState) (taken : List Trace) (known : List ℕ) → s.network ≡ on.network → s.params ≡ on.params → Keeps s (pairs_of taken) → KnowsSome s (pairs_of taken) known
+whole-known : (on : Setting) (s : SessionsState) (taken : List Trace) (known : List ℕ) → s.network ≡ on.network → s.params ≡ on.params → RepresentsPairs s (pairs_in_order taken) → KnowsSome s (pairs_in_order taken) known
     → (v : ℕ) → Contains known v ↔ (is_asked_by on (whole_traces taken) v ≡ true)
 whole-known on s taken known network params keeps knows v =
-    let pairs = pairs_of taken in (
+    let pairs = pairs_in_order taken in (
       λ has.
           let some = (knows v).0 has in
           some-asks on v pairs some.0 (at-setting (λ m q. AsksPoints m q (map (layer_of m q) (fixes_of pairs some.0)) v) on s network params some.1),
@@ -122,7 +122,7 @@ whole-known on s taken known network params keeps knows v =
 
 pub can-end : (on : Setting) (s : SessionsState) (rows : RowsState) (tally : Tally) (taken : List Trace) → HasStreamed on s rows tally taken → CanStream s 0
 can-end on s rows tally taken has = record {
-  pairs = pairs_of taken;
+  pairs = pairs_in_order taken;
   keeps = has.stands;
   lawful = has.lawful;
   few =
@@ -131,27 +131,27 @@ can-end on s rows tally taken has = record {
       omega (arith, few, count);
 }
 
-all-pieces : (on : Setting) (s : SessionsState) (rows : RowsState) (tally : Tally) (taken : List Trace) (old new : List ℕ) (pieces : ℕ) → HasStreamed on s rows tally taken → EndsPairs s (pairs_of taken) old new pieces
-    → tally.pieces + pieces ≡ pieces_of_all on.network on.params (pairs_of taken)
+all-pieces : (on : Setting) (s : SessionsState) (rows : RowsState) (tally : Tally) (taken : List Trace) (old new : List ℕ) (pieces : ℕ) → HasStreamed on s rows tally taken → EndsPairs s (pairs_in_order taken) old new pieces
+    → tally.pieces + pieces ≡ pieces_of_all on.network on.params (pairs_in_order taken)
 all-pieces on s rows tally taken old new pieces has ends =
     ap (λ k. k + pieces) has.pieces_are
-    ∙ sym (at-setting (λ m q. pieces_of_all m q (pairs_of taken) ≡ pieces_told m q (pairs_of taken) + pieces) on s has.network has.params ends.counted)
+    ∙ sym (at-setting (λ m q. pieces_of_all m q (pairs_in_order taken) ≡ pieces_told m q (pairs_in_order taken) + pieces) on s has.network has.params ends.counted)
 
-pub few-in-all : (on : Setting) (s : SessionsState) (rows : RowsState) (tally : Tally) (taken : List Trace) (old new : List ℕ) (pieces : ℕ) → HasStreamed on s rows tally taken → EndsPairs s (pairs_of taken) old new pieces
+pub few-in-all : (on : Setting) (s : SessionsState) (rows : RowsState) (tally : Tally) (taken : List Trace) (old new : List ℕ) (pieces : ℕ) → HasStreamed on s rows tally taken → EndsPairs s (pairs_in_order taken) old new pieces
     → tally.pieces + pieces < 2 ^ 62
 few-in-all on s rows tally taken old new pieces has ends =
     let all = all-pieces on s rows tally taken old new pieces has ends in
-    let most = few-pieces on.network on.params (pairs_of taken) has.accepted has.lawful in
+    let most = few-pieces on.network on.params (pairs_in_order taken) has.accepted has.lawful in
     let count = pairs-count taken in
     let few = has.few in
     omega (arith, all, most, count, few)
 
 -- the rows after the end are counted
-rows-counted : (on : Setting) (s : SessionsState) (rows rows' : RowsState) (tally : Tally) (taken : List Trace) → HasStreamed on s rows tally taken → AsksOnly rows rows' (AsksSome s (pairs_of taken))
-    → IsKnownList rows'.network rows'.known → length rows'.known ≡ rows_of on (whole_traces taken)
+rows-counted : (on : Setting) (s : SessionsState) (rows rows' : RowsState) (tally : Tally) (taken : List Trace) → HasStreamed on s rows tally taken → AsksOnly rows rows' (AsksSome s (pairs_in_order taken))
+    → IsKnownList rows'.network rows'.known → length rows'.known ≡ asked_count on (whole_traces taken)
 rows-counted on s rows rows' tally taken has asks listed =
     let are : AreRowsOf rows' on.network on.params.bound = still_of asks.keeps has.rows_are in
-    let knows : KnowsSome s (pairs_of taken) rows'.known = λ v. (
+    let knows : KnowsSome s (pairs_in_order taken) rows'.known = λ v. (
       λ now. ⊎_elim (λ old. (has.asked v).0 old) (λ asked. asked) (asks.nothing_else v now),
       λ asked. asks.keeps.known v ((has.asked v).1 asked),
     ) in
@@ -160,22 +160,22 @@ rows-counted on s rows rows' tally taken has asks listed =
     (λ v low. whole-known on s taken rows'.known has.network has.params has.stands knows v)
 
 total-is : (on : Setting) (s : SessionsState) (rows rows' : RowsState) (tally : Tally) (taken : List Trace) (ids pieces count : ℕ) (old new : List ℕ) → HasStreamed on s rows tally taken
-    → EndsPairs s (pairs_of taken) old new pieces → AsksOnly rows rows' (AsksSome s (pairs_of taken)) → IsKnownList rows'.network rows'.known → count ≡ length rows'.known → ids ≡ length (pairs_of taken)
-    → total_line ids tally.points (tally.pieces + pieces) count ≡ total_of (pieces_of on) (rows_of on) (whole_traces taken)
+    → EndsPairs s (pairs_in_order taken) old new pieces → AsksOnly rows rows' (AsksSome s (pairs_in_order taken)) → IsKnownList rows'.network rows'.known → count ≡ length rows'.known → ids ≡ length (pairs_in_order taken)
+    → total_line ids tally.points (tally.pieces + pieces) count ≡ total_of (piece_count on) (asked_count on) (whole_traces taken)
 total-is on s rows rows' tally taken ids pieces count old new has ends asks listed counted ids_are =
     let whole = whole_traces taken in
-    ap (λ n. total_line n tally.points (tally.pieces + pieces) count) (ids_are ∙ sym (length-map (pairs_of taken) trace_of))
+    ap (λ n. total_line n tally.points (tally.pieces + pieces) count) (ids_are ∙ sym (length-map (pairs_in_order taken) trace_of))
     ∙ ap (λ n. total_line (length whole) n (tally.pieces + pieces) count) (has.points_are ∙ sym (whole-points taken))
-    ∙ ap (λ n. total_line (length whole) (points_of whole) n count) (all-pieces on s rows tally taken old new pieces has ends ∙ sym (whole-pieces on taken))
-    ∙ ap (total_line (length whole) (points_of whole) (pieces_of on whole)) (counted ∙ rows-counted on s rows rows' tally taken has asks listed)
+    ∙ ap (λ n. total_line (length whole) (position_count whole) n count) (all-pieces on s rows tally taken old new pieces has ends ∙ sym (whole-pieces on taken))
+    ∙ ap (total_line (length whole) (position_count whole) (piece_count on whole)) (counted ∙ rows-counted on s rows rows' tally taken has asks listed)
 
 -- the last lines and the total line were written
 pub ending-is : (on : Setting) (s : SessionsState) (rows rows' : RowsState) (tally : Tally) (taken : List Trace) (ids pieces count : ℕ) (old new : List ℕ) → HasStreamed on s rows tally taken
-    → EndsPairs s (pairs_of taken) old new pieces → AsksOnly rows rows' (AsksSome s (pairs_of taken)) → IsKnownList rows'.network rows'.known → count ≡ length rows'.known → ids ≡ length (pairs_of taken)
+    → EndsPairs s (pairs_in_order taken) old new pieces → AsksOnly rows rows' (AsksSome s (pairs_in_order taken)) → IsKnownList rows'.network rows'.known → count ≡ length rows'.known → ids ≡ length (pairs_in_order taken)
     → new ++ total_line ids tally.points (tally.pieces + pieces) count ≡ old ++ stream_ending on taken
 ending-is on s rows rows' tally taken ids pieces count old new has ends asks listed counted ids_are =
-    let lines = concat (closing_lines on.network on.params (pairs_of taken)) in
-    let written = at-setting (λ m q. new ≡ old ++ concat (closing_lines m q (pairs_of taken))) on s has.network has.params ends.written in
+    let lines = concat (closing_lines on.network on.params (pairs_in_order taken)) in
+    let written = at-setting (λ m q. new ≡ old ++ concat (closing_lines m q (pairs_in_order taken))) on s has.network has.params ends.written in
     ap (λ t. t ++ total_line ids tally.points (tally.pieces + pieces) count) written
     ∙ ap (λ t. (old ++ lines) ++ t) (total-is on s rows rows' tally taken ids pieces count old new has ends asks listed counted ids_are)
-    ∙ append_assoc old lines (total_of (pieces_of on) (rows_of on) (whole_traces taken))
+    ∙ append_assoc old lines (total_of (piece_count on) (asked_count on) (whole_traces taken))

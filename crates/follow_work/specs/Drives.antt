@@ -6,9 +6,9 @@ use Rattle.program_frame.specs.Counts.{total_of}
 use Rattle.program_frame.specs.Jobs.{JobText}
 use Rattle.program_frame.specs.NoRefusal.{no_line, no_refusal}
 use Rattle.trace_match.specs.Setting.{Setting}
-use Rattle.trace_match.specs.Totals.{pieces_of, rows_of}
+use Rattle.trace_match.specs.Totals.{piece_count, asked_count}
 use Rattle.trace_reader.specs.declared.trace.Trace.{Trace}
-use Rattle.trace_sessions.specs.Drives.{Fleet, drive_lines, drives_of, no_drives, with_rows}
+use Rattle.trace_sessions.specs.Drives.{Fleet, drive_lines, drives_of, no_drives, fleet_after_all}
 use Rattle.trace_sessions.specs.StreamText.{closing_lines, points_in, trace_of}
 use Rattle.follow_work.specs.DriveTexts.{drives-begin}
 
@@ -19,7 +19,7 @@ driven_of on idle traces =
 
 -- after the positions of these fragments
 abbrev pub fleet_of : (idle : ℕ) → List Trace → Fleet
-fleet_of idle traces = with_rows idle no_drives (points_in traces)
+fleet_of idle traces = fleet_after_all idle no_drives (points_in traces)
 
 -- the traces of all drives, in the order of their ends
 abbrev pub drive_traces : (idle : ℕ) → List Trace → List Trace
@@ -29,7 +29,7 @@ drive_traces idle traces = map trace_of (drives_of idle (points_in traces))
 abbrev pub drive_ending : Setting → (idle : ℕ) → List Trace → List ℕ
 drive_ending on idle traces =
     concat (closing_lines on.network on.params (fleet_of idle traces).drives)
-    ++ total_of (pieces_of on) (rows_of on) (drive_traces idle traces)
+    ++ total_of (piece_count on) (asked_count on) (drive_traces idle traces)
 
 -- nothing is refused but by the file: a drive that is too long ends
 abbrev pub drives_job : Setting → (idle : ℕ) → JobText

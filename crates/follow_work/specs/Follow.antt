@@ -16,7 +16,7 @@ use Rattle.trace_sessions.specs.FollowText.{follow_text}
 use Rattle.trace_match.specs.Setting.{Setting}
 use Rattle.program_frame.specs.Counts.{total_of}
 use Rattle.program_frame.specs.NoRefusal.{no_line, no_refusal}
-use Rattle.trace_match.specs.Totals.{pieces_of, rows_of}
+use Rattle.trace_match.specs.Totals.{piece_count, asked_count}
 
 -- the follow texts of traces, in their order
 abbrev pub followed_of : Setting → List Trace → List ℕ
@@ -27,7 +27,7 @@ abbrev pub follow_job : Setting → JobText
 follow_job on = record {
   texts = followed_of on;
   refusal = λ traces. no_refusal;
-  ending = total_of (pieces_of on) (rows_of on);
+  ending = total_of (piece_count on) (asked_count on);
   nothing = refl;
   allowed = refl;
   begins = λ front back. (followed_of on back, flat_map-append (follow_text on.network on.params) front back);

@@ -3,14 +3,14 @@
 use Rattle.std.specs.Prelude.{◌≡◌, ℕ, ◌<◌, ◌^◌, List, ◌++◌, Option, Some, None, Ok, map}
 use Rattle.cost_model.specs.declared.params.Params.{Params}
 use Rattle.program_frame.specs.Counts.{total_of}
-use Rattle.program_frame.specs.Outcome.{Outcome, seen}
+use Rattle.program_frame.specs.Outcome.{Outcome, bytes_seen}
 use Rattle.program_frame.specs.Plan.{outcome_of}
 use Rattle.program_frame.specs.Refusals.{network_said, trace_limit}
 use Rattle.road_network.specs.Limits.{file_limit}
 use Rattle.road_network.specs.Net.{Net}
 use Rattle.road_network.specs.declared.limits.NetworkLimits.{NetworkLimits}
 use Rattle.trace_match.specs.Setting.{Setting}
-use Rattle.trace_match.specs.Totals.{pieces_of, rows_of}
+use Rattle.trace_match.specs.Totals.{piece_count, asked_count}
 use Rattle.trace_reader.specs.Reading.{file_fault, file_traces}
 use Rattle.trace_reader.specs.declared.trace.Trace.{Trace}
 use Rattle.trace_sessions.specs.Drives.{drives_of}
@@ -31,7 +31,7 @@ pub record FollowsEachDrive (idle : ℕ) (on : Setting) (bytes text : List ℕ) 
   pub followed : (id : ℕ) → id < 2 ^ 32
       → text_led_by id text ≡ followed_of on (drives_in bytes idle id)
   pub lines : List ℕ
-  pub ended : text ≡ lines ++ total_of (pieces_of on) (rows_of on) (drive_traces idle (file_traces bytes))
+  pub ended : text ≡ lines ++ total_of (piece_count on) (asked_count on) (drive_traces idle (file_traces bytes))
 
 -- the files were accepted, and the text is such a text
 pub record IsStreamOfDrives (limits : NetworkLimits) (network traces : List ℕ) (idle : ℕ) (options : Params)
@@ -39,9 +39,9 @@ pub record IsStreamOfDrives (limits : NetworkLimits) (network traces : List ℕ)
   pub roads : List ℕ
   pub net : Net
   pub bytes : List ℕ
-  pub roads_are : seen (file_limit limits) (files network) ≡ Some roads
+  pub roads_are : bytes_seen (file_limit limits) (files network) ≡ Some roads
   pub accepted : network_said limits roads ≡ Ok net
-  pub bytes_are : seen trace_limit (files traces) ≡ Some bytes
+  pub bytes_are : bytes_seen trace_limit (files traces) ≡ Some bytes
   pub follows : FollowsEachDrive idle (record { network = net; params = options }) bytes text
 
 -- what `streams` writes with status 0, where drives end

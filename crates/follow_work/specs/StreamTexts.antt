@@ -14,14 +14,14 @@ use Rattle.trace_sessions.proofs.StreamPoints.{full-stays, lines-begin}
 pub points-append : (front back : List Trace) → points_in (front ++ back) ≡ points_in front ++ points_in back
 points-append front back = flat_map-append fragment_points front back
 
-abbrev text_of : Net → Params → List Point → List ℕ
-text_of n p points = concat (stream_lines n p [] points)
+abbrev streamed_text : Net → Params → List Point → List ℕ
+streamed_text n p points = concat (stream_lines n p [] points)
 
 pub texts-begin : (n : Net) (p : Params) (front back : List Trace)
     → (more : List ℕ) × (concat (stream_lines n p [] (points_in (front ++ back))) ≡ concat (stream_lines n p [] (points_in front)) ++ more)
 texts-begin n p front back =
     let begins = lines-begin n p [] (points_in front) (points_in back) in
-    (concat begins.0, ap (text_of n p) (points-append front back) ∙ ap concat begins.1 ∙ concat-append (stream_lines n p [] (points_in front)) begins.0)
+    (concat begins.0, ap (streamed_text n p) (points-append front back) ∙ ap concat begins.1 ∙ concat-append (stream_lines n p [] (points_in front)) begins.0)
 
 said_of : (line_of : ℕ → List ℕ) (o : Option ℕ) (line : List ℕ) → option_map line_of o ≡ Some line → (id : ℕ) × (o ≡ Some id)
 said_of line_of None line is = absurd cc
@@ -34,5 +34,5 @@ refusal-stays n p line_of front back line is =
     let full = said_of line_of (full_id [] (points_in front)) line is in
     let stays = full-stays n p [] (points_in front) (points_in back) full.0 full.1 in (
       ap (λ ps. option_map line_of (full_id [] ps)) (points-append front back) ∙ ap (option_map line_of) (stays.0 ∙ sym full.1) ∙ is,
-      ap (text_of n p) (points-append front back) ∙ ap concat stays.1,
+      ap (streamed_text n p) (points-append front back) ∙ ap concat stays.1,
     )

@@ -19,15 +19,15 @@ use Rattle.trace_match.specs.Setting.{Setting}
 use Rattle.program_frame.specs.Counts.{total_of}
 use Rattle.follow_work.specs.Drives.{drives_job}
 use Rattle.follow_work.specs.StreamTexts.{refusal-stays, texts-begin}
-use Rattle.trace_match.specs.Totals.{pieces_of, rows_of}
+use Rattle.trace_match.specs.Totals.{piece_count, asked_count}
 
 -- the ids of these fragments with all their fixes, in order of first appearance
-abbrev pub pairs_of : List Trace → List Pair
-pairs_of traces = with_points [] (points_in traces)
+abbrev pub pairs_in_order : List Trace → List Pair
+pairs_in_order traces = with_points [] (points_in traces)
 
 -- the whole trace of each id
 abbrev pub whole_traces : List Trace → List Trace
-whole_traces traces = map trace_of (pairs_of traces)
+whole_traces traces = map trace_of (pairs_in_order traces)
 
 -- the lines of the positions, up to the first whose id is full
 abbrev pub streamed_of : Setting → List Trace → List ℕ
@@ -43,7 +43,7 @@ stream_refusal traces = option_map too_long_line (full_id [] (points_in traces))
 -- the last lines of each id, and the total line of the whole traces
 abbrev pub stream_ending : Setting → List Trace → List ℕ
 stream_ending on traces =
-    concat (closing_lines on.network on.params (pairs_of traces)) ++ total_of (pieces_of on) (rows_of on) (whole_traces traces)
+    concat (closing_lines on.network on.params (pairs_in_order traces)) ++ total_of (piece_count on) (asked_count on) (whole_traces traces)
 
 abbrev pub streams_job : Setting → JobText
 streams_job on = record {

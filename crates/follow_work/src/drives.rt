@@ -2,14 +2,14 @@
 ghost use Rattle.std.specs.Prelude.{◌≡◌, ◌+◌, ◌++◌, ◌∷◌, ◌<◌, ◌^◌, [], List as ListOf, IfOk, OnOk, length};
 ghost use Rattle.cost_model.specs.Options.{IsAccepted};
 ghost use Rattle.polyline_geometry.specs.Plane.{InRange};
-ghost use Rattle.program_frame.specs.Jobs.{IsBounded, points_of};
+ghost use Rattle.program_frame.specs.Jobs.{IsBounded, position_count};
 ghost use Rattle.trace_match.specs.Setting.{Setting};
 ghost use Rattle.trace_reader.specs.Trace.{IsLawfulTrace, point_of_fix};
 ghost use Rattle.trace_sessions.specs.Drives.{is_full_of, is_idle, no_drives};
 ghost use Rattle.trace_sessions.specs.Sessions.{Pair};
 ghost use Rattle.trace_sessions.specs.StreamText.{fragment_points, points_in};
 ghost use Rattle.trace_sessions.specs.declared.sessions.SessionFault.TheVariants.{Memory};
-ghost use Rattle.follow_work.specs.inside.DrivesDone.{AreAny, Drove, EndsAll, EndsDrive, HasDrives, HaveDriveOf, HaveRoomFor, IsAt, TakesAll, TakesFix, ending_of};
+ghost use Rattle.follow_work.specs.inside.DrivesDone.{AreAny, Drove, EndsAll, EndsDrive, HasDrives, HaveDriveOf, HaveRoomFor, IsAtFleet, TakesAll, DrivesTakePosition, ending_of};
 
 use crate::rows::open_rows;
 use crate::times::Times;
@@ -47,7 +47,7 @@ impl<'m> Drives<'m> {
     // No drives yet.
     pub(crate) fn open(alloc: Global, matcher: &'m Matcher<'m>) -> Result<Self, AllocError>
         requires { IsAccepted matcher.now.params }
-        ensures { IfOk result (λ drives. IsAt matcher.now drives [] no_drives) }
+        ensures { IfOk result (λ drives. IsAtFleet matcher.now drives [] no_drives) }
     {
         let rows = open_rows(alloc, matcher)?;
         let sessions = Sessions::open(alloc, matcher.network(), matcher.grid(), matcher.params());
@@ -116,7 +116,7 @@ impl<'m> Drives<'m> {
         requires few { self.old.tally.points + 1 < 2 ^ 62 }
         ensures { OnOk result ((on : Setting) (ended drives : ListOf Pair)
             → Drove on self.old ended drives
-            → TakesFix on ended drives id fix self.old self.new into.old into.new) }
+            → DrivesTakePosition on ended drives id fix self.old self.new into.old into.new) }
     {
         match self.sessions.stream_fix(id, fix, &mut self.rows, into) {
             Ok(pieces) => {
@@ -175,7 +175,7 @@ impl<'m> Drives<'m> {
     ) -> Result<(), AllocError>
         requires traces { IsBounded traces.now }
         requires drives { HasDrives self.old AreAny }
-        requires few { self.old.tally.points + points_of traces.now < 2 ^ 62 }
+        requires few { self.old.tally.points + position_count traces.now < 2 ^ 62 }
         ensures { OnOk result
             (TakesAll idle (points_in traces.now) self.old self.new into.old into.new) }
     {

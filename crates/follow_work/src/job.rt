@@ -3,14 +3,14 @@ ghost use Rattle.std.specs.Prelude.{◌≡◌, ◌++◌, [], false, true, IfOk, 
 ghost use Rattle.bounded_table.specs.Rows.{AreRowsOf, AsksFor};
 ghost use Rattle.cost_model.specs.Options.{IsAccepted};
 ghost use Rattle.trace_match.specs.inside.Asked.{AsksTraces};
-ghost use Rattle.program_frame.specs.Counts.{ArePieces};
+ghost use Rattle.program_frame.specs.inside.Tallies.{IsCountOfPieces};
 ghost use Rattle.program_frame.specs.Jobs.{IsBounded};
 ghost use Rattle.trace_match.specs.Match.{asks};
 ghost use Rattle.trace_reader.specs.Trace.{IsLawfulTrace};
 ghost use Rattle.trace_sessions.specs.Following.{IsFollowed};
 ghost use Rattle.follow_work.specs.Follow.{follow_job, followed_of};
 ghost use Rattle.follow_work.specs.inside.FollowDone.{HasFollowed};
-ghost use Rattle.trace_match.specs.Totals.{pieces_of};
+ghost use Rattle.trace_match.specs.Totals.{piece_count};
 
 use crate::rows::open_rows;
 use cost_model::Params;
@@ -77,7 +77,7 @@ fn write_followed<'n>(
     requires rows { AreRowsOf rows.old matcher.now.network matcher.now.params.bound }
     requires traces { IsBounded traces.now }
     ensures text { OnOk result (into.new ≡ into.old ++ followed_of matcher.now traces.now) }
-    ensures pieces { IfOk result (ArePieces (pieces_of matcher.now) traces.now) }
+    ensures pieces { IfOk result (IsCountOfPieces (piece_count matcher.now) traces.now) }
     ensures asks { OnOk result (AsksTraces matcher.now traces.now rows.old rows.new) }
 {
     let mut pieces = 0;

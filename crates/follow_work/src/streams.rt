@@ -4,7 +4,7 @@ ghost use Rattle.bounded_table.specs.Rows.{AreRowsOf};
 ghost use Rattle.cost_model.specs.Options.{IsAccepted};
 ghost use Rattle.program_frame.specs.Performs.{Performs};
 ghost use Rattle.program_frame.specs.Stream.{works_traces};
-ghost use Rattle.trace_sessions.specs.Sessions.{Keeps, Pair};
+ghost use Rattle.trace_sessions.specs.Sessions.{RepresentsPairs, Pair};
 ghost use Rattle.trace_sessions.specs.StreamText.{points_in};
 ghost use Rattle.trace_sessions.specs.Streaming.{AsksStream, Streams};
 ghost use Rattle.follow_work.specs.Streams.{streams_job, streams_plan, streams_within, too_long_line};
@@ -45,7 +45,7 @@ fn stream_fragments(
     requires accepted { IsAccepted sessions.old.params }
     requires rows { AreRowsOf rows.old sessions.old.network sessions.old.params.bound }
     requires fragments { CanTakeFragments sessions.old traces.now }
-    ensures streams { (pairs : ListOf Pair) → Keeps sessions.old pairs
+    ensures streams { (pairs : ListOf Pair) → RepresentsPairs sessions.old pairs
         → Streams sessions.old pairs (points_in traces.now) sessions.new into.old into.new result }
     ensures asks { AsksStream sessions.old (points_in traces.now) rows.old result rows.new }
 {
@@ -71,11 +71,11 @@ fn append_too_long(id: u32, into: &mut List<u8>) -> Result<(), AllocError>
 struct StreamFault(SessionFault);
 
 impl FaultLine for StreamFault {
-    ghost use Rattle.follow_work.specs.inside.StreamsDone.{fault_line, has_fault_line};
+    ghost use Rattle.follow_work.specs.inside.StreamsDone.{session_fault_line, has_session_fault_line};
 
-    ghost has_line = { λ fault. has_fault_line fault.0 };
+    ghost has_line = { λ fault. has_session_fault_line fault.0 };
 
-    ghost line = { λ fault. fault_line fault.0 };
+    ghost line = { λ fault. session_fault_line fault.0 };
 
     fn append_line(&self, _alloc: Global, into: &mut List<u8>) -> Result<(), AllocError> {
         match self.0 {

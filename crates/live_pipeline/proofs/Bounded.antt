@@ -6,7 +6,7 @@ use Rattle.program_frame.proofs.Bounds.{bounded_closed, bounded_front}
 use Rattle.trace_reader.specs.declared.trace.Trace.{Trace}
 use Rattle.trace_reader.proofs.Laws.{closed-none}
 use Rattle.live_pipeline.specs.Order.{AreBounded, MayFollow}
-use Rattle.live_pipeline.specs.Pieces.{parts_of, trace_in, traces_in}
+use Rattle.live_pipeline.specs.Pieces.{parts_of, traces_in_part, traces_in}
 use Rattle.live_pipeline.specs.declared.part.Part.{Part}
 use Rattle.live_pipeline.specs.declared.part.Part.TheVariants as parts
 
@@ -14,7 +14,7 @@ pub bounded_none : AreBounded []
 bounded_none = subst IsBounded closed-none (bounded_closed [] (omega arith))
 
 pub traces_in-append : (front back : List Part) → traces_in (front ++ back) ≡ traces_in front ++ traces_in back
-traces_in-append front back = flat_map-append trace_in front back
+traces_in-append front back = flat_map-append traces_in_part front back
 
 -- what was taken is bounded as what was put
 pub bounded_taken : (put taken rest : List Part) → put ≡ taken ++ rest → AreBounded put → AreBounded taken
@@ -26,9 +26,9 @@ traces_in-parts_of [] = refl
 traces_in-parts_of (trace ∷ traces) = ap (λ ts. trace ∷ ts) (traces_in-parts_of traces)
 
 -- a last part is no trace
-bounded_last : (put : List Part) (x : Part) → trace_in x ≡ [] → AreBounded put → AreBounded (put ++ x ∷ [])
+bounded_last : (put : List Part) (x : Part) → traces_in_part x ≡ [] → AreBounded put → AreBounded (put ++ x ∷ [])
 bounded_last put x none bounded =
-    let one : traces_in (x ∷ []) ≡ [] = append-nil (trace_in x) ∙ none in
+    let one : traces_in (x ∷ []) ≡ [] = append-nil (traces_in_part x) ∙ none in
     subst IsBounded (sym (traces_in-append put (x ∷ []) ∙ ap (λ ts. traces_in put ++ ts) one ∙ append-nil (traces_in put))) bounded
 
 -- what may follow leaves them bounded

@@ -5,14 +5,16 @@ use Rattle.std.specs.Io.KnownBytes.{Appends}
 use Rattle.edge_io.specs.Sink.{AppendsPrefix}
 use Rattle.edge_io.specs.State.{ShelfState, SinkState}
 use Rattle.program_frame.specs.Batches.{Holds, Later, with_later}
-use Rattle.program_frame.specs.Jobs.{JobText, bytes_give, given_by, traces_give}
+use Rattle.program_frame.specs.Jobs.{JobText, bytes_give, outcome_given_by, traces_give}
 use Rattle.program_frame.specs.Outcome.{Outcome, done_with}
 use Rattle.program_frame.specs.Performs.{Performs}
 use Rattle.program_frame.specs.Read.{ReadsWhole}
-use Rattle.program_frame.specs.Refusals.{RefusesTraces, trace_limit}
+use Rattle.program_frame.specs.Refusals.{trace_limit}
+use Rattle.program_frame.specs.inside.Refusing.{RefusesTraces}
 use Rattle.program_frame.specs.Stops.{refusal_status}
 use Rattle.program_frame.specs.Stream.{works_traces}
-use Rattle.program_frame.specs.Streams.{HasFront, IsStreaming, StopsAs, StopsAt}
+use Rattle.program_frame.specs.Streams.{HasFront, StopsAs}
+use Rattle.program_frame.specs.inside.StreamSteps.{IsStreaming, StopsAt}
 use Rattle.program_frame.specs.declared.stop.File.TheVariants.{Traces}
 use Rattle.program_frame.specs.declared.stop.Refusal.{Refusal}
 use Rattle.program_frame.specs.declared.stop.Refusal.TheVariants as refusals
@@ -30,7 +32,8 @@ use Rattle.trace_reader.proofs.Laws.{closed-none, file_fault_known, file_traces_
 use Rattle.live_pipeline.specs.declared.part.Part.{Part}
 use Rattle.live_pipeline.specs.declared.part.Part.TheVariants as parts
 use Rattle.live_pipeline.specs.Living.{LivePerforms}
-use Rattle.live_pipeline.specs.Matching.{EndsWithPart, NeverRefuses}
+use Rattle.live_pipeline.specs.Matching.{NeverRefuses}
+use Rattle.live_pipeline.specs.inside.MatchingSteps.{EndsWithPart}
 use Rattle.live_pipeline.specs.Reading.{Brings, IsFrontOf}
 
 -- ---- what is expected of a file, of whose traces the first were worked on
@@ -50,7 +53,7 @@ take_none (suc n) = refl
 nothing_given : (job : JobText) (traces : List Trace) → traces ≡ [] → (with_later job traces (record { more = []; fault = Some faults.BadHeader })).out ≡ []
 nothing_given job traces none =
     ap (λ (ts : List Trace). (traces_give job (ts ++ []) (Some faults.BadHeader)).out) none
-    ∙ ap (λ (r : Option (List ℕ)). (given_by r (Some faults.BadHeader) (job.texts []) (job.ending [])).out) job.allowed
+    ∙ ap (λ (r : Option (List ℕ)). (outcome_given_by r (Some faults.BadHeader) (job.texts []) (job.ending [])).out) job.allowed
     ∙ job.nothing
 
 nothing_written : (job : JobText) (base out : SinkState) (traces : List Trace) → traces ≡ [] → HasFront Later (with_later job traces) base out → Appends base.written out.written []
@@ -90,7 +93,7 @@ no_status refusals.Table e = cc
 never_refused : (job : JobText) (base out : SinkState) (traces : List Trace) (refusal : Refusal) (line : List ℕ) → NeverRefuses job → StopsAs Later (with_later job traces) base out (Refused refusal line) → ⊥
 never_refused job base out traces refusal line never stops =
     let all = traces ++ [] in
-    let done : traces_give job all None ≡ done_with (job.texts all ++ job.ending all) = ap (λ (r : Option (List ℕ)). given_by r None (job.texts all) (job.ending all)) (never all) in
+    let done : traces_give job all None ≡ done_with (job.texts all ++ job.ending all) = ap (λ (r : Option (List ℕ)). outcome_given_by r None (job.texts all) (job.ending all)) (never all) in
     no_status refusal (ap (λ (o : Outcome). o.status) (sym done ∙ stops.is (record { more = []; fault = None })))
 
 abbrev stopped : Stop → Result (Unit {0}) Stop

@@ -6,7 +6,7 @@ use Rattle.command_line.specs.Work.PlainWork.{check_files, follow_files, match_f
 use Rattle.cost_model.specs.declared.params.Params.{Params}
 use Rattle.follow_work.specs.Alone.{follow_alone, followed}
 use Rattle.follow_work.specs.Follow.{follow_job, follow_plan}
-use Rattle.live_pipeline.specs.Words.{asked_by, with_follow}
+use Rattle.live_pipeline.specs.Words.{asked_of_live_words, with_follow}
 use Rattle.program_frame.specs.Plan.{Plan, IsLineOf}
 use Rattle.program_frame.specs.Promises.{Covers}
 use Rattle.program_frame.specs.Refusals.{network_said, refusal_lines}
@@ -38,6 +38,6 @@ work_end (check_files network traces certificate) options known status line plan
 work_end (table_of_network network) options known status line planned refused is = absurd cc
 work_end (match_town side traces seed) options known status line planned refused is = absurd cc
 
-pub lines_covered : (words : List (List ℕ)) → Covers refusal_lines (asked_by words)
+pub lines_covered : (words : List (List ℕ)) → Covers refusal_lines (asked_of_live_words words)
 lines_covered words =
     asked_covered refusal_lines same_lines follow_alone (with_follow words) (λ command known status line planned refused is. work_end command.work command.options known status line planned refused is)

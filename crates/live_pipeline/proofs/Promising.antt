@@ -9,7 +9,7 @@ use Rattle.program_frame.specs.Performs.{Performs}
 use Rattle.program_frame.specs.Plan.{Plan, IsFileOf, accepts, loads}
 use Rattle.program_frame.specs.Promises.{Covers, Promises}
 use Rattle.program_frame.specs.Read.{Notes}
-use Rattle.program_frame.specs.Stops.{line_of, status_after}
+use Rattle.program_frame.specs.Stops.{line_of_result, status_after}
 use Rattle.program_frame.specs.declared.stop.File.{File}
 use Rattle.program_frame.specs.declared.stop.File.TheVariants.{Traces}
 use Rattle.program_frame.specs.declared.stop.Stop.{Stop}
@@ -67,7 +67,7 @@ twice {lines} {asked} {shelf} {shelf'} {out} {out'} {err} {err'} ended put t p =
     by_stop (inr is) = subst Goal (sym is) (λ q. twice_unwritten put t.noted q) p
 
 -- the promises of a run, from what its work leaves and the put of its line
-pub live_promises : {lines : Table} (asked : Result Plan (List ℕ)) (shelf shelf' : ShelfState) (out out' err err' : SinkState) (ended : Result (Unit {0}) Stop) (put : Put) → Covers lines asked → LivePerforms asked shelf shelf' out out' ended → Puts err err' (line_of ended) put → (IsOk ended → put ≡ puts.All) → LivePromises lines asked shelf shelf' out out' err err' (status_after ended put)
+pub live_promises : {lines : Table} (asked : Result Plan (List ℕ)) (shelf shelf' : ShelfState) (out out' err err' : SinkState) (ended : Result (Unit {0}) Stop) (put : Put) → Covers lines asked → LivePerforms asked shelf shelf' out out' ended → Puts err err' (line_of_result ended) put → (IsOk ended → put ≡ puts.All) → LivePromises lines asked shelf shelf' out out' err err' (status_after ended put)
 live_promises asked shelf shelf' out out' err err' ended put covers (inl performs) said quiet =
     inl (promises asked shelf shelf' out out' err err' ended put covers performs said quiet)
 live_promises asked shelf shelf' out out' err err' ended put covers (inr t) said quiet =

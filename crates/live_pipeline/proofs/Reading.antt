@@ -18,8 +18,8 @@ use Rattle.live_pipeline.specs.Order.{MayFollow, Parts}
 use Rattle.live_pipeline.specs.Pieces.{IsLast, parts_of}
 use Rattle.live_pipeline.specs.declared.part.Part.{Part}
 use Rattle.live_pipeline.specs.declared.part.Part.TheVariants as parts
-use Rattle.live_pipeline.specs.inside.Feeding.{HasFed, IsFaultPart, PutsChunk, PutsFile}
-use Rattle.live_pipeline.specs.Reading.{Brings, EndsAt, EndsRead, HasPut, HasRead, IsFedWhole}
+use Rattle.live_pipeline.specs.inside.Feeding.{HasFed, IsFaultPart, PutsChunk, PutsFile, EndsAt, EndsRead, HasPut, IsFedWhole}
+use Rattle.live_pipeline.specs.Reading.{Brings, HasRead}
 
 -- between two reads: the bytes so far were fed, and what they close was put
 pub record IsFeeding (name : List ℕ) (shelf : ShelfState) (at : ℕ) (reader : TraceReader) (put : List Part) : Type 0 where

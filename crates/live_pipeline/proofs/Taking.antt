@@ -12,7 +12,8 @@ use Rattle.live_pipeline.specs.Order.{AreBounded}
 use Rattle.live_pipeline.specs.Pieces.{IsLast, part_of, parts_of, traces_in}
 use Rattle.live_pipeline.specs.declared.part.Part.{Part}
 use Rattle.live_pipeline.proofs.Bounded.{bounded_none, traces_in-parts_of}
-use Rattle.live_pipeline.specs.Matching.{HasMatched, MayTake}
+use Rattle.live_pipeline.specs.Matching.{HasMatchedParts}
+use Rattle.live_pipeline.specs.inside.MatchingSteps.{MayTake}
 use Rattle.live_pipeline.proofs.Wholes.{parts_of-append}
 
 -- nothing was taken
@@ -47,7 +48,7 @@ may_take job has base out traces trace (Ok done) bounded writes =
 may_take job has base out traces trace (Err stop) bounded writes = tt
 
 -- a last part was taken
-pub took_last : (job : JobText) (has : Has) (base out : SinkState) (took now : List Part) (traces : List Trace) (last : Part) (ended : Result (Unit {0}) Stop) → took ≡ parts_of traces → now ≡ took ++ last ∷ [] → IsLast last → WritesBatch job has base out traces [] ended → HasMatched job has base out now last ended
+pub took_last : (job : JobText) (has : Has) (base out : SinkState) (took now : List Part) (traces : List Trace) (last : Part) (ended : Result (Unit {0}) Stop) → took ≡ parts_of traces → now ≡ took ++ last ∷ [] → IsLast last → WritesBatch job has base out traces [] ended → HasMatchedParts job has base out now last ended
 took_last job has base out took now traces last ended is grown is_last writes = record {
   traces = traces;
   is_last = is_last;

@@ -1,7 +1,7 @@
 -- Traces and a last part as a list of parts: what was taken is what was put.
 use Rattle.std.proofs.Common.{◌≡◌, List, [], ◌∷◌, ◌++◌, refl, sym, ap, subst, ◌∙◌, ◌⊎◌, inl, inr, rules}
 use Rattle.trace_reader.specs.declared.trace.Trace.{Trace}
-use Rattle.live_pipeline.specs.Pieces.{IsLast, IsWhole, part_of, parts_of, whole_of}
+use Rattle.live_pipeline.specs.Pieces.{IsLast, AreWholeParts, part_of, parts_of, whole_of}
 use Rattle.live_pipeline.specs.declared.part.Part.{Part}
 use Rattle.live_pipeline.specs.declared.part.Part.TheVariants as parts
 
@@ -40,7 +40,7 @@ no_whole [] m rest e = absurd (search rules)
 no_whole (u ∷ us) m rest e = absurd (search rules)
 
 -- a front of a row that ends with a last part is the whole row
-pub front_is_whole : (put taken rest : List Part) → (put ≡ []) ⊎ IsWhole put → IsWhole taken → put ≡ taken ++ rest → taken ≡ put
+pub front_is_whole : (put taken rest : List Part) → (put ≡ []) ⊎ AreWholeParts put → AreWholeParts taken → put ≡ taken ++ rest → taken ≡ put
 front_is_whole put taken rest (inl none) t e = absurd (no_whole t.0 t.1 rest (sym none ∙ e ∙ ap (λ l. l ++ rest) t.3))
 front_is_whole put taken rest (inr p) t e =
     let same = same_whole p.0 t.0 p.1 t.1 rest p.2 t.2 (sym p.3 ∙ e ∙ ap (λ l. l ++ rest) t.3) in

@@ -1,33 +1,14 @@
--- What was put is what was taken and then what the queue holds. One pass at most may put, and it has
--- the list of what was put. The same for taking.
-use Rattle.std.specs.Prelude.{◌≡◌, ℕ, Bool, true, List, ◌++◌, ◌∷◌, [], length, ⊤}
-use mathlib.Core.Option.{some}
-use lib.ListN.{get_elem?}
+-- Relays and passes: what was put and what was taken, in order.
+use Rattle.std.specs.Prelude.{◌≡◌, ℕ, List, ◌++◌, ◌∷◌, [], length, ⊤}
 use Rattle.atomic_table.specs.Seated.{TableId}
 use Rattle.program_frame.specs.Jobs.{IsBounded}
 use Rattle.live_pipeline.specs.Pieces.{traces_in}
 use Rattle.live_pipeline.specs.declared.part.Part.{Part}
 use Rattle.live_pipeline.specs.declared.part.Part.TheVariants as parts
-use Rattle.live_pipeline.specs.declared.rule.Log.{Log}
-
-abbrev pub log : Bool → Bool → List Part → List Part → Log
-log puts takes put taken = record { puts = puts; takes = takes; put = put; taken = taken }
-
-abbrev pub Fits : ℕ → ℕ → List Part → List Part → ℕ → Log → Type 0
-Fits writer reader put taken port v =
-    (v.puts ≡ true → (port ≡ writer) × (v.put ≡ put))
-    × (v.takes ≡ true → (port ≡ reader) × (v.taken ≡ taken))
 
 -- the traces of these parts are lawful, and no more than a file has
 abbrev pub AreBounded : List Part → Type 0
 AreBounded all = IsBounded (traces_in all)
-
-abbrev pub Relayed : List Part → List Log → Type 0
-Relayed items views =
-    (writer : ℕ) × (reader : ℕ) × (put : List Part) × (taken : List Part)
-    × (put ≡ taken ++ items)
-    × AreBounded put
-    × ((port : ℕ) (v : Log) → get_elem? views port ≡ some v → Fits writer reader put taken port v)
 
 -- what contracts see of a relay: which it is, and how many parts it has room for
 pub record Line : Type 0 where

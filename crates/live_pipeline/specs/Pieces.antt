@@ -23,16 +23,16 @@ abbrev pub whole_of : List ATrace → Part → List Part
 whole_of traces last = parts_of traces ++ last ∷ []
 
 -- there are traces, and then one last part
-abbrev pub IsWhole : List Part → Type 0
-IsWhole all = (traces : List ATrace) × (last : Part) × IsLast last × (all ≡ whole_of traces last)
+abbrev pub AreWholeParts : List Part → Type 0
+AreWholeParts all = (traces : List ATrace) × (last : Part) × IsLast last × (all ≡ whole_of traces last)
 
 -- the traces among parts
-abbrev pub trace_in : Part → List ATrace
-trace_in (parts.Trace trace) = trace ∷ []
-trace_in parts.End = []
-trace_in (parts.Fault fault) = []
-trace_in parts.ReadFailed = []
-trace_in parts.NoMemory = []
+abbrev pub traces_in_part : Part → List ATrace
+traces_in_part (parts.Trace trace) = trace ∷ []
+traces_in_part parts.End = []
+traces_in_part (parts.Fault fault) = []
+traces_in_part parts.ReadFailed = []
+traces_in_part parts.NoMemory = []
 
 abbrev pub traces_in : List Part → List ATrace
-traces_in all = flat_map trace_in all
+traces_in all = flat_map traces_in_part all

@@ -10,9 +10,9 @@ abbrev pub with_follow : List (List ℕ) → List (List ℕ)
 with_follow words = codes "follow" ∷ words
 
 -- the plan that the words ask for, or the line of their refusal
-abbrev pub asked_by : List (List ℕ) → Result Plan (List ℕ)
-asked_by words = asked_of follow_alone (command_of (with_follow words))
+abbrev pub asked_of_live_words : List (List ℕ) → Result Plan (List ℕ)
+asked_of_live_words words = asked_of follow_alone (command_of (with_follow words))
 
 -- the same of words as they are handed to a run
-abbrev pub asked_plan : {Z : Type 0} → List (String Z) → Result Plan (List ℕ)
-asked_plan words = asked_by (map string_bytes words)
+abbrev pub asked_live_plan : {Z : Type 0} → List (String Z) → Result Plan (List ℕ)
+asked_live_plan words = asked_of_live_words (map string_bytes words)

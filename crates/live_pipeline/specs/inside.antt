@@ -1,1 +1,3 @@
 pub mod Feeding
+pub mod MatchingSteps
+pub mod RelayRule

@@ -1,6 +1,6 @@
 //! The end of a relay. Serves `live_traces`; decided by the rule of the relay.
 ghost use Rattle.std.specs.Prelude.{◌≡◌, ◌⊎◌, []};
-ghost use Rattle.live_pipeline.specs.Pieces.{IsWhole};
+ghost use Rattle.live_pipeline.specs.Pieces.{AreWholeParts};
 
 use crate::relay::{PutPass, Relay, TakePass};
 
@@ -8,8 +8,8 @@ use crate::relay::{PutPass, Relay, TakePass};
 /// each part once.
 pub fn close_whole(relay: Relay, put: PutPass, take: TakePass)
     requires relay { (put.relay ≡ relay.name) × (take.relay ≡ relay.name) }
-    requires put { (put.parts ≡ []) ⊎ IsWhole put.parts }
-    requires taken { IsWhole take.parts }
+    requires put { (put.parts ≡ []) ⊎ AreWholeParts put.parts }
+    requires taken { AreWholeParts take.parts }
     ensures { take.parts ≡ put.parts }
 {
     relay.close(put, take);

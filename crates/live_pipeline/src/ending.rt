@@ -1,7 +1,8 @@
 //! The end of a run, after the last part. Serves `live_traces`; decided by `EndsTraces`.
 ghost use Rattle.std.specs.Prelude.{Ok};
 ghost use Rattle.live_pipeline.specs.Ending.{EndsTraces};
-ghost use Rattle.live_pipeline.specs.Matching.{EndsWithPart, MayEnd, NeverRefuses, StaysStopped};
+ghost use Rattle.live_pipeline.specs.Matching.{MayEnd, NeverRefuses, StaysStopped};
+ghost use Rattle.live_pipeline.specs.inside.MatchingSteps.{EndsWithPart};
 
 use crate::part::Part;
 use edge_io::Sink;

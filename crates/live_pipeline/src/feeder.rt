@@ -3,7 +3,7 @@
 ghost use Rattle.std.specs.Prelude.{◌≡◌, ◌++◌, ◌<◌, ◌^◌, ℕ, List as ListOf, length};
 ghost use Rattle.live_pipeline.specs.Order.{AreBounded};
 ghost use Rattle.live_pipeline.specs.Pieces.{parts_of};
-ghost use Rattle.live_pipeline.specs.inside.Feeding.{HasFed, IsFaultPart, IsFed, PutsChunk, PutsFile};
+ghost use Rattle.live_pipeline.specs.inside.Feeding.{HasFed, IsFaultPart, IsFedSome, PutsChunk, PutsFile};
 
 use crate::part::Part;
 use crate::relay::{PutPass, Relay};
@@ -31,7 +31,7 @@ pub fn put_chunk<R: Wait>(
     pass: &mut PutPass,
 ) -> Result<(), TraceFault>
     requires own { pass.old.relay ≡ relay.now.name }
-    requires fed { IsFed reader.old pass.old.parts }
+    requires fed { IsFedSome reader.old pass.old.parts }
     requires short { length chunk.now < 2 ^ 32 }
     ensures own { pass.new.relay ≡ pass.old.relay }
     ensures puts { (fed : ListOf ℕ) → HasFed fed reader.old pass.old.parts
@@ -51,7 +51,7 @@ pub fn put_end<R: Wait>(
     pass: &mut PutPass,
 ) -> Result<(), TraceFault>
     requires own { pass.old.relay ≡ relay.now.name }
-    requires fed { IsFed reader.old pass.old.parts }
+    requires fed { IsFedSome reader.old pass.old.parts }
     ensures own { pass.new.relay ≡ pass.old.relay }
     ensures puts { (fed : ListOf ℕ) → HasFed fed reader.old pass.old.parts
         → PutsFile fed pass.new.parts result }

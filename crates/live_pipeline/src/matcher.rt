@@ -1,8 +1,9 @@
-//! The matcher: takes traces from the relay and writes their text. Serves `live_traces`; decided by `HasMatched`.
+//! The matcher: takes traces from the relay and writes their text. Serves `live_traces`; decided by `HasMatchedParts`.
 ghost use Rattle.std.specs.Prelude.{◌≡◌, ◌∷◌, []};
-ghost use Rattle.program_frame.specs.Batches.{WritesWaiting};
+ghost use Rattle.program_frame.specs.inside.BatchSteps.{WritesWaiting};
 ghost use Rattle.program_frame.specs.Jobs.{CanTake};
-ghost use Rattle.live_pipeline.specs.Matching.{HasTakenAll, IsFresh, MayTake, NeverRefuses, StaysStopped, WritesNext};
+ghost use Rattle.live_pipeline.specs.Matching.{HasTakenAll, IsFresh, NeverRefuses, StaysStopped};
+ghost use Rattle.live_pipeline.specs.inside.MatchingSteps.{MayTake, WritesNext};
 
 use crate::part::Part;
 use crate::relay::{Relay, TakePass};

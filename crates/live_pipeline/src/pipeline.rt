@@ -3,8 +3,9 @@ ghost use Rattle.std.specs.Prelude.{◌≡◌, Ok, string_bytes};
 ghost use Rattle.program_frame.specs.Stream.{works_traces};
 ghost use Rattle.live_pipeline.specs.Order.{no_parts};
 ghost use Rattle.live_pipeline.specs.Living.{LivePerforms};
-ghost use Rattle.live_pipeline.specs.Matching.{IsFresh, MatchesBeside};
-ghost use Rattle.live_pipeline.specs.Reading.{Keeps};
+ghost use Rattle.live_pipeline.specs.Matching.{IsFresh};
+ghost use Rattle.live_pipeline.specs.inside.MatchingSteps.{MatchesBeside};
+ghost use Rattle.live_pipeline.specs.inside.Feeding.{KeepsPromise};
 
 use crate::closing::close_whole;
 use crate::ending::end_traces;
@@ -46,7 +47,7 @@ fn run_both<R: Threads + Wait + Sync, J: Job + Drop, S: Shelf + Send + Drop, K: 
     requires unused { (reading.pass ≡ no_parts relay.now.name)
         × (matching.pass ≡ no_parts relay.now.name) }
     requires fresh { IsFresh (J.text matching.job) (J.has matching.job) }
-    ensures done { Keeps S.state (string_bytes reading.entry.file.name.now) reading.entry.file.shelf
+    ensures done { KeepsPromise S.state (string_bytes reading.entry.file.name.now) reading.entry.file.shelf
         reading.entry.pass result.0 }
     ensures matched { MatchesBeside J.text J.has matching.job result.1.job
         (K.state out.old) (K.state out.new) matching.pass result.1.pass result.2 }
@@ -60,7 +61,7 @@ fn run_both<R: Threads + Wait + Sync, J: Job + Drop, S: Shelf + Send + Drop, K: 
             requires unused { (reading.pass ≡ no_parts relay.now.name)
                 × (matching.pass ≡ no_parts relay.now.name) }
             requires fresh { IsFresh (J.text matching.job) (J.has matching.job) }
-            ensures done { Keeps S.state (string_bytes reading.entry.file.name.now)
+            ensures done { KeepsPromise S.state (string_bytes reading.entry.file.name.now)
                 reading.entry.file.shelf reading.entry.pass result.0 }
             ensures matched { MatchesBeside J.text J.has matching.job result.1.job
                 (K.state out.entry.now) (K.state result.3.now) matching.pass result.1.pass result.2 }
@@ -73,7 +74,7 @@ fn run_both<R: Threads + Wait + Sync, J: Job + Drop, S: Shelf + Send + Drop, K: 
             };
             let reader = move || -> ReadDone<S>
                 requires { reading.pass ≡ no_parts relay.now.name }
-                ensures { Keeps S.state (string_bytes reading.entry.file.name.now)
+                ensures { KeepsPromise S.state (string_bytes reading.entry.file.name.now)
                     reading.entry.file.shelf reading.entry.pass result }
             { read_unless(rt, relay, reading, flag.load(Ordering::SeqCst)) };
             match scope.spawn_with(promise, reader) {

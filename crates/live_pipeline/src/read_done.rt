@@ -1,5 +1,5 @@
 //! What the reader's thread is given and returns, and what it promises of it. Serves `live_traces`; decided by
-//! `Keeps`.
+//! `KeepsPromise`.
 use crate::relay::PutPass;
 use edge_io::Shelf;
 use std::snapshot::Snapshot;
@@ -36,7 +36,7 @@ pub struct ReadPromise<S> {
 
 impl<S: Shelf> Promise<ReadDone<S>> for ReadPromise<S> {
     ghost use Rattle.std.specs.Prelude.{string_bytes};
-    ghost use Rattle.live_pipeline.specs.Reading.{Keeps};
+    ghost use Rattle.live_pipeline.specs.inside.Feeding.{KeepsPromise};
 
-    ghost kept_by = { λ p done. Keeps S.state (string_bytes p.name.value) p.shelf.value p.pass.value done };
+    ghost kept_by = { λ p done. KeepsPromise S.state (string_bytes p.name.value) p.shelf.value p.pass.value done };
 }

@@ -3,7 +3,8 @@
 ghost use Rattle.std.specs.Prelude.{◌≡◌, [], string_bytes};
 ghost use Rattle.program_frame.specs.Chunks.{MayReadOn};
 ghost use Rattle.live_pipeline.specs.Order.{no_parts};
-ghost use Rattle.live_pipeline.specs.Reading.{EndsAt, HasPut, HasRead, Keeps, PutsChunks, ReadsNext};
+ghost use Rattle.live_pipeline.specs.Reading.{HasRead};
+ghost use Rattle.live_pipeline.specs.inside.Feeding.{EndsAt, HasPut, KeepsPromise, PutsChunks, ReadsNext};
 
 use crate::feeder::{part_of_fault, put_chunk, put_end};
 use crate::part::Part;
@@ -108,7 +109,7 @@ pub fn read_unless<R: Wait, S: Shelf + Drop>(
     refused: bool,
 ) -> ReadDone<S>
     requires { reading.pass ≡ no_parts relay.now.name }
-    ensures { Keeps S.state (string_bytes reading.entry.file.name.now) reading.entry.file.shelf
+    ensures { KeepsPromise S.state (string_bytes reading.entry.file.name.now) reading.entry.file.shelf
         reading.entry.pass result }
 {
     let Reading { file, mut pass } = reading;

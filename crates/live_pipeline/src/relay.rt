@@ -6,7 +6,7 @@
 //! taken with it. [`Relay::close`] consumes both, and states that what was taken is a prefix of what was
 //! put.
 //!
-//! The rule of the queue states this at each of its steps (`Relayed` in `specs/Order.antt`), and that the
+//! The rule of the queue states this at each of its steps (`Relayed` in `specs/inside/RelayRule.antt`), and that the
 //! traces that were put are lawful and no more than a file has, so whoever takes them knows it.
 ghost use Rattle.std.specs.Prelude.{◌≡◌, ◌≤◌, ◌++◌, List, IfErr, IfOk, IfSome, MatchOption, MatchResult};
 ghost use Rattle.live_pipeline.specs.declared.part.Part.{Part as APart};
@@ -48,7 +48,8 @@ pub struct PutPass {
 
 impl Model for PutPass {
     ghost use Rattle.std.specs.Prelude.{◌≡◌, true, false, []};
-    ghost use Rattle.live_pipeline.specs.Order.{Parts, log};
+    ghost use Rattle.live_pipeline.specs.Order.{Parts};
+    ghost use Rattle.live_pipeline.specs.inside.RelayRule.{log};
     ghost use Rattle.crossbeam_queue.specs.Passes.{view as seen};
 
     ghost Value = { Parts };
@@ -70,7 +71,8 @@ pub struct TakePass {
 
 impl Model for TakePass {
     ghost use Rattle.std.specs.Prelude.{◌≡◌, true, false, []};
-    ghost use Rattle.live_pipeline.specs.Order.{Parts, log};
+    ghost use Rattle.live_pipeline.specs.Order.{Parts};
+    ghost use Rattle.live_pipeline.specs.inside.RelayRule.{log};
     ghost use Rattle.crossbeam_queue.specs.Passes.{view as seen};
 
     ghost Value = { Parts };

@@ -15,7 +15,7 @@ pub struct InOrder;
 
 impl Protocol<Part, Log> for InOrder {
     ghost use Rattle.std.specs.Prelude.{true, []};
-    ghost use Rattle.live_pipeline.specs.Order.{log, Relayed};
+    ghost use Rattle.live_pipeline.specs.inside.RelayRule.{log, Relayed};
 
     ghost holds = { Relayed };
 
@@ -26,7 +26,7 @@ pub struct Roles;
 
 impl Split<Log> for Roles {
     ghost use Rattle.std.specs.Prelude.{true, false, []};
-    ghost use Rattle.live_pipeline.specs.Order.{log};
+    ghost use Rattle.live_pipeline.specs.inside.RelayRule.{log};
 
     ghost left = { λ v. log true false v.put [] };
 
@@ -35,7 +35,7 @@ impl Split<Log> for Roles {
 
 impl Join<Log> for Roles {
     ghost use Rattle.std.specs.Prelude.{true, false, []};
-    ghost use Rattle.live_pipeline.specs.Order.{log};
+    ghost use Rattle.live_pipeline.specs.inside.RelayRule.{log};
 
     ghost both = { λ v w. log true true v.put w.taken };
 
@@ -46,7 +46,7 @@ pub struct Puts;
 
 impl Outcome<Part, Log> for Puts {
     ghost use Rattle.std.specs.Prelude.{◌≡◌, ◌++◌, ◌∷◌, []};
-    ghost use Rattle.live_pipeline.specs.Order.{log};
+    ghost use Rattle.live_pipeline.specs.inside.RelayRule.{log};
 
     ghost then = { λ v x w. w ≡ log v.puts v.takes (v.put ++ x ∷ []) v.taken };
 }
@@ -62,7 +62,8 @@ pub struct Takes;
 
 impl Outcome<Part, Log> for Takes {
     ghost use Rattle.std.specs.Prelude.{◌≡◌, ◌++◌, ◌∷◌, []};
-    ghost use Rattle.live_pipeline.specs.Order.{AreBounded, log};
+    ghost use Rattle.live_pipeline.specs.Order.{AreBounded};
+    ghost use Rattle.live_pipeline.specs.inside.RelayRule.{log};
 
     ghost then = { λ v x w. (w ≡ log v.puts v.takes v.put (v.taken ++ x ∷ []))
         × AreBounded (v.taken ++ x ∷ []) };

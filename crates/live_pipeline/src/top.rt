@@ -4,7 +4,7 @@ ghost use Rattle.std.specs.Prelude.{Ok};
 ghost use Rattle.cost_model.specs.Options.{IsAccepted};
 ghost use Rattle.follow_work.specs.Follow.{follow_plan};
 ghost use Rattle.live_pipeline.specs.Living.{LivePerforms, LivePromises};
-ghost use Rattle.live_pipeline.specs.Words.{asked_plan};
+ghost use Rattle.live_pipeline.specs.Words.{asked_live_plan};
 ghost use Rattle.program_frame.specs.Refusals.{refusal_lines};
 
 use crate::pipeline::live_traces;
@@ -56,7 +56,7 @@ fn perform<R: Threads + Wait + Sync, S: Shelf + Send + Drop, K: Sink>(
     shelf: S,
     out: &mut K,
 ) -> (Result<(), Stop>, S)
-    ensures { LivePerforms (asked_plan words.now)
+    ensures { LivePerforms (asked_live_plan words.now)
         (S.state shelf) (S.state result.1) (K.state out.old) (K.state out.new) result.0 }
 {
     let Ok(words) = follow_words(alloc, words) else {
@@ -93,7 +93,7 @@ pub fn live<R: Threads + Wait + Sync, S: Shelf + Send + Drop, K: Sink, E: Sink>(
     out: &mut K,
     err: &mut E,
 ) -> (u8, S)
-    ensures { LivePromises refusal_lines (asked_plan words.now) (S.state shelf) (S.state result.1)
+    ensures { LivePromises refusal_lines (asked_live_plan words.now) (S.state shelf) (S.state result.1)
         (K.state out.old) (K.state out.new) (E.state err.old) (E.state err.new) result.0 }
 {
     let (ended, shelf) = perform(rt, alloc, words, shelf, out);

@@ -6,7 +6,7 @@ use Rattle.std.proofs.lemmas.List.{get_or-map, get_or_default, length-map}
 use Rattle.std.proofs.lemmas.Option.{get_or_from_slice_get, slice_get_within}
 use Rattle.cost_model.specs.Costs.{difference}
 use Rattle.cost_model.specs.declared.params.Params.{Params}
-use Rattle.match_law.specs.LeastMatch.{AreChosen, AsksAt, IsAskedFor, IsCost, candidates_of, from_to}
+use Rattle.match_law.specs.LeastMatch.{AreChosen, AsksAt, IsAskedFor, IsCost, candidates_of}
 use Rattle.match_law.proofs.Matches.{part_map}
 use Rattle.match_law.proofs.Pieces.{fixes_back, layers_back, le_if, true_if}
 use Rattle.match_law.proofs.Sequences.{rank_of}
@@ -20,6 +20,7 @@ use Rattle.matching.specs.declared.parts.Layer.{Layer}
 use Rattle.matching.specs.declared.parts.Piece.{Piece}
 use Rattle.matching.proofs.Asking.{is_asked_node-tells}
 use Rattle.matching.proofs.Lists.{at-drop, reverse-take}
+use Rattle.matching.specs.Match.{from_to}
 use Rattle.road_network.specs.Net.{Net, IsLawful, target}
 use Rattle.road_network.specs.declared.Candidate.{Candidate}
 use Rattle.trace_match.specs.Match.{asks, layer_of, layers_of, match_of, routed_of, solution_of}

@@ -3,17 +3,18 @@ use Rattle.std.proofs.Common.{◌≡◌, ℕ, zero, suc, ◌+◌, ◌-◌, ◌<�
 use Rattle.std.proofs.lemmas.List.{get_or-map, nil_from_length, reverse-append, reverse-reverse}
 use Rattle.std.proofs.lemmas.List.Elements.{All-head, All-tail}
 use Rattle.cost_model.specs.declared.params.Params.{Params}
-use Rattle.match_law.specs.LeastMatch.{AreAdded, AreChosen, AreMissing, candidates_of, edges_added, from_to, label_on}
+use Rattle.match_law.specs.LeastMatch.{AreAdded, AreChosen, AreMissing, candidates_of, edges_added}
 use Rattle.match_law.proofs.Sequences.{rank_of}
 use Rattle.match_text.specs.declared.matched.Label.{Label}
 use Rattle.matching.specs.declared.parts.Layer.{Layer}
 use Rattle.matching.specs.Layers.{candidate_of_rank, trellis}
+use Rattle.matching.specs.Match.{from_to}
 use Rattle.matching.specs.Routes.{Route, Direct, Over, IsTheRoute}
 use Rattle.road_network.specs.Net.{Net}
 use Rattle.road_network.specs.declared.Candidate.{Candidate}
 use Rattle.route_rebuild.specs.Routes.{AreLegs, chosen_at, edges_of, no_layer}
 use Rattle.route_rebuild.proofs.ChosenRun.{between}
-use Rattle.trace_match.specs.Match.{labels_of, layer_of}
+use Rattle.trace_match.specs.Match.{label_on, labels_of, layer_of}
 use Rattle.trace_match.proofs.FirstLabels.{first_labels}
 use Rattle.trace_reader.specs.declared.trace.Fix.{Fix}
 

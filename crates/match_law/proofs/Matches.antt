@@ -4,7 +4,7 @@ use Rattle.std.proofs.lemmas.List.{drop-map, get_or-drop, get_or-take, get_or_de
 use Rattle.std.proofs.lemmas.List.Elements.{All-head, All-tail}
 use Rattle.cost_model.specs.Options.{IsAccepted}
 use Rattle.cost_model.specs.declared.params.Params.{Params}
-use Rattle.match_law.specs.LeastMatch.{AreChosen, AreLeastPieces, AreMissing, IsLeastMatch, IsLeastPiece, IsLongest, IsRouteOver, from_to}
+use Rattle.match_law.specs.LeastMatch.{AreChosen, AreLeastPieces, AreMissing, IsLeastMatch, IsLeastPiece, IsLongest, IsRouteOver}
 use Rattle.match_law.specs.Matches.{MatchesAreLeast}
 use Rattle.match_law.proofs.Choices.{added_of, chosen_at_place, chosen_count, chosen_in_order, labels_chosen, labels_part, missing_of}
 use Rattle.match_law.proofs.Pieces.{best_of, longest_of}
@@ -13,7 +13,7 @@ use Rattle.match_text.specs.declared.matched.Label.{Label}
 use Rattle.matching.specs.declared.parts.Layer.{Layer}
 use Rattle.matching.specs.declared.parts.Piece.{Piece}
 use Rattle.matching.specs.Layers.{trellis}
-use Rattle.matching.specs.Match.{IsMatch, IsMatchedPiece}
+use Rattle.matching.specs.Match.{IsMatch, IsMatchedPiece, from_to}
 use Rattle.matching.specs.Pieces.{ArePieces, IsPiece, NoCandidates}
 use Rattle.matching.specs.Sequences.{IsBest as IsBestOf}
 use Rattle.matching.specs.Value.{solution}

@@ -4,7 +4,7 @@ use Rattle.std.proofs.lemmas.Bool.Decides.{nat_tests}
 use Rattle.std.proofs.lemmas.List.{length-map, map-append, reverse-append, take-map}
 use Rattle.cost_model.specs.declared.params.Params.{Params}
 use Rattle.cost_model.specs.Costs.{difference}
-use Rattle.match_law.specs.LeastMatch.{AreNear, CanBePiece, IsBest, IsLongest, IsSequence}
+use Rattle.match_law.specs.LeastMatch.{ArePositionsNear, CanPositionsBePiece, IsBestOfPositions, IsLongest, IsSequence}
 use Rattle.match_law.proofs.Sequences.{cost_of, sequence_of}
 use Rattle.matching.specs.declared.parts.Layer.{Layer}
 use Rattle.matching.specs.Layers.{trellis}
@@ -22,12 +22,12 @@ le_if a b is = grind (arith, nat_tests, is)
 pub true_if : (a b : ℕ) → a ≤ b → IsTrue (nat_le a b)
 true_if a b le = grind (arith, nat_tests, le)
 
-near_fixes : (n : Net) (p : Params) (fixes : List Fix) → AreNearLayers (trellis n p) (map (layer_of n p) fixes) → AreNear p fixes
+near_fixes : (n : Net) (p : Params) (fixes : List Fix) → AreNearLayers (trellis n p) (map (layer_of n p) fixes) → ArePositionsNear p fixes
 near_fixes n p [] near = tt
 near_fixes n p (f ∷ []) near = tt
 near_fixes n p (f ∷ g ∷ fixes) near = (le_if (difference f.time g.time) p.gap near.0, near_fixes n p (g ∷ fixes) near.1)
 
-near_layers : (n : Net) (p : Params) (fixes : List Fix) → AreNear p fixes → AreNearLayers (trellis n p) (map (layer_of n p) fixes)
+near_layers : (n : Net) (p : Params) (fixes : List Fix) → ArePositionsNear p fixes → AreNearLayers (trellis n p) (map (layer_of n p) fixes)
 near_layers n p [] near = tt
 near_layers n p (f ∷ []) near = tt
 near_layers n p (f ∷ g ∷ fixes) near = (true_if (difference f.time g.time) p.gap near.0, near_layers n p (g ∷ fixes) near.1)
@@ -56,7 +56,7 @@ fixes_back n p fixes ranks c lawful is =
     (ap (λ (ls : List Layer). cost (trellis n p) ls ranks) (sym (reverse-map (layer_of n p) fixes)) ∙ is)
 
 can_be : (n : Net) (p : Params) (fixes : List Fix) (count : ℕ) → IsLawful n
-    → CanBePieceOf (trellis n p) (map (layer_of n p) fixes) count → CanBePiece n p (take count fixes)
+    → CanBePieceOf (trellis n p) (map (layer_of n p) fixes) count → CanPositionsBePiece n p (take count fixes)
 can_be n p fixes count lawful can =
     let same = take-map (layer_of n p) count fixes in
     record {
@@ -68,7 +68,7 @@ can_be n p fixes count lawful can =
     }
 
 can_be_layers : (n : Net) (p : Params) (fixes : List Fix) (count : ℕ) → IsLawful n
-    → CanBePiece n p (take count fixes) → CanBePieceOf (trellis n p) (map (layer_of n p) fixes) count
+    → CanPositionsBePiece n p (take count fixes) → CanBePieceOf (trellis n p) (map (layer_of n p) fixes) count
 can_be_layers n p fixes count lawful can =
     let same = take-map (layer_of n p) count fixes in
     record {
@@ -93,7 +93,7 @@ longest_of n p fixes count lawful piece =
     }
 
 pub best_of : (n : Net) (p : Params) (fixes : List Fix) (ranks : List ℕ) (c : ℕ) → IsLawful n
-    → IsBestOf (trellis n p) (reverse (map (layer_of n p) fixes)) c (reverse ranks) → IsBest n p fixes ranks c
+    → IsBestOf (trellis n p) (reverse (map (layer_of n p) fixes)) c (reverse ranks) → IsBestOfPositions n p fixes ranks c
 best_of n p fixes ranks c lawful best = record {
   is = fixes_back n p fixes (reverse ranks) c lawful best.costs;
   least = λ others other is. best.least other others (layers_back n p fixes others other lawful is);

@@ -21,7 +21,7 @@ use Rattle.match_words.specs.MatchWords.{MatchWordsAreRead}
 use Rattle.match_work.specs.Matches.{match_text as match_job}
 use Rattle.program_frame.specs.Asked.{asked_of}
 use Rattle.program_frame.specs.Jobs.{bytes_give, traces_give}
-use Rattle.program_frame.specs.Outcome.{Outcome, done_with, out_text, seen}
+use Rattle.program_frame.specs.Outcome.{Outcome, done_with, out_text, bytes_seen}
 use Rattle.program_frame.specs.Plan.{Plan, accepts, and_then, outcome_of, plan_of}
 use Rattle.program_frame.specs.Promises.{IsSettled, Promises, faults_of}
 use Rattle.program_frame.specs.Refusals.{network_said, said, trace_limit}
@@ -64,9 +64,9 @@ traces_short bytes none =
     ⊎_elim (λ long. absurd (known_fault bytes (fault_in bytes) refl (fault_in_long bytes long) none)) (λ short. short)
     (cases_lt trace_limit (length bytes))
 
-seen_whole : (limit : ℕ) (file : Option (List ℕ)) (text : List ℕ) → file ≡ Some text → length text ≤ limit → seen limit file ≡ Some text
+seen_whole : (limit : ℕ) (file : Option (List ℕ)) (text : List ℕ) → file ≡ Some text → length text ≤ limit → bytes_seen limit file ≡ Some text
 seen_whole limit file text is within =
-    ap (seen limit) is ∙ ap (λ (t : List ℕ). let r : Option (List ℕ) = Some t in r) (take_all (limit + 1) text (omega (arith, within)))
+    ap (bytes_seen limit) is ∙ ap (λ (t : List ℕ). let r : Option (List ℕ) = Some t in r) (take_all (limit + 1) text (omega (arith, within)))
 
 -- ---- the outcome
 

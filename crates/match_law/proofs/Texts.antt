@@ -4,7 +4,7 @@ use Rattle.std.specs.List.{AllZip, concat, flat_map}
 use Rattle.std.proofs.lemmas.List.Elements.{All-head, All-tail}
 use Rattle.cost_model.specs.Options.{IsAccepted}
 use Rattle.cost_model.specs.declared.params.Params.{Params}
-use Rattle.match_law.specs.LeastMatch.{IsLeastMatch, IsMatchText, total_line}
+use Rattle.match_law.specs.LeastMatch.{IsLeastMatch, IsMatchText, line_of_totals}
 use Rattle.match_law.proofs.Asked.{traces_ask}
 use Rattle.match_law.proofs.Matches.{match_of-is_least}
 use Rattle.match_text.specs.MatchText.{text_of}
@@ -12,7 +12,7 @@ use Rattle.match_text.specs.declared.matched.MatchedTrace.{MatchedTrace}
 use Rattle.road_network.specs.Net.{Net, IsLawful}
 use Rattle.trace_match.specs.Match.{match_of}
 use Rattle.trace_match.specs.Setting.{Setting}
-use Rattle.trace_match.specs.Totals.{is_asked_by, pieces_of, rows_of}
+use Rattle.trace_match.specs.Totals.{is_asked_by, piece_count, asked_count}
 use Rattle.trace_reader.specs.Trace.{IsLawfulTrace}
 use Rattle.trace_reader.specs.declared.trace.Trace.{Trace}
 
@@ -35,7 +35,7 @@ each_least n p (trace ∷ traces) lawful accepted are = (
 abbrev pub match_text : Setting → List Trace → List ℕ
 match_text on traces =
     flat_map (λ trace. text_of (match_of on.network on.params trace)) traces
-    ++ total_line (length traces) (sum_by (λ trace. length trace.fixes) traces) (pieces_of on traces) (rows_of on traces)
+    ++ line_of_totals (length traces) (sum_by (λ trace. length trace.fixes) traces) (piece_count on traces) (asked_count on traces)
 
 pub texts_are_least : (on : Setting) (traces : List Trace) → IsLawful on.network → IsAccepted on.params → All IsLawfulTrace traces
     → IsMatchText on.network on.params traces (match_text on traces)
@@ -49,8 +49,8 @@ texts_are_least on traces lawful accepted are =
       are = each_least n p traces lawful accepted are;
       asked = is_asked_by on traces;
       asked_is = traces_ask n p lawful traces;
-      is = ap (λ (text : List ℕ). text ++ total_line (length traces) points (sum_by (λ (trace : Trace). length (match_of n p trace).pieces) traces) (rows_of on traces))
+      is = ap (λ (text : List ℕ). text ++ line_of_totals (length traces) points (sum_by (λ (trace : Trace). length (match_of n p trace).pieces) traces) (asked_count on traces))
           (sym (concat-map text_of (match_of n p) traces))
-          ∙ ap (λ (pieces : ℕ). concat (map text_of matches) ++ total_line (length traces) points pieces (rows_of on traces))
+          ∙ ap (λ (pieces : ℕ). concat (map text_of matches) ++ line_of_totals (length traces) points pieces (asked_count on traces))
           (sym (fold-map (λ (m : MatchedTrace). length m.pieces) (match_of n p) 0 traces));
     }

@@ -5,7 +5,7 @@ use Rattle.std.proofs.lemmas.Bool.{cases_lt}
 use Rattle.std.proofs.lemmas.List.{drop-drop, get_or-drop, get_or-take, length-drop, length-take, reverse-reverse, take-append-drop, take_all}
 use Rattle.std.proofs.lemmas.List.Sums.{sum_by-cons}
 use Rattle.cost_model.specs.declared.params.Params.{Params}
-use Rattle.match_law.specs.LeastMatch.{AreAdded, AreChosen, AreLeastPieces, AreMissing, CanBePiece, IsAskedFor, IsBest, IsLeastMatch, IsLeastPiece, IsLongest, IsRouteOver, candidates_of, edges_added, from_to, label_on, total_line}
+use Rattle.match_law.specs.LeastMatch.{AreAdded, AreChosen, AreLeastPieces, AreMissing, CanPositionsBePiece, IsAskedFor, IsBestOfPositions, IsLeastMatch, IsLeastPiece, IsLongest, IsRouteOver, candidates_of, edges_added, line_of_totals}
 use Rattle.match_law.specs.Matches.{MatchTextsAreOne}
 use Rattle.match_law.proofs.Choices.{chosen_turned}
 use Rattle.match_text.specs.Lines.{text_of}
@@ -15,9 +15,11 @@ use Rattle.match_text.specs.declared.matched.Routed.{Routed}
 use Rattle.matching.specs.Routes.{Route}
 use Rattle.matching.proofs.Orders.{at_most-both}
 use Rattle.matching.proofs.RouteBetweens.{route-unique}
+use Rattle.matching.specs.Match.{from_to}
 use Rattle.road_network.specs.Net.{Net, edge_name}
 use Rattle.road_network.specs.declared.Candidate.{Candidate}
 use Rattle.route_rebuild.specs.Routes.{no_layer}
+use Rattle.trace_match.specs.Match.{label_on}
 use Rattle.trace_reader.specs.declared.trace.Fix.{Fix}
 use Rattle.trace_reader.specs.declared.trace.Trace.{Trace}
 
@@ -38,7 +40,7 @@ chosen-unique n p (f ∷ fs) (r ∷ rs) (c ∷ cs) (d ∷ ds) h k =
 turned-unique : (xs ys : List ℕ) → reverse xs ≡ reverse ys → xs ≡ ys
 turned-unique xs ys e = sym (reverse-reverse xs) ∙ ap reverse e ∙ reverse-reverse ys
 
-best-unique : (n : Net) (p : Params) (fs : List Fix) (rs ss : List ℕ) (c d : ℕ) → IsBest n p fs rs c → IsBest n p fs ss d → (c ≡ d) × (rs ≡ ss)
+best-unique : (n : Net) (p : Params) (fs : List Fix) (rs ss : List ℕ) (c d : ℕ) → IsBestOfPositions n p fs rs c → IsBestOfPositions n p fs ss d → (c ≡ d) × (rs ≡ ss)
 best-unique n p fs rs ss c d h k =
     let same = at_most-both c d (reverse rs) (reverse ss) (h.least (reverse ss) d k.is) (k.least (reverse rs) c h.is) in
     (same.0, turned-unique rs ss same.1)
@@ -100,7 +102,7 @@ none_chosen n p f fs (r ∷ rs) (c ∷ cs) none are =
     let wrong : slice_get [] r ≡ Some c = sym (ap (λ (xs : List Candidate). slice_get xs r) none) ∙ are.0 in absurd (cc wrong)
 
 -- a piece has a candidate of its first position
-first_some : (n : Net) (p : Params) (fs : List Fix) (count : ℕ) (d : Fix) → 0 < count → count ≤ length fs → CanBePiece n p (take count fs) → candidates_of n p (get_or fs 0 d) ≡ [] → ⊥
+first_some : (n : Net) (p : Params) (fs : List Fix) (count : ℕ) (d : Fix) → 0 < count → count ≤ length fs → CanPositionsBePiece n p (take count fs) → candidates_of n p (get_or fs 0 d) ≡ [] → ⊥
 first_some n p fs zero d some within can none = absurd (omega (arith, some))
 first_some n p [] (suc count) d some within can none = absurd (omega (arith, within))
 first_some n p (f ∷ fs) (suc count) d some within can none =
@@ -241,7 +243,7 @@ match_texts_are_one n p traces text other h k =
     let nodes = range_with_len 0 (length n.nodes) in
     let points = sum_by (λ (trace : Trace). length trace.fixes) traces in
     let written : List MatchedTrace → ℕ → List ℕ = λ ms rows.
-    concat (map text_of ms) ++ total_line (length traces) points (sum_by (λ (m : MatchedTrace). length m.pieces) ms) rows in
+    concat (map text_of ms) ++ line_of_totals (length traces) points (sum_by (λ (m : MatchedTrace). length m.pieces) ms) rows in
     h.is
     ∙ ap (λ (ms : List MatchedTrace). written ms (count_by h.asked nodes)) same
     ∙ ap (written k.matches) (same_counts h.asked k.asked nodes asked)

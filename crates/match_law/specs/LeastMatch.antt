@@ -10,12 +10,14 @@ use Rattle.match_text.specs.declared.matched.Label.{Label}
 use Rattle.match_text.specs.declared.matched.Label.TheVariants.{Missing, On}
 use Rattle.match_text.specs.declared.matched.MatchedTrace.{MatchedTrace}
 use Rattle.match_text.specs.declared.matched.Routed.{Routed}
+use Rattle.matching.specs.Match.{from_to}
 use Rattle.matching.specs.Order.{AtMost}
 use Rattle.matching.specs.Routes.{Route, Direct, Over, IsTheRoute, route_length}
 use Rattle.polyline_geometry.specs.Plane.{straight}
 use Rattle.road_network.specs.Near.{candidates}
 use Rattle.road_network.specs.Net.{Net, edge_name, target}
 use Rattle.road_network.specs.declared.Candidate.{Candidate}
+use Rattle.trace_match.specs.Match.{label_on}
 use Rattle.trace_reader.specs.Trace.{point_of_fix}
 use Rattle.trace_reader.specs.declared.trace.Fix.{Fix}
 use Rattle.trace_reader.specs.declared.trace.Trace.{Trace}
@@ -61,7 +63,7 @@ pub record IsSequence (n : Net) (p : Params) (fixes_back : List Fix) (ranks_back
 
 -- the best sequence over these positions: of all sequences the least by cost, and then by the ranks from the
 -- last position back to the first. Here positions and `ranks` run forwards, and `others_back` backwards
-pub record IsBest (n : Net) (p : Params) (fixes : List Fix) (ranks : List ℕ) (cost : ℕ) : Type 0 where
+pub record IsBestOfPositions (n : Net) (p : Params) (fixes : List Fix) (ranks : List ℕ) (cost : ℕ) : Type 0 where
   pub is : IsSequence n p (reverse fixes) (reverse ranks) cost
   pub least : (others_back : List ℕ) (other : ℕ) → IsSequence n p (reverse fixes) others_back other
       → AtMost cost (reverse ranks) other others_back
@@ -72,15 +74,15 @@ abbrev pub IsNear : Params → Fix → Fix → Type 0
 IsNear p f g = difference f.time g.time ≤ p.gap
 
 -- neighbouring positions are near in time
-abbrev pub AreNear : Params → List Fix → Type 0
-AreNear p [] = Unit {0}
-AreNear p (f ∷ []) = Unit {0}
-AreNear p (f ∷ g ∷ fixes) = IsNear p f g × AreNear p (g ∷ fixes)
+abbrev pub ArePositionsNear : Params → List Fix → Type 0
+ArePositionsNear p [] = Unit {0}
+ArePositionsNear p (f ∷ []) = Unit {0}
+ArePositionsNear p (f ∷ g ∷ fixes) = IsNear p f g × ArePositionsNear p (g ∷ fixes)
 
 -- these positions can be one piece: neighbours are near in time, and there is some sequence (of no positions too, but
 -- a piece has at least one)
-pub record CanBePiece (n : Net) (p : Params) (fixes : List Fix) : Type 0 where
-  pub near : AreNear p fixes
+pub record CanPositionsBePiece (n : Net) (p : Params) (fixes : List Fix) : Type 0 where
+  pub near : ArePositionsNear p fixes
   pub ranks_back : List ℕ
   pub cost : ℕ
   pub sequence : IsSequence n p (reverse fixes) ranks_back cost
@@ -88,8 +90,8 @@ pub record CanBePiece (n : Net) (p : Params) (fixes : List Fix) : Type 0 where
 -- the greatest count such that the first `count` of these positions can be one piece
 pub record IsLongest (n : Net) (p : Params) (fixes : List Fix) (count : ℕ) : Type 0 where
   pub within : count ≤ length fixes
-  pub can : CanBePiece n p (take count fixes)
-  pub longest : (more : ℕ) → count < more → more ≤ length fixes → ¬ CanBePiece n p (take more fixes)
+  pub can : CanPositionsBePiece n p (take count fixes)
+  pub longest : (more : ℕ) → count < more → more ≤ length fixes → ¬ CanPositionsBePiece n p (take more fixes)
 
 -- the edges that a route to candidate b adds; a walk is kept backwards, from its last edge to its first
 abbrev pub edges_added : Candidate → Route → List ℕ
@@ -109,17 +111,13 @@ IsRouteOver n p [] edges = ⊥
 IsRouteOver n p (a ∷ chosen) edges =
     (rest : List ℕ) × (edges ≡ a.edge.0 ∷ rest) × AreAdded n p a chosen rest
 
--- a candidate by the id of its edge
-abbrev pub label_on : Net → Candidate → Label
-label_on n c = On (edge_name n c.edge.0) c.offset c.d2
-
 -- the piece of these positions, with their labels: its best sequence, the cost of that, and its route
 pub record IsLeastPiece (n : Net) (p : Params) (fixes : List Fix) (labels : List Label) (piece : Routed)
     : Type 0 where
   pub ranks : List ℕ
   pub chosen : List Candidate
   pub edges : List ℕ
-  pub best : IsBest n p fixes ranks piece.cost
+  pub best : IsBestOfPositions n p fixes ranks piece.cost
   pub are : AreChosen n p fixes ranks chosen
   pub labels_are : labels ≡ map (label_on n) chosen
   pub route : IsRouteOver n p chosen edges
@@ -131,10 +129,6 @@ pub record IsLeastPiece (n : Net) (p : Params) (fixes : List Fix) (labels : List
 abbrev pub AreMissing : Net → Params → List Fix → List Label → Type 0
 AreMissing n p fixes labels =
     AllZip (λ fix label. (candidates_of n p fix ≡ []) × (label ≡ Missing)) fixes labels
-
--- the elements from one place to another, both among them
-abbrev pub from_to : {X : Type 0} → ℕ → ℕ → List X → List X
-from_to first last xs = take (last + 1 - first) (drop first xs)
 
 -- the labels and pieces of a trace from position number i on: positions without candidates, then a piece that
 -- goes as far as it can, and so on
@@ -191,8 +185,8 @@ pub record IsAskedFor (n : Net) (p : Params) (traces : List Trace) (matches : Li
 -- ---- the text
 
 -- the total line
-abbrev pub total_line : (traces points pieces rows : ℕ) → List ℕ
-total_line traces points pieces rows =
+abbrev pub line_of_totals : (traces points pieces rows : ℕ) → List ℕ
+line_of_totals traces points pieces rows =
     (codes "total traces " ++ decimal traces)
     ++ (codes " points " ++ decimal points)
     ++ (codes " pieces " ++ decimal pieces)
@@ -207,6 +201,6 @@ pub record IsMatchText (n : Net) (p : Params) (traces : List Trace) (text : List
   pub asked : ℕ → Bool
   pub asked_is : (v : ℕ) → (asked v ≡ true) ↔ IsAskedFor n p traces matches v
   pub is : text ≡ concat (map text_of matches)
-      ++ total_line (length traces) (sum_by (λ trace. length trace.fixes) traces)
+      ++ line_of_totals (length traces) (sum_by (λ trace. length trace.fixes) traces)
       (sum_by (λ matched. length matched.pieces) matches)
       (count_by asked (range_with_len 0 (length n.nodes)))

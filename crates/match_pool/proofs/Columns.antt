@@ -4,7 +4,7 @@ use Rattle.std.specs.Prelude.{slice_index_or}
 use Rattle.std.proofs.lemmas.Bool.{cases_eq}
 use Rattle.std.proofs.lemmas.List.{map-append}
 use Rattle.match_pool.specs.declared.turn.Turn.{Turn}
-use Rattle.match_pool.specs.inside.Tables.{AddsRow, AreColumnsOf}
+use Rattle.match_pool.specs.inside.Tables.{AddsTurns, AreColumnsOf}
 
 -- the first turns of the row are added
 pub record Adding (row : List Turn) (before : List (List Turn)) (place : ℕ) (after : List (List Turn)) : Type 0 where
@@ -37,7 +37,7 @@ adding_more row before after place turn low is a =
       rest = λ k le. let apart : k ≢ place = omega (arith, le) in get_or-set_other after place k new [] apart ∙ a.rest k (omega arith);
     }
 
-pub adding_all : (row : List Turn) (before after : List (List Turn)) (place : ℕ) → length before ≤ place → Adding row before place after → AddsRow row before after
+pub adding_all : (row : List Turn) (before after : List (List Turn)) (place : ℕ) → length before ≤ place → Adding row before place after → AddsTurns row before after
 adding_all row before after place all a = record {
   count = a.count;
   each = λ k d low. a.done k d (omega arith);
@@ -63,7 +63,7 @@ first_of_row : (row : List Turn) → 0 < length row → Turn
 first_of_row [] some = absurd (omega arith)
 first_of_row (t ∷ ts) some = t
 
-pub columns_more : (rows : List (List Turn)) (row : List Turn) (width : ℕ) (before after : List (List Turn)) → AreColumnsOf rows width before → length row ≡ width → AddsRow row before after → AreColumnsOf (rows ++ row ∷ []) width after
+pub columns_more : (rows : List (List Turn)) (row : List Turn) (width : ℕ) (before after : List (List Turn)) → AreColumnsOf rows width before → length row ≡ width → AddsTurns row before after → AreColumnsOf (rows ++ row ∷ []) width after
 columns_more rows row width before after are wide adds = record {
   count = adds.count ∙ are.count;
   long = λ k low.

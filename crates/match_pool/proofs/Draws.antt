@@ -8,7 +8,7 @@ use Rattle.match_pool.specs.declared.worker_set.Worker.{Worker}
 use Rattle.match_pool.specs.declared.turn.Partition.{Partition}
 use Rattle.match_pool.specs.declared.turn.Turn.{Turn}
 use Rattle.match_pool.specs.inside.WorkerSet.{CanDrawFrom, DrewAll, DrewFrom}
-use Rattle.match_pool.specs.inside.Turns.{IsTaken}
+use Rattle.match_pool.specs.inside.Turns.{IsTurnTaken}
 use Rattle.match_pool.specs.Working.{IsReaderFor, Job, ReadsWithin, StaysReader}
 
 stays_none : (r : Reading) → StaysReader r r
@@ -44,7 +44,7 @@ drew_none j partitions from w = record {
   late = λ place e high. refl;
 }
 
-taken_on : (j : Job) (a b : Worker) (partition : Partition) (turn : Turn) → StaysReader a.reader b.reader → IsTaken j partition turn a.reader → IsTaken j partition turn b.reader
+taken_on : (j : Job) (a b : Worker) (partition : Partition) (turn : Turn) → StaysReader a.reader b.reader → IsTurnTaken j partition turn a.reader → IsTurnTaken j partition turn b.reader
 taken_on j a b partition turn stays taken = record {
   over = taken.over;
   learns = λ rank v low c asked. still_knows a.reader b.reader stays v (taken.learns rank v low c asked);
@@ -53,19 +53,19 @@ taken_on j a b partition turn stays taken = record {
 -- one more turn
 pub drew_more : (j : Job) (partitions : List Partition) (from place : ℕ) (before mid after : Worker) (partition : Partition) (turn : Turn) → from ≤ place → place < length partitions → length mid.turns.items ≡ length partitions
     → ((d : Partition) → slice_index_or partitions place d ≡ partition) → after.turns.items ≡ set mid.turns.items place turn
-    → StaysReader mid.reader after.reader → IsTaken j partition turn after.reader
+    → StaysReader mid.reader after.reader → IsTurnTaken j partition turn after.reader
     → DrewFrom j partitions from place before mid → DrewFrom j partitions from (place + 1) before after
 drew_more j partitions from place before mid after partition turn past low long is turns stays taken drew = record {
   count = ap (λ (l : List Turn). length l) turns ∙ length-set mid.turns.items place turn ∙ drew.count;
   each = λ k d e early late. elim (cases_eq k place) [
     | inl same ↦
         let here : slice_index_or after.turns.items place e ≡ turn = ap (λ (l : List Turn). slice_index_or l place e) turns ∙ get_or-set_same mid.turns.items place turn e (omega arith) in
-        subst (λ (m : ℕ). IsTaken j (slice_index_or partitions m d) (slice_index_or after.turns.items m e) after.reader) (sym same)
-        (subst (λ (s : Partition). IsTaken j s (slice_index_or after.turns.items place e) after.reader) (sym (is d))
-        (subst (λ (t : Turn). IsTaken j partition t after.reader) (sym here) taken))
+        subst (λ (m : ℕ). IsTurnTaken j (slice_index_or partitions m d) (slice_index_or after.turns.items m e) after.reader) (sym same)
+        (subst (λ (s : Partition). IsTurnTaken j s (slice_index_or after.turns.items place e) after.reader) (sym (is d))
+        (subst (λ (t : Turn). IsTurnTaken j partition t after.reader) (sym here) taken))
     | inr apart ↦
         let there : slice_index_or after.turns.items k e ≡ slice_index_or mid.turns.items k e = ap (λ (l : List Turn). slice_index_or l k e) turns ∙ get_or-set_other mid.turns.items place k turn e apart in
-        subst (λ (t : Turn). IsTaken j (slice_index_or partitions k d) t after.reader) (sym there)
+        subst (λ (t : Turn). IsTurnTaken j (slice_index_or partitions k d) t after.reader) (sym there)
         (taken_on j mid after (slice_index_or partitions k d) (slice_index_or mid.turns.items k e) stays (drew.each k d e early (omega (arith, late, apart))))
   ];
   early = λ k e lt.
@@ -107,7 +107,7 @@ drew_round j partitions own before mid after can stays first second = record {
   count = second.count ∙ first.count ∙ can.count;
   each = λ k d e low. ⊎_elim
       (λ early. second.each k d e (omega arith) early)
-      (λ late. subst (λ (t : Turn). IsTaken j (slice_index_or partitions k d) t after.reader) (sym (second.late k e late))
+      (λ late. subst (λ (t : Turn). IsTurnTaken j (slice_index_or partitions k d) t after.reader) (sym (second.late k e late))
       (taken_on j mid after (slice_index_or partitions k d) (slice_index_or mid.turns.items k e) stays.stays (first.each k d e late low)))
       (cases_lt k own);
 }

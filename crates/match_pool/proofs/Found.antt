@@ -15,8 +15,9 @@ use Rattle.matching.proofs.Asking.{is_asked_node-tells}
 use Rattle.matching.proofs.Values.{solution-is}
 use Rattle.road_network.specs.Net.{Net}
 use Rattle.route_rebuild.specs.Chosen.{IsSolved}
-use Rattle.trace_match.specs.Laws.{IsMatchText}
-use Rattle.trace_match.specs.Match.{as_solution, asks, layers_of, match_of, matched_of, solution_of}
+use Rattle.trace_match.specs.Laws.{IsWritableMatch}
+use Rattle.trace_match.specs.Match.{asks, layers_of, match_of, matched_of, solution_of}
+use Rattle.trace_match.specs.inside.Solved.{as_solution}
 use Rattle.trace_match.proofs.Lawful.{match_lawful}
 use Rattle.trace_reader.specs.declared.trace.Trace.{Trace}
 use Rattle.trace_reader.specs.Trace.{IsLawfulTrace}
@@ -39,7 +40,7 @@ pub answered : (n : Net) (p : Params) (trace : Trace) (answer : Answer) → IsLa
     → answer.matched ≡ matched_of n p trace.id answer.layers (as_solution answer.solved) → IsAnswerTo n p trace answer
 answered n p trace answer lawful same is written =
     let whole = written ∙ match_found n p trace answer.layers answer.solved same is in
-    let text : IsMatchText n p trace = match_lawful n p trace is.trace.options lawful in
+    let text : IsWritableMatch n p trace = match_lawful n p trace is.trace.options lawful in
     record {
       layers_are = same;
       solved_is = is;

@@ -13,12 +13,12 @@ use Rattle.trace_match.specs.Match.{asks, match_of}
 use Rattle.trace_reader.specs.declared.trace.Trace.{Trace}
 use Rattle.match_pool.specs.inside.WorkerSet.{Ran, DrewAll, reader_of, turns_of}
 use Rattle.match_pool.specs.inside.Dealing.{HasClaims}
-use Rattle.match_pool.specs.Drawing.{number_at}
+use Rattle.match_pool.specs.Drawing.{number_of_rank}
 use Rattle.match_pool.specs.inside.Gathering.{AllDrawn, CoverTraces, AreTurnsOver}
 use Rattle.match_pool.specs.Learning.{LearnAsked}
 use Rattle.match_pool.specs.inside.Tables.{AreColumnsOf}
 use Rattle.match_pool.specs.inside.Turns.{IsOver, IsPartitionOf}
-use Rattle.match_pool.specs.Working.{Job, ReadsWithin, asked_by, asks_at, matched_at, no_trace}
+use Rattle.match_pool.specs.Working.{Job, ReadsWithin, is_asked_in, asks_at, matched_at, no_trace}
 use Rattle.match_pool.specs.declared.worker_set.Worker.{Worker}
 use Rattle.match_pool.specs.declared.turn.Partition.{Partition}
 use Rattle.match_pool.specs.declared.turn.Turn.{Turn}
@@ -39,7 +39,7 @@ all_did j partitions (x ∷ xs) (y ∷ ys) ran ok = (
   all_did j partitions xs ys ran.1 (All-tail (λ (w : Worker). IsOk w.outcome) y ys ok),
 )
 
-after_known : (j : Job) (partitions : List Partition) (v : ℕ) (before after : List Worker) → AllZip (Did j partitions) before after → is_known_to_any (map reader_of after) v ≡ true → (is_known_to_any (map reader_of before) v ≡ true) ⊎ (asked_by j v ≡ true)
+after_known : (j : Job) (partitions : List Partition) (v : ℕ) (before after : List Worker) → AllZip (Did j partitions) before after → is_known_to_any (map reader_of after) v ≡ true → (is_known_to_any (map reader_of before) v ≡ true) ⊎ (is_asked_in j v ≡ true)
 after_known j partitions v [] [] did is = inl is
 after_known j partitions v [] (y ∷ ys) did is = absurd did
 after_known j partitions v (x ∷ xs) [] did is = absurd did
@@ -66,7 +66,7 @@ abbrev turns_at : ℕ → Turn → List Worker → List Turn
 turns_at place e workers = map (λ (row : List Turn). slice_index_or row place e) (map turns_of workers)
 
 asked_known : (j : Job) (partitions : List Partition) (v place rank : ℕ) (d : Partition) (e : Turn) (before after : List Worker) → AllZip (Did j partitions) before after → place < length partitions → rank < length (slice_index_or partitions place d).numbers
-    → asks_at j v (number_at (slice_index_or partitions place d).numbers rank) ≡ true → Any (λ (t : Turn). Contains t.ticket.numbers rank) (turns_at place e after) → is_known_to_any (map reader_of after) v ≡ true
+    → asks_at j v (number_of_rank (slice_index_or partitions place d).numbers rank) ≡ true → Any (λ (t : Turn). Contains t.ticket.numbers rank) (turns_at place e after) → is_known_to_any (map reader_of after) v ≡ true
 asked_known j partitions v place rank d e [] [] did low inside asks any = absurd (let lt = any.2 in omega arith)
 asked_known j partitions v place rank d e [] (y ∷ ys) did low inside asks any = absurd did
 asked_known j partitions v place rank d e (x ∷ xs) [] did low inside asks any = absurd did
@@ -96,8 +96,8 @@ all_learn j partitions by_partition before after did cover columns drawn v = (
     in_partition k asks_it (place, partition, low, same, c) =
         let s = slice_index_or partitions place partition in
         let here : Contains s.numbers k = subst (λ (u : Partition). Contains u.numbers k) (sym same) c in
-        let number : number_at s.numbers here.0 ≡ k = default_same s.numbers here.0 0 k here.1 ∙ here.2 in
-        let asks_here : asks_at j v (number_at s.numbers here.0) ≡ true = ap (asks_at j v) number ∙ asks_it in
+        let number : number_of_rank s.numbers here.0 ≡ k = default_same s.numbers here.0 0 k here.1 ∙ here.2 in
+        let asks_here : asks_at j v (number_of_rank s.numbers here.0) ≡ true = ap (asks_at j v) number ∙ asks_it in
         let all = zip_get AllDrawn partitions by_partition place partition [] drawn low in
         let any = all here.0 here.1 in
         let e : Turn = any.1 in

@@ -11,19 +11,19 @@ use Rattle.tickets.specs.Tickets.{Drawn, times}
 use Rattle.match_pool.specs.declared.turn.Partition.{Partition}
 use Rattle.match_pool.specs.declared.turn.Turn.{Turn}
 use Rattle.match_pool.specs.declared.worker.Done.{Done}
-use Rattle.match_pool.specs.Drawing.{number_at}
-use Rattle.match_pool.specs.inside.Gathering.{Fills}
+use Rattle.match_pool.specs.Drawing.{number_of_rank}
+use Rattle.match_pool.specs.inside.Gathering.{FillsSlots}
 use Rattle.match_pool.specs.inside.Turns.{AnswersFor}
 use Rattle.match_pool.specs.Working.{Job, done_by, matched_at}
 use Rattle.match_pool.proofs.Lists.{default_same}
 use Rattle.match_pool.proofs.Yields.{last_by}
 
 -- before the first answer
-fills_none : (matched : ℕ → MatchedTrace) (slots : List (Option MatchedTrace)) → Fills matched [] slots slots
+fills_none : (matched : ℕ → MatchedTrace) (slots : List (Option MatchedTrace)) → FillsSlots matched [] slots slots
 fills_none matched slots k low = inr ((λ c. let lt = c.1 in omega arith), refl)
 
 -- one more answer in its slot
-fills_one : (matched : ℕ → MatchedTrace) (numbers : List ℕ) (x : ℕ) (old mid : List (Option MatchedTrace)) → Fills matched numbers old mid → x < length mid → Fills matched (numbers ++ x ∷ []) old (set mid x (Some (matched x)))
+fills_one : (matched : ℕ → MatchedTrace) (numbers : List ℕ) (x : ℕ) (old mid : List (Option MatchedTrace)) → FillsSlots matched numbers old mid → x < length mid → FillsSlots matched (numbers ++ x ∷ []) old (set mid x (Some (matched x)))
 fills_one matched numbers x old mid f low k lt = elim (cases_eq k x) [
   | inl same ↦ inl (
     subst (Contains (numbers ++ x ∷ [])) (sym same) (Contains-push numbers x),
@@ -36,22 +36,22 @@ fills_one matched numbers x old mid f low k lt = elim (cases_eq k x) [
       (f k lt)
 ]
 
-pub fills_start : (first : ℕ) (matched : ℕ → MatchedTrace) (numbers : List ℕ) (slots : List (Option MatchedTrace)) → [] ≡ map (done_by first matched) numbers → Fills matched numbers slots slots
+pub fills_start : (first : ℕ) (matched : ℕ → MatchedTrace) (numbers : List ℕ) (slots : List (Option MatchedTrace)) → [] ≡ map (done_by first matched) numbers → FillsSlots matched numbers slots slots
 fills_start first matched [] slots e = fills_none matched slots
 fills_start first matched (n ∷ ns) slots e = absurd (cc)
 
 pub fills_more : (first : ℕ) (matched : ℕ → MatchedTrace) (yielded : List Done) (answer : Done) (old mid : List (Option MatchedTrace))
-    → ((numbers : List ℕ) → yielded ≡ map (done_by first matched) numbers → Fills matched numbers old mid)
+    → ((numbers : List ℕ) → yielded ≡ map (done_by first matched) numbers → FillsSlots matched numbers old mid)
     → answer.place < first + length mid → (numbers : List ℕ) → yielded ++ answer ∷ [] ≡ map (done_by first matched) numbers
-    → Fills matched numbers old (set mid (answer.place - first) (Some answer.matched))
+    → FillsSlots matched numbers old (set mid (answer.place - first) (Some answer.matched))
 fills_more first matched yielded answer old mid fills low numbers e =
     let r = last_by (done_by first matched) yielded answer numbers e in
     let place : answer.place ≡ first + r.1 = ap (λ (d : Done). d.place) r.4 in
     let at : answer.place - first ≡ r.1 = omega (arith, place) in
     let one = fills_one matched r.0 r.1 old mid (fills r.0 r.3) (omega (arith, place, low)) in
-    subst (λ ns. Fills matched ns old (set mid (answer.place - first) (Some answer.matched))) (sym r.2)
-    (subst (λ m. Fills matched (r.0 ++ r.1 ∷ []) old (set mid (answer.place - first) (Some m))) (sym (ap (λ (d : Done). d.matched) r.4))
-    (subst (λ k. Fills matched (r.0 ++ r.1 ∷ []) old (set mid k (Some (matched r.1)))) (sym at) one))
+    subst (λ ns. FillsSlots matched ns old (set mid (answer.place - first) (Some answer.matched))) (sym r.2)
+    (subst (λ m. FillsSlots matched (r.0 ++ r.1 ∷ []) old (set mid (answer.place - first) (Some m))) (sym (ap (λ (d : Done). d.matched) r.4))
+    (subst (λ k. FillsSlots matched (r.0 ++ r.1 ∷ []) old (set mid k (Some (matched r.1)))) (sym at) one))
 
 -- nothing in each slot before the first turn
 abbrev pub no_match : Option MatchedTrace
@@ -61,7 +61,7 @@ no_match = None
 abbrev pub Holds : Job → List ℕ → List Turn → List (Option MatchedTrace) → List (Option MatchedTrace) → Type 0
 Holds j partition turns old new =
     (k : ℕ) → k < length old → (Contains partition k × (slice_get new k ≡ Some (Some (matched_at j k))))
-    ⊎ ((slice_get new k ≡ slice_get old k) × ((rank : ℕ) → rank < length partition → number_at partition rank ≡ k → All (λ (t : Turn). Contains t.ticket.numbers rank → ⊥) turns))
+    ⊎ ((slice_get new k ≡ slice_get old k) × ((rank : ℕ) → rank < length partition → number_of_rank partition rank ≡ k → All (λ (t : Turn). Contains t.ticket.numbers rank → ⊥) turns))
 
 pub holds_none : (j : Job) (partition : List ℕ) (slots : List (Option MatchedTrace)) → Holds j partition [] slots slots
 holds_none j partition slots k low = inr (refl, λ rank inside is. All-nil (λ (t : Turn). Contains t.ticket.numbers rank → ⊥))
@@ -78,7 +78,7 @@ places_inside j partition drawn done low a =
 -- one more turn
 pub holds_more : (j : Job) (partition : List ℕ) (turns : List Turn) (turn : Turn) (old mid new : List (Option MatchedTrace))
     → AnswersFor j partition turn.ticket.numbers turn.done → length mid ≡ length old → Holds j partition turns old mid
-    → ((numbers : List ℕ) → turn.done ≡ map (done_by j.first (matched_at j)) numbers → Fills (matched_at j) numbers mid new)
+    → ((numbers : List ℕ) → turn.done ≡ map (done_by j.first (matched_at j)) numbers → FillsSlots (matched_at j) numbers mid new)
     → Holds j partition (turns ++ turn ∷ []) old new
 holds_more j partition turns turn old mid new a long h fills k low =
     ⊎_elim (λ l. inl (All-contains (Contains partition) a.numbers k a.inside l.0, l.1))
@@ -116,12 +116,12 @@ some_ticket k (turn ∷ turns) some = elim (cases_eq (times k turn.ticket.number
 
 -- where each rank was drawn, the partition's slots are filled
 pub partition_filled : (j : Job) (partition : List ℕ) (turns : List Turn) (old new : List (Option MatchedTrace)) → Holds j partition turns old new
-    → ((rank : ℕ) → rank < length partition → Any (λ (t : Turn). Contains t.ticket.numbers rank) turns) → Fills (matched_at j) partition old new
+    → ((rank : ℕ) → rank < length partition → Any (λ (t : Turn). Contains t.ticket.numbers rank) turns) → FillsSlots (matched_at j) partition old new
 partition_filled j partition turns old new h drawn k low =
     ⊎_elim (λ l. inl l)
     (λ r. inr (
       (λ c.
-          let at : number_at partition c.0 ≡ k = default_same partition c.0 0 k c.1 ∙ c.2 in
+          let at : number_of_rank partition c.0 ≡ k = default_same partition c.0 0 k c.1 ∙ c.2 in
           let d = drawn c.0 c.1 in
           subst (λ (t : Turn). Contains t.ticket.numbers c.0 → ⊥) d.3 (r.1 c.0 c.1 at d.0 d.1 d.2) d.4),
       r.0,
@@ -141,7 +141,7 @@ any_last P [] x (suc k, y, lt, e, p) = absurd (omega arith)
 any_last P (z ∷ xs) x (zero, y, lt, e, p) = inl (zero, y, omega arith, e, p)
 any_last P (z ∷ xs) x (suc k, y, lt, e, p) = ⊎_elim (λ r. inl (suc r.0, r.1, (let l = r.2 in omega arith), r.3, r.4)) (λ q. inr q) (any_last P xs x (k, y, omega arith, e, p))
 
-pub more_in : (j : Job) (partitions : List Partition) (partition : Partition) (old new : List (Option MatchedTrace)) → length old ≡ length j.traces → AreIn j partitions old → Fills (matched_at j) partition.numbers old new → AreIn j (partitions ++ partition ∷ []) new
+pub more_in : (j : Job) (partitions : List Partition) (partition : Partition) (old new : List (Option MatchedTrace)) → length old ≡ length j.traces → AreIn j partitions old → FillsSlots (matched_at j) partition.numbers old new → AreIn j (partitions ++ partition ∷ []) new
 more_in j partitions partition old new long are fills k low any =
     ⊎_elim (λ l. l.1)
     (λ r. ⊎_elim (λ before. r.1 ∙ are k low before) (λ here. absurd (r.0 here)) (any_last (λ (s : Partition). Contains s.numbers k) partitions partition any))

@@ -7,7 +7,7 @@ use Rattle.std.proofs.lemmas.List.Elements.{All-cons, All-contains, All-nil}
 use Rattle.row_store.specs.Store.{Reading}
 use Rattle.tickets.specs.Tickets.{Drawn, fresh_ticket}
 use Rattle.match_pool.specs.inside.WorkerSet.{CanDrawFrom, reader_of}
-use Rattle.match_pool.specs.inside.Dealing.{AreDealt, AreFreshTurns, numbers_of, ticket_of}
+use Rattle.match_pool.specs.inside.Dealing.{AreDealt, AreFreshTurns, partition_numbers, ticket_of}
 use Rattle.match_pool.specs.inside.Gathering.{CoverTraces}
 use Rattle.match_pool.specs.inside.Partitions.{ArePartitionsOf}
 use Rattle.match_pool.specs.inside.Tables.{AreColumnsOf}
@@ -57,12 +57,12 @@ by_worker_fresh workers partitions turns by_worker all are w d low =
 
 pub partitions_are : (j : Job) (cuts : List (List ℕ)) (workers : ℕ) (partitions : List Partition) (by_worker : List (List Turn)) → ArePartitionsOf (length j.traces) cuts → AreDealt cuts workers partitions by_worker → All (IsPartitionOf j) partitions
 partitions_are j cuts workers partitions by_worker are dealt =
-    let inside = all_of_map (λ (l : List ℕ). All (λ k. k < length j.traces) l) numbers_of partitions (subst (All (λ (l : List ℕ). All (λ k. k < length j.traces) l)) (sym dealt.cuts_are) are.inside) in
+    let inside = all_of_map (λ (l : List ℕ). All (λ k. k < length j.traces) l) partition_numbers partitions (subst (All (λ (l : List ℕ). All (λ k. k < length j.traces) l)) (sym dealt.cuts_are) are.inside) in
     λ k d low. record { inside = inside k d low; all = (dealt.claims k d low).all }
 
 pub partitions_cover : (j : Job) (cuts : List (List ℕ)) (workers : ℕ) (partitions : List Partition) (by_worker : List (List Turn)) → ArePartitionsOf (length j.traces) cuts → AreDealt cuts workers partitions by_worker → CoverTraces j partitions
 partitions_cover j cuts workers partitions by_worker are dealt k low =
-    any_of_map (λ (l : List ℕ). Contains l k) numbers_of partitions (subst (Any (λ (l : List ℕ). Contains l k)) (sym dealt.cuts_are) (are.whole k low))
+    any_of_map (λ (l : List ℕ). Contains l k) partition_numbers partitions (subst (Any (λ (l : List ℕ). Contains l k)) (sym dealt.cuts_are) (are.whole k low))
 
 -- started workers can begin
 pub all_can_draw : (j : Job) (readers : List Reading) (partitions : List Partition) (by_worker : List (List Turn)) (workers : List Worker) → map reader_of workers ≡ readers → All (IsReaderFor j.network j.params) readers → All (IsPartitionOf j) partitions

@@ -8,7 +8,7 @@ use Rattle.tickets.specs.Tickets.{Drawn, fresh_ticket}
 use Rattle.match_pool.specs.declared.turn.Partition.{Partition}
 use Rattle.match_pool.specs.declared.turn.Turn.{Turn}
 use Rattle.match_pool.specs.declared.worker.Done.{Done}
-use Rattle.match_pool.specs.Drawing.{WorksOn, number_at}
+use Rattle.match_pool.specs.Drawing.{WorksOn, number_of_rank}
 use Rattle.match_pool.specs.inside.Turns.{IsOver, IsPartitionOf, Learns}
 use Rattle.match_pool.specs.Working.{Job, asks_at}
 use Rattle.match_pool.proofs.Lists.{default_same}
@@ -27,11 +27,11 @@ drawn-is_ranked j partition reader ticket done reader' ticket' w fresh k low c =
     let here : Contains (w.ranks ++ w.last ∷ []) k = subst (λ (l : List ℕ). Contains l k) whole c in
     ⊎_elim (λ inside. inside) (λ (same : w.last ≡ k). let above = w.above in absurd (omega (arith, same))) (Contains-push_cases w.ranks w.last k here)
 
-numbers_inside : (partition ranks : List ℕ) → All (λ k. k < length partition) ranks → All (Contains partition) (map (number_at partition) ranks)
+numbers_inside : (partition ranks : List ℕ) → All (λ k. k < length partition) ranks → All (Contains partition) (map (number_of_rank partition) ranks)
 numbers_inside partition ranks below =
-    All-map (Contains partition) (number_at partition) ranks
-    (All-weaker (λ k. k < length partition) (λ k. Contains partition (number_at partition k))
-    (λ k low. (k, low, default_same partition k (number_at partition k) 0 low)) ranks below)
+    All-map (Contains partition) (number_of_rank partition) ranks
+    (All-weaker (λ k. k < length partition) (λ k. Contains partition (number_of_rank partition k))
+    (λ k low. (k, low, default_same partition k (number_of_rank partition k) 0 low)) ranks below)
 
 pub turn_over : (j : Job) (partition : Partition) (reader : Reading) (ticket : Drawn) (turn : Turn) (reader' : Reading) → IsPartitionOf j partition → ticket ≡ fresh_ticket partition.claims.name → turn.ticket.claims ≡ ticket.claims
     → WorksOn j partition.numbers reader ticket turn.done reader' turn.ticket → IsOver j partition turn
@@ -43,10 +43,10 @@ turn_over j partition reader ticket turn reader' is fresh claims w =
       ended = subst (λ (l : List ℕ). Any (λ x. partition.claims.count ≤ x) l) (sym whole)
           (late_last partition.claims.count w.last (ticket.numbers ++ w.ranks) (let above = w.above in omega (arith, is.all)));
       answers = record {
-        numbers = map (number_at partition.numbers) w.ranks;
+        numbers = map (number_of_rank partition.numbers) w.ranks;
         are = w.answers;
         inside = numbers_inside partition.numbers w.ranks w.below;
-        all = λ rank low c. contains_map (number_at partition.numbers) w.ranks rank (drawn-is_ranked j partition.numbers reader ticket turn.done reader' turn.ticket w none rank low c);
+        all = λ rank low c. contains_map (number_of_rank partition.numbers) w.ranks rank (drawn-is_ranked j partition.numbers reader ticket turn.done reader' turn.ticket w none rank low c);
       };
     }
 
@@ -54,6 +54,6 @@ pub turn_learns : (j : Job) (partition : Partition) (reader : Reading) (ticket :
     → WorksOn j partition.numbers reader ticket turn.done reader' turn.ticket → Learns j partition turn reader'
 turn_learns j partition reader ticket turn reader' fresh w rank v low c asked =
     let none : ticket.numbers ≡ [] = ap (λ (t : Drawn). t.numbers) fresh in
-    let at = number_at partition.numbers in
+    let at = number_of_rank partition.numbers in
     let inside : Contains (map at w.ranks) (at rank) = contains_map at w.ranks rank (drawn-is_ranked j partition.numbers reader ticket turn.done reader' turn.ticket w none rank low c) in
     (w.learns v).1 (inr (list_any_at (asks_at j v) (map at w.ranks) inside.0 (at rank) inside.1 (ap (asks_at j v) inside.2 ∙ asked)))

@@ -17,16 +17,16 @@ use Rattle.tickets.specs.Tickets.{Drawn}
 use Rattle.trace_match.specs.Match.{asks}
 use Rattle.trace_reader.specs.declared.trace.Trace.{Trace}
 use Rattle.match_pool.specs.declared.worker.Done.{Done}
-use Rattle.match_pool.specs.Drawing.{WorksOn, number_at}
-use Rattle.match_pool.specs.Working.{Job, Stays, Works, LearnsAsked, asks_at, done_by, matched_at, no_trace}
+use Rattle.match_pool.specs.Drawing.{WorksOn, number_of_rank}
+use Rattle.match_pool.specs.Working.{Job, KeepsClaims, Works, ReaderLearnsAsked, asks_at, done_by, matched_at, no_trace}
 
 -- what holds at each draw
 pub record Working (j : Job) (partition : List ℕ) (reader : Reading) (drawn : List ℕ) (done : List Done) (reader' : Reading) (drawn' : List ℕ) : Type 0 where
   pub ranks : List ℕ
   pub drawn_are : drawn' ≡ drawn ++ ranks
   pub below : All (λ k. k < length partition) ranks
-  pub answers : done ≡ map (done_by j.first (matched_at j)) (map (number_at partition) ranks)
-  pub learns : LearnsAsked j (map (number_at partition) ranks) reader reader'
+  pub answers : done ≡ map (done_by j.first (matched_at j)) (map (number_of_rank partition) ranks)
+  pub learns : ReaderLearnsAsked j (map (number_of_rank partition) ranks) reader reader'
 
 pub starts : (j : Job) (partition : List ℕ) (reader : Reading) (drawn : List ℕ) → Working j partition reader drawn [] reader drawn
 starts j partition reader drawn = record {
@@ -83,7 +83,7 @@ knows_node r v =
 asked_more : (j : Job) (numbers : List ℕ) (k v : ℕ) → list_any (asks_at j v) (numbers ++ k ∷ []) ≡ (list_any (asks_at j v) numbers || asks_at j v k)
 asked_more j numbers k v = list_any-append (asks_at j v) numbers (k ∷ []) ∙ ap (λ b. list_any (asks_at j v) numbers || b) (last_of (asks_at j v k))
 
-learns_more : (j : Job) (numbers : List ℕ) (k : ℕ) (before mid after : Reading) → LearnsAsked j numbers before mid → AsksAll (rows_state mid) (rows_state after) (λ v. asks_at j v k ≡ true) → LearnsAsked j (numbers ++ k ∷ []) before after
+learns_more : (j : Job) (numbers : List ℕ) (k : ℕ) (before mid after : Reading) → ReaderLearnsAsked j numbers before mid → AsksAll (rows_state mid) (rows_state after) (λ v. asks_at j v k ≡ true) → ReaderLearnsAsked j (numbers ++ k ∷ []) before after
 learns_more j numbers k before mid after so_far asked v =
     let parts = asked_more j numbers k v in
     let some = list_any (asks_at j v) numbers in
@@ -102,12 +102,12 @@ learns_more j numbers k before mid after so_far asked v =
 
 pub goes_on : (j : Job) (partition : List ℕ) (reader : Reading) (drawn : List ℕ) (done : List Done) (mid : Reading) (drawn_mid : List ℕ) (k : ℕ) (matched : MatchedTrace) (done' : List Done) (after : Reading) (drawn' : List ℕ)
     → Working j partition reader drawn done mid drawn_mid → k < length partition → drawn' ≡ drawn_mid ++ k ∷ []
-    → matched ≡ matched_at j (number_at partition k)
-    → done' ≡ done ++ record { place = j.first + number_at partition k; matched = matched } ∷ []
-    → AsksAll (rows_state mid) (rows_state after) (λ v. asks_at j v (number_at partition k) ≡ true)
+    → matched ≡ matched_at j (number_of_rank partition k)
+    → done' ≡ done ++ record { place = j.first + number_of_rank partition k; matched = matched } ∷ []
+    → AsksAll (rows_state mid) (rows_state after) (λ v. asks_at j v (number_of_rank partition k) ≡ true)
     → Working j partition reader drawn done' after drawn'
 goes_on j partition reader drawn done mid drawn_mid k matched done' after drawn' w below drew is more asked =
-    let at = number_at partition in
+    let at = number_of_rank partition in
     let answer = done_by j.first (matched_at j) in
     let longer : map at (w.ranks ++ k ∷ []) ≡ map at w.ranks ++ at k ∷ [] = map-append at w.ranks (k ∷ []) in
     record {
@@ -115,14 +115,14 @@ goes_on j partition reader drawn done mid drawn_mid k matched done' after drawn'
       drawn_are = drew ∙ ap (λ (l : List ℕ). l ++ k ∷ []) w.drawn_are ∙ append_assoc drawn w.ranks (k ∷ []);
       below = All-push (λ n. n < length partition) w.ranks k w.below below;
       answers = more ∙ (λ i. w.answers i ++ record { place = j.first + at k; matched = is i } ∷ []) ∙ sym (map-append answer (map at w.ranks) (at k ∷ [])) ∙ ap (map answer) (sym longer);
-      learns = subst (λ (l : List ℕ). LearnsAsked j l reader after) (sym longer) (learns_more j (map at w.ranks) (at k) reader mid after w.learns asked);
+      learns = subst (λ (l : List ℕ). ReaderLearnsAsked j l reader after) (sym longer) (learns_more j (map at w.ranks) (at k) reader mid after w.learns asked);
     }
 
 -- a partition of all numbers in their order
-same_ranks : (n : ℕ) (ranks : List ℕ) → All (λ k. k < n) ranks → map (number_at (range_with_len 0 n)) ranks ≡ ranks
+same_ranks : (n : ℕ) (ranks : List ℕ) → All (λ k. k < n) ranks → map (number_of_rank (range_with_len 0 n)) ranks ≡ ranks
 same_ranks n [] below = refl
 same_ranks n (k ∷ ks) below =
-    let head : number_at (range_with_len 0 n) k ≡ k = get_or-range_with_len 0 n k 0 (All-head (λ x. x < n) k ks below) ∙ omega arith in
+    let head : number_of_rank (range_with_len 0 n) k ≡ k = get_or-range_with_len 0 n k 0 (All-head (λ x. x < n) k ks below) ∙ omega arith in
     let tail = same_ranks n ks (All-tail (λ x. x < n) k ks below) in
     λ i. head i ∷ tail i
 
@@ -132,7 +132,7 @@ works_on_all j partition reader ticket done reader' ticket' whole w =
     let n = length j.traces in
     let long : length partition ≡ n = ap (λ (l : List ℕ). length l) whole ∙ length-range_with_len 0 n in
     let below : All (λ k. k < n) w.ranks = subst (λ (m : ℕ). All (λ k. k < m) w.ranks) long w.below in
-    let same : map (number_at partition) w.ranks ≡ w.ranks = ap (λ (l : List ℕ). map (number_at l) w.ranks) whole ∙ same_ranks n w.ranks below in
+    let same : map (number_of_rank partition) w.ranks ≡ w.ranks = ap (λ (l : List ℕ). map (number_of_rank l) w.ranks) whole ∙ same_ranks n w.ranks below in
     record {
       numbers = w.ranks;
       last = w.last;
@@ -140,7 +140,7 @@ works_on_all j partition reader ticket done reader' ticket' whole w =
       below = below;
       above = (let late = w.above in omega (arith, long));
       answers = w.answers ∙ ap (map (done_by j.first (matched_at j))) same;
-      learns = subst (λ (l : List ℕ). LearnsAsked j l reader reader') same w.learns;
+      learns = subst (λ (l : List ℕ). ReaderLearnsAsked j l reader reader') same w.learns;
     }
 
 -- a number that was drawn is below the count
@@ -180,8 +180,8 @@ same_store a b network source =
     λ i. record { network = network i; bound = bound i; cells = parts.0 i; near = near i }
 
 -- one more draw, and rows that became known for the trace of number k
-pub stays_more : {j : Job} {reader mid after : Reading} {ticket drawn drawn' : Drawn} (k : ℕ) → k < length j.traces → Stays j reader ticket mid drawn → AsksOnly (rows_state mid) (rows_state after) (λ v. asks_at j v k ≡ true)
-    → drawn'.claims ≡ drawn.claims → Stays j reader ticket after drawn'
+pub stays_more : {j : Job} {reader mid after : Reading} {ticket drawn drawn' : Drawn} (k : ℕ) → k < length j.traces → KeepsClaims j reader ticket mid drawn → AsksOnly (rows_state mid) (rows_state after) (λ v. asks_at j v k ≡ true)
+    → drawn'.claims ≡ drawn.claims → KeepsClaims j reader ticket after drawn'
 stays_more {j} {reader} {mid} {after} k inside stays asked same =
     let keeps = asked.keeps in
     let before = stays.reader.stays in

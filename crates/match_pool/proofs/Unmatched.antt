@@ -15,7 +15,8 @@ use Rattle.matching.specs.Match.{IsMatch, IsMatchedPiece}
 use Rattle.matching.specs.PieceSteps.{AsksTrace}
 use Rattle.road_network.specs.Net.{Net}
 use Rattle.route_rebuild.specs.Chosen.{IsSolved}
-use Rattle.trace_match.specs.Match.{as_solution, asks, labels_of, layer_of, layers_of, match_of, matched_of}
+use Rattle.trace_match.specs.Match.{asks, labels_of, layer_of, layers_of, match_of, matched_of}
+use Rattle.trace_match.specs.inside.Solved.{as_solution}
 use Rattle.trace_match.proofs.TraceLayers.{matchable}
 use Rattle.trace_reader.specs.declared.trace.Fix.{Fix}
 use Rattle.trace_reader.specs.declared.trace.Trace.{Trace}

@@ -48,12 +48,12 @@ pub record StaysReader (before after : Reading) : Type 0 where
   pub held : Extends (rows_seen before) (rows_seen after)
 
 -- whether some trace of the job asks for the row of node v
-abbrev pub asked_by : Job → ℕ → Bool
-asked_by j v = list_any (λ (t : Trace). asks j.network j.params t v) j.traces
+abbrev pub is_asked_in : Job → ℕ → Bool
+is_asked_in j v = list_any (λ (t : Trace). asks j.network j.params t v) j.traces
 
 -- what the reader knows it knew before, or a trace of the job asks for it
 abbrev pub LearnsOnly : Job → Reading → Reading → Type 0
-LearnsOnly j before after = (v : ℕ) → knows after v ≡ true → (knows before v ≡ true) ⊎ (asked_by j v ≡ true)
+LearnsOnly j before after = (v : ℕ) → knows after v ≡ true → (knows before v ≡ true) ⊎ (is_asked_in j v ≡ true)
 
 -- the reader is as `StaysReader` says, and knows nothing more but what the job's traces ask for
 pub record ReadsWithin (j : Job) (before after : Reading) : Type 0 where
@@ -61,7 +61,7 @@ pub record ReadsWithin (j : Job) (before after : Reading) : Type 0 where
   pub only : LearnsOnly j before after
 
 -- the reader is as `ReadsWithin` says, and the ticket is of the same claims
-pub record Stays (j : Job) (before : Reading) (ticket : Drawn) (after : Reading) (ticket' : Drawn) : Type 0 where
+pub record KeepsClaims (j : Job) (before : Reading) (ticket : Drawn) (after : Reading) (ticket' : Drawn) : Type 0 where
   pub reader : ReadsWithin j before after
   pub claims : ticket'.claims ≡ ticket.claims
 
@@ -74,12 +74,12 @@ pub record CanMatch (n : Net) (p : Params) (grid : GridOf) (first : ℕ) (batch 
 abbrev pub no_trace : Trace
 no_trace = record { id = 0; fixes = [] }
 
-abbrev pub trace_at : Job → ℕ → Trace
-trace_at j k = slice_index_or j.traces k no_trace
+abbrev pub job_trace : Job → ℕ → Trace
+job_trace j k = slice_index_or j.traces k no_trace
 
 -- the match of the trace of this number
 abbrev pub matched_at : Job → ℕ → MatchedTrace
-matched_at j k = match_of j.network j.params (trace_at j k)
+matched_at j k = match_of j.network j.params (job_trace j k)
 
 -- the answer for the trace of this number, where `matched` has the matches by number
 abbrev pub done_by : ℕ → (ℕ → MatchedTrace) → ℕ → Done
@@ -87,11 +87,11 @@ done_by first matched k = record { place = first + k; matched = matched k }
 
 -- whether the trace of this number asks for the row of node v
 abbrev pub asks_at : Job → ℕ → ℕ → Bool
-asks_at j v k = asks j.network j.params (trace_at j k) v
+asks_at j v k = asks j.network j.params (job_trace j k) v
 
 -- the reader knows what it knew, and what the traces of these numbers ask for
-abbrev pub LearnsAsked : Job → List ℕ → Reading → Reading → Type 0
-LearnsAsked j numbers before after =
+abbrev pub ReaderLearnsAsked : Job → List ℕ → Reading → Reading → Type 0
+ReaderLearnsAsked j numbers before after =
     (v : ℕ) → (knows after v ≡ true) ↔ ((knows before v ≡ true) ⊎ (list_any (asks_at j v) numbers ≡ true))
 
 -- The ticket drew some numbers, in this order, and then one too great. The answers are those of the
@@ -104,4 +104,4 @@ pub record Works (j : Job) (reader : Reading) (ticket : Drawn) (done : List Done
   pub below : All (λ k. k < length j.traces) numbers
   pub above : length j.traces ≤ last
   pub answers : done ≡ map (done_by j.first (matched_at j)) numbers
-  pub learns : LearnsAsked j numbers reader reader'
+  pub learns : ReaderLearnsAsked j numbers reader reader'

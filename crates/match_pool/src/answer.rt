@@ -4,7 +4,8 @@ ghost use Rattle.bounded_table.specs.Rows.{AreRowsOf, AsksFor, AsksOnly};
 ghost use Rattle.matching.specs.PieceSteps.{AsksTrace};
 ghost use Rattle.route_rebuild.specs.Chosen.{IsSolved};
 ghost use Rattle.trace_match.specs.Ground.{IsGridFor};
-ghost use Rattle.trace_match.specs.Match.{as_solution, asks, matched_of};
+ghost use Rattle.trace_match.specs.Match.{asks, matched_of};
+ghost use Rattle.trace_match.specs.inside.Solved.{as_solution};
 ghost use Rattle.trace_reader.specs.Trace.{IsLawfulTrace};
 ghost use Rattle.match_pool.specs.Answers.{IsAnswerTo};
 

@@ -1,7 +1,7 @@
 //! What one worker does at one partition. Serves `work` and `match_all`; decided by `WorksOn`.
 ghost use Rattle.std.specs.Prelude.{◌≡◌, ◌<◌, ◌≤◌, All, IfOk, length};
 ghost use Rattle.match_pool.specs.Drawing.{WorksOn, job_of};
-ghost use Rattle.match_pool.specs.Working.{CanDraw, IsReaderFor, Stays};
+ghost use Rattle.match_pool.specs.Working.{CanDraw, IsReaderFor, KeepsClaims};
 
 use crate::batch::Batch;
 use crate::finding::find_match;
@@ -26,7 +26,7 @@ pub fn work_on<'s, G: Gate>(
     requires numbers { All (λ k. k < length batch.now.traces.now) numbers.now }
     requires ticket { CanDraw (length numbers.now) claims.now ticket.old }
     requires reader { IsReaderFor batch.now.net.now batch.now.params.now reader.old }
-    ensures stays { Stays (job_of batch.now) reader.old ticket.old reader.new ticket.new }
+    ensures stays { KeepsClaims (job_of batch.now) reader.old ticket.old reader.new ticket.new }
     ensures works { IfOk result (λ done. WorksOn (job_of batch.now) numbers.now
         reader.old ticket.old done reader.new ticket.new) }
 {

@@ -1,9 +1,9 @@
-//! The answers of all workers, in the order of the traces. Serves `match_all`; decided by `Fills`.
+//! The answers of all workers, in the order of the traces. Serves `match_all`; decided by `FillsSlots`.
 ghost use Rattle.std.specs.Prelude.{◌≡◌, ◌<◌, ◌≤◌, ◌+◌, All, IfOk, OnOk, IsSome, None, Some, length, map, replicate};
 ghost use Rattle.std.specs.List.{AllZip};
 ghost use Rattle.trace_match.specs.Match.{match_of};
 ghost use Rattle.match_pool.specs.Drawing.{job_of};
-ghost use Rattle.match_pool.specs.inside.Gathering.{AllDrawn, CoverTraces, Fills, AreTurnsOver, PlacesAnswers};
+ghost use Rattle.match_pool.specs.inside.Gathering.{AllDrawn, CoverTraces, FillsSlots, AreTurnsOver, PlacesAnswers};
 ghost use Rattle.match_pool.specs.Working.{matched_at};
 
 use crate::batch::Batch;
@@ -47,7 +47,7 @@ fn gather_partition(
     requires turns { AreTurnsOver (job_of batch.now) partition turns }
     ensures count { length slots.new.items ≡ length slots.old.items }
     ensures filled { OnOk result
-        (Fills (matched_at (job_of batch.now)) partition.numbers slots.old.items slots.new.items) }
+        (FillsSlots (matched_at (job_of batch.now)) partition.numbers slots.old.items slots.new.items) }
     ensures drawn { OnOk result (AllDrawn partition turns) }
 {
     let mut tickets = List::new(batch.alloc);

@@ -1,6 +1,6 @@
 //! Tables of turns, by workers and by partitions. Serves `match_all`; decided by `AreColumnsOf`.
 ghost use Rattle.std.specs.Prelude.{◌≡◌, [], All, IfOk, OnOk, length, replicate};
-ghost use Rattle.match_pool.specs.inside.Tables.{AddsRow, AreColumnsOf};
+ghost use Rattle.match_pool.specs.inside.Tables.{AddsTurns, AreColumnsOf};
 
 use crate::turn::Turn;
 use plain_list::List;
@@ -22,7 +22,7 @@ where
 /// Adds one turn to each column.
 fn add_row(columns: &mut Vec<List<Turn>>, row: List<Turn>) -> Result<(), AllocError>
     requires { length row ≡ length columns.old.items }
-    ensures { OnOk result (AddsRow row columns.old.items columns.new.items) }
+    ensures { OnOk result (AddsTurns row columns.old.items columns.new.items) }
 {
     let mut place = 0;
     for turn in row.into_vec() {

@@ -1,8 +1,8 @@
-//! One worker's turn at one partition. Serves `match_all`; decided by `IsTaken`.
+//! One worker's turn at one partition. Serves `match_all`; decided by `IsTurnTaken`.
 ghost use Rattle.std.specs.Prelude.{◌≡◌, OnOk};
 ghost use Rattle.tickets.specs.Tickets.{fresh_ticket};
 ghost use Rattle.match_pool.specs.Drawing.{job_of};
-ghost use Rattle.match_pool.specs.inside.Turns.{IsPartitionOf, IsTaken};
+ghost use Rattle.match_pool.specs.inside.Turns.{IsPartitionOf, IsTurnTaken};
 ghost use Rattle.match_pool.specs.Working.{IsReaderFor, ReadsWithin};
 
 use crate::batch::Batch;
@@ -41,7 +41,7 @@ impl Turn {
         requires fresh { self.old.ticket ≡ fresh_ticket partition.now.claims.name }
         requires reader { IsReaderFor batch.now.net.now batch.now.params.now reader.old }
         ensures reader { ReadsWithin (job_of batch.now) reader.old reader.new }
-        ensures taken { OnOk result (IsTaken (job_of batch.now) partition.now self.new reader.new) }
+        ensures taken { OnOk result (IsTurnTaken (job_of batch.now) partition.now self.new reader.new) }
     {
         self.done = work_on(
             batch,

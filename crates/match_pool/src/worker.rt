@@ -1,6 +1,6 @@
 //! The work of one worker. Serves `match_all`; decided by `Works`.
 ghost use Rattle.std.specs.Prelude.{◌≡◌, ◌≤◌, IfOk, length};
-ghost use Rattle.match_pool.specs.Working.{CanDraw, CanMatch, IsReaderFor, Stays, Works, job};
+ghost use Rattle.match_pool.specs.Working.{CanDraw, CanMatch, IsReaderFor, KeepsClaims, Works, job};
 
 use crate::batch::Batch;
 use crate::drawing::work_on;
@@ -44,7 +44,7 @@ pub fn work<'s, G: Gate>(
     requires can { CanMatch net.now p.now grid.now first traces.now }
     requires ticket { CanDraw (length traces.now) claims.now ticket.old }
     requires reader { IsReaderFor net.now p.now reader.old }
-    ensures stays { Stays (job net.now p.now first traces.now)
+    ensures stays { KeepsClaims (job net.now p.now first traces.now)
         reader.old ticket.old reader.new ticket.new }
     ensures works { IfOk result (λ done. Works (job net.now p.now first traces.now)
         reader.old ticket.old done reader.new ticket.new) }

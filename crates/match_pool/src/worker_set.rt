@@ -2,7 +2,7 @@
 ghost use Rattle.std.specs.Prelude.{◌≡◌, ◌<◌, ◌≤◌, ◌+◌, ℕ, All, IfOk, IsOk, OnErr, OnOk, length, map, slice_index_or, vec_capacity};
 ghost use Rattle.std.specs.List.{AllZip};
 ghost use Rattle.match_pool.specs.Drawing.{job_of};
-ghost use Rattle.match_pool.specs.inside.WorkerSet.{CanDrawFrom, HasRoom, IsWorkerSet, KeepsRoom, Ran, DrewAll, DrewFrom, reader_of, turns_of};
+ghost use Rattle.match_pool.specs.inside.WorkerSet.{CanDrawFrom, HasRoomForWorkers, IsWorkerSet, KeepsRoom, Ran, DrewAll, DrewFrom, reader_of, turns_of};
 ghost use Rattle.match_pool.specs.Working.{ReadsWithin};
 
 use crate::batch::Batch;
@@ -195,7 +195,7 @@ impl<'s> WorkerSet<'s> {
 
     /// Puts the readers back into their list, and returns the turns of each worker. Takes no memory.
     pub fn end(self, readers: &mut List<Reader<'s>>) -> Vec<List<Turn>>
-        requires { HasRoom self }
+        requires { HasRoomForWorkers self }
         ensures readers { readers.new ≡ map reader_of self.entry.workers.items }
         ensures turns { result.items ≡ map turns_of self.entry.workers.items }
     {

@@ -5,8 +5,8 @@ use Rattle.std.proofs.lemmas.List.Concat.{flat_map-append}
 use Rattle.match_pool.specs.Learning.{LearnAsked}
 use Rattle.match_pool.specs.Working.{AreJobTraces, StaysReader}
 use Rattle.match_text.specs.MatchText.{text_of}
-use Rattle.program_frame.specs.Jobs.{Grows, IsBatch, IsBounded, points_of}
-use Rattle.program_frame.specs.Total.{Adds, total_line}
+use Rattle.program_frame.specs.Jobs.{GrowsByTexts, IsBatch, IsBounded, position_count}
+use Rattle.program_frame.specs.Total.{AddsCounts, total_line}
 use Rattle.program_frame.specs.declared.total.Tally.{Tally}
 use Rattle.program_frame.proofs.Bounds.{lawful_back}
 use Rattle.row_store.specs.Store.{Reading, Stored, count_known}
@@ -15,9 +15,9 @@ use Rattle.trace_reader.specs.declared.trace.Trace.{Trace}
 use Rattle.trace_match.specs.Setting.{Setting}
 use Rattle.match_work.specs.Sharing.{ShareStore, fresh_readers}
 use Rattle.program_frame.specs.Counts.{total_of}
-use Rattle.trace_match.specs.Totals.{pieces_of, rows_of}
+use Rattle.trace_match.specs.Totals.{piece_count, asked_count}
 use Rattle.match_work.specs.Matches.{match_text, texts_of}
-use Rattle.program_frame.specs.Counts.{ArePieces}
+use Rattle.program_frame.specs.inside.Tallies.{IsCountOfPieces}
 use Rattle.match_work.specs.inside.MatchesDone.{HasMatched, KnowAsked}
 use Rattle.match_work.proofs.Asking.{asked_more}
 use Rattle.program_frame.proofs.Counting.{counts_more}
@@ -41,14 +41,14 @@ can_match on before more readers tally has bounded batch = record {
 }
 
 -- more traces were matched and counted
-pub matched_more : (on : Setting) (before more : List Trace) (readers readers' : List Reading) (tally tally' : Tally) (pieces : ℕ) → HasMatched on readers tally before → ArePieces (pieces_of on) more pieces → AllZip StaysReader readers readers' → LearnAsked on.network on.params more readers readers' → Adds more pieces tally tally' → HasMatched on readers' tally' (before ++ more)
+pub matched_more : (on : Setting) (before more : List Trace) (readers readers' : List Reading) (tally tally' : Tally) (pieces : ℕ) → HasMatched on readers tally before → IsCountOfPieces (piece_count on) more pieces → AllZip StaysReader readers readers' → LearnAsked on.network on.params more readers readers' → AddsCounts more pieces tally tally' → HasMatched on readers' tally' (before ++ more)
 matched_more on before more readers readers' tally tally' pieces has are stay learn adds = record {
   shared = share_on on readers readers' has.shared stay;
   asked = asked_more on before more readers readers' has.asked learn;
-  counts = counts_more (pieces_of on) (pieces-append on) before more tally tally' pieces has.counts are adds;
+  counts = counts_more (piece_count on) (pieces-append on) before more tally tally' pieces has.counts are adds;
 }
 
-pub text_grows : (on : Setting) (before more : List Trace) (old new : List ℕ) → new ≡ old ++ texts_of on more → Grows (match_text on) before more old new
+pub text_grows : (on : Setting) (before more : List Trace) (old new : List ℕ) → new ≡ old ++ texts_of on more → GrowsByTexts (match_text on) before more old new
 text_grows on before more old new grown = record {
   text = texts_of on more;
   grown = grown;
@@ -56,9 +56,9 @@ text_grows on before more old new grown = record {
 }
 
 -- the total line of what was counted
-pub total_is : (on : Setting) (taken : List Trace) (readers : List Reading) (tally : Tally) (count : ℕ) → HasMatched on readers tally taken → count ≡ count_known readers → total_line tally.traces tally.points tally.pieces count ≡ total_of (pieces_of on) (rows_of on) taken
+pub total_is : (on : Setting) (taken : List Trace) (readers : List Reading) (tally : Tally) (count : ℕ) → HasMatched on readers tally taken → count ≡ count_known readers → total_line tally.traces tally.points tally.pieces count ≡ total_of (piece_count on) (asked_count on) taken
 total_is on taken readers tally count has counted =
     ap (λ n. total_line n tally.points tally.pieces count) has.counts.traces_are
     ∙ ap (λ n. total_line (length taken) n tally.pieces count) has.counts.points_are
-    ∙ ap (λ n. total_line (length taken) (points_of taken) n count) has.counts.pieces_are.are
-    ∙ ap (total_line (length taken) (points_of taken) (pieces_of on taken)) (counted ∙ rows_counted on taken readers has.shared has.asked)
+    ∙ ap (λ n. total_line (length taken) (position_count taken) n count) has.counts.pieces_are.are
+    ∙ ap (total_line (length taken) (position_count taken) (piece_count on taken)) (counted ∙ rows_counted on taken readers has.shared has.asked)

@@ -18,7 +18,7 @@ use Rattle.trace_reader.specs.Trace.{IsLawfulTrace}
 use Rattle.trace_reader.specs.declared.trace.Trace.{Trace}
 use Rattle.trace_match.specs.Setting.{Setting}
 use Rattle.match_work.specs.Sharing.{IsStoreFor, MatchesBatch, ShareStore, fresh_readers}
-use Rattle.trace_match.specs.Totals.{is_asked_by, rows_of}
+use Rattle.trace_match.specs.Totals.{is_asked_by, asked_count}
 use Rattle.match_work.specs.inside.MatchesDone.{KnowAsked}
 use Rattle.match_work.proofs.TraceMatches.{matches_found, matches_of}
 
@@ -104,7 +104,7 @@ same_answer false false both = refl
 count_same : (p q : ℕ → Bool) (all : List ℕ) → ((v : ℕ) → p v ≡ q v) → count_by p all ≡ count_by q all
 count_same p q all same = λ i. count_by (λ v. same v i) all
 
-pub rows_counted : (on : Setting) (traces : List Trace) (readers : List Reading) → ShareStore on readers → KnowAsked on traces readers → count_known readers ≡ rows_of on traces
+pub rows_counted : (on : Setting) (traces : List Trace) (readers : List Reading) → ShareStore on readers → KnowAsked on traces readers → count_known readers ≡ asked_count on traces
 rows_counted on traces [] share asked = absurd (let some = share.readers_are.some in omega (arith, some))
 rows_counted on traces (r ∷ rs) share asked =
     let here = All-head (IsReaderFor on.network on.params) r rs share.readers_are.each in

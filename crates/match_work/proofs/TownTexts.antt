@@ -9,8 +9,8 @@ use Rattle.match_pool.specs.Learning.{LearnAsked}
 use Rattle.match_pool.specs.Working.{StaysReader}
 use Rattle.match_text.specs.declared.matched.MatchedTrace.{MatchedTrace}
 use Rattle.match_text.specs.declared.matched.Routed.{Routed}
-use Rattle.program_frame.specs.Jobs.{IsBounded, points_of}
-use Rattle.program_frame.specs.Total.{Adds, Fits, total_line}
+use Rattle.program_frame.specs.Jobs.{IsBounded, position_count}
+use Rattle.program_frame.specs.Total.{AddsCounts, CountsFit, total_line}
 use Rattle.program_frame.specs.declared.total.Tally.{Tally}
 use Rattle.road_network.specs.Net.{Net}
 use Rattle.road_network.specs.NetworkFile.{network_of, no_net}
@@ -31,12 +31,12 @@ use Rattle.trace_match.specs.Setting.{Setting}
 use Rattle.match_work.specs.Sharing.{ShareStore, fresh_readers}
 use Rattle.program_frame.specs.Counts.{total_of}
 use Rattle.match_work.specs.Towns.{cost_line, cost_of, costs_of, network_in, town_text}
-use Rattle.match_work.specs.inside.TownsDone.{AreCosts, IsCost}
+use Rattle.match_work.specs.inside.TownsDone.{AreMatchCosts, IsMatchCost}
 use Rattle.match_work.specs.declared.towns.Costs.{Costs}
 use Rattle.program_frame.proofs.Counting.{fits_more}
 use Rattle.match_work.proofs.Jobs.{begun, matched_more, total_is}
 use Rattle.match_work.proofs.TraceMatches.{matches_of, pieces_found, pieces_next}
-use Rattle.trace_match.specs.Totals.{pieces_of, rows_of}
+use Rattle.trace_match.specs.Totals.{piece_count, asked_count}
 
 -- the network that was read
 pub network_read : (bytes : List ℕ) (net : Net) → network_of Standard bytes ≡ Ok net → net ≡ network_in bytes
@@ -53,12 +53,12 @@ traces_read bytes none old new reader empty closes ends =
     ends.grown ∙ ap (λ l. l ++ ends.more) front ∙ sym ends.due
 
 -- the traces of a town are lawful and few
-points_are : (traces : List Trace) → All IsTownTrace traces → points_of traces ≡ 20 * length traces
+points_are : (traces : List Trace) → All IsTownTrace traces → position_count traces ≡ 20 * length traces
 points_are [] all = refl
 points_are (trace ∷ rest) all =
     let one = (All-head IsTownTrace trace rest all).fixes in
     let later = points_are rest (All-tail IsTownTrace trace rest all) in
-    let more : points_of (trace ∷ rest) ≡ length trace.fixes + points_of rest = sum_by-cons (λ (t : Trace). length t.fixes) trace rest in
+    let more : position_count (trace ∷ rest) ≡ length trace.fixes + position_count rest = sum_by-cons (λ (t : Trace). length t.fixes) trace rest in
     omega (arith, one, later, more)
 
 pub town_bounded : (n t seed : ℕ) (traces : List Trace) → 2 ≤ n → n ≤ 100 → 1 ≤ t → t ≤ 2_000 → traces ≡ file_traces (traces_text n t seed) → IsBounded traces
@@ -99,14 +99,14 @@ costs_are on (trace ∷ traces) =
 
 -- one more match
 pub costs_next : (matches : List MatchedTrace) (i : ℕ) (m : MatchedTrace) (old new : Costs) (count cost : ℕ)
-    → i < length matches → m ≡ get_or matches i m → AreCosts (take i matches) old → count ≡ length m.pieces → IsCost m cost
-    → new ≡ record { pieces = old.pieces + count; cost = old.cost + cost } → AreCosts (take (i + 1) matches) new
+    → i < length matches → m ≡ get_or matches i m → AreMatchCosts (take i matches) old → count ≡ length m.pieces → IsMatchCost m cost
+    → new ≡ record { pieces = old.pieces + count; cost = old.cost + cost } → AreMatchCosts (take (i + 1) matches) new
 costs_next matches i m old new count cost low is before counted one are =
     let more = sum_by_more cost_of matches i m low in
     let here : cost ≡ cost_of (get_or matches i m) = one.is ∙ ap cost_of is in
     let small = one.small in
     let front = before.small in
-    subst (AreCosts (take (i + 1) matches)) (sym are) (record {
+    subst (AreMatchCosts (take (i + 1) matches)) (sym are) (record {
       pieces_are = pieces_next matches i m old.pieces count low is before.pieces_are counted;
       is = omega (arith, before.is, here, more);
       small = omega (arith, front, small, counted);
@@ -115,8 +115,8 @@ costs_next matches i m old new count cost low is before counted one are =
 -- the text
 pub report_is : (on : Setting) (traces : List Trace) (store : Stored) (fresh readers : List Reading) (matches : List MatchedTrace) (none tally : Tally) (costs : Costs) (count : ℕ) (first second third : List ℕ)
     → fresh ≡ fresh_readers on store → ShareStore on fresh → AllZip StaysReader fresh readers → LearnAsked on.network on.params traces fresh readers
-    → AreMatchesOf on traces matches → AreCosts matches costs
-    → Adds traces costs.pieces none tally → none.traces ≡ 0 → none.points ≡ 0 → none.pieces ≡ 0 → count ≡ count_known readers
+    → AreMatchesOf on traces matches → AreMatchCosts matches costs
+    → AddsCounts traces costs.pieces none tally → none.traces ≡ 0 → none.points ≡ 0 → none.pieces ≡ 0 → count ≡ count_known readers
     → first ≡ [] → second ≡ first ++ total_line tally.traces tally.points tally.pieces count → third ≡ second ++ cost_line costs.cost → third ≡ town_text on traces
 report_is on traces store fresh readers matches none tally costs count first second third opened shared stay learn found are adds no_traces no_points no_pieces counted empty total cost =
     let start = begun on store fresh none opened shared no_traces no_points no_pieces in
@@ -126,11 +126,11 @@ report_is on traces store fresh readers matches none tally costs count first sec
     let sum : costs.cost ≡ costs_of on traces = are.is ∙ ap (sum_by cost_of) found.are ∙ costs_are on traces in
     cost
     ∙ ap (λ t. t ++ cost_line costs.cost) (total ∙ ap (λ t. t ++ total_line tally.traces tally.points tally.pieces count) empty ∙ line)
-    ∙ ap (λ c. total_of (pieces_of on) (rows_of on) traces ++ cost_line c) sum
+    ∙ ap (λ c. total_of (piece_count on) (asked_count on) traces ++ cost_line c) sum
 
-pub tally_fits : (on : Setting) (traces : List Trace) (matches : List MatchedTrace) (none : Tally) (costs : Costs) → IsBounded traces → AreMatchesOf on traces matches → AreCosts matches costs → none.traces ≡ 0 → none.points ≡ 0 → none.pieces ≡ 0 → Fits traces costs.pieces none
+pub tally_fits : (on : Setting) (traces : List Trace) (matches : List MatchedTrace) (none : Tally) (costs : Costs) → IsBounded traces → AreMatchesOf on traces matches → AreMatchCosts matches costs → none.traces ≡ 0 → none.points ≡ 0 → none.pieces ≡ 0 → CountsFit traces costs.pieces none
 tally_fits on traces matches none costs bounded found are no_traces no_points no_pieces =
-    fits_more (pieces_of on) [] traces none costs.pieces bounded (record { traces_are = no_traces; points_are = no_points; pieces_are = record { are = no_pieces; few = omega (arith, no_pieces) } }) (pieces_found on traces matches costs.pieces found are.pieces_are)
+    fits_more (piece_count on) [] traces none costs.pieces bounded (record { traces_are = no_traces; points_are = no_points; pieces_are = record { are = no_pieces; few = omega (arith, no_pieces) } }) (pieces_found on traces matches costs.pieces found are.pieces_are)
 
 -- the text of a town, by the values that were made on the way
 pub town_is : (side count seed : ℕ) (options : Params) (on : Setting) (net : Net) (traces given : List Trace) → on ≡ record { network = net; params = options } → net ≡ network_in (network_text side) → given ≡ traces → traces ≡ file_traces (traces_text side count seed)

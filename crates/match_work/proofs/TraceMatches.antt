@@ -7,16 +7,17 @@ use Rattle.std.proofs.lemmas.List.Sums.{sum_by-append, sum_by-cons, sum_by_more,
 use Rattle.cost_model.specs.Options.{IsAccepted}
 use Rattle.match_text.specs.MatchText.{IsLawful, text_of}
 use Rattle.match_text.specs.declared.matched.MatchedTrace.{MatchedTrace}
-use Rattle.program_frame.specs.Jobs.{points_of}
+use Rattle.program_frame.specs.Jobs.{position_count}
 use Rattle.trace_match.specs.Match.{match_of}
 use Rattle.trace_match.proofs.Lawful.{match_lawful}
 use Rattle.trace_reader.specs.Trace.{IsLawfulTrace}
 use Rattle.trace_reader.specs.declared.trace.Trace.{Trace}
-use Rattle.match_work.specs.Matched.{AreMatchesOf, pieces_in, text_of_matches}
+use Rattle.match_work.specs.Matched.{AreMatchesOf, pieces_in}
+use Rattle.match_work.specs.inside.Calls.{text_of_matches}
 use Rattle.trace_match.specs.Setting.{Setting}
-use Rattle.trace_match.specs.Totals.{pieces_of}
+use Rattle.trace_match.specs.Totals.{piece_count}
 use Rattle.match_work.specs.Matches.{texts_of}
-use Rattle.program_frame.specs.Counts.{ArePieces}
+use Rattle.program_frame.specs.inside.Tallies.{IsCountOfPieces}
 
 abbrev pub matches_of : Setting → List Trace → List MatchedTrace
 matches_of on traces = map (match_of on.network on.params) traces
@@ -26,34 +27,34 @@ texts_are : (on : Setting) (traces : List Trace) → text_of_matches (matches_of
 texts_are on [] = refl
 texts_are on (trace ∷ traces) = ap (λ t. text_of (match_of on.network on.params trace) ++ t) (texts_are on traces)
 
-pieces_are : (on : Setting) (traces : List Trace) → pieces_in (matches_of on traces) ≡ pieces_of on traces
+pieces_are : (on : Setting) (traces : List Trace) → pieces_in (matches_of on traces) ≡ piece_count on traces
 pieces_are on [] = refl
 pieces_are on (trace ∷ traces) =
     let one = match_of on.network on.params trace in
     let first : pieces_in (matches_of on (trace ∷ traces)) ≡ length one.pieces + pieces_in (matches_of on traces) = sum_by-cons (λ (m : MatchedTrace). length m.pieces) one (matches_of on traces) in
-    let second : pieces_of on (trace ∷ traces) ≡ length one.pieces + pieces_of on traces = sum_by-cons (λ (t : Trace). length (match_of on.network on.params t).pieces) trace traces in
+    let second : piece_count on (trace ∷ traces) ≡ length one.pieces + piece_count on traces = sum_by-cons (λ (t : Trace). length (match_of on.network on.params t).pieces) trace traces in
     omega (arith, first, second, pieces_are on traces)
 
-few_pieces : (on : Setting) (traces : List Trace) → IsAccepted on.params → All IsLawfulTrace traces → pieces_in (matches_of on traces) ≤ points_of traces
+few_pieces : (on : Setting) (traces : List Trace) → IsAccepted on.params → All IsLawfulTrace traces → pieces_in (matches_of on traces) ≤ position_count traces
 few_pieces on [] accepted lawful = omega arith
 few_pieces on (trace ∷ traces) accepted lawful =
     let one = match_of on.network on.params trace in
     let here = (match_lawful on.network on.params trace accepted (All-head IsLawfulTrace trace traces lawful)).pieces_few in
     let first : pieces_in (matches_of on (trace ∷ traces)) ≡ length one.pieces + pieces_in (matches_of on traces) = sum_by-cons (λ (m : MatchedTrace). length m.pieces) one (matches_of on traces) in
-    let second : points_of (trace ∷ traces) ≡ length trace.fixes + points_of traces = sum_by-cons (λ (t : Trace). length t.fixes) trace traces in
+    let second : position_count (trace ∷ traces) ≡ length trace.fixes + position_count traces = sum_by-cons (λ (t : Trace). length t.fixes) trace traces in
     omega (arith, here, first, second, few_pieces on traces accepted (All-tail IsLawfulTrace trace traces lawful))
 
 pub matches_found : (on : Setting) (traces : List Trace) (matches : List MatchedTrace) → IsAccepted on.params → All IsLawfulTrace traces → matches ≡ matches_of on traces → AreMatchesOf on traces matches
 matches_found on traces matches accepted lawful are = record {
   are = are;
   lawful = subst (All IsLawful) (sym are) (All-map IsLawful (match_of on.network on.params) traces (All-weaker IsLawfulTrace (λ (t : Trace). IsLawful (match_of on.network on.params t)) (λ t h. (match_lawful on.network on.params t accepted h).lawful) traces lawful));
-  few = subst (λ (ms : List MatchedTrace). pieces_in ms ≤ points_of traces) (sym are) (few_pieces on traces accepted lawful);
+  few = subst (λ (ms : List MatchedTrace). pieces_in ms ≤ position_count traces) (sym are) (few_pieces on traces accepted lawful);
 }
 
 pub texts_written : (on : Setting) (traces : List Trace) (matches : List MatchedTrace) (old new : List ℕ) → AreMatchesOf on traces matches → new ≡ old ++ text_of_matches matches → new ≡ old ++ texts_of on traces
 texts_written on traces matches old new found grown = grown ∙ ap (λ t. old ++ t) (ap text_of_matches found.are ∙ texts_are on traces)
 
-pub pieces_found : (on : Setting) (traces : List Trace) (matches : List MatchedTrace) (pieces : ℕ) → AreMatchesOf on traces matches → pieces ≡ pieces_in matches → ArePieces (pieces_of on) traces pieces
+pub pieces_found : (on : Setting) (traces : List Trace) (matches : List MatchedTrace) (pieces : ℕ) → AreMatchesOf on traces matches → pieces ≡ pieces_in matches → IsCountOfPieces (piece_count on) traces pieces
 pieces_found on traces matches pieces found is = record {
   are = is ∙ ap pieces_in found.are ∙ pieces_are on traces;
   few = let few = found.few in omega (arith, is, few);

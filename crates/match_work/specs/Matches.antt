@@ -17,7 +17,7 @@ use Rattle.road_network.specs.declared.limits.NetworkLimits.{NetworkLimits}
 use Rattle.trace_match.specs.Match.{match_of}
 use Rattle.trace_reader.specs.declared.trace.Trace.{Trace}
 use Rattle.trace_match.specs.Setting.{Setting}
-use Rattle.trace_match.specs.Totals.{pieces_of, rows_of}
+use Rattle.trace_match.specs.Totals.{piece_count, asked_count}
 
 -- the texts of traces, in their order
 abbrev pub texts_of : Setting → List Trace → List ℕ
@@ -28,7 +28,7 @@ abbrev pub match_text : Setting → JobText
 match_text on = record {
   texts = texts_of on;
   refusal = λ traces. no_refusal;
-  ending = total_of (pieces_of on) (rows_of on);
+  ending = total_of (piece_count on) (asked_count on);
   nothing = refl;
   allowed = refl;
   begins = λ front back. (texts_of on back, flat_map-append (λ trace. text_of (match_of on.network on.params trace)) front back);

@@ -18,7 +18,7 @@ use Rattle.trace_reader.specs.Reading.{file_traces}
 use Rattle.trace_reader.specs.declared.trace.Trace.{Trace}
 use Rattle.trace_match.specs.Setting.{Setting}
 use Rattle.program_frame.specs.Counts.{total_of}
-use Rattle.trace_match.specs.Totals.{pieces_of, rows_of}
+use Rattle.trace_match.specs.Totals.{piece_count, asked_count}
 
 -- the sum of the costs of the pieces of a match
 abbrev pub cost_of : MatchedTrace → ℕ
@@ -32,7 +32,7 @@ cost_line cost = codes "cost " ++ decimal cost ++ codes "\n"
 
 -- the total line of `match`, and then the sum of all costs
 abbrev pub town_text : Setting → List Trace → List ℕ
-town_text on traces = total_of (pieces_of on) (rows_of on) traces ++ cost_line (costs_of on traces)
+town_text on traces = total_of (piece_count on) (asked_count on) traces ++ cost_line (costs_of on traces)
 
 -- the network that a file says
 abbrev pub network_in : List ℕ → Net

@@ -1,2 +1,3 @@
 pub mod MatchesDone
 pub mod TownsDone
+pub mod Calls

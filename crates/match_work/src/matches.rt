@@ -6,8 +6,9 @@ ghost use Rattle.match_pool.specs.Working.{AreJobTraces};
 ghost use Rattle.match_text.specs.MatchText.{IsLawful};
 ghost use Rattle.program_frame.specs.Performs.{Performs};
 ghost use Rattle.program_frame.specs.Stream.{works_traces};
-ghost use Rattle.match_work.specs.Matched.{pieces_in, text_of_matches};
-ghost use Rattle.match_work.specs.Sharing.{IsStoreFor, MatchesBatch, MatchesBatches, WritesMatches};
+ghost use Rattle.match_work.specs.Matched.{pieces_in};
+ghost use Rattle.match_work.specs.inside.Calls.{text_of_matches, MatchesBatches, WritesMatches};
+ghost use Rattle.match_work.specs.Sharing.{IsStoreFor, MatchesBatch};
 ghost use Rattle.match_work.specs.Matches.{match_plan, match_text};
 ghost use Rattle.match_work.specs.inside.MatchesDone.{HasMatched};
 

@@ -2,7 +2,8 @@
 ghost use Rattle.std.specs.Prelude.{◌≡◌, ◌+◌, ◌<◌, ◌≤◌, ◌^◌, ◌++◌, All, IfOk, OnOk, length};
 ghost use Rattle.std.specs.Thread.{IsSync};
 ghost use Rattle.match_text.specs.MatchText.{IsLawful};
-ghost use Rattle.match_work.specs.Matched.{pieces_in, text_of_matches};
+ghost use Rattle.match_work.specs.Matched.{pieces_in};
+ghost use Rattle.match_work.specs.inside.Calls.{text_of_matches};
 
 use match_text::{MatchedTrace, write_match};
 use plain_list::List;

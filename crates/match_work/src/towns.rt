@@ -10,7 +10,7 @@ ghost use Rattle.trace_reader.specs.Reading.{file_traces};
 ghost use Rattle.match_work.specs.Matched.{pieces_in};
 ghost use Rattle.match_work.specs.Sharing.{IsStoreFor};
 ghost use Rattle.match_work.specs.Towns.{cost_line, network_in, report_of_town, town_plan, town_text};
-ghost use Rattle.match_work.specs.inside.TownsDone.{AreCosts, IsCost};
+ghost use Rattle.match_work.specs.inside.TownsDone.{AreMatchCosts, IsMatchCost};
 
 use crate::batches::{Shared, match_batch, open_near_store, open_readers};
 use crate::env::Env;
@@ -71,7 +71,7 @@ fn read_traces(alloc: Global, numbers: TownNumbers) -> Result<List<Trace>, Alloc
 // The sum of the costs of the pieces of a match.
 fn add_costs(matched: &MatchedTrace) -> u128
     requires { length matched.now.pieces ≤ 2 ^ 62 }
-    ensures { IsCost matched.now result }
+    ensures { IsMatchCost matched.now result }
 {
     let mut cost = 0;
     for piece in matched.pieces.as_slice() {
@@ -83,7 +83,7 @@ fn add_costs(matched: &MatchedTrace) -> u128
 // The sums over some matches.
 fn add_up(matches: &[MatchedTrace]) -> Costs
     requires { pieces_in matches.now ≤ 2 ^ 62 }
-    ensures { AreCosts matches.now result }
+    ensures { AreMatchCosts matches.now result }
 {
     let mut costs = Costs { pieces: 0, cost: 0 };
     for matched in matches {

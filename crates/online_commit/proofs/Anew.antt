@@ -23,8 +23,8 @@ use Rattle.online_commit.specs.declared.items.Item.{Item}
 use Rattle.online_commit.specs.declared.items.Item.TheVariants.{Missing}
 use Rattle.online_commit.specs.Items.{closed_at, handed}
 use Rattle.online_commit.specs.inside.Pieces.{IsBegun, MayGrow, Piece, alone, empty_piece, session_with}
-use Rattle.online_commit.specs.Session.{IsFed, IsFedLayer, StandsFor, points_of}
-use Rattle.online_commit.specs.inside.Steps.{IsClosing, IsSession, KeptSession, last_cells, last_layer, seen}
+use Rattle.online_commit.specs.Session.{FeedsLayer, IsFedLayer, RepresentsLayers, fed_position_count}
+use Rattle.online_commit.specs.inside.Steps.{IsClosing, IsSession, KeptSession, last_cells, last_layer, seen_session}
 use Rattle.online_commit.proofs.Beginning.{ended, ended-handed, missing-items, new_items, opened, opened-handed}
 use Rattle.online_commit.proofs.ClosedSession.{closing-best, closing-items}
 use Rattle.online_commit.proofs.Ending.{IsOver, no-length, split_missing}
@@ -41,7 +41,7 @@ use Rattle.online_commit.proofs.AnewSession.{BeginsAnew, BeginsPiece, begun-fres
 -- with a piece of one point
 new-some : (n : Net) (p : Params) (all : List Layer) (s : Splits (trellis n p) 0 all) (i j : ℕ) (l : Layer) (cells : List Cell) (new : Piece) (items : List Item) → BeginsPiece n p i l cells new items
     → s.closed ≡ i → drop s.closed all ≡ l ∷ [] → i + 1 ≡ length all
-    → StandsFor (seen (session_with n p (alone new))) all × (new_items n p all s j 0 ≡ items)
+    → RepresentsLayers (seen_session (session_with n p (alone new))) all × (new_items n p all s j 0 ≡ items)
 new-some n p all s i j l cells new items b at rest count =
     let t = trellis n p in
     let ext = b.grown in
@@ -55,16 +55,16 @@ new-some n p all s i j l cells new items b at rest count =
     front-unique t (reverse (drop s.closed all)) (front t (drop s.closed all)) new.told (front_is t (drop s.closed all) s.last) (subst (λ ys. IsCommitted t (reverse ys) new.told) (sym same) committed)
     ∙ ext.told ∙ omega arith in
     let z : s.closed ≡ s.closed + 0 = omega arith in (
-      stands-by (seen made) all s first (sym same ∙ ap (λ k. drop k all) first) (omega (arith, first, at, len, count)) committed,
+      stands-by (seen_session made) all s first (sym same ∙ ap (λ k. drop k all) first) (omega (arith, first, at, len, count)) committed,
       ap (labels_between n p all s.closed) told ∙ ap (λ k. labels_between n p all k (length items)) z ∙ fresh-labels made all s [] l 0 items fresh first same,
     )
 
 -- with no piece
 new-none : (n : Net) (p : Params) (all : List Layer) (s : Splits (trellis n p) 0 all) (i : ℕ) → s.closed ≡ i + 1 → i + 1 ≡ length all → get_or s.ranks i None ≡ None → closed_at n p all s.ranks s.pieces i ≡ []
-    → StandsFor (seen (session_with n p (alone (empty_piece (i + 1))))) all × (new_items n p all s i 1 ≡ Missing i ∷ [])
+    → RepresentsLayers (seen_session (session_with n p (alone (empty_piece (i + 1))))) all × (new_items n p all s i 1 ≡ Missing i ∷ [])
 new-none n p all s i at count rank closed =
     let rest : drop (i + 1) all ≡ [] = drop_all (i + 1) all (omega (arith, count)) in (
-      stands-by (seen (session_with n p (alone (empty_piece (i + 1))))) all s at (sym rest) (omega (arith, count)) (front-none (trellis n p)),
+      stands-by (seen_session (session_with n p (alone (empty_piece (i + 1))))) all s at (sym rest) (omega (arith, count)) (front-none (trellis n p)),
       missing-items n p all s i rank closed (ap (λ k. drop k all) at ∙ rest),
     )
 
@@ -72,17 +72,17 @@ new-none n p all s i at count rank closed =
 
 abbrev Hands : KeptSession → Layer → Piece → List Item → List Layer → Type 0
 Hands s l new items fed =
-    StandsFor (seen (session_with s.network s.params (alone new))) (fed ++ l ∷ []) × (handed s.network s.params (fed ++ l ∷ []) ≡ handed s.network s.params fed ++ items)
+    RepresentsLayers (seen_session (session_with s.network s.params (alone new))) (fed ++ l ∷ []) × (handed s.network s.params (fed ++ l ∷ []) ≡ handed s.network s.params fed ++ items)
 
 -- no piece was open
-anew-open-some : (s : KeptSession) (l : Layer) (cells : List Cell) (new : Piece) (items : List Item) (fed : List Layer) → length s.layers ≡ 0 → StandsFor (seen s) fed
-    → BeginsPiece s.network s.params (points_of (seen s)) l cells new items → Hands s l new items fed
+anew-open-some : (s : KeptSession) (l : Layer) (cells : List Cell) (new : Piece) (items : List Item) (fed : List Layer) → length s.layers ≡ 0 → RepresentsLayers (seen_session s) fed
+    → BeginsPiece s.network s.params (fed_position_count (seen_session s)) l cells new items → Hands s l new items fed
 anew-open-some s l cells new items fed none st b =
     let n = s.network in
     let p = s.params in
     let t = trellis n p in
     let split = whole t fed in
-    let at = split-of (seen s) fed split st in
+    let at = split-of (seen_session s) fed split st in
     let xs = drop split.closed fed in
     let empty : length xs ≡ 0 = ap length at.layers ∙ none in
     let one : xs ++ l ∷ [] ≡ l ∷ [] = ap (λ ys. ys ++ l ∷ []) (no-length xs empty) in
@@ -90,19 +90,19 @@ anew-open-some s l cells new items fed none st b =
     let all = opened n p fed l split next in
     let first = at.first in
     let count = at.count in
-    let z : split.closed + 0 ≡ points_of (seen s) = omega (arith, first, none) in
+    let z : split.closed + 0 ≡ fed_position_count (seen_session s) = omega (arith, first, none) in
     let rest : drop (split.closed + 0) (fed ++ l ∷ []) ≡ l ∷ [] =
     (let e : split.closed + 0 ≡ split.closed = omega arith in ap (λ k. drop k (fed ++ l ∷ [])) e ∙ drop-append-le split.closed fed (l ∷ []) split.within ∙ one) in
-    let made = new-some n p (fed ++ l ∷ []) all (points_of (seen s)) split.closed l cells new items b z rest (omega (arith, z, count, empty, length_push fed l)) in
+    let made = new-some n p (fed ++ l ∷ []) all (fed_position_count (seen_session s)) split.closed l cells new items b z rest (omega (arith, z, count, empty, length_push fed l)) in
     (made.0, opened-handed n p fed l split next empty refl ∙ ap (λ ys. handed n p fed ++ ys) made.1)
 
-anew-open-none : (s : KeptSession) (l : Layer) (fed : List Layer) → length s.layers ≡ 0 → StandsFor (seen s) fed → length l.candidates ≡ 0 → Hands s l (empty_piece (points_of (seen s) + 1)) (Missing (points_of (seen s)) ∷ []) fed
+anew-open-none : (s : KeptSession) (l : Layer) (fed : List Layer) → length s.layers ≡ 0 → RepresentsLayers (seen_session s) fed → length l.candidates ≡ 0 → Hands s l (empty_piece (fed_position_count (seen_session s) + 1)) (Missing (fed_position_count (seen_session s)) ∷ []) fed
 anew-open-none s l fed none st width =
     let n = s.network in
     let p = s.params in
     let t = trellis n p in
     let split = whole t fed in
-    let at = split-of (seen s) fed split st in
+    let at = split-of (seen_session s) fed split st in
     let xs = drop split.closed fed in
     let empty : length xs ≡ 0 = ap length at.layers ∙ none in
     let one : xs ++ l ∷ [] ≡ l ∷ [] = ap (λ ys. ys ++ l ∷ []) (no-length xs empty) in
@@ -110,7 +110,7 @@ anew-open-none s l fed none st width =
     let all = opened n p fed l split next in
     let first = at.first in
     let count = at.count in
-    let i = points_of (seen s) in
+    let i = fed_position_count (seen_session s) in
     let e : split.closed ≡ i = omega (arith, first, none) in
     let len : length split.ranks ≡ i = split.count ∙ e in
     let rank : get_or all.ranks i None ≡ None = ap (λ k. get_or (split.ranks ++ None ∷ []) k None) (sym len) ∙ get_or-append_seam split.ranks None [] None in
@@ -143,7 +143,7 @@ ends-before s l h some =
     } in
     subst (λ k. IsPiece t xs k) count (so_far_ends n p xs s.tables (last_layer s) l (last_cells s) (so_far-longer n p s.layers (l ∷ []) s.tables (is.open_is some)) step (h.ends some))
 
-over-of : (s : KeptSession) (l : Layer) (items : List Item) (fed : List Layer) (split : Splits (trellis s.network s.params) 0 fed) (c : IsClosing s items) → IsSession s → 0 < length s.layers → IsSplitAt (seen s) fed split
+over-of : (s : KeptSession) (l : Layer) (items : List Item) (fed : List Layer) (split : Splits (trellis s.network s.params) 0 fed) (c : IsClosing s items) → IsSession s → 0 < length s.layers → IsSplitAt (seen_session s) fed split
     → IsPiece (trellis s.network s.params) (drop split.closed fed ++ l ∷ []) (length (drop split.closed fed)) → IsOver s.network s.params fed (l ∷ []) split c.cost c.ranks
 over-of s l items fed split c is some at piece =
     let t = trellis s.network s.params in
@@ -158,14 +158,14 @@ over-of s l items fed split c is some at piece =
       };
     }
 
-anew-ended-some : (s : KeptSession) (l : Layer) (cells : List Cell) (new : Piece) (first-items items : List Item) (fed : List Layer) → BeginsAnew s l → 0 < length s.layers → IsClosing s first-items → StandsFor (seen s) fed
-    → BeginsPiece s.network s.params (points_of (seen s)) l cells new items → Hands s l new (first-items ++ items) fed
+anew-ended-some : (s : KeptSession) (l : Layer) (cells : List Cell) (new : Piece) (first-items items : List Item) (fed : List Layer) → BeginsAnew s l → 0 < length s.layers → IsClosing s first-items → RepresentsLayers (seen_session s) fed
+    → BeginsPiece s.network s.params (fed_position_count (seen_session s)) l cells new items → Hands s l new (first-items ++ items) fed
 anew-ended-some s l cells new first-items items fed h some c st b =
     let n = s.network in
     let p = s.params in
     let t = trellis n p in
     let split = whole t fed in
-    let at = split-of (seen s) fed split st in
+    let at = split-of (seen_session s) fed split st in
     let xs = drop split.closed fed in
     let L = length xs in
     let same : L ≡ length s.layers = ap length at.layers in
@@ -176,10 +176,10 @@ anew-ended-some s l cells new first-items items fed h some c st b =
     let all = ended n p fed l split some-xs piece last in
     let first = at.first in
     let count = at.count in
-    let z : split.closed + (L + 0) ≡ points_of (seen s) = omega (arith, first, same) in
+    let z : split.closed + (L + 0) ≡ fed_position_count (seen_session s) = omega (arith, first, same) in
     let rest : drop (split.closed + (L + 0)) (fed ++ l ∷ []) ≡ l ∷ [] =
     (let e : split.closed + (L + 0) ≡ length fed = omega (arith, count) in ap (λ k. drop k (fed ++ l ∷ [])) e ∙ drop-append_seam fed (l ∷ [])) in
-    let made = new-some n p (fed ++ l ∷ []) all (points_of (seen s)) (split.closed + L) l cells new items b z rest (omega (arith, z, count, length_push fed l)) in
+    let made = new-some n p (fed ++ l ∷ []) all (fed_position_count (seen_session s)) (split.closed + L) l cells new items b z rest (omega (arith, z, count, length_push fed l)) in
     let over = over-of s l first-items fed split c h.session some at piece in (
       made.0,
       ended-handed n p fed l split c.cost c.ranks some-xs piece last over (closing-best s first-items xs h.session some c at.layers) refl
@@ -187,14 +187,14 @@ anew-ended-some s l cells new first-items items fed h some c st b =
           ∙ ap (λ ys. handed n p fed ++ (first-items ++ ys)) made.1,
     )
 
-anew-ended-none : (s : KeptSession) (l : Layer) (first-items : List Item) (fed : List Layer) → BeginsAnew s l → 0 < length s.layers → IsClosing s first-items → StandsFor (seen s) fed → length l.candidates ≡ 0
-    → Hands s l (empty_piece (points_of (seen s) + 1)) (first-items ++ Missing (points_of (seen s)) ∷ []) fed
+anew-ended-none : (s : KeptSession) (l : Layer) (first-items : List Item) (fed : List Layer) → BeginsAnew s l → 0 < length s.layers → IsClosing s first-items → RepresentsLayers (seen_session s) fed → length l.candidates ≡ 0
+    → Hands s l (empty_piece (fed_position_count (seen_session s) + 1)) (first-items ++ Missing (fed_position_count (seen_session s)) ∷ []) fed
 anew-ended-none s l first-items fed h some c st width =
     let n = s.network in
     let p = s.params in
     let t = trellis n p in
     let split = whole t fed in
-    let at = split-of (seen s) fed split st in
+    let at = split-of (seen_session s) fed split st in
     let xs = drop split.closed fed in
     let L = length xs in
     let same : L ≡ length s.layers = ap length at.layers in
@@ -205,7 +205,7 @@ anew-ended-none s l first-items fed h some c st width =
     let all = ended n p fed l split some-xs piece last in
     let first = at.first in
     let count = at.count in
-    let i = points_of (seen s) in
+    let i = fed_position_count (seen_session s) in
     let e : split.closed + L ≡ i = omega (arith, first, same) in
     let over = over-of s l first-items fed split c h.session some at piece in
     let b = best_of t (take L (xs ++ l ∷ [])) in
@@ -230,11 +230,11 @@ pub record IsLeft (s : KeptSession) (items : List Item) : Type 0 where
   pub none : length s.layers ≡ 0 → items ≡ []
   pub some : 0 < length s.layers → IsClosing s items
 
-anew-some : (s : KeptSession) (l : Layer) (new : Piece) (first-items items : List Item) (fed : List Layer) → BeginsAnew s l → IsLeft s first-items → StandsFor (seen s) fed → IsBegun s.params (points_of (seen s)) l new items
+anew-some : (s : KeptSession) (l : Layer) (new : Piece) (first-items items : List Item) (fed : List Layer) → BeginsAnew s l → IsLeft s first-items → RepresentsLayers (seen_session s) fed → IsBegun s.params (fed_position_count (seen_session s)) l new items
     → 0 < length l.candidates → Hands s l new (first-items ++ items) fed
 anew-some s l new first-items items fed h left st b width =
     let g = b.some width in
-    let begins : BeginsPiece s.network s.params (points_of (seen s)) l g.0 new items = record { some = width; first = g.1 s.network; grown = g.2 } in
+    let begins : BeginsPiece s.network s.params (fed_position_count (seen_session s)) l g.0 new items = record { some = width; first = g.1 s.network; grown = g.2 } in
     ⊎_elim
     (λ some. anew-ended-some s l g.0 new first-items items fed h some (left.some some) st begins)
     (λ few.
@@ -243,27 +243,27 @@ anew-some s l new first-items items fed h left st b width =
     (open_is.0, open_is.1 ∙ ap (λ ys. handed s.network s.params fed ++ (ys ++ items)) (sym (left.none none))))
     (cases_lt 0 (length s.layers))
 
-anew-none : (s : KeptSession) (l : Layer) (new : Piece) (first-items items : List Item) (fed : List Layer) → BeginsAnew s l → IsLeft s first-items → StandsFor (seen s) fed → IsBegun s.params (points_of (seen s)) l new items
+anew-none : (s : KeptSession) (l : Layer) (new : Piece) (first-items items : List Item) (fed : List Layer) → BeginsAnew s l → IsLeft s first-items → RepresentsLayers (seen_session s) fed → IsBegun s.params (fed_position_count (seen_session s)) l new items
     → length l.candidates ≡ 0 → Hands s l new (first-items ++ items) fed
 anew-none s l new first-items items fed h left st b width =
     let g = b.none width in
-    let both : Hands s l (empty_piece (points_of (seen s) + 1)) (first-items ++ Missing (points_of (seen s)) ∷ []) fed =
+    let both : Hands s l (empty_piece (fed_position_count (seen_session s) + 1)) (first-items ++ Missing (fed_position_count (seen_session s)) ∷ []) fed =
     ⊎_elim
     (λ some. anew-ended-none s l first-items fed h some (left.some some) st width)
     (λ few.
     let none : length s.layers ≡ 0 = omega (arith, few) in
     let open_is = anew-open-none s l fed none st width in
-    (open_is.0, open_is.1 ∙ ap (λ ys. handed s.network s.params fed ++ (ys ++ Missing (points_of (seen s)) ∷ [])) (sym (left.none none))))
+    (open_is.0, open_is.1 ∙ ap (λ ys. handed s.network s.params fed ++ (ys ++ Missing (fed_position_count (seen_session s)) ∷ [])) (sym (left.none none))))
     (cases_lt 0 (length s.layers)) in
-    subst (λ a. Hands s l a (first-items ++ items) fed) (sym g.0) (subst (λ ys. Hands s l (empty_piece (points_of (seen s) + 1)) (first-items ++ ys) fed) (sym g.1) both)
+    subst (λ a. Hands s l a (first-items ++ items) fed) (sym g.0) (subst (λ ys. Hands s l (empty_piece (fed_position_count (seen_session s) + 1)) (first-items ++ ys) fed) (sym g.1) both)
 
-pub anew-hands : (s : KeptSession) (l : Layer) (new : Piece) (first-items items : List Item) (fed : List Layer) → BeginsAnew s l → IsLeft s first-items → StandsFor (seen s) fed → IsBegun s.params (points_of (seen s)) l new items
+pub anew-hands : (s : KeptSession) (l : Layer) (new : Piece) (first-items items : List Item) (fed : List Layer) → BeginsAnew s l → IsLeft s first-items → RepresentsLayers (seen_session s) fed → IsBegun s.params (fed_position_count (seen_session s)) l new items
     → Hands s l new (first-items ++ items) fed
 anew-hands s l new first-items items fed h left st b =
     ⊎_elim (λ some. anew-some s l new first-items items fed h left st b some) (λ few. anew-none s l new first-items items fed h left st b (omega (arith, few))) (cases_lt 0 (length l.candidates))
 
-pub anew-fed : (s : KeptSession) (l : Layer) (new : Piece) (first-items items : List Item) → BeginsAnew s l → IsLeft s first-items → IsBegun s.params (points_of (seen s)) l new items
-    → IsFed (seen s) l (seen (session_with s.network s.params (alone new))) (first-items ++ items)
+pub anew-fed : (s : KeptSession) (l : Layer) (new : Piece) (first-items items : List Item) → BeginsAnew s l → IsLeft s first-items → IsBegun s.params (fed_position_count (seen_session s)) l new items
+    → FeedsLayer (seen_session s) l (seen_session (session_with s.network s.params (alone new))) (first-items ++ items)
 anew-fed s l new first-items items h left b = record {
   network = refl;
   params = refl;

@@ -18,8 +18,8 @@ use Rattle.matching.proofs.PieceSoFar.{IsGround, IsPieceSoFar, so_far_first}
 use Rattle.online_commit.specs.declared.items.Item.{Item}
 use Rattle.online_commit.specs.inside.Masks.{AreMasks, HasFewRanks, mask_at}
 use Rattle.online_commit.specs.inside.Pieces.{IsBegun, IsExtended, Piece, alone, empty_piece, session_with}
-use Rattle.online_commit.specs.Session.{IsFedLayer, points_of}
-use Rattle.online_commit.specs.inside.Steps.{IsKeptOf, IsSession, KeptSession, last_cells, last_layer, seen}
+use Rattle.online_commit.specs.Session.{IsFedLayer, fed_position_count}
+use Rattle.online_commit.specs.inside.Steps.{IsKeptOf, IsSession, KeptSession, last_cells, last_layer, seen_session}
 use Rattle.online_commit.proofs.Fresh.{IsFresh, fresh-committed}
 use Rattle.online_commit.proofs.Passing.{IsTabled}
 use Rattle.online_commit.proofs.Ranks.{first-ranks}
@@ -75,11 +75,11 @@ begun-fresh n p i l cells new items h =
 pub record BeginsAnew (s : KeptSession) (l : Layer) : Type 0 where
   pub lawful : IsLawful s.network
   pub session : IsSession s
-  pub room : points_of (seen s) < 100_000
+  pub room : fed_position_count (seen_session s) < 100_000
   pub layer : IsFedLayer s.network s.params l
   pub ends : 0 < length s.layers → PieceEndsBefore (trellis s.network s.params) (last_layer s) (last_cells s) l
 
-begun-session : (s : KeptSession) (l : Layer) (cells : List Cell) (new : Piece) (items : List Item) → BeginsAnew s l → BeginsPiece s.network s.params (points_of (seen s)) l cells new items
+begun-session : (s : KeptSession) (l : Layer) (cells : List Cell) (new : Piece) (items : List Item) → BeginsAnew s l → BeginsPiece s.network s.params (fed_position_count (seen_session s)) l cells new items
     → IsSession (session_with s.network s.params (alone new))
 begun-session s l cells new items h b =
     let n = s.network in
@@ -87,10 +87,10 @@ begun-session s l cells new items h b =
     let is = h.session in
     let ext = b.grown in
     let room = h.room in
-    let fresh = begun-fresh n p (points_of (seen s)) l cells new items b in
+    let fresh = begun-fresh n p (fed_position_count (seen_session s)) l cells new items b in
     let len : length new.layers ≡ 1 = ap length ext.layers in
     let lent : length new.tables ≡ 1 = ap length ext.tables in
-    let first : new.first ≡ points_of (seen s) = ext.first in
+    let first : new.first ≡ fed_position_count (seen_session s) = ext.first in
     let few = h.layer.few in
     let ground : IsGround n p (l ∷ []) = record {
       lawful = h.lawful;
@@ -115,7 +115,7 @@ begun-session s l cells new items h b =
       front = fresh-committed (session_with n p (alone new)) [] l 0 items fresh;
     }
 
-empty-session : (s : KeptSession) (l : Layer) (new : Piece) → BeginsAnew s l → new ≡ empty_piece (points_of (seen s) + 1) → IsSession (session_with s.network s.params (alone new))
+empty-session : (s : KeptSession) (l : Layer) (new : Piece) → BeginsAnew s l → new ≡ empty_piece (fed_position_count (seen_session s) + 1) → IsSession (session_with s.network s.params (alone new))
 empty-session s l new h e =
     let room = h.room in
     subst (λ a. IsSession (session_with s.network s.params (alone a))) (sym e)
@@ -126,11 +126,11 @@ empty-session s l new h e =
       ranks = λ k d lt. absurd (omega (arith, lt));
       tables_count = refl;
       open_is = λ some. absurd (omega (arith, some));
-      kept = alone-kept s.network s.params (empty_piece (points_of (seen s) + 1)) refl (λ some. absurd (omega (arith, some)));
+      kept = alone-kept s.network s.params (empty_piece (fed_position_count (seen_session s) + 1)) refl (λ some. absurd (omega (arith, some)));
       front = front-none (trellis s.network s.params);
     })
 
-pub anew-session : (s : KeptSession) (l : Layer) (new : Piece) (items : List Item) → BeginsAnew s l → IsBegun s.params (points_of (seen s)) l new items → IsSession (session_with s.network s.params (alone new))
+pub anew-session : (s : KeptSession) (l : Layer) (new : Piece) (items : List Item) → BeginsAnew s l → IsBegun s.params (fed_position_count (seen_session s)) l new items → IsSession (session_with s.network s.params (alone new))
 anew-session s l new items h b =
     ⊎_elim
     (λ some. let g = b.some some in begun-session s l g.0 new items h (record { some = some; first = g.1 s.network; grown = g.2 }))

@@ -6,7 +6,7 @@ use Rattle.std.proofs.Math.Nat.{mod-eq_of_lt}
 use Rattle.std.proofs.Math.Pow.{pow-lt}
 use Rattle.std.proofs.lemmas.Bool.{cases_lt}
 use Rattle.std.proofs.lemmas.Nat.Bits.{bit_at-lt, bit_at-pow_other, bit_at-pow_same, bit_at-trailing_zeros, bit_at-zero, bit_at_set_other, bit_at_set_same, same_from_bits_below}
-use Rattle.online_commit.specs.inside.Masks.{HasBit, IsNotOne, IsOnly}
+use Rattle.online_commit.specs.inside.Masks.{HasBit, IsNotOne, IsOnlyRank}
 
 pub same-or-not : (a b : ℕ) → (a ≡ b) ⊎ (a ≢ b)
 same-or-not a b =
@@ -42,7 +42,7 @@ differs a b (suc w) =
     (differs a b w)
 
 -- one bit alone
-pub only-power : (mask k : ℕ) → mask ≡ 2 ^ k → IsOnly mask k
+pub only-power : (mask k : ℕ) → mask ≡ 2 ^ k → IsOnlyRank mask k
 only-power mask k e = (
   subst (λ m. HasBit m k) (sym e) (bit_at-pow_same k),
   λ a h. ⊎_elim (λ s. s) (λ not. absurd (let z = bit_at-pow_other k a not in let g : HasBit (2 ^ k) a = subst (λ m. HasBit m a) e h in omega (arith, z, g))) (same-or-not a k),
@@ -70,7 +70,7 @@ power-mod k lt = let low = power-low k lt in let e : 1 * 2 ^ k ≡ 2 ^ k = omega
 positive : (mask : ℕ) → mask ≢ 0 → 0 < mask
 positive mask ne = omega (arith, ne)
 
-pub only-told : (mask : ℕ) → mask ≢ 0 → mask < 2 ^ 32 → mask ≡ 1 * 2 ^ trailing_zeros w32 mask % 2 ^ 32 → IsOnly mask (trailing_zeros w32 mask)
+pub only-told : (mask : ℕ) → mask ≢ 0 → mask < 2 ^ 32 → mask ≡ 1 * 2 ^ trailing_zeros w32 mask % 2 ^ 32 → IsOnlyRank mask (trailing_zeros w32 mask)
 only-told mask ne fits e =
     let told = bit_at-trailing_zeros w32 mask (positive mask ne) fits in
     only-power mask (trailing_zeros w32 mask) (e ∙ power-mod (trailing_zeros w32 mask) told.0)

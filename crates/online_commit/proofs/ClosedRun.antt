@@ -14,7 +14,8 @@ use Rattle.matching.specs.Cells.{IsLive}
 use Rattle.matching.specs.Layers.{candidate_of_rank, no_candidate}
 use Rattle.matching.specs.Local.{IsLeastCell, by_pointers}
 use Rattle.matching.specs.PieceSteps.{AsksIn}
-use Rattle.route_rebuild.specs.Chosen.{AreChosenFrom, IsCandidateRun}
+use Rattle.route_rebuild.specs.Chosen.{IsCandidateRun}
+use Rattle.route_rebuild.specs.inside.ChosenRuns.{AreChosenFrom}
 use Rattle.route_rebuild.specs.Numbers.{numbers}
 use Rattle.route_rebuild.specs.Routes.{IsRouteOf, IsRouteOver, IsWalkStartOver, chosen_at, no_layer, route_of}
 use Rattle.route_rebuild.proofs.ChosenOver.{over-route, over-run, over-start}
@@ -22,7 +23,7 @@ use Rattle.route_rebuild.proofs.RouteValue.{route_of-is}
 use Rattle.online_commit.specs.declared.items.Item.{Item}
 use Rattle.online_commit.specs.declared.items.Item.TheVariants.{Closed}
 use Rattle.online_commit.specs.Items.{edge_ids}
-use Rattle.online_commit.specs.inside.Steps.{AreAllChosen, IsClosing, IsSession, KeptSession, as_ranks, piece_from, rank_in, ranked_items, whole_piece}
+use Rattle.online_commit.specs.inside.Steps.{AreAllChosen, IsClosing, IsSession, KeptSession, as_ranks, counted_piece, rank_in, ranked_items, whole_piece}
 use Rattle.online_commit.proofs.Extending.{kept-count}
 use Rattle.online_commit.proofs.Kept.{AreLastRanks, items-shift, kept-ranks, least-live}
 use Rattle.online_commit.proofs.NextCells.{some-kept}
@@ -175,8 +176,8 @@ closing-made s last c kept chosen labels items route h are labels-are route-over
       ranks = h.ranks;
       best = own-ranks s last c h.ranks h.read;
       are = items-are ∙ ap (λ k. labels ++ Closed (record { first = s.first; last = k; cost = c }) route ∷ []) end
-          ∙ ap (λ ys. ys ++ Closed (piece_from s.first (length s.layers) c) route ∷ []) (labels-are ∙ kept-labels s last c kept h)
-          ∙ ap (λ r. ranked_items s.first s.layers (rank_in h.ranks) s.told (length s.layers - s.told) ++ Closed (piece_from s.first (length s.layers) c) r ∷ []) same;
+          ∙ ap (λ ys. ys ++ Closed (counted_piece s.first (length s.layers) c) route ∷ []) (labels-are ∙ kept-labels s last c kept h)
+          ∙ ap (λ r. ranked_items s.first s.layers (rank_in h.ranks) s.told (length s.layers - s.told) ++ Closed (counted_piece s.first (length s.layers) c) r ∷ []) same;
     }
 
 -- the candidates, one by one

@@ -9,8 +9,8 @@ use Rattle.matching.proofs.CommittedValues.{front, front-within, whole}
 use Rattle.matching.proofs.Splits.{Splits}
 use Rattle.online_commit.specs.declared.items.Item.{Item}
 use Rattle.online_commit.specs.Items.{handed, items_of}
-use Rattle.online_commit.specs.Session.{IsFinished, Session, StandsFor, no_points_of}
-use Rattle.online_commit.specs.inside.Steps.{IsClosing, IsSession, KeptSession, closing_of, seen}
+use Rattle.online_commit.specs.Session.{IsFinished, Session, RepresentsLayers, no_points_of}
+use Rattle.online_commit.specs.inside.Steps.{IsClosing, IsSession, KeptSession, closing_of, seen_session}
 use Rattle.online_commit.proofs.Ending.{finished-items, finished-none}
 use Rattle.online_commit.proofs.Extending.{tabled-of}
 use Rattle.online_commit.proofs.Labels.{IsBestOf, IsSplitAt, split-of}
@@ -28,7 +28,7 @@ closing-best s items xs is some c same =
       best = subst (λ ys. IsBest t (reverse ys) c.cost (reverse c.ranks)) (sym (take-length s.layers)) c.best;
     })
 
-pub closing-items : (s : KeptSession) (items : List Item) (fed : List Layer) (split : Splits (trellis s.network s.params) 0 fed) → (c : IsClosing s items) → IsSplitAt (seen s) fed split
+pub closing-items : (s : KeptSession) (items : List Item) (fed : List Layer) (split : Splits (trellis s.network s.params) 0 fed) → (c : IsClosing s items) → IsSplitAt (seen_session s) fed split
     → items ≡ closing_of s.network s.params split.closed (drop split.closed fed) c.cost c.ranks (front (trellis s.network s.params) (drop split.closed fed))
 closing-items s items fed split c is =
     let n = s.network in
@@ -37,28 +37,28 @@ closing-items s items fed split c is =
     ∙ ap (λ ys. closing_of n p split.closed ys c.cost c.ranks s.told) (sym is.layers)
     ∙ ap (closing_of n p split.closed (drop split.closed fed) c.cost c.ranks) (sym is.told)
 
-pub finished-some : (s : KeptSession) (items : List Item) (fed : List Layer) → IsSession s → 0 < length s.layers → IsClosing s items → StandsFor (seen s) fed
+pub finished-some : (s : KeptSession) (items : List Item) (fed : List Layer) → IsSession s → 0 < length s.layers → IsClosing s items → RepresentsLayers (seen_session s) fed
     → items_of s.network s.params fed ≡ handed s.network s.params fed ++ items
 finished-some s items fed is some c st =
     let n = s.network in
     let p = s.params in
     let t = trellis n p in
     let split = whole t fed in
-    let at = split-of (seen s) fed split st in
+    let at = split-of (seen_session s) fed split st in
     let xs = drop split.closed fed in
     finished-items n p fed split c.cost c.ranks (closing-best s items xs is some c at.layers) (front-within t xs split.last)
     ∙ ap (λ ys. handed n p fed ++ ys) (sym (closing-items s items fed split c at))
 
-pub finished-empty : (s : KeptSession) (items : List Item) (fed : List Layer) → length s.layers ≡ 0 → items ≡ [] → StandsFor (seen s) fed
+pub finished-empty : (s : KeptSession) (items : List Item) (fed : List Layer) → length s.layers ≡ 0 → items ≡ [] → RepresentsLayers (seen_session s) fed
     → items_of s.network s.params fed ≡ handed s.network s.params fed ++ items
 finished-empty s items fed none e st =
     let n = s.network in
     let p = s.params in
     let split = whole (trellis n p) fed in
-    let at = split-of (seen s) fed split st in
+    let at = split-of (seen_session s) fed split st in
     finished-none n p fed split (ap length at.layers ∙ none) ∙ ap (λ ys. handed n p fed ++ ys) (sym e)
 
-pub finished-made : (s : KeptSession) (new : Session) (items : List Item) → IsSession s → (length s.layers ≡ 0 → items ≡ []) → (0 < length s.layers → IsClosing s items) → new ≡ no_points_of s.network s.params → IsFinished (seen s) new items
+pub finished-made : (s : KeptSession) (new : Session) (items : List Item) → IsSession s → (length s.layers ≡ 0 → items ≡ []) → (0 < length s.layers → IsClosing s items) → new ≡ no_points_of s.network s.params → IsFinished (seen_session s) new items
 finished-made s new items is none some opened = record {
   opened = opened;
   rest = λ fed st. ⊎_elim (λ lt. finished-some s items fed is lt (some lt) st)

@@ -18,8 +18,8 @@ use Rattle.matching.proofs.Lists.{all-cons, length-map_some}
 use Rattle.matching.proofs.Splits.{from_point, from_joins, from_skips, Splits}
 use Rattle.route_rebuild.specs.Routes.{chosen_at, no_layer, route_of}
 use Rattle.online_commit.specs.declared.items.Item.TheVariants.{Closed}
-use Rattle.online_commit.specs.Items.{closed_at, closed_item, edge_ids, handed, items_of, items_with, label_at, points_from}
-use Rattle.online_commit.specs.inside.Steps.{as_ranks, closing_of, piece_from, rank_in, ranked_item, ranked_items, whole_piece}
+use Rattle.online_commit.specs.Items.{closed_at, closed_item, edge_ids, handed, items_of, items_with, item_at, points_from}
+use Rattle.online_commit.specs.inside.Steps.{as_ranks, closing_of, counted_piece, rank_in, ranked_item, ranked_items, whole_piece}
 use Rattle.online_commit.proofs.Composed.{after, closed-before}
 use Rattle.online_commit.proofs.Handed.{EndAfter, base, closed-here, closed-later, handed-form, items-with, label-later, labels_between, layer-later, solution-now}
 use Rattle.online_commit.proofs.Labels.{IsBestOf, best-is, best-length, open-labels, tail-rank}
@@ -64,7 +64,7 @@ piece-rank ranks later j lt =
 -- a label of the piece
 over-label : (n : Net) (p : Params) (fed more : List Layer) (s : Splits (trellis n p) 0 fed) (ranks : List ℕ) (later : List (Option ℕ)) (j : ℕ)
     → length ranks ≡ length (drop s.closed fed) → j < length ranks
-    → label_at (fed ++ more) (ranks_to n p fed s ranks later) (s.closed + j) ≡ ranked_item s.closed (drop s.closed fed) (rank_in ranks) j
+    → item_at (fed ++ more) (ranks_to n p fed s ranks later) (s.closed + j) ≡ ranked_item s.closed (drop s.closed fed) (rank_in ranks) j
 over-label n p fed more s ranks later j count lt =
     let xs = drop s.closed fed in
     label-later n p fed (fed ++ more) s (as_ranks ranks ++ later) j (get_or ranks j 0) (get_or xs j no_layer)
@@ -73,11 +73,11 @@ over-label n p fed more s ranks later j count lt =
 
 over-labels : (n : Net) (p : Params) (fed more : List Layer) (s : Splits (trellis n p) 0 fed) (ranks : List ℕ) (later : List (Option ℕ)) (h k : ℕ)
     → length ranks ≡ length (drop s.closed fed) → h + k ≤ length ranks
-    → map (label_at (fed ++ more) (ranks_to n p fed s ranks later)) (range_with_len (s.closed + h) k) ≡ ranked_items s.closed (drop s.closed fed) (rank_in ranks) h k
+    → map (item_at (fed ++ more) (ranks_to n p fed s ranks later)) (range_with_len (s.closed + h) k) ≡ ranked_items s.closed (drop s.closed fed) (rank_in ranks) h k
 over-labels n p fed more s ranks later h k count le =
-    labels-shift (label_at (fed ++ more) (ranks_to n p fed s ranks later)) (ranked_item s.closed (drop s.closed fed) (rank_in ranks)) (s.closed + h) h k
+    labels-shift (item_at (fed ++ more) (ranks_to n p fed s ranks later)) (ranked_item s.closed (drop s.closed fed) (rank_in ranks)) (s.closed + h) h k
     (λ i lt. let e : s.closed + h + i ≡ s.closed + (h + i) = omega arith in
-    ap (label_at (fed ++ more) (ranks_to n p fed s ranks later)) e ∙ over-label n p fed more s ranks later (h + i) count (omega (arith, lt, le)))
+    ap (item_at (fed ++ more) (ranks_to n p fed s ranks later)) e ∙ over-label n p fed more s ranks later (h + i) count (omega (arith, lt, le)))
 
 -- its route is that of the piece on its own
 over-route : (n : Net) (p : Params) (fed more : List Layer) (s : Splits (trellis n p) 0 fed) (c : ℕ) (ranks : List ℕ) (later : List (Option ℕ)) (q : Piece)
@@ -100,8 +100,8 @@ over-route n p fed more s c ranks later q count some first last =
     ∙ ap (chosen_at xs (as_ranks ranks)) z)
 
 pub over-points : (n : Net) (p : Params) (fed more : List Layer) (s : Splits (trellis n p) 0 fed) (c h : ℕ) (ranks : List ℕ) (later : List (Option ℕ)) (q : Piece) (rest : List Piece)
-    → IsOver n p fed more s c ranks → h ≤ length (drop s.closed fed) → q ≡ piece_from s.closed (length (drop s.closed fed)) c → EndAfter (s.closed + length (drop s.closed fed)) rest
-    → points_from (label_at (fed ++ more) (ranks_to n p fed s ranks later)) (closed_at n p (fed ++ more) (ranks_to n p fed s ranks later) (s.pieces ++ q ∷ rest)) s.closed (length (drop s.closed fed))
+    → IsOver n p fed more s c ranks → h ≤ length (drop s.closed fed) → q ≡ counted_piece s.closed (length (drop s.closed fed)) c → EndAfter (s.closed + length (drop s.closed fed)) rest
+    → points_from (item_at (fed ++ more) (ranks_to n p fed s ranks later)) (closed_at n p (fed ++ more) (ranks_to n p fed s ranks later) (s.pieces ++ q ∷ rest)) s.closed (length (drop s.closed fed))
     ≡ ranked_items s.closed (drop s.closed fed) (rank_in ranks) 0 h ++ closing_of n p s.closed (drop s.closed fed) c ranks h
 over-points n p fed more s c h ranks later q rest over le is high =
     let t = trellis n p in
@@ -110,7 +110,7 @@ over-points n p fed more s c h ranks later q rest over le is high =
     let some = over.some in
     let count : length ranks ≡ L = best-length t (xs ++ more) L c ranks over.best in
     let all = ranks_to n p fed s ranks later in
-    let label = label_at (fed ++ more) all in
+    let label = item_at (fed ++ more) all in
     let closed = closed_at n p (fed ++ more) all (s.pieces ++ q ∷ rest) in
     let first_is : q.first ≡ s.closed = ap (λ v. v.first) is in
     let last-is : q.last ≡ s.closed + (L - 1) = ap (λ v. v.last) is in
@@ -131,7 +131,7 @@ over-points n p fed more s c h ranks later q rest over le is high =
     ∙ append_assoc (ranked_items s.closed xs (rank_in ranks) 0 h) (ranked_items s.closed xs (rank_in ranks) h (L - h)) (closed_item n p (fed ++ more) all q ∷ [])
     ∙ ap (λ es. ranked_items s.closed xs (rank_in ranks) 0 h ++ (ranked_items s.closed xs (rank_in ranks) h (L - h) ++ Closed q (edge_ids es) ∷ [])) route
     ∙ ap (λ v. ranked_items s.closed xs (rank_in ranks) 0 h ++ (ranked_items s.closed xs (rank_in ranks) h (L - h) ++ Closed v (edge_ids (route_of n p xs (as_ranks ranks) (whole_piece (length ranks) c))) ∷ [])) is
-    ∙ ap (λ k. ranked_items s.closed xs (rank_in ranks) 0 h ++ (ranked_items s.closed xs (rank_in ranks) h (L - h) ++ Closed (piece_from s.closed L c) (edge_ids (route_of n p xs (as_ranks ranks) (whole_piece k c))) ∷ [])) count
+    ∙ ap (λ k. ranked_items s.closed xs (rank_in ranks) 0 h ++ (ranked_items s.closed xs (rank_in ranks) h (L - h) ++ Closed (counted_piece s.closed L c) (edge_ids (route_of n p xs (as_ranks ranks) (whole_piece k c))) ∷ [])) count
 
 -- what was handed out before is the part before h
 
@@ -171,7 +171,7 @@ finished-items n p fed s c ranks best le =
     let joined = from_joins t s.closed xs L some best.piece in
     let is : solution t fed ≡ _ = solution-now t fed s in
     let same = best-is t xs L c ranks best in
-    let q-is : q ≡ piece_from s.closed L c =
+    let q-is : q ≡ counted_piece s.closed L c =
     (let e : s.closed + L - 1 ≡ s.closed + (L - 1) = omega (arith, some) in
     ap (λ k. let v : Piece = record { first = s.closed; last = k; cost = q.cost } in v) e ∙ ap (λ k. let v : Piece = record { first = s.closed; last = s.closed + (L - 1); cost = k } in v) same.0) in
     let ranks_are : (solution t fed).ranks ≡ ranks_to n p fed s ranks rest.ranks = ap (λ v. v.ranks) is ∙ ap (λ v. s.ranks ++ v.ranks) joined ∙ ap (λ r. s.ranks ++ (as_ranks r ++ rest.ranks)) same.1 in
@@ -183,7 +183,7 @@ finished-items n p fed s c ranks best le =
     ∙ ap (items_with n p fed (ranks_to n p fed s ranks rest.ranks) (s.pieces ++ q ∷ rest.pieces)) all
     ∙ items-with n p fed fed s (as_ranks ranks ++ rest.ranks) (q ∷ rest.pieces) L (λ k lt. refl) (all-cons (λ (x : Piece). s.closed ≤ x.last) q rest.pieces (omega (arith, some)) (λ i d b. let z = high i d b in omega (arith, z)))
     ∙ ap (λ ys. base n p fed s ++ ys)
-    (ap (λ layers. points_from (label_at layers (ranks_to n p fed s ranks rest.ranks)) (closed_at n p layers (ranks_to n p fed s ranks rest.ranks) (s.pieces ++ q ∷ rest.pieces)) s.closed L) (sym nil)
+    (ap (λ layers. points_from (item_at layers (ranks_to n p fed s ranks rest.ranks)) (closed_at n p layers (ranks_to n p fed s ranks rest.ranks) (s.pieces ++ q ∷ rest.pieces)) s.closed L) (sym nil)
     ∙ over-points n p fed [] s c h ranks rest.ranks q rest.pieces (whole-best n p fed s c ranks best) le q-is high)
     ∙ sym (append_assoc (base n p fed s) (ranked_items s.closed xs (rank_in ranks) 0 h) (closing_of n p s.closed xs c ranks h))
     ∙ ap (λ ys. ys ++ closing_of n p s.closed xs c ranks h) (sym (handed-before n p fed s c ranks best le))

@@ -6,10 +6,10 @@ use Rattle.matching.specs.declared.parts.Cell.{Cell}
 use Rattle.matching.specs.declared.parts.Layer.{Layer}
 use Rattle.std.specs.Prelude.{None, Some}
 use Rattle.online_commit.specs.declared.items.Item.{Item}
-use Rattle.online_commit.specs.inside.Masks.{AreMasks, IsBehind, IsLiveMask, IsNotOne, IsOnly, mask_after, mask_at}
+use Rattle.online_commit.specs.inside.Masks.{AreMasks, ArePreviousRanks, IsLiveMask, IsNotOne, IsOnlyRank, mask_after, mask_at}
 use Rattle.online_commit.specs.inside.Pieces.{IsAppended, IsExtended, MayGrow, Piece}
-use Rattle.online_commit.specs.Session.{IsFedLayer, Session, points_of}
-use Rattle.online_commit.specs.inside.Steps.{AreSettled, EndsBefore, IsSession, KeptSession, TellsCells, seen}
+use Rattle.online_commit.specs.Session.{IsFedLayer, Session, fed_position_count}
+use Rattle.online_commit.specs.inside.Steps.{AreSettled, EndsBefore, IsSession, KeptSession, TellsCells, seen_session}
 use Rattle.online_commit.proofs.AnewSession.{BeginsAnew}
 use Rattle.online_commit.proofs.Extending.{GoesOnTo}
 
@@ -17,8 +17,8 @@ masks-same : (tables : List (List Cell)) (mask mask' : ℕ → ℕ) (n : ℕ) �
 masks-same tables mask mask' n some same h = record {
   live = subst (IsLiveMask (get_or tables (n - 1) [])) (sym (same (n - 1) (omega (arith, some)))) h.live;
   back = λ i lt.
-      subst (λ m. IsBehind (get_or tables (i + 1) []) m (mask' i)) (sym (same (i + 1) lt))
-      (subst (λ m. IsBehind (get_or tables (i + 1) []) (mask (i + 1)) m) (sym (same i (omega (arith, lt)))) (h.back i lt));
+      subst (λ m. ArePreviousRanks (get_or tables (i + 1) []) m (mask' i)) (sym (same (i + 1) lt))
+      (subst (λ m. ArePreviousRanks (get_or tables (i + 1) []) (mask (i + 1)) m) (sym (same i (omega (arith, lt)))) (h.back i lt));
 }
 
 settled-same : (first : ℕ) (layers : List Layer) (mask mask' : ℕ → ℕ) (start : ℕ) (items : List Item) → ((i : ℕ) → i < length layers → mask' i ≡ mask i) → AreSettled first layers mask start items
@@ -27,9 +27,9 @@ settled-same first layers mask mask' start items same h =
     let within = h.within in
     record {
       within = h.within;
-      single = λ j ge lt. let o = h.single j ge lt in (o.0, subst (λ m. IsOnly m o.0) (sym (same j (omega (arith, lt, within)))) o.1);
+      single = λ j ge lt. let o = h.single j ge lt in (o.0, subst (λ m. IsOnlyRank m o.0) (sym (same j (omega (arith, lt, within)))) o.1);
       ends = λ lt. subst IsNotOne (sym (same (start + length items) lt)) (h.ends lt);
-      are = λ rank only. h.are rank (λ j ge lt. subst (λ m. IsOnly m (rank j)) (same j (omega (arith, lt, within))) (only j ge lt));
+      are = λ rank only. h.are rank (λ j ge lt. subst (λ m. IsOnlyRank m (rank j)) (same j (omega (arith, lt, within))) (only j ge lt));
     }
 
 pub extended-made : (old : Piece) (l : Layer) (cells : List Cell) (changed : List ℕ) (new : Piece) (items : List Item) → MayGrow old cells → IsAppended old l cells changed new
@@ -58,21 +58,21 @@ extended-made old l cells changed new items may app masks settled told =
 
 -- what is known where a point comes with which the open piece goes on
 
-pub goes-on : (s : KeptSession) (old : Session) (l : Layer) (cells : List Cell) → seen s ≡ old → IsLawful s.network → IsSession s → points_of old < 100_000 → IsFedLayer old.network old.params l → TellsCells s l (Some cells) → GoesOnTo s l cells
+pub goes-on : (s : KeptSession) (old : Session) (l : Layer) (cells : List Cell) → seen_session s ≡ old → IsLawful s.network → IsSession s → fed_position_count old < 100_000 → IsFedLayer old.network old.params l → TellsCells s l (Some cells) → GoesOnTo s l cells
 goes-on s old l cells e lawful is room fed tells = record {
   lawful = lawful;
   session = is;
-  room = subst (λ x. points_of x < 100_000) (sym e) room;
+  room = subst (λ x. fed_position_count x < 100_000) (sym e) room;
   layer = subst (λ x. IsFedLayer x.network x.params l) (sym e) fed;
   some = tells.0;
   goes = tells.1;
 }
 
-pub ends-at : (s : KeptSession) (old : Session) (l : Layer) → seen s ≡ old → IsSession s → points_of old < 100_000 → IsFedLayer old.network old.params l → TellsCells s l None → EndsBefore s l
+pub ends-at : (s : KeptSession) (old : Session) (l : Layer) → seen_session s ≡ old → IsSession s → fed_position_count old < 100_000 → IsFedLayer old.network old.params l → TellsCells s l None → EndsBefore s l
 ends-at s old l e is room fed ends = record {
   session = is;
   layer = subst (λ x. IsFedLayer x.network x.params l) (sym e) fed;
-  room = subst (λ x. points_of x < 100_000) (sym e) room;
+  room = subst (λ x. fed_position_count x < 100_000) (sym e) room;
   ends = ends;
 }
 

@@ -19,8 +19,8 @@ use Rattle.matching.proofs.Runs.{EndsWith}
 use Rattle.route_rebuild.specs.Routes.{no_layer}
 use Rattle.online_commit.specs.inside.Masks.{AreMasks, HasFewRanks, mask_at}
 use Rattle.online_commit.specs.inside.Pieces.{MayGrow, Piece}
-use Rattle.online_commit.specs.Session.{IsFedLayer, points_of}
-use Rattle.online_commit.specs.inside.Steps.{IsSession, KeptSession, last_cells, last_layer, seen}
+use Rattle.online_commit.specs.Session.{IsFedLayer, fed_position_count}
+use Rattle.online_commit.specs.inside.Steps.{IsSession, KeptSession, last_cells, last_layer, seen_session}
 use Rattle.online_commit.proofs.Passing.{IsTabled}
 use Rattle.online_commit.proofs.Ranks.{next-ranks}
 
@@ -87,7 +87,7 @@ last-ends s is some =
 pub record GoesOnTo (s : KeptSession) (l : Layer) (cells : List Cell) : Type 0 where
   pub lawful : IsLawful s.network
   pub session : IsSession s
-  pub room : points_of (seen s) < 100_000
+  pub room : fed_position_count (seen_session s) < 100_000
   pub layer : IsFedLayer s.network s.params l
   pub some : 0 < length s.layers
   pub goes : PieceGoesOn (trellis s.network s.params) (last_layer s) (last_cells s) l cells

@@ -11,7 +11,7 @@ use Rattle.matching.specs.Value.{best_of}
 use Rattle.matching.proofs.SolutionMatches.{best_of-is}
 use Rattle.matching.proofs.Splits.{Splits}
 use Rattle.online_commit.specs.declared.items.Item.{Item}
-use Rattle.online_commit.specs.inside.Masks.{IsOnly}
+use Rattle.online_commit.specs.inside.Masks.{IsOnlyRank}
 use Rattle.online_commit.specs.inside.Steps.{AreSettled, KeptSession, rank_in, ranked_items}
 use Rattle.online_commit.proofs.Handed.{labels_between}
 use Rattle.online_commit.proofs.Labels.{IsBestOf, open-labels, tail-rank}
@@ -64,7 +64,7 @@ fresh-items new xs l told c ranks items h best =
     let same : get_or ranks j 0 ≡ only.0 =
     chosen-single t new.layers new.tables h.mask h.low j only.0 c ranks h.tabled h.masks (let below = h.below in omega (arith, below, ge)) (omega (arith, lt, within)) only.1
     (subst (λ ys. IsBest t (reverse ys) c (reverse ranks)) (take-length new.layers) best.best) in
-    subst (λ r. IsOnly (h.mask j) r) (sym same) only.1)
+    subst (λ r. IsOnlyRank (h.mask j) r) (sym same) only.1)
 
 -- in terms of the labels of the trace
 pub fresh-labels : (new : KeptSession) (all : List Layer) (s : Splits (trellis new.network new.params) 0 all) (xs : List Layer) (l : Layer) (told : ℕ) (items : List Item) → IsFresh new xs l told items

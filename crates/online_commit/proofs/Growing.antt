@@ -15,8 +15,8 @@ use Rattle.matching.proofs.CommittedValues.{committed_split, committed_stays, fr
 use Rattle.matching.proofs.Lists.{all-cons}
 use Rattle.matching.proofs.Splits.{from_point, from_joins, OneOrNone, Splits, split_now, split_open, splits}
 use Rattle.online_commit.specs.declared.items.Item.{Item}
-use Rattle.online_commit.specs.Items.{closed_at, handed, items_of, items_with, label_at, points_from}
-use Rattle.online_commit.specs.Session.{BeginsWith, HandedGrows, HandedStays}
+use Rattle.online_commit.specs.Items.{closed_at, handed, items_of, items_with, item_at, points_from}
+use Rattle.online_commit.specs.Session.{ItemsBeginWith, HandedGrows, HandedStays}
 use Rattle.online_commit.proofs.Composed.{after, all-left, composed}
 use Rattle.online_commit.proofs.Handed.{EndAfter, base, closed-later, end_none, handed-form, items-with, labels_between, same-more, solution-more}
 use Rattle.online_commit.proofs.Labels.{kept-labels}
@@ -44,7 +44,7 @@ grown-handed n p fed more s one k e =
     ∙ ap (λ xs. xs ++ labels_between n p (fed ++ more) (s.closed + 0) (front t (drop (s.closed + 0) (fed ++ more)))) (grown-base n p fed more s one)
     ∙ ap (λ i. base n p fed s ++ labels_between n p (fed ++ more) i (front t (drop (s.closed + 0) (fed ++ more)))) z
     ∙ ap (λ i. base n p fed s ++ labels_between n p (fed ++ more) s.closed i) e
-    ∙ ap (λ xs. base n p fed s ++ xs) (labels-split (label_at (fed ++ more) (solution t (fed ++ more)).ranks) s.closed h k)
+    ∙ ap (λ xs. base n p fed s ++ xs) (labels-split (item_at (fed ++ more) (solution t (fed ++ more)).ranks) s.closed h k)
     ∙ sym (append_assoc (base n p fed s) (labels_between n p (fed ++ more) s.closed h) (labels_between n p (fed ++ more) (s.closed + h) k))
     ∙ ap (λ xs. (base n p fed s ++ xs) ++ labels_between n p (fed ++ more) (s.closed + h) k) (kept-labels n p fed more s.closed h (omega (arith, committed)))
     ∙ ap (λ xs. xs ++ labels_between n p (fed ++ more) (s.closed + h) k) (sym (handed-form n p fed s))
@@ -71,10 +71,10 @@ tail-ends n p at xs more one =
 -- the items of points begin with the labels, up to where something is closed
 front-labels : (n : Net) (p : Params) (layers : List Layer) (ranks : List (Option ℕ)) (pieces : List Piece) (i h d : ℕ)
     → ((k : ℕ) → i ≤ k → k + 1 < i + h → closed_at n p layers ranks pieces k ≡ [])
-    → BeginsWith (points_from (label_at layers ranks) (closed_at n p layers ranks pieces) i (h + d)) (map (label_at layers ranks) (range_with_len i h))
-front-labels n p layers ranks pieces i zero d none = (points_from (label_at layers ranks) (closed_at n p layers ranks pieces) i (0 + d), refl)
+    → ItemsBeginWith (points_from (item_at layers ranks) (closed_at n p layers ranks pieces) i (h + d)) (map (item_at layers ranks) (range_with_len i h))
+front-labels n p layers ranks pieces i zero d none = (points_from (item_at layers ranks) (closed_at n p layers ranks pieces) i (0 + d), refl)
 front-labels n p layers ranks pieces i (suc h) d none =
-    let label = label_at layers ranks in
+    let label = item_at layers ranks in
     let closed = closed_at n p layers ranks pieces in
     let rest = points_from label closed (i + h + 1) d in
     let e : suc h + d ≡ h + (1 + d) = omega arith in
@@ -92,7 +92,7 @@ front-labels n p layers ranks pieces i (suc h) d none =
 -- whatever pieces that end later are told of more points
 begins : (n : Net) (p : Params) (fed more : List Layer) (s : Splits (trellis n p) 0 fed) (rest : List Piece) (count : ℕ)
     → EndAfter (s.closed + length (drop s.closed fed) - 1) rest → EndAfter s.closed rest → s.closed + front (trellis n p) (drop s.closed fed) ≤ count
-    → BeginsWith (items_with n p (fed ++ more) (solution (trellis n p) (fed ++ more)).ranks (s.pieces ++ rest) count) (handed n p fed)
+    → ItemsBeginWith (items_with n p (fed ++ more) (solution (trellis n p) (fed ++ more)).ranks (s.pieces ++ rest) count) (handed n p fed)
 begins n p fed more s rest count ends high le =
     let t = trellis n p in
     let xs = drop s.closed fed in
@@ -112,8 +112,8 @@ begins n p fed more s rest count ends high le =
           ∙ ap (items_with n p (fed ++ more) ranks pieces) whole-count
           ∙ items-with n p fed (fed ++ more) s tail.ranks rest (h + d) (same-more fed more s.closed s.within) high
           ∙ ap (λ ys. base n p fed s ++ ys) begin.1
-          ∙ sym (append_assoc (base n p fed s) (map (label_at (fed ++ more) ranks) (range_with_len s.closed h)) begin.0)
-          ∙ ap (λ r. (base n p fed s ++ map (label_at (fed ++ more) r) (range_with_len s.closed h)) ++ begin.0) (sym is)
+          ∙ sym (append_assoc (base n p fed s) (map (item_at (fed ++ more) ranks) (range_with_len s.closed h)) begin.0)
+          ∙ ap (λ r. (base n p fed s ++ map (item_at (fed ++ more) r) (range_with_len s.closed h)) ++ begin.0) (sym is)
           ∙ ap (λ ys. (base n p fed s ++ ys) ++ begin.0) (kept-labels n p fed more s.closed h (omega (arith, committed)))
           ∙ ap (λ ys. ys ++ begin.0) (sym (handed-form n p fed s)),
     )
@@ -134,8 +134,8 @@ handed-stays n p fed more =
 
 -- what was handed out with some points more stays too
 pub fed-stays : (n : Net) (p : Params) (fed more : List Layer) (l : Layer) (items : List Item) → handed n p (fed ++ l ∷ []) ≡ handed n p fed ++ items
-    → BeginsWith (items_of n p ((fed ++ l ∷ []) ++ more)) (handed n p fed ++ items)
-fed-stays n p fed more l items grew = subst (BeginsWith (items_of n p ((fed ++ l ∷ []) ++ more))) grew (handed-stays n p (fed ++ l ∷ []) more)
+    → ItemsBeginWith (items_of n p ((fed ++ l ∷ []) ++ more)) (handed n p fed ++ items)
+fed-stays n p fed more l items grew = subst (ItemsBeginWith (items_of n p ((fed ++ l ∷ []) ++ more))) grew (handed-stays n p (fed ++ l ∷ []) more)
 
 -- and more points hand out no less
 

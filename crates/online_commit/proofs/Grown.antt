@@ -19,8 +19,8 @@ use Rattle.online_commit.specs.declared.items.Item.{Item}
 use Rattle.online_commit.specs.Items.{handed}
 use Rattle.online_commit.specs.inside.Masks.{AreMasks, HasFewRanks, mask_at}
 use Rattle.online_commit.specs.inside.Pieces.{IsGrown, Whole, session_with}
-use Rattle.online_commit.specs.Session.{IsFed, IsFedLayer, StandsFor}
-use Rattle.online_commit.specs.inside.Steps.{AreChosen, AreSettled, IsKeptOf, IsSession, KeptSession, last_cells, last_layer, seen}
+use Rattle.online_commit.specs.Session.{FeedsLayer, IsFedLayer, RepresentsLayers}
+use Rattle.online_commit.specs.inside.Steps.{AreChosen, AreSettled, IsKeptOf, IsSession, KeptSession, last_cells, last_layer, seen_session}
 use Rattle.online_commit.proofs.Extending.{GoesOnTo, grown-so_far, new-ranks, piece_part, tabled-of}
 use Rattle.online_commit.proofs.Kept.{chosen-grown, settled-shift}
 use Rattle.online_commit.proofs.Growing.{fed-stays, grown, grown-handed}
@@ -169,15 +169,15 @@ grown-session s l cells new items h ext =
       front = fresh-committed (session_with n p new) s.layers l s.told items fresh;
     }
 
-grown-stands : (s : KeptSession) (l : Layer) (cells : List Cell) (new : Whole) (items : List Item) (fed : List Layer) → GoesOnTo s l cells → IsGrown (whole_part s) l cells new items → StandsFor (seen s) fed
-    → StandsFor (seen (session_with s.network s.params new)) (fed ++ l ∷ []) × (handed s.network s.params (fed ++ l ∷ []) ≡ handed s.network s.params fed ++ items)
+grown-stands : (s : KeptSession) (l : Layer) (cells : List Cell) (new : Whole) (items : List Item) (fed : List Layer) → GoesOnTo s l cells → IsGrown (whole_part s) l cells new items → RepresentsLayers (seen_session s) fed
+    → RepresentsLayers (seen_session (session_with s.network s.params new)) (fed ++ l ∷ []) × (handed s.network s.params (fed ++ l ∷ []) ≡ handed s.network s.params fed ++ items)
 grown-stands s l cells new items fed h ext st =
     let n = s.network in
     let p = s.params in
     let t = trellis n p in
     let made = session_with n p new in
     let split = whole t fed in
-    let is = split-of (seen s) fed split st in
+    let is = split-of (seen_session s) fed split st in
     let fresh = grown-fresh s l cells new items h ext in
     let xs = drop split.closed fed in
     let layers : new.layers ≡ xs ++ l ∷ [] = ext.layers ∙ ap (λ ys. ys ++ l ∷ []) (sym is.layers) in
@@ -189,7 +189,7 @@ grown-stands s l cells new items fed h ext st =
     let first : split.closed + 0 ≡ new.first = z ∙ is.first ∙ sym ext.first in
     let committed = fresh-committed made s.layers l s.told items fresh in
     let len = ap length layers ∙ length_push xs l in
-    let stands = stands-by (seen made) (fed ++ l ∷ []) next first (layers ∙ sym rest ∙ ap (λ k. drop k (fed ++ l ∷ [])) first) (let c = is.count in omega (arith, first, len, c, length_push fed l)) committed in
+    let stands = stands-by (seen_session made) (fed ++ l ∷ []) next first (layers ∙ sym rest ∙ ap (λ k. drop k (fed ++ l ∷ [])) first) (let c = is.count in omega (arith, first, len, c, length_push fed l)) committed in
     let front-is-it : front t (drop (split.closed + 0) (fed ++ l ∷ [])) ≡ front t xs + length items =
     front-unique t (reverse (drop (split.closed + 0) (fed ++ l ∷ []))) (front t (drop (split.closed + 0) (fed ++ l ∷ []))) new.told (front_is t (drop (split.closed + 0) (fed ++ l ∷ [])) next.last)
     (subst (λ ys. IsCommitted t (reverse ys) new.told) (layers ∙ sym rest) committed)
@@ -202,7 +202,7 @@ grown-stands s l cells new items fed h ext st =
     )
 
 pub grown-fed : (s : KeptSession) (l : Layer) (cells : List Cell) (new : Whole) (items : List Item) → GoesOnTo s l cells → IsGrown (whole_part s) l cells new items
-    → IsFed (seen s) l (seen (session_with s.network s.params new)) items
+    → FeedsLayer (seen_session s) l (seen_session (session_with s.network s.params new)) items
 grown-fed s l cells new items h ext = record {
   network = refl;
   params = refl;

@@ -19,7 +19,7 @@ use Rattle.matching.proofs.CommittedValues.{committed_split, front, solution_fro
 use Rattle.route_rebuild.specs.Routes.{chosen_at, no_layer}
 use Rattle.online_commit.specs.declared.items.Item.{Item}
 use Rattle.online_commit.specs.declared.items.Item.TheVariants.{At, Closed}
-use Rattle.online_commit.specs.Items.{closed_at, closed_item, edge_ids, handed, items_with, label_at, label_item, points_from}
+use Rattle.online_commit.specs.Items.{closed_at, closed_item, edge_ids, handed, items_with, item_at, label_item, points_from}
 use Rattle.online_commit.proofs.Points.{points-split, points-same, points-bare}
 use Rattle.online_commit.proofs.Routes.{route-same}
 use Rattle.online_commit.proofs.Composed.{AreBefore, closed-before}
@@ -73,7 +73,7 @@ closed-front-only f ps rest k none =
 -- the items of the points before the open piece
 
 abbrev pub base : (n : Net) (p : Params) (fed : List Layer) → Splits (trellis n p) 0 fed → List Item
-base n p fed s = points_from (label_at fed s.ranks) (closed_at n p fed s.ranks s.pieces) 0 s.closed
+base n p fed s = points_from (item_at fed s.ranks) (closed_at n p fed s.ranks s.pieces) 0 s.closed
 
 -- the same layers up to here
 abbrev pub SameUpTo : ℕ → List Layer → List Layer → Type 0
@@ -83,7 +83,7 @@ pub same-more : (fed more : List Layer) (count : ℕ) → count ≤ length fed �
 same-more fed more count le k lt = get_or_append_left fed more no_layer k (omega (arith, le, lt))
 
 label-front : (n : Net) (p : Params) (fed layers : List Layer) (s : Splits (trellis n p) 0 fed) (rb : List (Option ℕ)) (k : ℕ) → SameUpTo s.closed layers fed → k < s.closed
-    → label_at layers (s.ranks ++ rb) k ≡ label_at fed s.ranks k
+    → item_at layers (s.ranks ++ rb) k ≡ item_at fed s.ranks k
 label-front n p fed layers s rb k same lt =
     ap (λ l. label_item k l (get_or (s.ranks ++ rb) k None)) (same k lt)
     ∙ ap (label_item k (get_or fed k no_layer)) (get_or_append_left s.ranks rb None k (omega (arith, lt, s.count)))
@@ -113,14 +113,14 @@ closed-front n p fed layers s rb rest k same high lt =
 pub items-with : (n : Net) (p : Params) (fed layers : List Layer) (s : Splits (trellis n p) 0 fed) (rb : List (Option ℕ)) (rest : List Piece) (k : ℕ)
     → SameUpTo s.closed layers fed → EndAfter s.closed rest
     → items_with n p layers (s.ranks ++ rb) (s.pieces ++ rest) (s.closed + k)
-    ≡ base n p fed s ++ points_from (label_at layers (s.ranks ++ rb)) (closed_at n p layers (s.ranks ++ rb) (s.pieces ++ rest)) s.closed k
+    ≡ base n p fed s ++ points_from (item_at layers (s.ranks ++ rb)) (closed_at n p layers (s.ranks ++ rb) (s.pieces ++ rest)) s.closed k
 items-with n p fed layers s rb rest k same high =
-    let label = label_at layers (s.ranks ++ rb) in
+    let label = item_at layers (s.ranks ++ rb) in
     let closed = closed_at n p layers (s.ranks ++ rb) (s.pieces ++ rest) in
     let z : 0 + s.closed ≡ s.closed = omega arith in
     points-split label closed 0 s.closed k
     ∙ ap (λ xs. xs ++ points_from label closed (0 + s.closed) k)
-    (points-same label (label_at fed s.ranks) closed (closed_at n p fed s.ranks s.pieces) 0 s.closed
+    (points-same label (item_at fed s.ranks) closed (closed_at n p fed s.ranks s.pieces) 0 s.closed
     (λ i ge lt. label-front n p fed layers s rb i same (omega (arith, lt))) (λ i ge lt. closed-front n p fed layers s rb rest i same high (omega (arith, lt))))
     ∙ ap (λ i. base n p fed s ++ points_from label closed i k) z
 
@@ -155,7 +155,7 @@ solution-now t fed s =
 
 -- the labels of k points from point i on
 abbrev pub labels_between : Net → Params → List Layer → ℕ → ℕ → List Item
-labels_between n p fed i k = map (label_at fed (solution (trellis n p) fed).ranks) (range_with_len i k)
+labels_between n p fed i k = map (item_at fed (solution (trellis n p) fed).ranks) (range_with_len i k)
 
 pub handed-form : (n : Net) (p : Params) (fed : List Layer) (s : Splits (trellis n p) 0 fed)
     → handed n p fed ≡ base n p fed s ++ labels_between n p fed s.closed (front (trellis n p) (drop s.closed fed))
@@ -170,13 +170,13 @@ handed-form n p fed s =
     ∙ ap (λ r. items_with n p fed r (s.pieces ++ []) (s.closed + k)) ranks
     ∙ items-with n p fed fed s tail.ranks [] k (λ i lt. refl) (end_none s.closed)
     ∙ ap (λ xs. base n p fed s ++ xs)
-    (points-bare (label_at fed (s.ranks ++ tail.ranks)) (closed_at n p fed (s.ranks ++ tail.ranks) (s.pieces ++ [])) s.closed k
+    (points-bare (item_at fed (s.ranks ++ tail.ranks)) (closed_at n p fed (s.ranks ++ tail.ranks) (s.pieces ++ [])) s.closed k
     (λ i ge lt. closed-later n p fed fed s (s.ranks ++ tail.ranks) [] i ge (no_pieces i)))
-    ∙ ap (λ r. base n p fed s ++ map (label_at fed r) (range_with_len s.closed k)) (sym ranks)
+    ∙ ap (λ r. base n p fed s ++ map (item_at fed r) (range_with_len s.closed k)) (sym ranks)
 
 -- a label of the open piece
 pub label-later : (n : Net) (p : Params) (fed layers : List Layer) (s : Splits (trellis n p) 0 fed) (rb : List (Option ℕ)) (j r : ℕ) (l : Layer)
-    → get_or layers (s.closed + j) no_layer ≡ l → get_or rb j None ≡ Some r → label_at layers (s.ranks ++ rb) (s.closed + j) ≡ At (s.closed + j) (candidate_of_rank l r)
+    → get_or layers (s.closed + j) no_layer ≡ l → get_or rb j None ≡ Some r → item_at layers (s.ranks ++ rb) (s.closed + j) ≡ At (s.closed + j) (candidate_of_rank l r)
 label-later n p fed layers s rb j r l layer rank =
     let e : length s.ranks + j ≡ s.closed + j = ap (λ k. k + j) s.count in
     ap (λ x. label_item (s.closed + j) x (get_or (s.ranks ++ rb) (s.closed + j) None)) layer

@@ -14,7 +14,7 @@ use Rattle.road_network.specs.declared.Candidate.{Candidate}
 use Rattle.route_rebuild.specs.Routes.{no_layer}
 use Rattle.online_commit.specs.declared.items.Item.{Item}
 use Rattle.online_commit.specs.declared.items.Item.TheVariants.{At}
-use Rattle.online_commit.specs.inside.Masks.{AreMasks, IsBehind, IsLiveMask, IsNotOne, IsOnly, mask_at}
+use Rattle.online_commit.specs.inside.Masks.{AreMasks, ArePreviousRanks, IsLiveMask, IsNotOne, IsOnlyRank, mask_at}
 use Rattle.online_commit.specs.inside.Steps.{AreChosen, AreSettled, ranked_item, ranked_items}
 use Rattle.online_commit.proofs.Passing.{chain, last_of}
 use Rattle.online_commit.proofs.Points.{labels-shift}
@@ -45,7 +45,7 @@ settled-shift first gone layers masks told items le h =
       are = λ rank only.
           h.are (λ i. rank (gone + i)) (λ j ge lt.
           let back : gone + j - gone ≡ j = omega arith in
-          subst (λ k. IsOnly (mask_at masks k) (rank (gone + j))) back (only (gone + j) (omega (arith, ge)) (omega (arith, lt))))
+          subst (λ k. IsOnlyRank (mask_at masks k) (rank (gone + j))) back (only (gone + j) (omega (arith, ge)) (omega (arith, lt))))
           ∙ items-shift first gone layers rank (λ i. rank (gone + i)) told (length items) (λ i ge lt. refl);
     }
 
@@ -61,10 +61,10 @@ masks-dropped tables masks n count lt h =
           (subst (λ k. IsLiveMask (get_or tables k []) (mask_at masks k)) last h.live));
       back = λ i inside.
           let next : count + i + 1 ≡ count + (i + 1) = omega arith in
-          subst (λ c. IsBehind c (mask_at (drop count masks) (i + 1)) (mask_at (drop count masks) i)) (table (i + 1))
-          (subst (λ m. IsBehind (get_or tables (count + (i + 1)) []) m (mask_at (drop count masks) i)) (mask (i + 1))
-          (subst (λ m. IsBehind (get_or tables (count + (i + 1)) []) (mask_at masks (count + (i + 1))) m) (mask i)
-          (subst (λ k. IsBehind (get_or tables k []) (mask_at masks k) (mask_at masks (count + i))) next (h.back (count + i) (omega (arith, inside))))));
+          subst (λ c. ArePreviousRanks c (mask_at (drop count masks) (i + 1)) (mask_at (drop count masks) i)) (table (i + 1))
+          (subst (λ m. ArePreviousRanks (get_or tables (count + (i + 1)) []) m (mask_at (drop count masks) i)) (mask (i + 1))
+          (subst (λ m. ArePreviousRanks (get_or tables (count + (i + 1)) []) (mask_at masks (count + (i + 1))) m) (mask i)
+          (subst (λ k. ArePreviousRanks (get_or tables k []) (mask_at masks k) (mask_at masks (count + i))) next (h.back (count + i) (omega (arith, inside))))));
     }
 
 -- pointers of live cells

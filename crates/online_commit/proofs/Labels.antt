@@ -19,8 +19,8 @@ use Rattle.matching.proofs.SolutionMatches.{best_of-is}
 use Rattle.matching.proofs.Splits.{from_point, from_joins, Splits}
 use Rattle.matching.proofs.Unique.{best-unique}
 use Rattle.route_rebuild.specs.Routes.{no_layer}
-use Rattle.online_commit.specs.Items.{label_at, label_item}
-use Rattle.online_commit.specs.Session.{Session, StandsFor, points_of}
+use Rattle.online_commit.specs.Items.{item_at, label_item}
+use Rattle.online_commit.specs.Session.{Session, RepresentsLayers, fed_position_count}
 use Rattle.online_commit.specs.inside.Steps.{ranked_item, ranked_items}
 use Rattle.online_commit.proofs.Handed.{label-later, labels_between, solution-now}
 use Rattle.online_commit.proofs.Points.{labels-same, labels-shift}
@@ -63,16 +63,16 @@ pub open-labels : (n : Net) (p : Params) (fed : List Layer) (s : Splits (trellis
 open-labels n p fed s rank h k ranks =
     let t = trellis n p in
     let tail = from_point t s.closed (drop s.closed fed) in
-    ap (λ v. map (label_at fed v.ranks) (range_with_len (s.closed + h) k)) (solution-now t fed s)
-    ∙ labels-shift (label_at fed (s.ranks ++ tail.ranks)) (ranked_item s.closed (drop s.closed fed) rank) (s.closed + h) h k
+    ap (λ v. map (item_at fed v.ranks) (range_with_len (s.closed + h) k)) (solution-now t fed s)
+    ∙ labels-shift (item_at fed (s.ranks ++ tail.ranks)) (ranked_item s.closed (drop s.closed fed) rank) (s.closed + h) h k
     (λ i lt.
     let e : s.closed + h + i ≡ s.closed + (h + i) = omega arith in
-    ap (label_at fed (s.ranks ++ tail.ranks)) e
+    ap (item_at fed (s.ranks ++ tail.ranks)) e
     ∙ label-later n p fed fed s tail.ranks (h + i) (rank (h + i)) (get_or (drop s.closed fed) (h + i) no_layer) (sym (get_or-drop s.closed fed (h + i) no_layer)) (ranks (h + i) (omega arith) (omega (arith, lt))))
 
 -- the labels that were committed stay
 pub kept-label : (n : Net) (p : Params) (fed more : List Layer) (i : ℕ) → i < committed_of (trellis n p) fed
-    → label_at (fed ++ more) (solution (trellis n p) (fed ++ more)).ranks i ≡ label_at fed (solution (trellis n p) fed).ranks i
+    → item_at (fed ++ more) (solution (trellis n p) (fed ++ more)).ranks i ≡ item_at fed (solution (trellis n p) fed).ranks i
 kept-label n p fed more i lt =
     let t = trellis n p in
     let h = committed_stays t fed more in
@@ -86,12 +86,12 @@ kept-label n p fed more i lt =
 pub kept-labels : (n : Net) (p : Params) (fed more : List Layer) (first k : ℕ) → first + k ≤ committed_of (trellis n p) fed
     → labels_between n p (fed ++ more) first k ≡ labels_between n p fed first k
 kept-labels n p fed more first k le =
-    labels-same (label_at (fed ++ more) (solution (trellis n p) (fed ++ more)).ranks) (label_at fed (solution (trellis n p) fed).ranks) first k
+    labels-same (item_at (fed ++ more) (solution (trellis n p) (fed ++ more)).ranks) (item_at fed (solution (trellis n p) fed).ranks) first k
     (λ i ge lt. kept-label n p fed more i (omega (arith, lt, le)))
 
 -- a session that keeps the open piece of these points, with what is committed of it, stands for them
-pub stands-by : (new : Session) (fed : List Layer) (s : Splits (trellis new.network new.params) 0 fed) → s.closed ≡ new.first → new.layers ≡ drop new.first fed → points_of new ≡ length fed
-    → IsCommitted (trellis new.network new.params) (reverse new.layers) new.told → StandsFor new fed
+pub stands-by : (new : Session) (fed : List Layer) (s : Splits (trellis new.network new.params) 0 fed) → s.closed ≡ new.first → new.layers ≡ drop new.first fed → fed_position_count new ≡ length fed
+    → IsCommitted (trellis new.network new.params) (reverse new.layers) new.told → RepresentsLayers new fed
 stands-by new fed s first layers count committed =
     let t = trellis new.network new.params in
     let xs = drop s.closed fed in
@@ -112,7 +112,7 @@ pub record IsSplitAt (old : Session) (fed : List Layer) (s : Splits (trellis old
   pub within : s.closed ≤ length fed
   pub count : s.closed + length (drop s.closed fed) ≡ length fed
 
-pub split-of : (old : Session) (fed : List Layer) (s : Splits (trellis old.network old.params) 0 fed) → StandsFor old fed → IsSplitAt old fed s
+pub split-of : (old : Session) (fed : List Layer) (s : Splits (trellis old.network old.params) 0 fed) → RepresentsLayers old fed → IsSplitAt old fed s
 split-of old fed s st =
     let t = trellis old.network old.params in
     let first : s.closed ≡ old.first = sym (opens_first t fed s) ∙ st.first_is in

@@ -11,10 +11,10 @@ use Rattle.matching.specs.declared.parts.Layer.{Layer}
 use Rattle.matching.specs.Layers.{candidate_of_rank, no_candidate, trellis}
 use Rattle.route_rebuild.specs.Routes.{no_layer}
 use Rattle.online_commit.specs.declared.items.Item.{Item}
-use Rattle.online_commit.specs.inside.Masks.{AreMasks, IsOnly, mask_at}
+use Rattle.online_commit.specs.inside.Masks.{AreMasks, IsOnlyRank, mask_at}
 use Rattle.online_commit.specs.inside.Pieces.{AreFirstSettled, GoesOn, IsEven, IsExtended, IsLetGo, MayGrow, Piece, Whole, session_with, shorter}
-use Rattle.online_commit.specs.Session.{IsFed}
-use Rattle.online_commit.specs.inside.Steps.{AreChosen, IsKeptOf, IsSession, seen}
+use Rattle.online_commit.specs.Session.{FeedsLayer}
+use Rattle.online_commit.specs.inside.Steps.{AreChosen, IsKeptOf, IsSession, seen_session}
 use Rattle.online_commit.proofs.Extending.{GoesOnTo, kept-count, tabled-of}
 use Rattle.online_commit.proofs.Grown.{grown-fed, grown-session}
 use Rattle.online_commit.proofs.Kept.{masks-dropped}
@@ -111,8 +111,8 @@ let-go-session n p old new is h =
     })
 
 -- contracts see the same session
-pub let-go-seen : (n : Net) (p : Params) (old new : Whole) → IsLetGo old new → seen (session_with n p new) ≡ seen (session_with n p old)
-let-go-seen n p old new h = ap (λ w. seen (session_with n p w)) (let-go-is old new h)
+pub let-go-seen : (n : Net) (p : Params) (old new : Whole) → IsLetGo old new → seen_session (session_with n p new) ≡ seen_session (session_with n p old)
+let-go-seen n p old new h = ap (λ w. seen_session (session_with n p w)) (let-go-is old new h)
 
 -- a session that took a point, and then let points go
 
@@ -122,9 +122,9 @@ went-session n p old new l cells (Ok items) h ok err = let-go-session n p ok.gro
 went-session n p old new l cells (Err e) h ok err = subst (λ a. IsSession (session_with n p a)) (sym err) h.session
 
 pub went-fed : {E : Type 0} (n : Net) (p : Params) (old new : Whole) (l : Layer) (cells : List Cell) (r : Result (List Item) E) → GoesOnTo (session_with n p old) l cells
-    → IfOk r (GoesOn old l cells new) → IfOk r (IsFed (seen (session_with n p old)) l (seen (session_with n p new)))
+    → IfOk r (GoesOn old l cells new) → IfOk r (FeedsLayer (seen_session (session_with n p old)) l (seen_session (session_with n p new)))
 went-fed n p old new l cells (Ok items) h ok =
-    subst (λ x. IsFed (seen (session_with n p old)) l x items) (sym (let-go-seen n p ok.grown new ok.lets_go)) (grown-fed (session_with n p old) l cells ok.grown items h ok.is_grown)
+    subst (λ x. FeedsLayer (seen_session (session_with n p old)) l x items) (sym (let-go-seen n p ok.grown new ok.lets_go)) (grown-fed (session_with n p old) l cells ok.grown items h ok.is_grown)
 went-fed n p old new l cells (Err e) h ok = tt
 
 -- each kept point still has its layer, its cells and its mask
@@ -148,7 +148,7 @@ grown-even old new l cells items may ext =
 pub first-none : (a : Piece) (old : List Candidate) → AreFirstSettled a old 0 old
 first-none a old = record { more = []; appended = sym (append-nil old); count_is = refl; each = λ i lt. absurd (omega (arith, lt)) }
 
-pub first-more : (a : Piece) (old new : List Candidate) (count r : ℕ) (x : Candidate) → AreFirstSettled a old count new → IsOnly (mask_at a.masks count) r → x ≡ candidate_of_rank (get_or a.layers count no_layer) r
+pub first-more : (a : Piece) (old new : List Candidate) (count r : ℕ) (x : Candidate) → AreFirstSettled a old count new → IsOnlyRank (mask_at a.masks count) r → x ≡ candidate_of_rank (get_or a.layers count no_layer) r
     → AreFirstSettled a old (count + 1) (new ++ x ∷ [])
 first-more a old new count r x h only is =
     let c = h.count_is in
@@ -161,6 +161,6 @@ first-more a old new count r x h only is =
           (λ ge.
           let at : count ≡ i = omega (arith, lt, ge) in
           let end : i ≡ length h.more = omega (arith, at, c) in
-          (r, subst (λ k. IsOnly (mask_at a.masks k) r) at only, ap (λ k. get_or (h.more ++ x ∷ []) k no_candidate) end ∙ get_or-append_seam h.more x [] no_candidate ∙ is ∙ ap (λ k. candidate_of_rank (get_or a.layers k no_layer) r) at))
+          (r, subst (λ k. IsOnlyRank (mask_at a.masks k) r) at only, ap (λ k. get_or (h.more ++ x ∷ []) k no_candidate) end ∙ get_or-append_seam h.more x [] no_candidate ∙ is ∙ ap (λ k. candidate_of_rank (get_or a.layers k no_layer) r) at))
           (cases_lt i count);
     }

@@ -5,7 +5,7 @@ use Rattle.std.proofs.lemmas.List.{get_or_past}
 use Rattle.matching.specs.declared.parts.Cell.{Cell}
 use Rattle.matching.specs.Cells.{cell_at, empty_cell, IsLive}
 use Rattle.matching.proofs.Chosen.{live_below}
-use Rattle.online_commit.specs.inside.Masks.{HasBit, IsBehind, IsLiveMask}
+use Rattle.online_commit.specs.inside.Masks.{HasBit, ArePreviousRanks, IsLiveMask}
 use Rattle.online_commit.proofs.Bits.{no-bit}
 
 abbrev LiveBelow : List Cell → ℕ → ℕ → Type 0
@@ -45,7 +45,7 @@ pointer-below : (cells : List Cell) (r a : ℕ) → (cell_at cells r).«from» �
 pointer-below cells r a e =
     ⊎_elim (λ lt. lt) (λ past. absurd (let z : (cell_at cells r).«from» ≡ None = ap (λ v. v.«from») (get_or_past cells r empty_cell past) in cc)) (cases_lt r (length cells))
 
-pub behind-done : (cells : List Cell) (mask behind rank : ℕ) → length cells ≤ rank → BehindBelow cells mask behind rank → IsBehind cells mask behind
+pub behind-done : (cells : List Cell) (mask behind rank : ℕ) → length cells ≤ rank → BehindBelow cells mask behind rank → ArePreviousRanks cells mask behind
 behind-done cells mask behind rank le all a = (
   λ h. let k = (all a).0 h in (k.0, k.2, k.3),
   λ h. (all a).1 (h.0, (let lt = pointer-below cells h.0 a h.2 in omega (arith, lt, le)), h.1, h.2),

@@ -18,7 +18,8 @@ use Rattle.matching.proofs.Costs.{cost-length}
 use Rattle.matching.proofs.Matches.{match_all, match_none, match_piece, solved_from}
 use Rattle.matching.proofs.WholePiece.{IsFollowed, in_asked, piece_from}
 use Rattle.trellis.specs.declared.parts.Solved.{Solved}
-use Rattle.route_rebuild.specs.Chosen.{IsChosenRun, IsSolved}
+use Rattle.route_rebuild.specs.Chosen.{IsSolved}
+use Rattle.route_rebuild.specs.inside.ChosenRuns.{IsChosenRun}
 use Rattle.route_rebuild.specs.Routes.{IsWalkStart}
 use Rattle.route_rebuild.proofs.ChosenEnds.{chosen_asked}
 use Rattle.route_rebuild.proofs.ChosenRun.{chosen_run}

@@ -18,7 +18,7 @@ use Rattle.matching.proofs.Fronts.{ends-in, front-grows}
 use Rattle.matching.proofs.Lists.{at-get_or, reverse-take}
 use Rattle.matching.proofs.Meeting.{Passes, passes_back, passes_itself, meet, apart}
 use Rattle.matching.proofs.Splits.{OneOrNone}
-use Rattle.online_commit.specs.inside.Masks.{AreMasks, HasBit, IsBehind, IsLiveMask, IsNotOne, IsOnly, mask_at}
+use Rattle.online_commit.specs.inside.Masks.{AreMasks, HasBit, ArePreviousRanks, IsLiveMask, IsNotOne, IsOnlyRank, mask_at}
 
 -- an open piece with its tables
 pub record IsTabled {L : Type 0} (t : Trellis L) (xs : List L) (tables : List (List Cell)) : Type 0 where
@@ -40,7 +40,7 @@ setting t xs tables h = setting_of t xs tables h.count h.some h.linked
 -- the masks of the points from `low` on
 pub record AreMasksFrom (low : ℕ) (tables : List (List Cell)) (mask : ℕ → ℕ) (n : ℕ) : Type 0 where
   pub live : IsLiveMask (get_or tables (n - 1) []) (mask (n - 1))
-  pub back : (i : ℕ) → low ≤ i → i + 1 < n → IsBehind (get_or tables (i + 1) []) (mask (i + 1)) (mask i)
+  pub back : (i : ℕ) → low ≤ i → i + 1 < n → ArePreviousRanks (get_or tables (i + 1) []) (mask (i + 1)) (mask i)
 
 -- those of the points after the first `low`
 pub masks-from : (low : ℕ) (tables : List (List Cell)) (masks : List ℕ) (n : ℕ) → low < n → AreMasks (drop low tables) (mask_at masks) (n - low) → AreMasksFrom low tables (λ i. mask_at masks (i - low)) n
@@ -53,8 +53,8 @@ masks-from low tables masks n lt h =
       back = λ i ge inside.
           let next : i - low + 1 ≡ i + 1 - low = omega (arith, ge) in
           let there : low + (i + 1 - low) ≡ i + 1 = omega (arith, ge) in
-          subst (λ c. IsBehind c (mask_at masks (i + 1 - low)) (mask_at masks (i - low))) (get_or-drop low tables (i + 1 - low) [] ∙ ap (λ k. get_or tables k []) there)
-          (subst (λ k. IsBehind (get_or (drop low tables) k []) (mask_at masks k) (mask_at masks (i - low))) next (h.back (i - low) (omega (arith, ge, inside))));
+          subst (λ c. ArePreviousRanks c (mask_at masks (i + 1 - low)) (mask_at masks (i - low))) (get_or-drop low tables (i + 1 - low) [] ∙ ap (λ k. get_or tables k []) there)
+          (subst (λ k. ArePreviousRanks (get_or (drop low tables) k []) (mask_at masks k) (mask_at masks (i - low))) next (h.back (i - low) (omega (arith, ge, inside))));
     }
 
 -- the mask of point i has the ranks that the best sequences to the live ranks have there
@@ -94,7 +94,7 @@ pointer-of tables i a table at h =
     let step = ap (λ ts. length (by_pointers ts (Some a))) (reverse-take tables (i + 1) table at) in
     has_pointer (reverse (take (i + 1) tables)) ((cell_at table a).«from») (i + 1) (omega arith) (omega (arith, step, h))
 
-tells-back : (tables : List (List Cell)) (mask behind i : ℕ) (table : List Cell) → IsAt tables (i + 1) table → IsBehind table mask behind → Tells tables mask (i + 1) → Tells tables behind i
+tells-back : (tables : List (List Cell)) (mask behind i : ℕ) (table : List Cell) → IsAt tables (i + 1) table → ArePreviousRanks table mask behind → Tells tables mask (i + 1) → Tells tables behind i
 tells-back tables mask behind i table at back h = record {
   covers = λ j live.
       let p = h.covers j live in
@@ -120,7 +120,7 @@ tells t xs tables mask low i h masks high lt = tells-from t xs tables mask low (
 
 -- where one rank is left, the sequences agree up to there
 
-agree-at : {L : Type 0} (t : Trellis L) (xs : List L) (tables : List (List Cell)) (mask i r : ℕ) → IsTabled t xs tables → Tells tables mask i → IsOnly mask r → Agree t (reverse xs) (i + 1)
+agree-at : {L : Type 0} (t : Trellis L) (xs : List L) (tables : List (List Cell)) (mask i r : ℕ) → IsTabled t xs tables → Tells tables mask i → IsOnlyRank mask r → Agree t (reverse xs) (i + 1)
 agree-at t xs tables mask i r h told only j k c d ranks others bj bk =
     let s = setting t xs tables h in
     let vj = best_in t (reverse xs) tables (last_of tables) j c ranks s bj in
@@ -167,7 +167,7 @@ agree-old t xs more told one old =
 pub record IsBoundary (mask : ℕ → ℕ) («from» to n : ℕ) : Type 0 where
   pub low : «from» ≤ to
   pub high : to ≤ n
-  pub single : (j : ℕ) → «from» ≤ j → j < to → (r : ℕ) × IsOnly (mask j) r
+  pub single : (j : ℕ) → «from» ≤ j → j < to → (r : ℕ) × IsOnlyRank (mask j) r
   pub ends : to < n → IsNotOne (mask to)
 
 agree-boundary : {L : Type 0} (t : Trellis L) (xs : List L) (tables : List (List Cell)) (mask : ℕ → ℕ) (low «from» to : ℕ) → IsTabled t xs tables → AreMasksFrom low tables mask (length xs) → low ≤ «from»
@@ -209,7 +209,7 @@ rank-passed tables whole i a table at p =
     ∙ ap (λ k. get_or (reverse rest ++ a ∷ []) k 0) (sym back) ∙ get_or-append_seam (reverse rest) a [] 0
 
 best-rank : {L : Type 0} (t : Trellis L) (xs : List L) (tables : List (List Cell)) (mask : ℕ → ℕ) (low i r c j : ℕ) (known : List ℕ) → IsTabled t xs tables → AreMasksFrom low tables mask (length xs)
-    → low ≤ i → i < length xs → IsOnly (mask i) r → IsBestTo t (reverse xs) j c known → get_or (reverse (j ∷ known)) i 0 ≡ r
+    → low ≤ i → i < length xs → IsOnlyRank (mask i) r → IsBestTo t (reverse xs) j c known → get_or (reverse (j ∷ known)) i 0 ≡ r
 best-rank t xs tables mask low i r c j known h masks high lt only best =
     let s = setting t xs tables h in
     let v = best_in t (reverse xs) tables (last_of tables) j c known s best in
@@ -222,7 +222,7 @@ best-ends t [] c ranks some best = absurd (omega (arith, some))
 best-ends t (l ∷ layers) c ranks some best = ends-in t l layers c ranks best
 
 pub chosen-single : {L : Type 0} (t : Trellis L) (xs : List L) (tables : List (List Cell)) (mask : ℕ → ℕ) (low i r c : ℕ) (ranks : List ℕ) → IsTabled t xs tables → AreMasksFrom low tables mask (length xs)
-    → low ≤ i → i < length xs → IsOnly (mask i) r → IsBest t (reverse xs) c (reverse ranks) → get_or ranks i 0 ≡ r
+    → low ≤ i → i < length xs → IsOnlyRank (mask i) r → IsBest t (reverse xs) c (reverse ranks) → get_or ranks i 0 ≡ r
 chosen-single t xs tables mask low i r c ranks h masks high lt only best =
     let some = h.some in
     let e = best-ends t (reverse xs) c (reverse ranks) (omega (arith, some, length-reverse xs)) best in
@@ -230,7 +230,7 @@ chosen-single t xs tables mask low i r c ranks h masks high lt only best =
 
 -- where one rank is left at a point, all sequences pass it
 pub passed-single : {L : Type 0} (t : Trellis L) (xs : List L) (tables : List (List Cell)) (mask : ℕ → ℕ) (low i r j : ℕ) → IsTabled t xs tables → AreMasksFrom low tables mask (length xs)
-    → low ≤ i → i < length xs → IsOnly (mask i) r → IsLive (last_of tables) j → get_or (reverse (chain tables j)) i 0 ≡ r
+    → low ≤ i → i < length xs → IsOnlyRank (mask i) r → IsLive (last_of tables) j → get_or (reverse (chain tables j)) i 0 ≡ r
 passed-single t xs tables mask low i r j h masks high lt only live =
     let p = (tells t xs tables mask low i h masks high lt).covers j live in
     rank-passed tables (chain tables j) i p.0 (get_or tables i []) (at-get_or tables i [] (omega (arith, lt, h.count))) p.2 ∙ only.1 p.0 p.1

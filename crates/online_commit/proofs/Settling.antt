@@ -5,7 +5,7 @@ use Rattle.std.proofs.lemmas.List.{length_push}
 use Rattle.std.proofs.lemmas.List.FromFn.{map-range_with_len_more}
 use Rattle.matching.specs.declared.parts.Layer.{Layer}
 use Rattle.online_commit.specs.declared.items.Item.{Item}
-use Rattle.online_commit.specs.inside.Masks.{IsNotOne, IsOnly}
+use Rattle.online_commit.specs.inside.Masks.{IsNotOne, IsOnlyRank}
 use Rattle.online_commit.specs.inside.Steps.{AreSettled, ranked_item, ranked_items}
 
 pub ranked-more : (first : ℕ) (layers : List Layer) (rank : ℕ → ℕ) (start point : ℕ) → start ≤ point
@@ -20,8 +20,8 @@ ranked-none first layers rank start = let e : start - start ≡ 0 = omega arith 
 -- the points from `start` to before `point` have one rank each, and these are their items
 pub record IsSettledSoFar (first : ℕ) (layers : List Layer) (mask : ℕ → ℕ) (start point : ℕ) (items : List Item) : Type 0 where
   pub count : length items ≡ point - start
-  pub single : (j : ℕ) → start ≤ j → j < point → (r : ℕ) × IsOnly (mask j) r
-  pub are : (rank : ℕ → ℕ) → ((j : ℕ) → start ≤ j → j < point → IsOnly (mask j) (rank j)) → items ≡ ranked_items first layers rank start (point - start)
+  pub single : (j : ℕ) → start ≤ j → j < point → (r : ℕ) × IsOnlyRank (mask j) r
+  pub are : (rank : ℕ → ℕ) → ((j : ℕ) → start ≤ j → j < point → IsOnlyRank (mask j) (rank j)) → items ≡ ranked_items first layers rank start (point - start)
 
 pub settled-begin : (first : ℕ) (layers : List Layer) (mask : ℕ → ℕ) (start : ℕ) → IsSettledSoFar first layers mask start start []
 settled-begin first layers mask start = record {
@@ -31,10 +31,10 @@ settled-begin first layers mask start = record {
 }
 
 pub settled-more : (first : ℕ) (layers : List Layer) (mask : ℕ → ℕ) (start point r : ℕ) (items : List Item) (item : Item) → start ≤ point → IsSettledSoFar first layers mask start point items
-    → IsOnly (mask point) r → item ≡ ranked_item first layers (λ j. r) point → IsSettledSoFar first layers mask start (point + 1) (items ++ item ∷ [])
+    → IsOnlyRank (mask point) r → item ≡ ranked_item first layers (λ j. r) point → IsSettledSoFar first layers mask start (point + 1) (items ++ item ∷ [])
 settled-more first layers mask start point r items item le h only is = record {
   count = let c = h.count in omega (arith, length_push items item, c, le);
-  single = λ j ge lt. ⊎_elim (λ less. h.single j ge less) (λ more. let e : j ≡ point = omega (arith, lt, more) in (r, subst (λ i. IsOnly (mask i) r) (sym e) only)) (cases_lt j point);
+  single = λ j ge lt. ⊎_elim (λ less. h.single j ge less) (λ more. let e : j ≡ point = omega (arith, lt, more) in (r, subst (λ i. IsOnlyRank (mask i) r) (sym e) only)) (cases_lt j point);
   are = λ rank each.
       let same : rank point ≡ r = only.1 (rank point) (each point le (omega arith)).0 in
       ap (λ ys. ys ++ item ∷ []) (h.are rank (λ j ge lt. each j ge (omega (arith, lt))))

@@ -20,8 +20,8 @@ label_item i l None = Missing i
 label_item i l (Some rank) = At i (candidate_of_rank l rank)
 
 -- the label of position i
-abbrev pub label_at : List Layer → List (Option ℕ) → ℕ → Item
-label_at layers ranks i = label_item i (slice_index_or layers i no_layer) (slice_index_or ranks i None)
+abbrev pub item_at : List Layer → List (Option ℕ) → ℕ → Item
+item_at layers ranks i = label_item i (slice_index_or layers i no_layer) (slice_index_or ranks i None)
 
 abbrev pub edge_ids : List ℕ → List EdgeId
 edge_ids es = map (λ e. record { 0 = e }) es
@@ -43,7 +43,7 @@ points_from label closed i (suc k) = label i ∷ closed i ++ points_from label c
 -- the labels of the first k positions of a trace with these ranks, and these pieces
 abbrev pub items_with : Net → Params → List Layer → List (Option ℕ) → List Piece → ℕ → List Item
 items_with n p layers ranks pieces k =
-    points_from (label_at layers ranks) (closed_at n p layers ranks pieces) 0 k
+    points_from (item_at layers ranks) (closed_at n p layers ranks pieces) 0 k
 
 -- all that is told of a trace that has ended
 unfoldable pub items_of : Net → Params → List Layer → List Item

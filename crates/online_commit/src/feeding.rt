@@ -7,7 +7,7 @@ ghost use Rattle.road_network.specs.Net.{Net};
 ghost use Rattle.online_commit.specs.inside.Masks.{AreMasks, HasFewRanks, mask_at, mask_written};
 ghost use Rattle.online_commit.specs.Session.{IsFedLayer};
 ghost use Rattle.online_commit.specs.inside.Steps.{AsksStep, IsSession, TellsCells};
-ghost use Rattle.online_commit.specs.inside.Pieces.{HasRoom, IsAppended, IsBegun, IsExtended, MayGrow, Settles, session_of, piece_of};
+ghost use Rattle.online_commit.specs.inside.Pieces.{HasRoomForLayer, IsAppended, IsBegun, IsExtended, MayGrow, Settles, session_of, shown_piece};
 
 use crate::items::Item;
 use crate::masks::changed_masks;
@@ -47,7 +47,7 @@ impl Drop for Tail {
 
 /// No positions. Allocates nothing.
 pub fn no_tail(alloc: Global, first: u32) -> Tail
-    ensures { piece_of result ≡ record { first = first; told = 0; layers = []; tables = []; masks = [] } }
+    ensures { shown_piece result ≡ record { first = first; told = 0; layers = []; tables = []; masks = [] } }
 {
     Tail {
         alloc,
@@ -112,11 +112,11 @@ fn append_point(
     cells: Potentials,
     changed: &[u32],
 ) -> Result<(), AllocError>
-    requires room { HasRoom piece.old }
+    requires room { HasRoomForLayer piece.old }
     requires changed { length changed.now ≤ vec_len piece.old.masks + 1 }
     ensures ok { IsOk result }
     ensures told { piece.new.told ≡ piece.old.told }
-    ensures appended { IsAppended (piece_of piece.old) layer cells changed.now (piece_of piece.new) }
+    ensures appended { IsAppended (shown_piece piece.old) layer cells changed.now (shown_piece piece.new) }
 {
     piece.layers.push(layer)?;
     piece.tables.push(cells)?;
@@ -127,8 +127,8 @@ fn append_point(
 
 /// Reserves room for one more position.
 fn make_room(piece: &mut Tail) -> Result<(), AllocError>
-    ensures same { piece_of piece.new ≡ piece_of piece.old }
-    ensures room { OnOk result (HasRoom piece.new) }
+    ensures same { shown_piece piece.new ≡ shown_piece piece.old }
+    ensures room { OnOk result (HasRoomForLayer piece.new) }
 {
     piece.layers.reserve(1)?;
     piece.tables.reserve(1)?;
@@ -139,8 +139,8 @@ fn make_room(piece: &mut Tail) -> Result<(), AllocError>
 /// The masks that change if a position with these cells follows the piece, and the items of the positions that it
 /// commits.
 fn settle(piece: &Tail, layer: &Layer, cells: &[Cell]) -> Result<(Vec<u32>, List<Item>), AllocError>
-    requires { MayGrow (piece_of piece.now) cells.now }
-    ensures { IfOk result (λ made. Settles (piece_of piece.now) layer.now cells.now made.0.items made.1) }
+    requires { MayGrow (shown_piece piece.now) cells.now }
+    ensures { IfOk result (λ made. Settles (shown_piece piece.now) layer.now cells.now made.0.items made.1) }
 {
     let changed = changed_masks(piece.alloc, &piece.tables, &piece.masks, cells)?;
     let growing = Growing {
@@ -156,9 +156,9 @@ fn settle(piece: &Tail, layer: &Layer, cells: &[Cell]) -> Result<(Vec<u32>, List
 
 /// Appends a position with its cells to the open piece, and returns the items of the positions that it commits.
 pub fn extend(piece: &mut Tail, layer: Layer, cells: Potentials) -> Result<List<Item>, AllocError>
-    requires { MayGrow (piece_of piece.old) cells }
-    ensures ok { IfOk result (IsExtended (piece_of piece.old) layer cells (piece_of piece.new)) }
-    ensures err { OnErr result (piece_of piece.new ≡ piece_of piece.old) }
+    requires { MayGrow (shown_piece piece.old) cells }
+    ensures ok { IfOk result (IsExtended (shown_piece piece.old) layer cells (shown_piece piece.new)) }
+    ensures err { OnErr result (shown_piece piece.new ≡ shown_piece piece.old) }
 {
     let (changed, items) = settle(piece, &layer, cells.as_slice())?;
     make_room(piece)?;
@@ -178,7 +178,7 @@ pub fn begin(
     requires options { IsAccepted p.now }
     requires few { index < 100_000 }
     requires layer { (net : Net) × IsFedLayer net p.now layer }
-    ensures { IfOk result (λ begun. IsBegun p.now index layer (piece_of begun.0) begun.1) }
+    ensures { IfOk result (λ begun. IsBegun p.now index layer (shown_piece begun.0) begun.1) }
 {
     let mut piece = no_tail(alloc, index);
     if layer.candidates.len() == 0 {

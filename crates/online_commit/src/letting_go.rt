@@ -1,6 +1,6 @@
 //! Settled positions of the open piece, of which only the candidate is kept. Serves `feed`; decided by `IsLetGo`.
 ghost use Rattle.std.specs.Prelude.{◌≡◌, ◌-◌, ◌≤◌, IfOk, OnErr, drop, length};
-ghost use Rattle.online_commit.specs.inside.Pieces.{AreFirstSettled, GoesOn, IsEven, IsLetGo, MayGrow, piece_of, shorter, whole_of};
+ghost use Rattle.online_commit.specs.inside.Pieces.{AreFirstSettled, GoesOn, IsEven, IsLetGo, MayGrow, shown_piece, shorter, whole_of};
 
 use crate::feeding::Tail;
 use crate::items::Item;
@@ -41,9 +41,9 @@ fn drop_first<T: Drop>(items: &mut Vec<T>, count: usize)
 /// Appends the candidates of the first positions, at most `count`, and returns how many. It stops where memory runs
 /// out: then the other positions stay kept.
 fn settle_first(settled: &mut Vec<Candidate>, tail: &Tail, count: usize) -> usize
-    requires { IsEven (piece_of tail.now) × (count ≤ length tail.now.layers.items) }
+    requires { IsEven (shown_piece tail.now) × (count ≤ length tail.now.layers.items) }
     ensures few { result ≤ count }
-    ensures settled { AreFirstSettled (piece_of tail.now) settled.old.items result settled.new.items }
+    ensures settled { AreFirstSettled (shown_piece tail.now) settled.old.items result settled.new.items }
 {
     for point in 0..count {
         let Some(rank) = only_rank(tail.masks[point]) else {
@@ -58,8 +58,8 @@ fn settle_first(settled: &mut Vec<Candidate>, tail: &Tail, count: usize) -> usiz
 
 /// Drops the first `count` positions.
 fn shorten(tail: &mut Tail, count: usize)
-    requires { IsEven (piece_of tail.old) × (count ≤ tail.old.told) }
-    ensures { piece_of tail.new ≡ shorter (piece_of tail.old) count }
+    requires { IsEven (shown_piece tail.old) × (count ≤ tail.old.told) }
+    ensures { shown_piece tail.new ≡ shorter (shown_piece tail.old) count }
 {
     drop_first(&mut tail.layers, count);
     drop_first(&mut tail.tables, count);
@@ -70,7 +70,7 @@ fn shorten(tail: &mut Tail, count: usize)
 
 /// Lets go of settled positions: of these only the candidate is kept.
 fn let_go(piece: &mut OpenPiece)
-    requires { IsEven (piece_of piece.old.tail) }
+    requires { IsEven (shown_piece piece.old.tail) }
     ensures { IsLetGo (whole_of piece.old) (whole_of piece.new) }
 {
     let count = spare(&piece.tail);
@@ -85,7 +85,7 @@ pub fn go_on(
     layer: Layer,
     cells: Potentials,
 ) -> Result<List<Item>, AllocError>
-    requires { MayGrow (piece_of piece.old.tail) cells }
+    requires { MayGrow (shown_piece piece.old.tail) cells }
     ensures ok { IfOk result (GoesOn (whole_of piece.old) layer cells (whole_of piece.new)) }
     ensures err { OnErr result (whole_of piece.new ≡ whole_of piece.old) }
 {

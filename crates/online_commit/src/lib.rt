@@ -11,7 +11,7 @@
 //! A new position changes the sets from the last one back to the first one that stays the same. No clause bounds
 //! how many sets change.
 //!
-//! Read first: `handed` in `specs/Items.antt`, `StandsFor` and `IsFed` in `specs/Session.antt`.
+//! Read first: `handed` in `specs/Items.antt`, `RepresentsLayers` and `FeedsLayer` in `specs/Session.antt`.
 #![tactic(auto)]
 
 mod closing;

@@ -3,7 +3,7 @@
 ghost use Rattle.std.specs.Prelude.{◌≡◌, ◌↔◌, ◌⊎◌, ◌+◌, ◌-◌, ◌<◌, ◌≤◌, ℕ, List as ListOf, [], ◌∷◌, ◌++◌, IsTrue, IfOk, MatchOption, length, slice_index_or};
 ghost use Rattle.std.specs.List.{All};
 ghost use Rattle.matching.specs.Cells.{IsLive};
-ghost use Rattle.online_commit.specs.inside.Masks.{AreMasks, HasBit, HasFewRanks, IsBehind, IsLiveMask, IsNotOne, IsOnly, mask_after, mask_at};
+ghost use Rattle.online_commit.specs.inside.Masks.{AreMasks, HasBit, HasFewRanks, ArePreviousRanks, IsLiveMask, IsNotOne, IsOnlyRank, mask_after, mask_at};
 
 use std::alloc::{AllocError, Global};
 use trellis::{Cell, Potentials};
@@ -60,7 +60,7 @@ fn with_pointer(behind: u32, mask: u32, rank: u32, cell: Cell) -> u32
 /// The ranks at the previous point to which the cells of these ranks point.
 pub fn ranks_behind(cells: &[Cell], mask: u32) -> u32
     requires { HasFewRanks cells.now }
-    ensures { IsBehind cells.now mask result }
+    ensures { ArePreviousRanks cells.now mask result }
 {
     let mut behind = 0;
     for rank in 0..cells.len() {
@@ -71,7 +71,7 @@ pub fn ranks_behind(cells: &[Cell], mask: u32) -> u32
 
 /// The only rank of a set of one.
 pub fn only_rank(mask: u32) -> Option<u32>
-    ensures { MatchOption result (IsNotOne mask) (IsOnly mask) }
+    ensures { MatchOption result (IsNotOne mask) (IsOnlyRank mask) }
 {
     if mask == 0 {
         return None;

@@ -1,9 +1,9 @@
-//! The session. Serves those who follow a trace; decided by `IsFed` and `IsFinished`.
+//! The session. Serves those who follow a trace; decided by `FeedsLayer` and `IsFinished`.
 ghost use Rattle.std.specs.Prelude.{◌≡◌, ◌+◌, ◌<◌, ◌^◌, [], ◌++◌, IfOk, OnErr, OnOk, length};
 ghost use Rattle.bounded_table.specs.Rows.{AreRowsOf, AsksOnly};
 ghost use Rattle.cost_model.specs.Options.{IsAccepted};
 ghost use Rattle.matching.specs.PieceSteps.{AsksIn};
-ghost use Rattle.online_commit.specs.Session.{AsksFed, AsksFinished, CanFeed, IsFed, IsFinished, StandsFor, no_points_of, points_of};
+ghost use Rattle.online_commit.specs.Session.{AsksFed, AsksFinished, CanFeed, FeedsLayer, IsFinished, RepresentsLayers, no_points_of, fed_position_count};
 ghost use Rattle.online_commit.specs.inside.Steps.{EndsBefore, TakesAnew};
 ghost use Rattle.online_commit.specs.inside.Pieces.{session_of, whole_of};
 
@@ -21,7 +21,7 @@ use std::marker::Model;
 use trellis::Layer;
 
 /// A session of one trace. A contract sees the network, the options, and the positions of the open piece;
-/// `StandsFor` says which positions the session represents.
+/// `RepresentsLayers` says which positions the session represents.
 pub struct Online<'n> {
     net: &'n Network,
     params: Params,
@@ -41,13 +41,13 @@ impl<'n> Drop for Online<'n> {
 
 impl<'n> Model for Online<'n> {
     ghost use Rattle.online_commit.specs.Session.{Session};
-    ghost use Rattle.online_commit.specs.inside.SessionInside.{shown_session, IsKept};
+    ghost use Rattle.online_commit.specs.inside.SessionInside.{shown_session, IsSessionKept};
 
     ghost Value = { Session };
 
     ghost view = { shown_session };
 
-    ghost invariant = { IsKept };
+    ghost invariant = { IsSessionKept };
 }
 
 /// Appends items.
@@ -97,7 +97,7 @@ impl<'n> Online<'n> {
     pub fn open(alloc: Global, net: &'n Network, p: &Params) -> Online<'n>
         requires { IsAccepted p.now }
         ensures opened { result ≡ no_points_of net.now p.now }
-        ensures stands { StandsFor result [] }
+        ensures stands { RepresentsLayers result [] }
     {
         Online {
             net,
@@ -122,7 +122,7 @@ impl<'n> Online<'n> {
 
     /// The number of positions taken since the session was opened or finished.
     pub fn count(&self) -> u32
-        ensures { result ≡ points_of self.now }
+        ensures { result ≡ fed_position_count self.now }
     {
         end_of(&self.piece)
     }
@@ -135,7 +135,7 @@ impl<'n> Online<'n> {
     pub fn feed<R: Rows>(&mut self, layer: Layer, rows: &mut R) -> Result<List<Item>, AllocError>
         requires rows { AreRowsOf (R.state rows.old) self.old.network self.old.params.bound }
         requires layer { CanFeed self.old layer }
-        ensures fed { IfOk result (IsFed self.old layer self.new) }
+        ensures fed { IfOk result (FeedsLayer self.old layer self.new) }
         ensures err { OnErr result (self.new ≡ self.old) }
         ensures asks { AsksFed self.old layer (R.state rows.old) result (R.state rows.new) }
     {

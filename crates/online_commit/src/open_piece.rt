@@ -1,6 +1,6 @@
 //! The open piece as a whole. Serves `feed`; decided by `IsGrown`.
 ghost use Rattle.std.specs.Prelude.{◌≡◌, IfOk, OnErr, length};
-ghost use Rattle.online_commit.specs.inside.Pieces.{IsGrown, MayGrow, alone, empty_piece, piece_of, whole_of};
+ghost use Rattle.online_commit.specs.inside.Pieces.{IsGrown, MayGrow, alone, empty_piece, shown_piece, whole_of};
 
 use crate::feeding::{Tail, extend, no_tail};
 use crate::history::History;
@@ -49,7 +49,7 @@ pub fn no_piece(alloc: Global, first: u32) -> OpenPiece
 /// The piece of these positions.
 pub fn piece_alone(tail: Tail) -> OpenPiece
     requires { length tail.layers.items ≡ length tail.tables.items }
-    ensures { whole_of result ≡ alone (piece_of tail) }
+    ensures { whole_of result ≡ alone (shown_piece tail) }
 {
     let mut layers = History::new();
     let mut tables = History::new();
@@ -72,7 +72,7 @@ pub fn grow(
     layer: Layer,
     cells: Potentials,
 ) -> Result<List<Item>, AllocError>
-    requires { MayGrow (piece_of piece.old.tail) cells }
+    requires { MayGrow (shown_piece piece.old.tail) cells }
     ensures ok { IfOk result (IsGrown (whole_of piece.old) layer cells (whole_of piece.new)) }
     ensures err { OnErr result (whole_of piece.new ≡ whole_of piece.old) }
 {

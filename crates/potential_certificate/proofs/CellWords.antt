@@ -11,8 +11,8 @@ use Rattle.match_text.proofs.Fields.{EndsDigits, after_takes, bind_found, bind_s
 use Rattle.matching.specs.Cells.{empty_cell}
 use Rattle.matching.specs.declared.parts.Cell.{Cell}
 use Rattle.potential_certificate.specs.CertificateText.{cell_word, cost_word, pointer_word}
-use Rattle.potential_certificate.specs.HasText.{IsCell, IsCellWord}
-use Rattle.potential_certificate.specs.Reading.{cell_at, cost_at, empty_or_cost, pointer_at, pointer_behind}
+use Rattle.potential_certificate.specs.HasText.{IsCellValue, IsCellWord}
+use Rattle.potential_certificate.specs.Reading.{cell_at_front, cost_at, empty_or_cost, pointer_at, pointer_behind}
 use Rattle.potential_certificate.proofs.WordsOfLine.{EndsWord, ReadsWord}
 
 -- a word that ends does not go on with a digit or with `<`
@@ -73,22 +73,22 @@ not_minus n rest small = by_digits (decimal n) (length-decimal n small).0 (digit
 abbrev cell_with : Option ℕ → Option ℕ → Cell
 cell_with cost pointer = record { cost = cost; «from» = pointer }
 
-cell_again_of : (cost pointer : Option ℕ) (rest : List ℕ) → IsCellWord cost pointer → EndsWord rest → cell_at (32 ∷ (cost_word cost pointer ++ rest)) ≡ Some (cell_with cost pointer, rest)
-unfolding cell_at cost_at
+cell_again_of : (cost pointer : Option ℕ) (rest : List ℕ) → IsCellWord cost pointer → EndsWord rest → cell_at_front (32 ∷ (cost_word cost pointer ++ rest)) ≡ Some (cell_with cost pointer, rest)
+unfolding cell_at_front cost_at
 cell_again_of None pointer rest fits ends = ap (λ (x : Option ℕ). Some (cell_with None x, rest)) (sym fits)
 cell_again_of (Some cost) pointer rest fits ends =
     let behind = pointer_word pointer ++ rest in
     let text_is : 32 ∷ (cost_word (Some cost) pointer ++ rest) ≡ codes " " ++ (decimal cost ++ behind) = ap (λ (t : List ℕ). 32 ∷ t) (append_assoc (decimal cost) (pointer_word pointer) rest) in
-    ap cell_at text_is
+    ap cell_at_front text_is
     ∙ ap (empty_or_cost (codes " " ++ (decimal cost ++ behind))) (not_minus cost behind fits.0)
     ∙ bind_some _ _ (cost, behind) (number_after_again (codes " ") (2 ^ 64 - 1) cost behind (omega (arith, fits.0)) (omega arith) (pointer_ends pointer rest ends))
     ∙ bind_some _ _ (pointer, rest) (pointer_again pointer rest fits.1 ends)
 
 abbrev CellTaken : List ℕ → Cell → List ℕ → Type 0
-CellTaken text cell rest = IsCell cell × (text ≡ 32 ∷ (cell_word cell ++ rest))
+CellTaken text cell rest = IsCellValue cell × (text ≡ 32 ∷ (cell_word cell ++ rest))
 
-cell_takes : (text : List ℕ) (cell : Cell) (rest : List ℕ) → cell_at text ≡ Some (cell, rest) → IsCell cell × (text ≡ 32 ∷ (cell_word cell ++ rest))
-unfolding cell_at cost_at
+cell_takes : (text : List ℕ) (cell : Cell) (rest : List ℕ) → cell_at_front text ≡ Some (cell, rest) → IsCellValue cell × (text ≡ 32 ∷ (cell_word cell ++ rest))
+unfolding cell_at_front cost_at
 cell_takes text cell rest e = by_minus (after_bytes (codes " -") text) refl e
   where
     by_minus : (minus : Option (List ℕ)) → after_bytes (codes " -") text ≡ minus → empty_or_cost text minus ≡ Some (cell, rest) → CellTaken text cell rest
@@ -105,21 +105,21 @@ cell_takes text cell rest e = by_minus (after_bytes (codes " -") text) refl e
         let text_is : text ≡ 32 ∷ (cell_word found ++ pointer.0.1) =
         first.0 ∙ ap (λ (t : List ℕ). codes " " ++ (decimal cost.0.0 ++ t)) second.text_is
         ∙ ap (λ (t : List ℕ). 32 ∷ t) (sym (append_assoc (decimal cost.0.0) (pointer_word pointer.0.0) pointer.0.1)) in
-        let fits : IsCell found = (omega (arith, first.1), second.fits) in
+        let fits : IsCellValue found = (omega (arith, first.1), second.fits) in
         subst (λ (y : Cell × List ℕ). CellTaken text y.0 y.1) (λ i. (parts.0 i, parts.1 i)) (fits, text_is)
 
-no_cell : (rest : List ℕ) → cell_at (10 ∷ rest) ≡ None
-unfolding cell_at cost_at number_after
+no_cell : (rest : List ℕ) → cell_at_front (10 ∷ rest) ≡ None
+unfolding cell_at_front cost_at number_after
 no_cell rest = refl
 
-pub reads_cell : ReadsWord cell_at cell_word IsCell
+pub reads_cell : ReadsWord cell_at_front cell_word IsCellValue
 reads_cell = record {
   again = λ cell rest fits ends. cell_again_of cell.cost cell.«from» rest fits ends;
   takes = cell_takes;
   stops = no_cell;
 }
 
-pub cell_goes_down : (text : List ℕ) (cell : Cell) (rest : List ℕ) → cell_at text ≡ Some (cell, rest) → length rest < length text
+pub cell_goes_down : (text : List ℕ) (cell : Cell) (rest : List ℕ) → cell_at_front text ≡ Some (cell, rest) → length rest < length text
 cell_goes_down text cell rest e = omega (arith, ap length (cell_takes text cell rest e).1, length-append (cell_word cell) rest)
 
 -- ---- an edge of a route

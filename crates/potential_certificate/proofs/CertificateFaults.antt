@@ -14,9 +14,9 @@ use Rattle.row_text.specs.RowLine.{row_line}
 use Rattle.row_text.proofs.LineEnds.{rows_joined}
 use Rattle.row_text.proofs.LineFaults.{Steps, fails_at, same_lines, step}
 use Rattle.row_text.proofs.FaultMeanings.{Means, fault_means, is_bad_line, is_cut}
-use Rattle.potential_certificate.specs.CertificateText.{certificate_lines, certificate_text, first_line, last_line, point_lines, proof_lines, proof_text, text_limit}
-use Rattle.potential_certificate.specs.Faults.{BadLinesAreFirst, CutsLackTheirEnd, IsCertificate, OptionsFit}
-use Rattle.potential_certificate.specs.Reading.{ProofsRead, all_rows_at, behind_first, certificate_of, ended, fault_at, proofs_and_rows, proofs_at}
+use Rattle.potential_certificate.specs.CertificateText.{certificate_lines, certificate_text, certificate_first_line, last_line, position_lines, proof_lines, proof_text, certificate_text_limit}
+use Rattle.potential_certificate.specs.Faults.{BadCertificateLinesAreFirst, CutCertificatesLackTheirEnd, IsCertificate, OptionsFit}
+use Rattle.potential_certificate.specs.Reading.{ProofsRead, all_rows_at, certificate_after_first, certificate_of_text, ended, certificate_fault_at, proofs_and_rows, proofs_at}
 use Rattle.potential_certificate.specs.declared.fault.CertFault.{CertFault}
 use Rattle.potential_certificate.specs.declared.fault.CertFault.TheVariants.{BadLine, Cut, TooLong, Memory}
 use Rattle.potential_certificate.specs.declared.proof.Certificate.{Certificate}
@@ -34,7 +34,7 @@ Read = Result Certificate CertFault
 
 proof_joined : (proof : TraceProof) → concat (proof_lines proof) ≡ proof_text proof
 proof_joined proof =
-    let points = point_lines 0 proof.ranks proof.tables proof.pieces in
+    let points = position_lines 0 proof.ranks proof.tables proof.pieces in
     ap (λ (t : List ℕ). trace_line proof.id ++ t) (concat-append points (end_line proof.id ∷ []) ∙ ap (λ (t : List ℕ). concat points ++ t) (append-nil (end_line proof.id)))
 
 proofs_joined : (proofs : List TraceProof) (rest : List (List ℕ)) → concat (flat_map proof_lines proofs ++ rest) ≡ flat_map proof_text proofs ++ concat rest
@@ -49,26 +49,26 @@ proofs_joined (proof ∷ proofs) rest =
 pub lines_are_text : (p : Params) (c : Certificate) → concat (certificate_lines p c) ≡ certificate_text p c
 lines_are_text p c =
     let last = last_line (length c.proofs) (length c.rows) in
-    ap (λ (t : List ℕ). first_line p ++ t)
+    ap (λ (t : List ℕ). certificate_first_line p ++ t)
     (proofs_joined c.proofs (map row_line c.rows ++ last ∷ [])
     ∙ ap (λ (t : List ℕ). flat_map proof_text c.proofs ++ t) (rows_joined c.rows (last ∷ []) ∙ ap (λ (t : List ℕ). flat_map row_line c.rows ++ t) (append-nil last)))
 
 -- the text is that of a certificate
-whole_reads : (p : Params) (text : List ℕ) (lines : List (List ℕ)) → length text ≤ text_limit → IsCertificate p lines → text ≡ concat lines → (c : Certificate) × (certificate_of p text ≡ Ok c)
+whole_reads : (p : Params) (text : List ℕ) (lines : List (List ℕ)) → length text ≤ certificate_text_limit → IsCertificate p lines → text ≡ concat lines → (c : Certificate) × (certificate_of_text p text ≡ Ok c)
 whole_reads p text lines short is whole =
     let text_is : text ≡ certificate_text p is.certificate = whole ∙ ap concat is.lines_are ∙ lines_are_text p is.certificate in
-    (is.certificate, ap (certificate_of p) text_is ∙ certificates_read_back p is.certificate is.has (subst (λ (t : List ℕ). length t ≤ text_limit) text_is short))
+    (is.certificate, ap (certificate_of_text p) text_is ∙ certificates_read_back p is.certificate is.has (subst (λ (t : List ℕ). length t ≤ certificate_text_limit) text_is short))
 
 -- ---- the first line
 
 no_certificate : (p : Params) → IsCertificate p [] → ⊥
 no_certificate p is = omega (arith, ap length is.lines_are)
 
-first_found : (p : Params) (text first : List ℕ) (others : List (List ℕ)) (rest : List ℕ) → IsCertificate p (first ∷ others) → text ≡ first ++ rest → (after_bytes (first_line p) text ≡ Some rest) × ItemsFrom 0 others
+first_found : (p : Params) (text first : List ℕ) (others : List (List ℕ)) (rest : List ℕ) → IsCertificate p (first ∷ others) → text ≡ first ++ rest → (after_bytes (certificate_first_line p) text ≡ Some rest) × ItemsFrom 0 others
 first_found p text first others rest is begins =
     let c = is.certificate in
-    let parts = same_lines first (first_line p) others (flat_map proof_lines c.proofs ++ (map row_line c.rows ++ last_line (length c.proofs) (length c.rows) ∷ [])) is.lines_are in (
-      ap (after_bytes (first_line p)) (begins ∙ ap (λ (l : List ℕ). l ++ rest) parts.0) ∙ after_again (first_line p) rest,
+    let parts = same_lines first (certificate_first_line p) others (flat_map proof_lines c.proofs ++ (map row_line c.rows ++ last_line (length c.proofs) (length c.rows) ∷ [])) is.lines_are in (
+      ap (after_bytes (certificate_first_line p)) (begins ∙ ap (λ (l : List ℕ). l ++ rest) parts.0) ∙ after_again (certificate_first_line p) rest,
       record {
         proofs = c.proofs;
         rows = c.rows;
@@ -79,15 +79,15 @@ first_found p text first others rest is begins =
       },
     )
 
-first_steps : (p : Params) (text next : List ℕ) → OptionsFit p → after_bytes (first_line p) text ≡ Some next → Steps (IsCertificate p) (ItemsFrom 0) text (first_line p) next
+first_steps : (p : Params) (text next : List ℕ) → OptionsFit p → after_bytes (certificate_first_line p) text ≡ Some next → Steps (IsCertificate p) (ItemsFrom 0) text (certificate_first_line p) next
 first_steps p text next fit is = record {
   one = first_has_one_end p fit;
-  text_is = after_takes (first_line p) text next is;
+  text_is = after_takes (certificate_first_line p) text next is;
   more = λ others u. record {
     certificate = record { proofs = u.proofs; rows = u.rows };
     has = record { proofs = u.proofs_are; rows = u.rows_are; few = u.few };
-    lines_are = ap (λ (ls : List (List ℕ)). first_line p ∷ ls) u.lines_are
-        ∙ ap (λ (n : ℕ). first_line p ∷ (flat_map proof_lines u.proofs ++ (map row_line u.rows ++ last_line n (length u.rows) ∷ []))) (let e : 0 + length u.proofs ≡ length u.proofs = omega arith in e);
+    lines_are = ap (λ (ls : List (List ℕ)). certificate_first_line p ∷ ls) u.lines_are
+        ∙ ap (λ (n : ℕ). certificate_first_line p ∷ (flat_map proof_lines u.proofs ++ (map row_line u.rows ++ last_line n (length u.rows) ∷ []))) (let e : 0 + length u.proofs ≡ length u.proofs = omega arith in e);
   };
   some = no_certificate p;
   only = λ first others rest t begins.
@@ -98,11 +98,11 @@ first_steps p text next fit is = record {
 proofs_few : (proofs : List TraceProof) → length proofs ≤ length (flat_map proof_text proofs)
 proofs_few [] = omega arith
 proofs_few (proof ∷ proofs) =
-    let behind = concat (point_lines 0 proof.ranks proof.tables proof.pieces) ++ end_line proof.id in
+    let behind = concat (position_lines 0 proof.ranks proof.tables proof.pieces) ++ end_line proof.id in
     omega (arith, proofs_few proofs, length-append (proof_text proof) (flat_map proof_text proofs), length-append (trace_line proof.id) behind)
 
 -- the fault that was read of the proofs, or of what stands behind them
-behind_fault : (text next : List ℕ) (fault : CertFault) → length next ≤ text_limit → (read : ProofsRead) → proofs_at text (length next + 1) next ≡ read → proofs_and_rows text read ≡ Err fault → IsBehind text 0 fault read
+behind_fault : (text next : List ℕ) (fault : CertFault) → length next ≤ certificate_text_limit → (read : ProofsRead) → proofs_at text (length next + 1) next ≡ read → proofs_and_rows text read ≡ Err fault → IsBehind text 0 fault read
 behind_fault text next fault short (Err found) is e = same_fault found fault e
 behind_fault text next fault short (Ok (proofs, behind)) is e = λ m counted.
     let taken = proofs_take text (length next + 1) next proofs behind is in
@@ -115,8 +115,8 @@ behind_fault text next fault short (Ok (proofs, behind)) is e = λ m counted.
     rows_fault text (length behind + 1) (0 + length proofs) 0 0 m behind c fault counted (omega arith)
     (omega (arith, short, proofs_few proofs, ap length taken.text_is, parts)) (omega (arith, short, ap length taken.text_is, parts)) ends
 
-first_fault : (p : Params) (text : List ℕ) (fault : CertFault) → OptionsFit p → length text ≤ text_limit → (first : Option (List ℕ)) → after_bytes (first_line p) text ≡ first
-    → behind_first text first ≡ Err fault → FaultIs 1 (IsCertificate p) text fault
+first_fault : (p : Params) (text : List ℕ) (fault : CertFault) → OptionsFit p → length text ≤ certificate_text_limit → (first : Option (List ℕ)) → after_bytes (certificate_first_line p) text ≡ first
+    → certificate_after_first text first ≡ Err fault → FaultIs 1 (IsCertificate p) text fault
 first_fault p text fault fit short None is e =
     let counted : IsCounted text 1 text = record { positive = omega arith; count = omega arith } in
     fails_at (λ n. BadLine n) Cut 1 text fault (
@@ -126,83 +126,83 @@ first_fault p text fault fit short None is e =
       some = no_certificate p;
       none = λ first others rest t begins. none-some rest (sym is ∙ (first_found p text first others rest t begins).0);
     }
-    ) (same_fault (fault_at text text) fault e ∙ fault_here text 1 text counted)
+    ) (same_fault (certificate_fault_at text text) fault e ∙ fault_here text 1 text counted)
 first_fault p text fault fit short (Some next) is e =
     let steps = first_steps p text next fit is in
     let counted : IsCounted text 1 text = record { positive = omega arith; count = omega arith } in
-    let shorter : length next ≤ text_limit = omega (arith, short, ap length steps.text_is, length-append (first_line p) next) in
+    let shorter : length next ≤ certificate_text_limit = omega (arith, short, ap length steps.text_is, length-append (certificate_first_line p) next) in
     step (λ n. BadLine n) Cut 1 fault steps
-    (proofs_fault text (length next + 1) 0 (1 + 1) next fault (counted_behind text 1 text (first_line p) next steps.one steps.text_is counted) (omega arith)
+    (proofs_fault text (length next + 1) 0 (1 + 1) next fault (counted_behind text 1 text (certificate_first_line p) next steps.one steps.text_is counted) (omega arith)
     (behind_fault text next fault shorter (proofs_at text (length next + 1) next) refl e))
 
 -- ---- what a fault means
 
 record Meant (p : Params) (text : List ℕ) (fault : CertFault) : Type 0 where
-  pub short : length text ≤ text_limit
+  pub short : length text ≤ certificate_text_limit
   pub means : Means (λ n. BadLine n) Cut (IsCertificate p) text fault
 
-meant : (p : Params) (text : List ℕ) (fault : CertFault) → OptionsFit p → certificate_of p text ≡ Err fault → (fault ≡ TooLong → ⊥) → Meant p text fault
-meant p text fault fit e other = by_length (nat_lt text_limit (length text)) refl e
+meant : (p : Params) (text : List ℕ) (fault : CertFault) → OptionsFit p → certificate_of_text p text ≡ Err fault → (fault ≡ TooLong → ⊥) → Meant p text fault
+meant p text fault fit e other = by_length (nat_lt certificate_text_limit (length text)) refl e
   where
-    not_whole : length text ≤ text_limit → (lines : List (List ℕ)) → IsCertificate p lines → text ≢ concat lines
+    not_whole : length text ≤ certificate_text_limit → (lines : List (List ℕ)) → IsCertificate p lines → text ≢ concat lines
     not_whole short lines is whole = let read = whole_reads p text lines short is whole in absurd (cc (sym read.1 ∙ e))
 
-    by_length : (long : Bool) → nat_lt text_limit (length text) ≡ long
-        → cond {A = Read} long (Err TooLong) (behind_first text (after_bytes (first_line p) text)) ≡ Err fault → Meant p text fault
+    by_length : (long : Bool) → nat_lt certificate_text_limit (length text) ≡ long
+        → cond {A = Read} long (Err TooLong) (certificate_after_first text (after_bytes (certificate_first_line p) text)) ≡ Err fault → Meant p text fault
     by_length true is h = absurd (other cc)
     by_length false is h =
-        let short : length text ≤ text_limit = search (rules, is) in
-        record { short = short; means = fault_means (λ n. BadLine n) Cut fault (not_whole short) (first_fault p text fault fit short (after_bytes (first_line p) text) refl h) }
+        let short : length text ≤ certificate_text_limit = search (rules, is) in
+        record { short = short; means = fault_means (λ n. BadLine n) Cut fault (not_whole short) (first_fault p text fault fit short (after_bytes (certificate_first_line p) text) refl h) }
 
 -- a text within the limit that is no certificate has a fault that means what it says
-no_whole : (p : Params) (text : List ℕ) → OptionsFit p → length text ≤ text_limit → ((lines : List (List ℕ)) → IsCertificate p lines → text ≢ concat lines)
-    → (fault : CertFault) × (certificate_of p text ≡ Err fault) × Means (λ n. BadLine n) Cut (IsCertificate p) text fault
-no_whole p text fit short not_whole = by_read (behind_first text (after_bytes (first_line p) text)) refl
+no_whole : (p : Params) (text : List ℕ) → OptionsFit p → length text ≤ certificate_text_limit → ((lines : List (List ℕ)) → IsCertificate p lines → text ≢ concat lines)
+    → (fault : CertFault) × (certificate_of_text p text ≡ Err fault) × Means (λ n. BadLine n) Cut (IsCertificate p) text fault
+no_whole p text fit short not_whole = by_read (certificate_after_first text (after_bytes (certificate_first_line p) text)) refl
   where
-    within : nat_lt text_limit (length text) ≡ false
+    within : nat_lt certificate_text_limit (length text) ≡ false
     within = search (rules, short)
 
-    reads : (read : Read) → behind_first text (after_bytes (first_line p) text) ≡ read → certificate_of p text ≡ read
+    reads : (read : Read) → certificate_after_first text (after_bytes (certificate_first_line p) text) ≡ read → certificate_of_text p text ≡ read
     reads read e = rw within e
 
-    by_read : (read : Read) → behind_first text (after_bytes (first_line p) text) ≡ read
-        → (fault : CertFault) × (certificate_of p text ≡ Err fault) × Means (λ n. BadLine n) Cut (IsCertificate p) text fault
+    by_read : (read : Read) → certificate_after_first text (after_bytes (certificate_first_line p) text) ≡ read
+        → (fault : CertFault) × (certificate_of_text p text ≡ Err fault) × Means (λ n. BadLine n) Cut (IsCertificate p) text fault
     by_read (Ok c) e =
         let is = certificates_have_one_text p c text (reads (Ok c) e) in
         absurd (not_whole (certificate_lines p c) (record { certificate = c; has = is.has; lines_are = refl }) (is.text_is ∙ sym (lines_are_text p c)))
     by_read (Err fault) e =
-        (fault, reads (Err fault) e, fault_means (λ n. BadLine n) Cut fault not_whole (first_fault p text fault fit short (after_bytes (first_line p) text) refl e))
+        (fault, reads (Err fault) e, fault_means (λ n. BadLine n) Cut fault not_whole (first_fault p text fault fit short (after_bytes (certificate_first_line p) text) refl e))
 
 -- ---- the laws
 
-pub bad_lines_are_first : BadLinesAreFirst
+pub bad_lines_are_first : BadCertificateLinesAreFirst
 bad_lines_are_first p text n fit = (to, back)
   where
-    by_kind : length text ≤ text_limit → ((k : ℕ) × (◌≡◌ {A = CertFault} (BadLine n) (BadLine k)) × IsFirstBadLineOf (IsCertificate p) k text) ⊎ ((◌≡◌ {A = CertFault} (BadLine n) Cut) × IsCutOf (IsCertificate p) text)
-        → (length text ≤ text_limit) × IsFirstBadLineOf (IsCertificate p) n text
+    by_kind : length text ≤ certificate_text_limit → ((k : ℕ) × (◌≡◌ {A = CertFault} (BadLine n) (BadLine k)) × IsFirstBadLineOf (IsCertificate p) k text) ⊎ ((◌≡◌ {A = CertFault} (BadLine n) Cut) × IsCutOf (IsCertificate p) text)
+        → (length text ≤ certificate_text_limit) × IsFirstBadLineOf (IsCertificate p) n text
     by_kind short (inl (k, e, first)) = let same : k ≡ n = cc in (short, subst (λ (m : ℕ). IsFirstBadLineOf (IsCertificate p) m text) same first)
     by_kind short (inr (e, cut)) = absurd cc
 
-    to : certificate_of p text ≡ Err (BadLine n) → (length text ≤ text_limit) × IsFirstBadLineOf (IsCertificate p) n text
+    to : certificate_of_text p text ≡ Err (BadLine n) → (length text ≤ certificate_text_limit) × IsFirstBadLineOf (IsCertificate p) n text
     to e = let m = meant p text (BadLine n) fit e (λ h. absurd cc) in by_kind m.short m.means.says
 
-    back : (length text ≤ text_limit) × IsFirstBadLineOf (IsCertificate p) n text → certificate_of p text ≡ Err (BadLine n)
+    back : (length text ≤ certificate_text_limit) × IsFirstBadLineOf (IsCertificate p) n text → certificate_of_text p text ≡ Err (BadLine n)
     back h =
         let found = no_whole p text fit h.0 h.1.not_whole in
         found.1 ∙ ap (λ (f : CertFault). let r : Read = Err f in r) (is_bad_line (λ k. BadLine k) Cut found.0 n found.2 h.1)
 
-pub cuts_lack_their_end : CutsLackTheirEnd
+pub cuts_lack_their_end : CutCertificatesLackTheirEnd
 cuts_lack_their_end p text fit = (to, back)
   where
-    by_kind : length text ≤ text_limit → ((k : ℕ) × (◌≡◌ {A = CertFault} Cut (BadLine k)) × IsFirstBadLineOf (IsCertificate p) k text) ⊎ ((◌≡◌ {A = CertFault} Cut Cut) × IsCutOf (IsCertificate p) text)
-        → (length text ≤ text_limit) × IsCutOf (IsCertificate p) text
+    by_kind : length text ≤ certificate_text_limit → ((k : ℕ) × (◌≡◌ {A = CertFault} Cut (BadLine k)) × IsFirstBadLineOf (IsCertificate p) k text) ⊎ ((◌≡◌ {A = CertFault} Cut Cut) × IsCutOf (IsCertificate p) text)
+        → (length text ≤ certificate_text_limit) × IsCutOf (IsCertificate p) text
     by_kind short (inl (k, e, first)) = absurd cc
     by_kind short (inr (e, cut)) = (short, cut)
 
-    to : certificate_of p text ≡ Err Cut → (length text ≤ text_limit) × IsCutOf (IsCertificate p) text
+    to : certificate_of_text p text ≡ Err Cut → (length text ≤ certificate_text_limit) × IsCutOf (IsCertificate p) text
     to e = let m = meant p text Cut fit e (λ h. absurd cc) in by_kind m.short m.means.says
 
-    back : (length text ≤ text_limit) × IsCutOf (IsCertificate p) text → certificate_of p text ≡ Err Cut
+    back : (length text ≤ certificate_text_limit) × IsCutOf (IsCertificate p) text → certificate_of_text p text ≡ Err Cut
     back h =
         let not_whole : (lines : List (List ℕ)) → IsCertificate p lines → text ≢ concat lines =
         λ lines is whole. h.1.missing (record { lines = lines; is = is; rest = []; begins = whole ∙ sym (append-nil (concat lines)) }) in
@@ -222,8 +222,8 @@ answered is (Err found) fault says e other = by_kind says
     by_kind (inl memory) = absurd (other (sym same ∙ memory))
     by_kind (inr read) = read ∙ ap (λ (f : CertFault). let r : Read = Err f in r) same
 
-pub read_bad_line : (p : Params) (text : List ℕ) (result : Read) (n : ℕ) → OptionsFit p → IfErr result (λ found. (found ≡ Memory) ⊎ (certificate_of p text ≡ Err found)) → result ≡ Err (BadLine n) → IsFirstBadLineOf (IsCertificate p) n text
-read_bad_line p text result n fit says e = ((bad_lines_are_first p text n fit).0 (answered (certificate_of p text) result (BadLine n) says e (λ h. absurd cc))).1
+pub read_bad_line : (p : Params) (text : List ℕ) (result : Read) (n : ℕ) → OptionsFit p → IfErr result (λ found. (found ≡ Memory) ⊎ (certificate_of_text p text ≡ Err found)) → result ≡ Err (BadLine n) → IsFirstBadLineOf (IsCertificate p) n text
+read_bad_line p text result n fit says e = ((bad_lines_are_first p text n fit).0 (answered (certificate_of_text p text) result (BadLine n) says e (λ h. absurd cc))).1
 
-pub read_cut : (p : Params) (text : List ℕ) (result : Read) → OptionsFit p → IfErr result (λ found. (found ≡ Memory) ⊎ (certificate_of p text ≡ Err found)) → result ≡ Err Cut → IsCutOf (IsCertificate p) text
-read_cut p text result fit says e = ((cuts_lack_their_end p text fit).0 (answered (certificate_of p text) result Cut says e (λ h. absurd cc))).1
+pub read_cut : (p : Params) (text : List ℕ) (result : Read) → OptionsFit p → IfErr result (λ found. (found ≡ Memory) ⊎ (certificate_of_text p text ≡ Err found)) → result ≡ Err Cut → IsCutOf (IsCertificate p) text
+read_cut p text result fit says e = ((cuts_lack_their_end p text fit).0 (answered (certificate_of_text p text) result Cut says e (λ h. absurd cc))).1

@@ -12,10 +12,10 @@ use Rattle.match_text.proofs.Fields.{after_again, after_takes}
 use Rattle.match_text.proofs.Lines.{trace_again, trace_takes}
 use Rattle.row_text.specs.Reading.{row_at}
 use Rattle.row_text.specs.RowLine.{row_line}
-use Rattle.potential_certificate.specs.CertificateText.{certificate_text, first_line, last_line, proof_text, text_limit}
+use Rattle.potential_certificate.specs.CertificateText.{certificate_text, certificate_first_line, last_line, proof_text, certificate_text_limit}
 use Rattle.potential_certificate.specs.HasText.{IsProof}
 use Rattle.potential_certificate.specs.Laws.{CertificatesHaveOneText, CertificatesReadBack, IsTextOf}
-use Rattle.potential_certificate.specs.Reading.{ProofRead, ProofsRead, all_rows_at, behind_first, certificate_of, ended, proof_and_more, proof_at, proofs_and_rows, proofs_at, proofs_behind, rows_and_end, with_proof}
+use Rattle.potential_certificate.specs.Reading.{ProofRead, ProofsRead, all_rows_at, certificate_after_first, certificate_of_text, ended, proof_and_more, proof_at, proofs_and_rows, proofs_at, proofs_behind, rows_and_end, with_proof}
 use Rattle.potential_certificate.specs.declared.fault.CertFault.{CertFault}
 use Rattle.potential_certificate.specs.declared.fault.CertFault.TheVariants.{TooLong}
 use Rattle.potential_certificate.specs.declared.proof.Certificate.{Certificate}
@@ -27,17 +27,17 @@ use Rattle.potential_certificate.proofs.RowsRead.{rows_again, rows_take}
 -- ---- the code of a read
 
 -- what was read up to the rows
-pub read_so_far : (p : Params) (text rest : List ℕ) (proofs : List TraceProof) (behind : List ℕ) → length text ≤ text_limit → Some rest ≡ after_bytes (first_line p) text
-    → proofs_at text (length rest + 1) rest ≡ Ok (proofs, behind) → certificate_of p text ≡ rows_and_end text proofs (all_rows_at behind)
+pub read_so_far : (p : Params) (text rest : List ℕ) (proofs : List TraceProof) (behind : List ℕ) → length text ≤ certificate_text_limit → Some rest ≡ after_bytes (certificate_first_line p) text
+    → proofs_at text (length rest + 1) rest ≡ Ok (proofs, behind) → certificate_of_text p text ≡ rows_and_end text proofs (all_rows_at behind)
 read_so_far p text rest proofs behind short first proofs_are =
-    let within : nat_lt text_limit (length text) ≡ false = search (rules, short) in
-    rw within (ap (behind_first text) (sym first) ∙ ap (proofs_and_rows text) proofs_are)
+    let within : nat_lt certificate_text_limit (length text) ≡ false = search (rules, short) in
+    rw within (ap (certificate_after_first text) (sym first) ∙ ap (proofs_and_rows text) proofs_are)
 
-pub read_fails : (p : Params) (text rest : List ℕ) (fault : CertFault) → length text ≤ text_limit → Some rest ≡ after_bytes (first_line p) text
-    → proofs_at text (length rest + 1) rest ≡ Err fault → certificate_of p text ≡ Err fault
+pub read_fails : (p : Params) (text rest : List ℕ) (fault : CertFault) → length text ≤ certificate_text_limit → Some rest ≡ after_bytes (certificate_first_line p) text
+    → proofs_at text (length rest + 1) rest ≡ Err fault → certificate_of_text p text ≡ Err fault
 read_fails p text rest fault short first proofs_are =
-    let within : nat_lt text_limit (length text) ≡ false = search (rules, short) in
-    rw within (ap (behind_first text) (sym first) ∙ ap (proofs_and_rows text) proofs_are)
+    let within : nat_lt certificate_text_limit (length text) ≡ false = search (rules, short) in
+    rw within (ap (certificate_after_first text) (sym first) ∙ ap (proofs_and_rows text) proofs_are)
 
 -- ---- the proofs at the front
 
@@ -139,7 +139,7 @@ certificates_read_back p c has short =
     let last = last_line (length c.proofs) (length c.rows) in
     let behind = flat_map row_line c.rows ++ last in
     let rest = flat_map proof_text c.proofs ++ behind in
-    let first : Some rest ≡ after_bytes (first_line p) text = sym (after_again (first_line p) rest) in
+    let first : Some rest ≡ after_bytes (certificate_first_line p) text = sym (after_again (certificate_first_line p) rest) in
     let proofs_are = proofs_again text c.proofs behind (length rest + 1) has.proofs (no_trace c.rows (length c.proofs) (length c.rows)) (omega arith) in
     let rows_are = rows_again c.rows 0 (length behind + 1) last has.rows (no_row (length c.proofs) (length c.rows)) (omega arith) in
     let end : after_bytes last last ≡ Some [] = ap (after_bytes last) (sym (append-nil last)) ∙ after_again last [] in
@@ -150,9 +150,9 @@ rows_few [] = omega arith
 rows_few (row ∷ rows) = omega (arith, rows_few rows, length-append (row_line row) (flat_map row_line rows))
 
 pub certificates_have_one_text : CertificatesHaveOneText
-certificates_have_one_text p c text e = by_length (nat_lt text_limit (length text)) refl e
+certificates_have_one_text p c text e = by_length (nat_lt certificate_text_limit (length text)) refl e
   where
-    by_end : (rest : List ℕ) → text ≡ first_line p ++ rest → length text ≤ text_limit → (proofs : List TraceProof) (behind : List ℕ) → ProofsTaken rest proofs behind → (end : Option (List ℕ))
+    by_end : (rest : List ℕ) → text ≡ certificate_first_line p ++ rest → length text ≤ certificate_text_limit → (proofs : List TraceProof) (behind : List ℕ) → ProofsTaken rest proofs behind → (end : Option (List ℕ))
         → after_bytes (last_line (length proofs) (length (all_rows_at behind).0)) (all_rows_at behind).1 ≡ end
         → ended text (record { proofs = proofs; rows = (all_rows_at behind).0 }) (all_rows_at behind).1 end ≡ Ok c → IsTextOf p c text
     by_end rest first short proofs behind taken None is e = absurd cc
@@ -165,14 +165,14 @@ certificates_have_one_text p c text e = by_length (nat_lt text_limit (length tex
         let left_is : (all_rows_at behind).1 ≡ last = after_takes last (all_rows_at behind).1 [] is ∙ append-nil last in
         let behind_is : behind ≡ flat_map row_line found.rows ++ last = rows.text_is ∙ ap (λ (t : List ℕ). flat_map row_line found.rows ++ t) left_is in
         let text_is : text ≡ certificate_text p found =
-        first ∙ ap (λ (t : List ℕ). first_line p ++ t) (taken.text_is ∙ ap (λ (t : List ℕ). flat_map proof_text proofs ++ t) behind_is) in
+        first ∙ ap (λ (t : List ℕ). certificate_first_line p ++ t) (taken.text_is ∙ ap (λ (t : List ℕ). flat_map proof_text proofs ++ t) behind_is) in
         let few : length found.rows < 2 ^ 32 =
         omega (
           arith,
           short,
           rows_few found.rows,
           ap length first,
-          length-append (first_line p) rest,
+          length-append (certificate_first_line p) rest,
           ap length taken.text_is,
           length-append (flat_map proof_text proofs) behind,
           ap length behind_is,
@@ -181,15 +181,15 @@ certificates_have_one_text p c text e = by_length (nat_lt text_limit (length tex
         let all : IsTextOf p found text = record { has = record { proofs = taken.are; rows = rows.are; few = few }; text_is = text_is; short = short } in
         subst (λ (x : Certificate). IsTextOf p x text) same all
 
-    by_proofs : (rest : List ℕ) → text ≡ first_line p ++ rest → length text ≤ text_limit → (read : ProofsRead) → proofs_at text (length rest + 1) rest ≡ read → proofs_and_rows text read ≡ Ok c → IsTextOf p c text
+    by_proofs : (rest : List ℕ) → text ≡ certificate_first_line p ++ rest → length text ≤ certificate_text_limit → (read : ProofsRead) → proofs_at text (length rest + 1) rest ≡ read → proofs_and_rows text read ≡ Ok c → IsTextOf p c text
     by_proofs rest first short (Err fault) is e = absurd cc
     by_proofs rest first short (Ok (proofs, behind)) is e =
         by_end rest first short proofs behind (proofs_take text (length rest + 1) rest proofs behind is) (after_bytes (last_line (length proofs) (length (all_rows_at behind).0)) (all_rows_at behind).1) refl e
 
-    by_first : length text ≤ text_limit → (first : Option (List ℕ)) → after_bytes (first_line p) text ≡ first → behind_first text first ≡ Ok c → IsTextOf p c text
+    by_first : length text ≤ certificate_text_limit → (first : Option (List ℕ)) → after_bytes (certificate_first_line p) text ≡ first → certificate_after_first text first ≡ Ok c → IsTextOf p c text
     by_first short None is e = absurd cc
-    by_first short (Some rest) is e = by_proofs rest (after_takes (first_line p) text rest is) short (proofs_at text (length rest + 1) rest) refl e
+    by_first short (Some rest) is e = by_proofs rest (after_takes (certificate_first_line p) text rest is) short (proofs_at text (length rest + 1) rest) refl e
 
-    by_length : (long : Bool) → nat_lt text_limit (length text) ≡ long → cond {A = Result Certificate CertFault} long (Err TooLong) (behind_first text (after_bytes (first_line p) text)) ≡ Ok c → IsTextOf p c text
+    by_length : (long : Bool) → nat_lt certificate_text_limit (length text) ≡ long → cond {A = Result Certificate CertFault} long (Err TooLong) (certificate_after_first text (after_bytes (certificate_first_line p) text)) ≡ Ok c → IsTextOf p c text
     by_length true is e = absurd cc
-    by_length false is e = let short : length text ≤ text_limit = search (rules, is) in by_first short (after_bytes (first_line p) text) refl e
+    by_length false is e = let short : length text ≤ certificate_text_limit = search (rules, is) in by_first short (after_bytes (certificate_first_line p) text) refl e

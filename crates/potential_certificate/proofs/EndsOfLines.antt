@@ -12,9 +12,9 @@ use Rattle.match_text.proofs.Steps.{IsSound}
 use Rattle.matching.specs.declared.parts.Cell.{Cell}
 use Rattle.row_text.proofs.LineEnds.{HasNoEnd, line_has_one_end, number_has_no_end}
 use Rattle.row_text.proofs.LineFaults.{HasOneEnd, line_count-append}
-use Rattle.potential_certificate.specs.CertificateText.{back_words, cell_word, cost_word, first_line, form, gap_words, last_line, option_words}
+use Rattle.potential_certificate.specs.CertificateText.{back_words, cell_word, cost_word, certificate_first_line, form, gap_words, last_line, certificate_option_words}
 use Rattle.potential_certificate.specs.Faults.{OptionsFit}
-use Rattle.potential_certificate.specs.HasText.{IsCell, IsCellWord}
+use Rattle.potential_certificate.specs.HasText.{IsCellValue, IsCellWord}
 use Rattle.potential_certificate.specs.Reading.{in_match}
 use Rattle.potential_certificate.specs.declared.proof_line.ProofLine.{ProofLine}
 use Rattle.potential_certificate.specs.declared.proof_line.ProofLine.TheVariants.{Missing, Layer, Piece, End}
@@ -48,7 +48,7 @@ cell_has_no_end (Some cost) (Some rank) fits =
       short_has_no_end rank fits.1,
     )
 
-cells_have_no_end : (cells : List Cell) → AllByRecursion IsCell cells → AllByRecursion HasNoEnd (map cell_word cells)
+cells_have_no_end : (cells : List Cell) → AllByRecursion IsCellValue cells → AllByRecursion HasNoEnd (map cell_word cells)
 cells_have_no_end [] fit = tt
 cells_have_no_end (cell ∷ cells) fit = (cell_has_no_end cell.cost cell.«from» fit.0, cells_have_no_end cells fit.1)
 
@@ -83,7 +83,7 @@ both_have_no_end : (words others : List (List ℕ)) → AllByRecursion HasNoEnd 
 both_have_no_end [] others first second = second
 both_have_no_end (word ∷ words) others first second = (first.0, both_have_no_end words others first.1 second)
 
-options_have_no_end : (p : Params) → OptionsFit p → AllByRecursion HasNoEnd (option_words p)
+options_have_no_end : (p : Params) → OptionsFit p → AllByRecursion HasNoEnd (certificate_option_words p)
 options_have_no_end p fit = (refl, (short_has_no_end p.k fit.k, (refl, (short_has_no_end p.radius fit.radius, (refl, (short_has_no_end p.sigma fit.sigma, (refl, (short_has_no_end p.beta fit.beta, (refl, (short_has_no_end p.bound fit.bound, tt))))))))))
 
 form_small : (p : Params) → form p < 2 ^ 64
@@ -94,9 +94,9 @@ form_small p = by_cases (p.gap == 2 ^ 32 - 1) (p.back == 0)
     by_cases true false = omega arith
     by_cases false b = omega arith
 
-pub first_has_one_end : (p : Params) → OptionsFit p → HasOneEnd (first_line p)
+pub first_has_one_end : (p : Params) → OptionsFit p → HasOneEnd (certificate_first_line p)
 first_has_one_end p fit =
-    line_has_one_end (codes "fmm-certificate") (decimal (form p) ∷ option_words p ++ back_words p ++ gap_words p) refl (
+    line_has_one_end (codes "fmm-certificate") (decimal (form p) ∷ certificate_option_words p ++ back_words p ++ gap_words p) refl (
       number_has_no_end (form p) (form_small p),
-      both_have_no_end (option_words p) (back_words p ++ gap_words p) (options_have_no_end p fit) (both_have_no_end (back_words p) (gap_words p) (back_has_no_end p fit) (gap_has_no_end p fit)),
+      both_have_no_end (certificate_option_words p) (back_words p ++ gap_words p) (options_have_no_end p fit) (both_have_no_end (back_words p) (gap_words p) (back_has_no_end p fit) (gap_has_no_end p fit)),
     )

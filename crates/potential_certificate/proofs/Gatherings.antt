@@ -7,10 +7,10 @@ use Rattle.std.proofs.lemmas.List.{append-nil}
 use Rattle.bounded_table.specs.Table.{TableRow}
 use Rattle.cost_model.specs.declared.params.Params.{Params}
 use Rattle.row_text.specs.RowLine.{row_line}
-use Rattle.potential_certificate.specs.CertificateText.{certificate_text, first_line, last_line, proof_text, text_limit}
-use Rattle.potential_certificate.specs.inside.Gathering.{AreLines, AreReadsOf, GoesOn, Grows, IsGathered, IsPartRead, IsReadOf, gathered_text, least_after, lines_text, rises_from}
-use Rattle.potential_certificate.specs.HasText.{AreRowsFrom, IsProof}
-use Rattle.potential_certificate.specs.Reading.{all_rows_at, certificate_of, proofs_at}
+use Rattle.potential_certificate.specs.CertificateText.{certificate_text, certificate_first_line, last_line, proof_text, certificate_text_limit}
+use Rattle.potential_certificate.specs.inside.Gathering.{AreLines, AreReadsOf, GoesOn, GathersMore, IsGathered, IsPartRead, IsReadOf, gathered_text, least_after, lines_text, first_rises_from}
+use Rattle.potential_certificate.specs.HasText.{AreRowValuesFrom, IsProof}
+use Rattle.potential_certificate.specs.Reading.{all_rows_at, certificate_of_text, proofs_at}
 use Rattle.potential_certificate.specs.declared.fault.CertFault.{CertFault}
 use Rattle.potential_certificate.specs.declared.gathered.Gathered.{Gathered}
 use Rattle.potential_certificate.specs.declared.parts.PartRead.{PartRead}
@@ -26,11 +26,11 @@ proofs_joined [] qs first second = second
 proofs_joined (p ∷ ps) qs first second = (first.0, proofs_joined ps qs first.1 second)
 
 -- rows that rise from `least` on, where their first does so
-rises : (least : ℕ) (rows : List TableRow) → AreRowsFrom 0 rows → rises_from least rows ≡ true → AreRowsFrom least rows
+rises : (least : ℕ) (rows : List TableRow) → AreRowValuesFrom 0 rows → first_rises_from least rows ≡ true → AreRowValuesFrom least rows
 rises least [] are low = tt
 rises least (row ∷ rows) are low = (are.0, search (rules, low), are.2)
 
-rows_joined : (least : ℕ) (rs ss : List TableRow) → AreRowsFrom least rs → AreRowsFrom 0 ss → rises_from (least_after least rs) ss ≡ true → AreRowsFrom least (rs ++ ss)
+rows_joined : (least : ℕ) (rs ss : List TableRow) → AreRowValuesFrom least rs → AreRowValuesFrom 0 ss → first_rises_from (least_after least rs) ss ≡ true → AreRowValuesFrom least (rs ++ ss)
 rows_joined least [] ss first second low = rises least ss second low
 rows_joined least (r ∷ rs) ss first second low = (first.0, first.1, rows_joined (r.origin + 1) rs ss first.2 second low)
 
@@ -86,7 +86,7 @@ extended (Err x) new old other e = tt
 
 module _ (old new : Gathered) (are : IsGathered old) where
   pub added : (read : PartRead) → IsPartRead read → GoesOn old read → new.first.items ≡ old.first.items → new.proofs.items ≡ old.proofs.items ++ read.proofs → new.rows.items ≡ old.rows.items ++ read.rows
-      → new.behind.items ≡ old.behind.items ++ read.left.now → Grows old read.part.now new
+      → new.behind.items ≡ old.behind.items ++ read.left.now → GathersMore old read.part.now new
   added read is on first proofs rows behind =
       let f = old.first.items in
       let ps = old.proofs.items in
@@ -102,17 +102,17 @@ module _ (old new : Gathered) (are : IsGathered old) where
             ∙ ap (λ (t : List ℕ). gathered_text old ++ t) (sym is.text_is);
         are = record {
           each = subst (λ (x : List TraceProof). AllByRecursion IsProof x) (sym proofs) (proofs_joined ps read.proofs are.each is.are.each);
-          rising = subst (λ (x : List TableRow). AreRowsFrom 0 x) (sym rows) (rows_joined 0 rs read.rows are.rising is.are.rising on.rises);
+          rising = subst (λ (x : List TableRow). AreRowValuesFrom 0 x) (sym rows) (rows_joined 0 rs read.rows are.rising is.are.rising on.rises);
         };
       }
 
   same_lines : new.proofs.items ≡ old.proofs.items → new.rows.items ≡ old.rows.items → IsGathered new
   same_lines proofs rows = record {
     each = subst (λ (x : List TraceProof). AllByRecursion IsProof x) (sym proofs) are.each;
-    rising = subst (λ (x : List TableRow). AreRowsFrom 0 x) (sym rows) are.rising;
+    rising = subst (λ (x : List TableRow). AreRowValuesFrom 0 x) (sym rows) are.rising;
   }
 
-  pub behind_added : (more : List ℕ) → new.first.items ≡ old.first.items → new.proofs.items ≡ old.proofs.items → new.rows.items ≡ old.rows.items → new.behind.items ≡ old.behind.items ++ more → Grows old more new
+  pub behind_added : (more : List ℕ) → new.first.items ≡ old.first.items → new.proofs.items ≡ old.proofs.items → new.rows.items ≡ old.rows.items → new.behind.items ≡ old.behind.items ++ more → GathersMore old more new
   behind_added more first proofs rows behind =
       let f = old.first.items in
       let p = flat_map proof_text old.proofs.items in
@@ -125,7 +125,7 @@ module _ (old new : Gathered) (are : IsGathered old) where
         are = same_lines proofs rows;
       }
 
-  pub first_added : (more : List ℕ) → lines_text old.proofs.items old.rows.items old.behind.items ≡ [] → new.first.items ≡ old.first.items ++ more → new.proofs.items ≡ old.proofs.items → new.rows.items ≡ old.rows.items → new.behind.items ≡ old.behind.items → Grows old more new
+  pub first_added : (more : List ℕ) → lines_text old.proofs.items old.rows.items old.behind.items ≡ [] → new.first.items ≡ old.first.items ++ more → new.proofs.items ≡ old.proofs.items → new.rows.items ≡ old.rows.items → new.behind.items ≡ old.behind.items → GathersMore old more new
   first_added more none first proofs rows behind =
       let f = old.first.items in
       record {
@@ -137,17 +137,17 @@ module _ (old new : Gathered) (are : IsGathered old) where
 
 -- ---- more and more
 
-pub grows_on : (a b c : Gathered) (x y : List ℕ) → Grows a x b → Grows b y c → Grows a (x ++ y) c
+pub grows_on : (a b c : Gathered) (x y : List ℕ) → GathersMore a x b → GathersMore b y c → GathersMore a (x ++ y) c
 grows_on a b c x y first second = record {
   text_is = second.text_is ∙ ap (λ (t : List ℕ). t ++ y) first.text_is ∙ append_assoc (gathered_text a) x y;
   are = second.are;
 }
 
-pub grows_not : (a : Gathered) → IsGathered a → Grows a [] a
+pub grows_not : (a : Gathered) → IsGathered a → GathersMore a [] a
 grows_not a are = record { text_is = sym (append-nil (gathered_text a)); are = are }
 
 -- what stands behind was taken out, and added as it was read
-pub settled : (old mid new : Gathered) (part : List ℕ) → mid.first.items ≡ old.first.items → mid.proofs.items ≡ old.proofs.items → mid.rows.items ≡ old.rows.items → mid.behind.items ≡ [] → part ≡ old.behind.items → Grows mid part new → Grows old [] new
+pub settled : (old mid new : Gathered) (part : List ℕ) → mid.first.items ≡ old.first.items → mid.proofs.items ≡ old.proofs.items → mid.rows.items ≡ old.rows.items → mid.behind.items ≡ [] → part ≡ old.behind.items → GathersMore mid part new → GathersMore old [] new
 settled old mid new part first proofs rows none is grows =
     let f = old.first.items in
     let p = flat_map proof_text old.proofs.items in
@@ -163,24 +163,24 @@ settled old mid new part first proofs rows none is grows =
     }
 
 -- whole items were added, and then the begin of one
-pub lines_added : (old mid now new : Gathered) (items begun lines : List ℕ) → Grows old [] mid → Grows mid items now → lines ≡ items ++ begun → new.first.items ≡ now.first.items → new.proofs.items ≡ now.proofs.items → new.rows.items ≡ now.rows.items → new.behind.items ≡ now.behind.items ++ begun
-    → Grows old lines new
+pub lines_added : (old mid now new : Gathered) (items begun lines : List ℕ) → GathersMore old [] mid → GathersMore mid items now → lines ≡ items ++ begun → new.first.items ≡ now.first.items → new.proofs.items ≡ now.proofs.items → new.rows.items ≡ now.rows.items → new.behind.items ≡ now.behind.items ++ begun
+    → GathersMore old lines new
 lines_added old mid now new items begun lines first second is same_first proofs rows behind =
-    subst (λ (t : List ℕ). Grows old t new) (sym is)
+    subst (λ (t : List ℕ). GathersMore old t new) (sym is)
     (grows_on old mid new [] (items ++ begun) first (grows_on mid now new items begun second (behind_added now new second.are begun same_first proofs rows behind)))
 
 -- ---- the loop over what was read
 
 pub record Adding (old : Gathered) (items : List ℕ) (now : Gathered) (reads : List PartRead) : Type 0 where
   pub fed : List ℕ
-  pub grown : Grows old fed now
+  pub grown : GathersMore old fed now
   pub rest : fed ++ flat_map (λ (read : PartRead). read.part.now) reads ≡ items
   pub each : AllByRecursion IsPartRead reads
 
 pub adding_begins : (old : Gathered) (items : List ℕ) (reads : List PartRead) → IsGathered old → AreReadsOf items reads → Adding old items old reads
 adding_begins old items reads are is = record { fed = []; grown = grows_not old are; rest = is.text_is; each = is.each }
 
-pub adding_on : (old : Gathered) (items : List ℕ) (now now' : Gathered) (read : PartRead) (reads : List PartRead) → Adding old items now (read ∷ reads) → Grows now read.part.now now' → Adding old items now' reads
+pub adding_on : (old : Gathered) (items : List ℕ) (now now' : Gathered) (read : PartRead) (reads : List PartRead) → Adding old items now (read ∷ reads) → GathersMore now read.part.now now' → Adding old items now' reads
 adding_on old items now now' read reads so_far grows = record {
   fed = so_far.fed ++ read.part.now;
   grown = grows_on old now now' so_far.fed read.part.now so_far.grown grows;
@@ -188,8 +188,8 @@ adding_on old items now now' read reads so_far grows = record {
   each = so_far.each.1;
 }
 
-pub adding_ends : (old : Gathered) (items : List ℕ) (now : Gathered) (reads : List PartRead) → length reads ≡ 0 → Adding old items now reads → Grows old items now
-adding_ends old items now [] none so_far = subst (λ (t : List ℕ). Grows old t now) (sym (append-nil so_far.fed) ∙ so_far.rest) so_far.grown
+pub adding_ends : (old : Gathered) (items : List ℕ) (now : Gathered) (reads : List PartRead) → length reads ≡ 0 → Adding old items now reads → GathersMore old items now
+adding_ends old items now [] none so_far = subst (λ (t : List ℕ). GathersMore old t now) (sym (append-nil so_far.fed) ∙ so_far.rest) so_far.grown
 adding_ends old items now (read ∷ reads) none so_far = absurd (omega (arith, none))
 
 -- ---- what is read of parts
@@ -229,34 +229,34 @@ module _ {X : Type 0} (text : X → List ℕ) where
 -- ---- the end
 
 -- the first and the last line are those of a certificate
-pub closed : (p : Params) (g : Gathered) → g.first.items ≡ first_line p → g.behind.items ≡ last_line (length g.proofs.items) (length g.rows.items)
+pub closed : (p : Params) (g : Gathered) → g.first.items ≡ certificate_first_line p → g.behind.items ≡ last_line (length g.proofs.items) (length g.rows.items)
     → gathered_text g ≡ certificate_text p (record { proofs = g.proofs.items; rows = g.rows.items })
 closed p g first last = λ i. first i ++ lines_text g.proofs.items g.rows.items (last i)
 
 -- a text that is closed within the limit is read as this certificate
-pub closed_read : (p : Params) (g : Gathered) → IsGathered g → gathered_text g ≡ certificate_text p (record { proofs = g.proofs.items; rows = g.rows.items }) → length (gathered_text g) ≤ text_limit
-    → certificate_of p (gathered_text g) ≡ Ok (record { proofs = g.proofs.items; rows = g.rows.items })
+pub closed_read : (p : Params) (g : Gathered) → IsGathered g → gathered_text g ≡ certificate_text p (record { proofs = g.proofs.items; rows = g.rows.items }) → length (gathered_text g) ≤ certificate_text_limit
+    → certificate_of_text p (gathered_text g) ≡ Ok (record { proofs = g.proofs.items; rows = g.rows.items })
 closed_read p g are is short =
     let ps = g.proofs.items in
     let rs = g.rows.items in
-    let within = subst (λ (t : List ℕ). length t ≤ text_limit) is short in
+    let within = subst (λ (t : List ℕ). length t ≤ certificate_text_limit) is short in
     let few : length rs < 2 ^ 32 =
     omega (
       arith,
       within,
       rows_few rs,
-      length-append (first_line p) (flat_map proof_text ps ++ (flat_map row_line rs ++ last_line (length ps) (length rs))),
+      length-append (certificate_first_line p) (flat_map proof_text ps ++ (flat_map row_line rs ++ last_line (length ps) (length rs))),
       length-append (flat_map proof_text ps) (flat_map row_line rs ++ last_line (length ps) (length rs)),
       length-append (flat_map row_line rs) (last_line (length ps) (length rs)),
     ) in
-    ap (certificate_of p) is ∙ certificates_read_back p (record { proofs = ps; rows = rs }) (record { proofs = are.each; rows = are.rising; few = few }) within
+    ap (certificate_of_text p) is ∙ certificates_read_back p (record { proofs = ps; rows = rs }) (record { proofs = are.each; rows = are.rising; few = few }) within
 
 -- the text so far is read as this certificate, where it is closed and within the limit
-pub finished : (p : Params) (text : List ℕ) (old g : Gathered) (count : ℕ) (c : Certificate) → c ≡ record { proofs = g.proofs.items; rows = g.rows.items } → text ≡ gathered_text old → count ≡ min (length (gathered_text old)) (2 ^ 64 - 1) → count ≤ text_limit
-    → Grows old [] g → gathered_text g ≡ certificate_text p (record { proofs = g.proofs.items; rows = g.rows.items }) → certificate_of p text ≡ Ok c
+pub finished : (p : Params) (text : List ℕ) (old g : Gathered) (count : ℕ) (c : Certificate) → c ≡ record { proofs = g.proofs.items; rows = g.rows.items } → text ≡ gathered_text old → count ≡ min (length (gathered_text old)) (2 ^ 64 - 1) → count ≤ certificate_text_limit
+    → GathersMore old [] g → gathered_text g ≡ certificate_text p (record { proofs = g.proofs.items; rows = g.rows.items }) → certificate_of_text p text ≡ Ok c
 finished p text old g count c c_is is counted few grows closes =
     let same : gathered_text g ≡ text = grows.text_is ∙ append-nil (gathered_text old) ∙ sym is in
     let long : length (gathered_text g) ≡ length (gathered_text old) = ap (λ (t : List ℕ). length t) (grows.text_is ∙ append-nil (gathered_text old)) in
-    let short : length (gathered_text g) ≤ text_limit = omega (arith, counted, few, long) in
-    ap (certificate_of p) (sym same) ∙ closed_read p g grows.are closes short
+    let short : length (gathered_text g) ≤ certificate_text_limit = omega (arith, counted, few, long) in
+    ap (certificate_of_text p) (sym same) ∙ closed_read p g grows.are closes short
     ∙ ap (λ (x : Certificate). let y : Result Certificate CertFault = Ok x in y) (sym c_is)

@@ -13,7 +13,7 @@ use Rattle.match_text.specs.declared.place.Line.{Line}
 use Rattle.match_text.specs.declared.place.Place.{Place}
 use Rattle.match_text.proofs.Lines.{end_again, none_again}
 use Rattle.potential_certificate.specs.CertificateText.{cell_word}
-use Rattle.potential_certificate.specs.Reading.{in_match, layer_at, line_at, piece_at, ranked_at}
+use Rattle.potential_certificate.specs.Reading.{in_match, layer_at, line_at, piece_at_front, ranked_at}
 use Rattle.potential_certificate.specs.declared.proof_line.ProofLine.{ProofLine}
 use Rattle.potential_certificate.specs.declared.proof_line.ProofLine.TheVariants.{Missing, Layer, Piece, End}
 use Rattle.potential_certificate.proofs.ProofLines.{layer_again, line_text, FitsLine, piece_reads, same_reads, as_missing, as_end, as_piece, line_takes}
@@ -27,15 +27,15 @@ not_layer : (place : Place) (b : ℕ) (rest : List ℕ) → eqb 108 b ≡ false 
 unfolding layer_at ranked_at numbered_at number_after
 not_layer place b rest other = rw other refl
 
-not_piece : (place : Place) (b : ℕ) (rest : List ℕ) → eqb 112 b ≡ false → piece_at place (b ∷ rest) ≡ None
-unfolding piece_at head_at number_after
+not_piece : (place : Place) (b : ℕ) (rest : List ℕ) → eqb 112 b ≡ false → piece_at_front place (b ∷ rest) ≡ None
+unfolding piece_at_front head_at number_after
 not_piece place b rest other = rw other refl
 
 abbrev others_of : Place → List ℕ → Option (ProofLine × List ℕ)
-others_of place text = option_or (layer_at place text) (option_or (option_map as_piece (piece_at place text)) (option_map as_end (end_at place text)))
+others_of place text = option_or (layer_at place text) (option_or (option_map as_piece (piece_at_front place text)) (option_map as_end (end_at place text)))
 
 abbrev pieces_of_text : Place → List ℕ → Option (ProofLine × List ℕ)
-pieces_of_text place text = option_or (option_map as_piece (piece_at place text)) (option_map as_end (end_at place text))
+pieces_of_text place text = option_or (option_map as_piece (piece_at_front place text)) (option_map as_end (end_at place text))
 
 past_missing : (place : Place) (b : ℕ) (rest : List ℕ) → eqb 110 b ≡ false → line_at place (b ∷ rest) ≡ others_of place (b ∷ rest)
 unfolding line_at
@@ -74,7 +74,7 @@ behind_line read = option_map (λ (x : Line × List ℕ). x.1) read
 abbrev first_of : Option (Line × List ℕ) → Option (ProofLine × List ℕ) → Option (Routed × List ℕ) → Option (Line × List ℕ) → Option (ProofLine × List ℕ)
 first_of missing layer piece end = option_or (option_map as_missing missing) (option_or layer (option_or (option_map as_piece piece) (option_map as_end end)))
 
-line_is : (place : Place) (text : List ℕ) → first_of (none_at place text) (layer_at place text) (piece_at place text) (end_at place text) ≡ line_at place text
+line_is : (place : Place) (text : List ℕ) → first_of (none_at place text) (layer_at place text) (piece_at_front place text) (end_at place text) ≡ line_at place text
 unfolding line_at
 line_is place text = refl
 
@@ -109,22 +109,22 @@ no_first None None None (Some x) none no_layer no_piece no_end = absurd cc
 no_first None None None None none no_layer no_piece no_end = refl
 
 pub next_missing : (place : Place) (text rest : List ℕ) → Some rest ≡ behind_line (none_at place text) → Some (Missing, rest) ≡ line_at place text
-next_missing place text rest is = missing_first (none_at place text) (layer_at place text) (piece_at place text) (end_at place text) rest is ∙ line_is place text
+next_missing place text rest is = missing_first (none_at place text) (layer_at place text) (piece_at_front place text) (end_at place text) rest is ∙ line_is place text
 
 pub next_layer : (place : Place) (text : List ℕ) (read : ProofLine × List ℕ) → None ≡ behind_line (none_at place text) → Some read ≡ layer_at place text → Some read ≡ line_at place text
-next_layer place text read none is = layer_first (none_at place text) (layer_at place text) (piece_at place text) (end_at place text) read none is ∙ line_is place text
+next_layer place text read none is = layer_first (none_at place text) (layer_at place text) (piece_at_front place text) (end_at place text) read none is ∙ line_is place text
 
-piece_is : (place : Place) (text : List ℕ) (read : Option (Routed × List ℕ)) → ReadsPiece place text read → read ≡ piece_at place text
-piece_is place text read reads = same_reads (EndsPiece place) piece_line text read (piece_at place text) reads (piece_reads place text)
+piece_is : (place : Place) (text : List ℕ) (read : Option (Routed × List ℕ)) → ReadsPiece place text read → read ≡ piece_at_front place text
+piece_is place text read reads = same_reads (EndsPiece place) piece_line text read (piece_at_front place text) reads (piece_reads place text)
 
 pub next_piece : (place : Place) (text : List ℕ) (piece : Routed) (rest : List ℕ) → None ≡ behind_line (none_at place text) → None ≡ layer_at place text → ReadsPiece place text (Some (piece, rest)) → Some (Piece piece, rest) ≡ line_at place text
 next_piece place text piece rest none no_layer reads =
-    piece_first (none_at place text) (layer_at place text) (piece_at place text) (end_at place text) piece rest none no_layer (piece_is place text (Some (piece, rest)) reads) ∙ line_is place text
+    piece_first (none_at place text) (layer_at place text) (piece_at_front place text) (end_at place text) piece rest none no_layer (piece_is place text (Some (piece, rest)) reads) ∙ line_is place text
 
 pub next_end : (place : Place) (text rest : List ℕ) → None ≡ behind_line (none_at place text) → None ≡ layer_at place text → ReadsPiece place text None → Some rest ≡ behind_line (end_at place text) → Some (End, rest) ≡ line_at place text
 next_end place text rest none no_layer reads is =
-    end_first (none_at place text) (layer_at place text) (piece_at place text) (end_at place text) rest none no_layer (piece_is place text None reads) is ∙ line_is place text
+    end_first (none_at place text) (layer_at place text) (piece_at_front place text) (end_at place text) rest none no_layer (piece_is place text None reads) is ∙ line_is place text
 
 pub no_next : (place : Place) (text : List ℕ) → None ≡ behind_line (none_at place text) → None ≡ layer_at place text → ReadsPiece place text None → None ≡ behind_line (end_at place text) → None ≡ line_at place text
 no_next place text none no_layer reads no_end =
-    no_first (none_at place text) (layer_at place text) (piece_at place text) (end_at place text) none no_layer (piece_is place text None reads) no_end ∙ line_is place text
+    no_first (none_at place text) (layer_at place text) (piece_at_front place text) (end_at place text) none no_layer (piece_is place text None reads) no_end ∙ line_is place text

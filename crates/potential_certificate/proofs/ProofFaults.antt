@@ -12,8 +12,8 @@ use Rattle.match_text.proofs.Steps.{IsSound}
 use Rattle.row_text.specs.RowLine.{row_line}
 use Rattle.row_text.proofs.LineFaults.{Steps, fails_at, same_lines, step}
 use Rattle.potential_certificate.specs.CertificateText.{last_line, proof_lines}
-use Rattle.potential_certificate.specs.HasText.{AreRowsFrom, IsProof}
-use Rattle.potential_certificate.specs.Reading.{ProofRead, adding, fault_at, in_match, line_and_more, line_at, lines_at, lines_behind}
+use Rattle.potential_certificate.specs.HasText.{AreRowValuesFrom, IsProof}
+use Rattle.potential_certificate.specs.Reading.{ProofRead, adding, certificate_fault_at, in_match, line_and_more, line_at, lines_at, lines_behind}
 use Rattle.potential_certificate.specs.declared.fault.CertFault.{CertFault}
 use Rattle.potential_certificate.specs.declared.fault.CertFault.TheVariants.{BadLine, Cut}
 use Rattle.potential_certificate.specs.declared.proof.TraceProof.{TraceProof}
@@ -31,7 +31,7 @@ pub record ItemsFrom (traces : ℕ) (lines : List (List ℕ)) : Type 0 where
   pub proofs : List TraceProof
   pub rows : List TableRow
   pub proofs_are : AllByRecursion IsProof proofs
-  pub rows_are : AreRowsFrom 0 rows
+  pub rows_are : AreRowValuesFrom 0 rows
   pub few : length rows < 2 ^ 32
   pub lines_are : lines ≡ flat_map proof_lines proofs ++ (map row_line rows ++ last_line (traces + length proofs) (length rows) ∷ [])
 
@@ -130,7 +130,7 @@ pub record Here (whole : List ℕ) (traces : ℕ) (place : Place) (number : ℕ)
   pub sound : IsSound place
   pub counted : IsCounted whole number text
 
-no_line_fault : (whole : List ℕ) (traces : ℕ) (place : Place) (number : ℕ) (text : List ℕ) (fault : CertFault) → Here whole traces place number text → line_at place text ≡ None → fault ≡ fault_at whole text → FaultIs number (LinesFrom traces place) text fault
+no_line_fault : (whole : List ℕ) (traces : ℕ) (place : Place) (number : ℕ) (text : List ℕ) (fault : CertFault) → Here whole traces place number text → line_at place text ≡ None → fault ≡ certificate_fault_at whole text → FaultIs number (LinesFrom traces place) text fault
 no_line_fault whole traces place number text fault here none e =
     let some = some_continue place here.sound in
     fails_at (λ n. BadLine n) Cut number text fault (

@@ -20,8 +20,8 @@ use Rattle.match_text.proofs.Lines.{Takes, end_takes, none_takes}
 use Rattle.match_text.proofs.Pieces as pieces
 use Rattle.matching.specs.declared.parts.Cell.{Cell}
 use Rattle.potential_certificate.specs.CertificateText.{cell_word, layer_line}
-use Rattle.potential_certificate.specs.HasText.{IsCell, IsPoint}
-use Rattle.potential_certificate.specs.Reading.{all_words_at, cell_at, in_match, is_first, is_layer, is_open, layer_at, line_at, piece_at, piece_of, piece_with, ranked_at}
+use Rattle.potential_certificate.specs.HasText.{IsCellValue, IsPoint}
+use Rattle.potential_certificate.specs.Reading.{all_words_at, cell_at_front, in_match, is_first, is_layer, is_open, layer_at, line_at, piece_at_front, routed_piece, piece_with, ranked_at}
 use Rattle.potential_certificate.specs.declared.proof_line.ProofLine.{ProofLine}
 use Rattle.potential_certificate.specs.declared.proof_line.ProofLine.TheVariants.{Missing, Layer, Piece, End}
 use Rattle.potential_certificate.proofs.CellWords.{reads_cell, reads_edge}
@@ -98,7 +98,7 @@ layer_again place rank cells rest near is =
     let words = words_line cell_word cells ++ rest in
     ap (layer_at place) (layer_parts place.next rank cells rest)
     ∙ bind_some _ _ (rank, words) (ranked_again place rank words near (omega (arith, is.0, is.1)))
-    ∙ bind_some _ _ (cells, rest) (words_again cell_at cell_word IsCell reads_cell cells rest (length words + 1) is.2 (omega arith))
+    ∙ bind_some _ _ (cells, rest) (words_again cell_at_front cell_word IsCellValue reads_cell cells rest (length words + 1) is.2 (omega arith))
     ∙ rw (layer_test rank cells is.0 is.1) refl
 
 -- the line as it is written there
@@ -128,11 +128,11 @@ layer_takes : (place : Place) (text : List ℕ) (line : ProofLine) (rest : List 
 unfolding layer_at
 layer_takes place text line rest e =
     let head = bind_found (ranked_at place text) _ (line, rest) e in
-    let cells = bind_found (all_words_at cell_at head.0.1) _ (line, rest) head.2 in
+    let cells = bind_found (all_words_at cell_at_front head.0.1) _ (line, rest) head.2 in
     let test = test_passed (is_layer head.0.0 cells.0.0) (Some (Layer head.0.0 cells.0.0, cells.0.1)) (line, rest) cells.2 in
     let tests = both (nat_lt head.0.0 (length cells.0.0)) (nat_le (length cells.0.0) 32) test.0 in
     let first = ranked_takes place text head.0.0 head.0.1 head.1 in
-    let others = words_take cell_at cell_word IsCell reads_cell (length head.0.1 + 1) head.0.1 cells.0.0 cells.0.1 cells.1 in
+    let others = words_take cell_at_front cell_word IsCellValue reads_cell (length head.0.1 + 1) head.0.1 cells.0.0 cells.0.1 cells.1 in
     let below : head.0.0 < length cells.0.0 = search (rules, tests.0) in
     let few : length cells.0.0 ≤ 32 = search (rules, tests.1) in
     taken_is place text (Layer head.0.0 cells.0.0) line cells.0.1 rest (some_pair_parts (Layer head.0.0 cells.0.0) line cells.0.1 rest test.1)
@@ -173,18 +173,18 @@ open_met place head h =
     let parts = both (is_first place.waiting head.first) (eqb (head.last + 1) place.next) h in
     (first_is place.waiting head.first parts.0, eqb-true (head.last + 1) place.next parts.1)
 
--- what `piece_at` reads is a piece that may come, in one way
-pub piece_reads : (place : Place) (text : List ℕ) → ReadsPiece place text (piece_at place text)
-unfolding piece_at
+-- what `piece_at_front` reads is a piece that may come, in one way
+pub piece_reads : (place : Place) (text : List ℕ) → ReadsPiece place text (piece_at_front place text)
+unfolding piece_at_front
 piece_reads place text = by_head (head_at text) refl
   where
     by_some : (head : Head) (edge : ℕ) (edges rest : List ℕ) → head_at text ≡ Some head → ReadsRoute head.rest (Some (edge ∷ edges, rest)) → (test : Bool) → is_open place head ≡ test
-        → ReadsPiece place text (cond (test && nat_lt 0 (suc (length edges))) (Some (piece_of head (edge ∷ edges), rest)) None)
+        → ReadsPiece place text (cond (test && nat_lt 0 (suc (length edges))) (Some (routed_piece head (edge ∷ edges), rest)) None)
     by_some head edge edges rest e route true is =
         rw (lt-ltb 0 (suc (length edges)) (omega arith)) (pieces.piece_read place text head (edge ∷ edges) rest (sym e) (open_met place head is) route (λ h. absurd cc))
     by_some head edge edges rest e route false is = pieces.not_open place text head (sym e) (λ h. absurd (cc (sym is ∙ open_test place head h)))
 
-    by_empty : (head : Head) (rest : List ℕ) → head_at text ≡ Some head → ReadsRoute head.rest (Some ([], rest)) → (test : Bool) → ReadsPiece place text (cond (test && false) (Some (piece_of head [], rest)) None)
+    by_empty : (head : Head) (rest : List ℕ) → head_at text ≡ Some head → ReadsRoute head.rest (Some ([], rest)) → (test : Bool) → ReadsPiece place text (cond (test && false) (Some (routed_piece head [], rest)) None)
     by_empty head rest e route true = pieces.empty_route place text head rest (sym e) route
     by_empty head rest e route false = pieces.empty_route place text head rest (sym e) route
 
@@ -257,9 +257,9 @@ end_line_takes place text line rest e =
     let takes = subst (λ (l : Line). Takes place text l read.0.1) (sym (is_end place text read.0.0 read.0.1 read.1)) (end_takes place text read.0.0 read.0.1 read.1) in
     taken_is place text End line read.0.1 rest (pair_parts End line read.0.1 rest read.2) (record { allowed = takes.allowed; fits = tt; text_is = takes.parts })
 
-piece_takes : (place : Place) (text : List ℕ) (line : ProofLine) (rest : List ℕ) → option_map as_piece (piece_at place text) ≡ Some (line, rest) → LineTaken place text line rest
+piece_takes : (place : Place) (text : List ℕ) (line : ProofLine) (rest : List ℕ) → option_map as_piece (piece_at_front place text) ≡ Some (line, rest) → LineTaken place text line rest
 piece_takes place text line rest e =
-    let read = map_found as_piece (piece_at place text) (line, rest) e in
+    let read = map_found as_piece (piece_at_front place text) (line, rest) e in
     let found = subst (λ (o : Option (Routed × List ℕ)). IfSome o (λ x. EndsPiece place x.0 × (text ≡ piece_line x.0 ++ x.1))) read.1 (piece_reads place text).found in
     taken_is place text (Piece read.0.0) line read.0.1 rest (pair_parts (Piece read.0.0) line read.0.1 rest read.2) (record { allowed = found.0; fits = tt; text_is = found.1 })
 
@@ -270,7 +270,7 @@ line_takes place text line rest e =
       | inl first ↦ missing_takes place text line rest first
       | inr others ↦ elim (or_found (layer_at place text) _ (line, rest) others) [
         | inl second ↦ layer_takes place text line rest second
-        | inr last ↦ elim (or_found (option_map as_piece (piece_at place text)) _ (line, rest) last) [
+        | inr last ↦ elim (or_found (option_map as_piece (piece_at_front place text)) _ (line, rest) last) [
           | inl third ↦ piece_takes place text line rest third
           | inr fourth ↦ end_line_takes place text line rest fourth
         ]

@@ -17,8 +17,8 @@ use Rattle.match_text.specs.declared.place.Line.TheVariants.{Point, Piece as Pie
 use Rattle.match_text.proofs.Laid.{RisesFrom, at, rising_weaker, trace_of, traced}
 use Rattle.match_text.proofs.Lawful.{has_text}
 use Rattle.matching.specs.declared.parts.Cell.{Cell}
-use Rattle.potential_certificate.specs.CertificateText.{layer_line, point_lines, proof_lines, proof_text}
-use Rattle.potential_certificate.specs.HasText.{ArePoints, IsProof, label_of, match_of}
+use Rattle.potential_certificate.specs.CertificateText.{layer_line, position_lines, proof_lines, proof_text}
+use Rattle.potential_certificate.specs.HasText.{ArePoints, IsProof, label_of_proof, match_of_proof}
 use Rattle.potential_certificate.specs.Reading.{in_match}
 use Rattle.potential_certificate.specs.declared.proof.TraceProof.{TraceProof}
 use Rattle.potential_certificate.specs.declared.proof_line.ProofLine.{ProofLine}
@@ -30,8 +30,8 @@ use Rattle.potential_certificate.proofs.ProofsRead.{lines_text, proof_of, texts_
 
 -- the lines from the point i on, of which some wait for their piece line
 abbrev text_from : ℕ → Option ℕ → TraceProof → List (List ℕ)
-text_from i None proof = point_lines i proof.ranks proof.tables proof.pieces
-text_from i (Some first) proof = piece_after (i - 1) proof.pieces (point_lines i proof.ranks proof.tables)
+text_from i None proof = position_lines i proof.ranks proof.tables proof.pieces
+text_from i (Some first) proof = piece_after (i - 1) proof.pieces (position_lines i proof.ranks proof.tables)
 
 record Laid (id i : ℕ) (waiting : Option ℕ) (lines : List ProofLine) : Type 0 where
   rising : RisesFrom i waiting (proof_of id lines).pieces
@@ -59,7 +59,7 @@ laid_missing id i lines laid =
     record {
       rising = rising_weaker (i + 1) i proof.pieces (omega arith) laid.rising;
       texts = ap (λ (ts : List (List ℕ)). label_line i NoRoad ∷ ts)
-          (laid.texts ∙ ap (λ (ts : List (List ℕ)). ts ++ end_line id ∷ []) (sym (passes i proof.pieces (point_lines (i + 1) proof.ranks proof.tables) laid.rising)));
+          (laid.texts ∙ ap (λ (ts : List (List ℕ)). ts ++ end_line id ∷ []) (sym (passes i proof.pieces (position_lines (i + 1) proof.ranks proof.tables) laid.rising)));
     }
 
 layer_texts : (id i first rank : ℕ) (cells : List Cell) (lines : List ProofLine) → Laid id (i + 1) (Some first) lines
@@ -67,7 +67,7 @@ layer_texts : (id i first rank : ℕ) (cells : List Cell) (lines : List ProofLin
 layer_texts id i first rank cells lines laid =
     let proof = proof_of id lines in
     ap (λ (ts : List (List ℕ)). layer_line i rank cells ∷ ts)
-    (laid.texts ∙ ap (λ (n : ℕ). piece_after n proof.pieces (point_lines (i + 1) proof.ranks proof.tables) ++ end_line id ∷ []) (let e : i + 1 - 1 ≡ i = omega arith in e))
+    (laid.texts ∙ ap (λ (n : ℕ). piece_after n proof.pieces (position_lines (i + 1) proof.ranks proof.tables) ++ end_line id ∷ []) (let e : i + 1 - 1 ≡ i = omega arith in e))
 
 laid_first : (id i rank : ℕ) (cells : List Cell) (lines : List ProofLine) → Laid id (i + 1) (Some i) lines → Laid id i None (Layer rank cells ∷ lines)
 laid_first id i rank cells lines laid = record { rising = first_rising i (proof_of id lines).pieces laid.rising; texts = layer_texts id i i rank cells lines laid }
@@ -78,13 +78,13 @@ laid_next id i first rank cells lines lt laid =
     record {
       rising = waiting_rising i first (proof_of id lines).pieces laid.rising;
       texts = layer_texts id i first rank cells lines laid
-          ∙ ap (λ (ts : List (List ℕ)). ts ++ end_line id ∷ []) (sym (passes_waiting i first (proof_of id lines).pieces (point_lines i all.ranks all.tables) lt laid.rising));
+          ∙ ap (λ (ts : List (List ℕ)). ts ++ end_line id ∷ []) (sym (passes_waiting i first (proof_of id lines).pieces (position_lines i all.ranks all.tables) lt laid.rising));
     }
 
 laid_piece : (id i first : ℕ) (piece : Routed) (lines : List ProofLine) → EndsPiece (at id i (Some first)) piece → Laid id i None lines → Laid id i (Some first) (Piece piece ∷ lines)
 laid_piece id i first piece lines ends laid =
     let proof = proof_of id lines in
-    let after : piece_after (i - 1) (piece ∷ proof.pieces) (point_lines i proof.ranks proof.tables) ≡ piece_line piece ∷ point_lines i proof.ranks proof.tables proof.pieces =
+    let after : piece_after (i - 1) (piece ∷ proof.pieces) (position_lines i proof.ranks proof.tables) ≡ piece_line piece ∷ position_lines i proof.ranks proof.tables proof.pieces =
     rw (eq-eqb piece.last (i - 1) (omega (arith, ends.last))) refl in
     record {
       rising = (sym (same_Some first piece.first ends.first), omega (arith, ends.last), subst (λ (n : ℕ). IsRising n proof.pieces) (sym ends.last) laid.rising);
@@ -113,14 +113,14 @@ id_of_lines n (End ∷ ls) = id_of_lines n ls
 pub texts_of_lines : (id : ℕ) (lines : List ProofLine) → Continues (start id) (map in_match lines) → proof_lines (proof_of id lines) ≡ trace_line id ∷ texts_of (start id) lines
 texts_of_lines id lines continues =
     let proof = proof_of id lines in
-    ap (λ (n : ℕ). trace_line n ∷ (point_lines 0 proof.ranks proof.tables proof.pieces ++ end_line n ∷ [])) (id_of_lines id lines)
+    ap (λ (n : ℕ). trace_line n ∷ (position_lines 0 proof.ranks proof.tables proof.pieces ++ end_line n ∷ [])) (id_of_lines id lines)
     ∙ ap (λ (ts : List (List ℕ)). trace_line id ∷ ts) (sym (laid id 0 None lines tt continues).texts)
 
 joined : (id : ℕ) (lines : List ProofLine) → Continues (start id) (map in_match lines)
-    → concat (point_lines 0 (proof_of id lines).ranks (proof_of id lines).tables (proof_of id lines).pieces) ++ end_line id ≡ lines_text (start id) lines
+    → concat (position_lines 0 (proof_of id lines).ranks (proof_of id lines).tables (proof_of id lines).pieces) ++ end_line id ≡ lines_text (start id) lines
 joined id lines continues =
     let proof = proof_of id lines in
-    let points = point_lines 0 proof.ranks proof.tables proof.pieces in
+    let points = position_lines 0 proof.ranks proof.tables proof.pieces in
     ap (λ (t : List ℕ). concat points ++ t) (sym (append-nil (end_line id))) ∙ sym (concat-append points (end_line id ∷ []))
     ∙ ap concat (sym (laid id 0 None lines tt continues).texts) ∙ texts_joined (start id) lines
 
@@ -128,13 +128,13 @@ joined id lines continues =
 pub text_of_lines : (id : ℕ) (lines : List ProofLine) (rest : List ℕ) → Continues (start id) (map in_match lines) → proof_text (proof_of id lines) ++ rest ≡ trace_line (proof_of id lines).id ++ (lines_text (start id) lines ++ rest)
 text_of_lines id lines rest continues =
     let proof = proof_of id lines in
-    append_assoc (trace_line proof.id) (concat (point_lines 0 proof.ranks proof.tables proof.pieces) ++ end_line proof.id) rest
-    ∙ ap (λ (n : ℕ). trace_line proof.id ++ ((concat (point_lines 0 proof.ranks proof.tables proof.pieces) ++ end_line n) ++ rest)) (id_of_lines id lines)
+    append_assoc (trace_line proof.id) (concat (position_lines 0 proof.ranks proof.tables proof.pieces) ++ end_line proof.id) rest
+    ∙ ap (λ (n : ℕ). trace_line proof.id ++ ((concat (position_lines 0 proof.ranks proof.tables proof.pieces) ++ end_line n) ++ rest)) (id_of_lines id lines)
     ∙ ap (λ (t : List ℕ). trace_line proof.id ++ (t ++ rest)) (joined id lines continues)
 
 -- ---- the proof of lines has a text
 
-labels_are : (id : ℕ) (lines : List ProofLine) → labels_of (map in_match lines) ≡ map label_of (proof_of id lines).ranks
+labels_are : (id : ℕ) (lines : List ProofLine) → labels_of (map in_match lines) ≡ map label_of_proof (proof_of id lines).ranks
 labels_are id [] = refl
 labels_are id (Missing ∷ lines) = ap (λ (ls : List Label). NoRoad ∷ ls) (labels_are id lines)
 labels_are id (Layer rank cells ∷ lines) = ap (λ (ls : List Label). On 0 0 0 ∷ ls) (labels_are id lines)
@@ -158,7 +158,7 @@ points_are id (End ∷ lines) fit = points_are id lines fit.1
 pub lines_are_proof : (id : ℕ) (lines : List ProofLine) → id < 2 ^ 32 → Continues (start id) (map in_match lines) → AllByRecursion FitsLine lines → IsProof (proof_of id lines)
 lines_are_proof id lines small continues fit =
     let all = traced id (map in_match lines) small continues in
-    let same : trace_of id (map in_match lines) ≡ match_of (proof_of id lines) =
+    let same : trace_of id (map in_match lines) ≡ match_of_proof (proof_of id lines) =
     λ i. record { id = sym (id_of_lines id lines) i; labels = labels_are id lines i; pieces = pieces_are id lines i } in
     record {
       points = points_are id lines fit;
@@ -207,22 +207,22 @@ zip_piece id piece ls ranks tables rest = record {
 zip_end : (id : ℕ) (ls : List Line) (ranks : List (Option ℕ)) (tables : List (List Cell)) → Zipped id ls ranks tables → Zipped id (EndLine ∷ ls) ranks tables
 zip_end id ls ranks tables rest = record { lines = End ∷ rest.lines; same = λ i. EndLine ∷ rest.same i; fit = (tt, rest.fit); proof_is = rest.proof_is }
 
-zipped : (id : ℕ) (ls : List Line) (ranks : List (Option ℕ)) (tables : List (List Cell)) → labels_of ls ≡ map label_of ranks → ArePoints ranks tables → Zipped id ls ranks tables
+zipped : (id : ℕ) (ls : List Line) (ranks : List (Option ℕ)) (tables : List (List Cell)) → labels_of ls ≡ map label_of_proof ranks → ArePoints ranks tables → Zipped id ls ranks tables
 zipped id [] [] [] labels points = record { lines = []; same = refl; fit = tt; proof_is = refl }
 zipped id [] [] (cells ∷ tables) labels points = absurd points
 zipped id [] (rank ∷ ranks) tables labels points = absurd cc
 zipped id (Point label ∷ ls) [] tables labels points = absurd cc
 zipped id (Point label ∷ ls) (rank ∷ ranks) [] labels points = absurd points
 zipped id (Point label ∷ ls) (None ∷ ranks) (cells ∷ tables) labels points =
-    let parts = heads label NoRoad (labels_of ls) (map label_of ranks) labels in
+    let parts = heads label NoRoad (labels_of ls) (map label_of_proof ranks) labels in
     zip_missing id label ls ranks cells tables parts.0 points.0 (zipped id ls ranks tables parts.1 points.1)
 zipped id (Point label ∷ ls) (Some rank ∷ ranks) (cells ∷ tables) labels points =
-    let parts = heads label (On 0 0 0) (labels_of ls) (map label_of ranks) labels in
+    let parts = heads label (On 0 0 0) (labels_of ls) (map label_of_proof ranks) labels in
     zip_layer id label ls rank ranks cells tables parts.0 points.0 (zipped id ls ranks tables parts.1 points.1)
 zipped id (PieceLine piece ∷ ls) ranks tables labels points = zip_piece id piece ls ranks tables (zipped id ls ranks tables labels points)
 zipped id (EndLine ∷ ls) ranks tables labels points = zip_end id ls ranks tables (zipped id ls ranks tables labels points)
 
-labels_fit : (ranks : List (Option ℕ)) → AllByRecursion LabelFits (map label_of ranks)
+labels_fit : (ranks : List (Option ℕ)) → AllByRecursion LabelFits (map label_of_proof ranks)
 labels_fit [] = tt
 labels_fit (None ∷ ranks) = (tt, labels_fit ranks)
 labels_fit (Some rank ∷ ranks) = ((omega arith, omega arith, omega arith), labels_fit ranks)
@@ -235,7 +235,7 @@ pub record HasLines (proof : TraceProof) : Type 0 where
 
 pub proof_has_lines : (proof : TraceProof) → IsProof proof → HasLines proof
 proof_has_lines proof is =
-    let has = has_text (match_of proof) is.pieces (record { id = is.id; labels = labels_fit proof.ranks; pieces = is.pieces_fit }) in
+    let has = has_text (match_of_proof proof) is.pieces (record { id = is.id; labels = labels_fit proof.ranks; pieces = is.pieces_fit }) in
     let all = zipped proof.id has.lines proof.ranks proof.tables (ap (λ (m : MatchedTrace). m.labels) has.is) is.points in
     let pieces_is : pieces_of has.lines ≡ proof.pieces = ap (λ (m : MatchedTrace). m.pieces) has.is in
     record {

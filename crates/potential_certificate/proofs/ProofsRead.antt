@@ -8,7 +8,7 @@ use Rattle.match_text.specs.declared.matched.Routed.{Routed}
 use Rattle.match_text.specs.declared.place.Place.{Place}
 use Rattle.matching.specs.declared.parts.Cell.{Cell}
 use Rattle.potential_certificate.specs.inside.AddedPoint.{with_last_point}
-use Rattle.potential_certificate.specs.Reading.{ProofRead, adding, fault_at, in_match, line_and_more, line_at, lines_at, lines_behind, no_points, proof_at, with_line}
+use Rattle.potential_certificate.specs.Reading.{ProofRead, adding, certificate_fault_at, in_match, line_and_more, line_at, lines_at, lines_behind, empty_proof, proof_at, with_line}
 use Rattle.potential_certificate.specs.declared.proof.TraceProof.{TraceProof}
 use Rattle.potential_certificate.specs.declared.proof_line.ProofLine.{ProofLine}
 use Rattle.potential_certificate.specs.declared.proof_line.ProofLine.TheVariants.{Missing, Layer, Piece, End}
@@ -19,7 +19,7 @@ use Rattle.potential_certificate.proofs.NextLines.{line_again, line_goes_down}
 
 -- the proof of lines, and their text with the end line
 abbrev pub proof_of : ℕ → List ProofLine → TraceProof
-proof_of id [] = no_points id
+proof_of id [] = empty_proof id
 proof_of id (line ∷ lines) = with_line line (proof_of id lines)
 
 abbrev pub lines_text : Place → List ProofLine → List ℕ
@@ -72,9 +72,9 @@ one_more place text line next proof rest first other (Ok (p, r)) more e =
       text_is = taken.text_is ∙ ap (λ (t : List ℕ). line_text place line ++ t) others.text_is ∙ sym (append_assoc (line_text place line) (lines_text (place_after place (in_match line)) others.lines) r);
     })
 
-no_more : (place : Place) (text : List ℕ) (next : List ℕ) (proof : TraceProof) (rest : List ℕ) → line_at place text ≡ Some (End, next) → ◌≡◌ {A = ProofRead} (Ok (no_points place.id, next)) (Ok (proof, rest)) → LinesTaken place text proof rest
+no_more : (place : Place) (text : List ℕ) (next : List ℕ) (proof : TraceProof) (rest : List ℕ) → line_at place text ≡ Some (End, next) → ◌≡◌ {A = ProofRead} (Ok (empty_proof place.id, next)) (Ok (proof, rest)) → LinesTaken place text proof rest
 no_more place text next proof rest first e =
-    let parts = ok_parts (no_points place.id) proof next rest e in
+    let parts = ok_parts (empty_proof place.id) proof next rest e in
     let taken = line_takes place text End next first in
     subst (λ (y : TraceProof × List ℕ). LinesTaken place text y.0 y.1) (λ i. (parts.0 i, parts.1 i))
     (record { lines = []; continues = taken.allowed; fit = tt; proof_is = refl; text_is = taken.text_is })
@@ -138,11 +138,11 @@ pub record GoesOn (whole : List ℕ) (id : ℕ) (text : List ℕ) (front : Trace
   pub own : front.id ≡ id
   pub are : prepended front (lines_at whole fuel place left) ≡ proof_at whole id text
 
-prepended_none : (id : ℕ) (read : ProofRead) → prepended (no_points id) read ≡ read
+prepended_none : (id : ℕ) (read : ProofRead) → prepended (empty_proof id) read ≡ read
 prepended_none id (Ok read) = refl
 prepended_none id (Err fault) = refl
 
-pub begins : (whole : List ℕ) (id : ℕ) (text : List ℕ) → GoesOn whole id text (no_points id) (start id) text
+pub begins : (whole : List ℕ) (id : ℕ) (text : List ℕ) → GoesOn whole id text (empty_proof id) (start id) text
 begins whole id text = record { fuel = length text + 1; enough = omega arith; id_is = refl; own = refl; are = prepended_none id (proof_at whole id text) }
 
 -- the front with a line behind it
@@ -210,14 +210,14 @@ reads_on whole id text front place left line kind next front' place' first is ot
     (goes_on whole id text front place left kind next first_is other so_far))
 
 pub fails : (whole : List ℕ) (id : ℕ) (text : List ℕ) (front : TraceProof) (place : Place) (left : List ℕ)
-    → line_at place left ≡ None → GoesOn whole id text front place left → proof_at whole id text ≡ Err (fault_at whole left)
+    → line_at place left ≡ None → GoesOn whole id text front place left → proof_at whole id text ≡ Err (certificate_fault_at whole left)
 fails whole id text front place left none so_far = by_fuel so_far.fuel so_far.enough so_far.are
   where
-    by_fuel : (fuel : ℕ) → length left < fuel → prepended front (lines_at whole fuel place left) ≡ proof_at whole id text → proof_at whole id text ≡ Err (fault_at whole left)
+    by_fuel : (fuel : ℕ) → length left < fuel → prepended front (lines_at whole fuel place left) ≡ proof_at whole id text → proof_at whole id text ≡ Err (certificate_fault_at whole left)
     by_fuel zero enough are = absurd (omega (arith, enough))
     by_fuel (suc fuel) enough are = sym are ∙ ap (prepended front) (ap (lines_behind (lines_at whole fuel) whole place left) none)
 
-ended_proof : (id : ℕ) (front : TraceProof) (place : Place) (rest : List ℕ) → place.id ≡ id → front.id ≡ id → prepended front (Ok (no_points place.id, rest)) ≡ Ok (front, rest)
+ended_proof : (id : ℕ) (front : TraceProof) (place : Place) (rest : List ℕ) → place.id ≡ id → front.id ≡ id → prepended front (Ok (empty_proof place.id, rest)) ≡ Ok (front, rest)
 ended_proof id front place rest same own =
     let first = append-nil front.ranks in
     let second = append-nil front.tables in

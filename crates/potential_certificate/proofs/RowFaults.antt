@@ -10,8 +10,8 @@ use Rattle.row_text.specs.RowLine.{row_line}
 use Rattle.row_text.proofs.LineEnds.{row_has_one_end}
 use Rattle.row_text.proofs.LineFaults.{HasOneEnd, IsFaultOf, Steps, fails_at, has_line, line_count-append, past_at, same_lines, step}
 use Rattle.potential_certificate.specs.CertificateText.{last_line}
-use Rattle.potential_certificate.specs.HasText.{AreRowsFrom}
-use Rattle.potential_certificate.specs.Reading.{ended, fault_at, line_number, row_from, rows_at, rows_behind}
+use Rattle.potential_certificate.specs.HasText.{AreRowValuesFrom}
+use Rattle.potential_certificate.specs.Reading.{ended, certificate_fault_at, line_number, row_at_least, rows_at_front, rows_after_row}
 use Rattle.potential_certificate.specs.declared.fault.CertFault.{CertFault}
 use Rattle.potential_certificate.specs.declared.fault.CertFault.TheVariants.{BadLine, Cut}
 use Rattle.potential_certificate.specs.declared.proof.Certificate.{Certificate}
@@ -37,14 +37,14 @@ counted_behind whole number text line next one text_is counted = record {
 number_is : (whole : List ℕ) (number : ℕ) (text : List ℕ) → IsCounted whole number text → line_number whole text ≡ number
 number_is whole number text counted = omega (arith, counted.positive, counted.count)
 
-pub fault_here : (whole : List ℕ) (number : ℕ) (text : List ℕ) → IsCounted whole number text → fault_at whole text ≡ cond (has_line text) (BadLine number) Cut
+pub fault_here : (whole : List ℕ) (number : ℕ) (text : List ℕ) → IsCounted whole number text → certificate_fault_at whole text ≡ cond (has_line text) (BadLine number) Cut
 fault_here whole number text counted = ap (λ (n : ℕ). cond (has_line text) (BadLine n) Cut) (number_is whole number text counted)
 
 -- ---- rows, behind `count` rows whose origins are below `least`, and the last line
 
 pub record RowsFrom (traces count least : ℕ) (lines : List (List ℕ)) : Type 0 where
   pub rows : List TableRow
-  pub are : AreRowsFrom least rows
+  pub are : AreRowValuesFrom least rows
   pub few : count + length rows < 2 ^ 32
   pub lines_are : lines ≡ map row_line rows ++ last_line traces (count + length rows) ∷ []
 
@@ -54,29 +54,29 @@ some_lines traces count least r = omega (arith, ap length r.lines_are, length-ap
 last_at : (traces count least : ℕ) → count < 2 ^ 32 → RowsFrom traces count least (last_line traces (count + 0) ∷ [])
 last_at traces count least few = record { rows = []; are = tt; few = omega (arith, few); lines_are = refl }
 
-no_row : (traces count least : ℕ) (rest : List ℕ) → row_from least (last_line traces count ++ rest) ≡ None
+no_row : (traces count least : ℕ) (rest : List ℕ) → row_at_least least (last_line traces count ++ rest) ≡ None
 unfolding row_at number_after
 no_row traces count least rest = refl
 
 -- what stands at the front, where these lines begin the text
 record Front (traces count least : ℕ) (text : List ℕ) (others : List (List ℕ)) (rest : List ℕ) : Type 0 where
-  pub last : row_from least text ≡ None → (after_bytes (last_line traces (count + 0)) text ≡ Some rest) × (others ≡ [])
-  pub row : (row : TableRow) (next : List ℕ) → row_from least text ≡ Some (row, next) → RowsFrom traces (count + 1) (row.origin + 1) others × (rest ≡ next)
+  pub last : row_at_least least text ≡ None → (after_bytes (last_line traces (count + 0)) text ≡ Some rest) × (others ≡ [])
+  pub row : (row : TableRow) (next : List ℕ) → row_at_least least text ≡ Some (row, next) → RowsFrom traces (count + 1) (row.origin + 1) others × (rest ≡ next)
 
 front : (traces count least : ℕ) (text first : List ℕ) (others : List (List ℕ)) (rest : List ℕ) → RowsFrom traces count least (first ∷ others) → text ≡ first ++ rest → Front traces count least text others rest
 front traces count least text first others rest t begins = by_rows t.rows t.are t.few t.lines_are
   where
-    by_rows : (rows : List TableRow) → AreRowsFrom least rows → count + length rows < 2 ^ 32 → first ∷ others ≡ map row_line rows ++ last_line traces (count + length rows) ∷ [] → Front traces count least text others rest
+    by_rows : (rows : List TableRow) → AreRowValuesFrom least rows → count + length rows < 2 ^ 32 → first ∷ others ≡ map row_line rows ++ last_line traces (count + length rows) ∷ [] → Front traces count least text others rest
     by_rows [] are few lines_are =
         let parts = same_lines first (last_line traces (count + 0)) others [] lines_are in
         let text_is : text ≡ last_line traces (count + 0) ++ rest = begins ∙ ap (λ (l : List ℕ). l ++ rest) parts.0 in
         record {
           last = λ none. (ap (after_bytes (last_line traces (count + 0))) text_is ∙ after_again (last_line traces (count + 0)) rest, parts.1);
-          row = λ row next e. absurd (none-some (row, next) (sym (no_row traces (count + 0) least rest) ∙ ap (row_from least) (sym text_is) ∙ e));
+          row = λ row next e. absurd (none-some (row, next) (sym (no_row traces (count + 0) least rest) ∙ ap (row_at_least least) (sym text_is) ∙ e));
         }
     by_rows (row ∷ rows) are few lines_are =
         let parts = same_lines first (row_line row) others (map row_line rows ++ last_line traces (count + suc (length rows)) ∷ []) lines_are in
-        let found : row_from least text ≡ Some (row, rest) = ap (row_from least) (begins ∙ ap (λ (l : List ℕ). l ++ rest) parts.0) ∙ row_again least row rest are.0 are.1 in
+        let found : row_at_least least text ≡ Some (row, rest) = ap (row_at_least least) (begins ∙ ap (λ (l : List ℕ). l ++ rest) parts.0) ∙ row_again least row rest are.0 are.1 in
         let more : RowsFrom traces (count + 1) (row.origin + 1) others = record {
           rows = rows;
           are = are.2;
@@ -90,7 +90,7 @@ front traces count least text first others rest t begins = by_rows t.rows t.are 
               (subst (λ (r : TableRow). RowsFrom traces (count + 1) (r.origin + 1) others) same.0 more, same.1);
         }
 
-row_steps : (traces count least : ℕ) (text : List ℕ) (row : TableRow) (next : List ℕ) → row_from least text ≡ Some (row, next) → Steps (RowsFrom traces count least) (RowsFrom traces (count + 1) (row.origin + 1)) text (row_line row) next
+row_steps : (traces count least : ℕ) (text : List ℕ) (row : TableRow) (next : List ℕ) → row_at_least least text ≡ Some (row, next) → Steps (RowsFrom traces count least) (RowsFrom traces (count + 1) (row.origin + 1)) text (row_line row) next
 row_steps traces count least text row next first =
     let taken = row_takes least text row next first in
     record {
@@ -111,7 +111,7 @@ pub same_fault : (f g : CertFault) → ◌≡◌ {A = Result Certificate CertFau
 same_fault f g e = cc
 
 -- no row stands here
-last_fault : (whole : List ℕ) (traces count least number : ℕ) (text : List ℕ) (c : Certificate) (fault : CertFault) → IsCounted whole number text → traces < 2 ^ 32 → count < 2 ^ 32 → row_from least text ≡ None
+last_fault : (whole : List ℕ) (traces count least number : ℕ) (text : List ℕ) (c : Certificate) (fault : CertFault) → IsCounted whole number text → traces < 2 ^ 32 → count < 2 ^ 32 → row_at_least least text ≡ None
     → (end : Option (List ℕ)) → after_bytes (last_line traces (count + 0)) text ≡ end → ended whole c text end ≡ Err fault → FaultIs number (RowsFrom traces count least) text fault
 last_fault whole traces count least number text c fault counted traces_few few none None is e =
     fails_at (λ n. BadLine n) Cut number text fault (
@@ -121,7 +121,7 @@ last_fault whole traces count least number text c fault counted traces_few few n
       some = some_lines traces count least;
       none = λ first others rest t begins. none-some rest (sym is ∙ ((front traces count least text first others rest t begins).last none).0);
     }
-    ) (same_fault (fault_at whole text) fault e ∙ fault_here whole number text counted)
+    ) (same_fault (certificate_fault_at whole text) fault e ∙ fault_here whole number text counted)
 last_fault whole traces count least number text c fault counted traces_few few none (Some []) is e = absurd cc
 last_fault whole traces count least number text c fault counted traces_few few none (Some (b ∷ bs)) is e =
     let text_is = after_takes (last_line traces (count + 0)) text (b ∷ bs) is in
@@ -143,18 +143,18 @@ abbrev pub EndsIn : (whole : List ℕ) (traces count : ℕ) → Certificate → 
 EndsIn whole traces count c read fault = ended whole c read.1 (after_bytes (last_line traces (count + length read.0)) read.1) ≡ Err fault
 
 pub rows_fault : (whole : List ℕ) (fuel traces count least number : ℕ) (text : List ℕ) (c : Certificate) (fault : CertFault) → IsCounted whole number text → length text < fuel → traces < 2 ^ 32 → count + length text < 2 ^ 32
-    → EndsIn whole traces count c (rows_at fuel least text) fault → FaultIs number (RowsFrom traces count least) text fault
+    → EndsIn whole traces count c (rows_at_front fuel least text) fault → FaultIs number (RowsFrom traces count least) text fault
 rows_fault whole zero traces count least number text c fault counted enough traces_few few e = absurd (omega (arith, enough))
 rows_fault whole (suc fuel) traces count least number text c fault counted enough traces_few few e =
-    by_row (λ l m t counted enough few h. rows_fault whole fuel traces (count + 1) l m t c fault counted enough traces_few few h) (row_from least text) refl e
+    by_row (λ l m t counted enough few h. rows_fault whole fuel traces (count + 1) l m t c fault counted enough traces_few few h) (row_at_least least text) refl e
   where
-    by_row : ((l m : ℕ) (t : List ℕ) → IsCounted whole m t → length t < fuel → count + 1 + length t < 2 ^ 32 → EndsIn whole traces (count + 1) c (rows_at fuel l t) fault → FaultIs m (RowsFrom traces (count + 1) l) t fault)
-        → (read : Option (TableRow × List ℕ)) → row_from least text ≡ read → EndsIn whole traces count c (rows_behind (rows_at fuel) text read) fault → FaultIs number (RowsFrom traces count least) text fault
+    by_row : ((l m : ℕ) (t : List ℕ) → IsCounted whole m t → length t < fuel → count + 1 + length t < 2 ^ 32 → EndsIn whole traces (count + 1) c (rows_at_front fuel l t) fault → FaultIs m (RowsFrom traces (count + 1) l) t fault)
+        → (read : Option (TableRow × List ℕ)) → row_at_least least text ≡ read → EndsIn whole traces count c (rows_after_row (rows_at_front fuel) text read) fault → FaultIs number (RowsFrom traces count least) text fault
     by_row more None is e =
         last_fault whole traces count least number text c fault counted traces_few (omega (arith, few)) is (after_bytes (last_line traces (count + 0)) text) refl e
     by_row more (Some (row, next)) is e =
         let steps = row_steps traces count least text row next is in
-        let others = rows_at fuel (row.origin + 1) next in
+        let others = rows_at_front fuel (row.origin + 1) next in
         let shorter = row_goes_down least text row next is in
         let moved : count + suc (length others.0) ≡ count + 1 + length others.0 = omega arith in
         let later : EndsIn whole traces (count + 1) c others fault = subst (λ (n : ℕ). ended whole c others.1 (after_bytes (last_line traces n) others.1) ≡ Err fault) moved e in

@@ -10,7 +10,7 @@ use Rattle.match_text.proofs.Lines.{trace_again, trace_takes}
 use Rattle.row_text.specs.RowLine.{row_line}
 use Rattle.row_text.proofs.LineFaults.{Narrows, Steps, narrow, same_lines, step}
 use Rattle.potential_certificate.specs.CertificateText.{last_line, proof_lines}
-use Rattle.potential_certificate.specs.HasText.{AreRowsFrom, IsProof}
+use Rattle.potential_certificate.specs.HasText.{AreRowValuesFrom, IsProof}
 use Rattle.potential_certificate.specs.Reading.{ProofRead, ProofsRead, in_match, proof_and_more, proof_at, proofs_at, proofs_behind, with_proof}
 use Rattle.potential_certificate.specs.declared.fault.CertFault.{CertFault}
 use Rattle.potential_certificate.specs.declared.fault.CertFault.TheVariants.{BadLine, Cut}
@@ -47,7 +47,7 @@ narrows traces text none = record {
   only = λ first others rest t begins. by_proofs first others rest t.rows t.rows_are t.few begins t.proofs t.proofs_are t.lines_are;
 }
   where
-    by_proofs : (first : List ℕ) (others : List (List ℕ)) (rest : List ℕ) (rows : List TableRow) → AreRowsFrom 0 rows → length rows < 2 ^ 32 → text ≡ first ++ rest → (proofs : List TraceProof) → AllByRecursion IsProof proofs
+    by_proofs : (first : List ℕ) (others : List (List ℕ)) (rest : List ℕ) (rows : List TableRow) → AreRowValuesFrom 0 rows → length rows < 2 ^ 32 → text ≡ first ++ rest → (proofs : List TraceProof) → AllByRecursion IsProof proofs
         → first ∷ others ≡ flat_map proof_lines proofs ++ (map row_line rows ++ last_line (traces + length proofs) (length rows) ∷ []) → RowsFrom (traces + 0) 0 0 (first ∷ others)
     by_proofs first others rest rows rows_are few begins [] are e = record {
       rows = rows;
@@ -92,7 +92,7 @@ trace_steps traces text id next first =
       only = λ line others rest t begins. by_proofs line others rest t.rows t.rows_are t.few begins t.proofs t.proofs_are t.lines_are;
     }
   where
-    by_proofs : (line : List ℕ) (others : List (List ℕ)) (rest : List ℕ) (rows : List TableRow) → AreRowsFrom 0 rows → length rows < 2 ^ 32 → text ≡ line ++ rest → (proofs : List TraceProof) → AllByRecursion IsProof proofs
+    by_proofs : (line : List ℕ) (others : List (List ℕ)) (rest : List ℕ) (rows : List TableRow) → AreRowValuesFrom 0 rows → length rows < 2 ^ 32 → text ≡ line ++ rest → (proofs : List TraceProof) → AllByRecursion IsProof proofs
         → line ∷ others ≡ flat_map proof_lines proofs ++ (map row_line rows ++ last_line (traces + length proofs) (length rows) ∷ []) → LinesFrom traces (start id) others × (rest ≡ next)
     by_proofs line others rest rows rows_are few begins [] are e =
         absurd (none-some (id, next) (sym (no_trace_in_rows rows (traces + 0) (length rows) line others rest e) ∙ ap trace_at (sym begins) ∙ first))

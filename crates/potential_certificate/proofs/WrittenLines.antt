@@ -7,7 +7,7 @@ use Rattle.decimal_text.specs.Number.{decimal}
 use Rattle.match_text.specs.MatchText.{words_after}
 use Rattle.match_text.specs.declared.matched.Routed.{Routed}
 use Rattle.matching.specs.declared.parts.Cell.{Cell}
-use Rattle.potential_certificate.specs.CertificateText.{back_words, cell_word, first_line, form, gap_words, layer_line, option_words, point_lines}
+use Rattle.potential_certificate.specs.CertificateText.{back_words, cell_word, certificate_first_line, form, gap_words, layer_line, certificate_option_words, position_lines}
 use Rattle.potential_certificate.specs.inside.Words.{cells_text, words_text}
 
 abbrev lf : List ℕ
@@ -25,16 +25,16 @@ regroup : (old word number o k g : List ℕ) → (((((old ++ word) ++ number) ++
 regroup old word number o k g = simp append_assoc
 
 pub first_written : (p : Params) (old a b c d e new : List ℕ)
-    → a ≡ old ++ codes "fmm-certificate" → b ≡ a ++ (codes " " ++ decimal (form p)) → c ≡ b ++ words_text (option_words p) → d ≡ c ++ words_text (back_words p)
-    → e ≡ d ++ words_text (gap_words p) → new ≡ e ++ lf → new ≡ old ++ first_line p
+    → a ≡ old ++ codes "fmm-certificate" → b ≡ a ++ (codes " " ++ decimal (form p)) → c ≡ b ++ words_text (certificate_option_words p) → d ≡ c ++ words_text (back_words p)
+    → e ≡ d ++ words_text (gap_words p) → new ≡ e ++ lf → new ≡ old ++ certificate_first_line p
 first_written p old a b c d e new first second third fourth fifth last =
-    let o = words_text (option_words p) in
+    let o = words_text (certificate_option_words p) in
     let k = words_text (back_words p) in
     let g = words_text (gap_words p) in
     let number = codes " " ++ decimal (form p) in
-    let tail : words_after (option_words p ++ (back_words p ++ gap_words p)) ≡ (o ++ (k ++ g)) ++ lf =
-    words_end (option_words p ++ (back_words p ++ gap_words p))
-    ∙ ap (λ (t : List ℕ). t ++ lf) (words_both (option_words p) (back_words p ++ gap_words p) ∙ ap (λ (t : List ℕ). o ++ t) (words_both (back_words p) (gap_words p))) in
+    let tail : words_after (certificate_option_words p ++ (back_words p ++ gap_words p)) ≡ (o ++ (k ++ g)) ++ lf =
+    words_end (certificate_option_words p ++ (back_words p ++ gap_words p))
+    ∙ ap (λ (t : List ℕ). t ++ lf) (words_both (certificate_option_words p) (back_words p ++ gap_words p) ∙ ap (λ (t : List ℕ). o ++ t) (words_both (back_words p) (gap_words p))) in
     last
     ∙ ap (λ (t : List ℕ). t ++ lf)
     (fifth ∙ ap (λ (t : List ℕ). t ++ g) (fourth ∙ ap (λ (t : List ℕ). t ++ k) (third ∙ ap (λ (t : List ℕ). t ++ o) (second ∙ ap (λ (t : List ℕ). t ++ number) first))))
@@ -96,9 +96,9 @@ no_more [] (suc i) none = refl
 no_more (x ∷ xs) zero none = absurd cc
 no_more (x ∷ xs) (suc i) none = no_more xs i none
 
-pub no_lines : (i : ℕ) (ranks : List (Option ℕ)) (tables : List (List Cell)) (pieces : List Routed) (n : ℕ) → slice_get tables n ≡ None → concat (point_lines i ranks (drop n tables) pieces) ≡ []
+pub no_lines : (i : ℕ) (ranks : List (Option ℕ)) (tables : List (List Cell)) (pieces : List Routed) (n : ℕ) → slice_get tables n ≡ None → concat (position_lines i ranks (drop n tables) pieces) ≡ []
 no_lines i ranks tables pieces n none = rw (no_more tables n none) (by_ranks ranks)
   where
-    by_ranks : (rs : List (Option ℕ)) → concat (point_lines i rs [] pieces) ≡ []
+    by_ranks : (rs : List (Option ℕ)) → concat (position_lines i rs [] pieces) ≡ []
     by_ranks [] = refl
     by_ranks (r ∷ rs) = refl

@@ -12,8 +12,8 @@ use Rattle.row_text.specs.RowLine.{row_line}
 use Rattle.potential_certificate.specs.declared.proof.Certificate.{Certificate}
 use Rattle.potential_certificate.specs.declared.proof.TraceProof.{TraceProof}
 
-abbrev pub text_limit : ℕ
-text_limit = 1_073_741_824
+abbrev pub certificate_text_limit : ℕ
+certificate_text_limit = 1_073_741_824
 
 -- ---- the first and the last line
 
@@ -23,8 +23,8 @@ abbrev pub form : Params → ℕ
 form p = if p.gap == 2 ^ 32 - 1 then (if p.back == 0 then 1 else 2) else 3
 
 -- the options that every form names
-abbrev pub option_words : Params → List (List ℕ)
-option_words p =
+abbrev pub certificate_option_words : Params → List (List ℕ)
+certificate_option_words p =
     codes "k" ∷ decimal p.k ∷ codes "radius" ∷ decimal p.radius
     ∷ codes "sigma" ∷ decimal p.sigma ∷ codes "beta" ∷ decimal p.beta
     ∷ codes "bound" ∷ decimal p.bound ∷ []
@@ -36,9 +36,9 @@ abbrev pub gap_words : Params → List (List ℕ)
 gap_words p = if form p == 3 then codes "gap" ∷ decimal p.gap ∷ [] else []
 
 -- `fmm-certificate 1 k K radius A sigma S beta B bound U`, with `back W` and `gap G` in its forms
-abbrev pub first_line : Params → List ℕ
-first_line p = line (codes "fmm-certificate")
-    (decimal (form p) ∷ option_words p ++ back_words p ++ gap_words p)
+abbrev pub certificate_first_line : Params → List ℕ
+certificate_first_line p = line (codes "fmm-certificate")
+    (decimal (form p) ∷ certificate_option_words p ++ back_words p ++ gap_words p)
 
 -- `certified traces T rows R`
 abbrev pub last_line : ℕ → ℕ → List ℕ
@@ -71,30 +71,30 @@ point_line i None cells = label_line i Missing
 point_line i (Some rank) cells = layer_line i rank cells
 
 -- the lines of the positions from i on, the line of a piece directly after that of its last position
-abbrev pub point_lines : ℕ → List (Option ℕ) → List (List Cell) → List Routed → List (List ℕ)
-point_lines i [] tables pieces = []
-point_lines i (rank ∷ ranks) [] pieces = []
-point_lines i (rank ∷ ranks) (cells ∷ tables) pieces =
-    point_line i rank cells ∷ piece_after i pieces (point_lines (i + 1) ranks tables)
+abbrev pub position_lines : ℕ → List (Option ℕ) → List (List Cell) → List Routed → List (List ℕ)
+position_lines i [] tables pieces = []
+position_lines i (rank ∷ ranks) [] pieces = []
+position_lines i (rank ∷ ranks) (cells ∷ tables) pieces =
+    point_line i rank cells ∷ piece_after i pieces (position_lines (i + 1) ranks tables)
 
 abbrev pub proof_text : TraceProof → List ℕ
 proof_text proof = trace_line proof.id
-    ++ (concat (point_lines 0 proof.ranks proof.tables proof.pieces) ++ end_line proof.id)
+    ++ (concat (position_lines 0 proof.ranks proof.tables proof.pieces) ++ end_line proof.id)
 
 -- ---- the text, for these options
 
 abbrev pub certificate_text : Params → Certificate → List ℕ
 certificate_text p c =
-    first_line p ++ (flat_map proof_text c.proofs
+    certificate_first_line p ++ (flat_map proof_text c.proofs
     ++ (flat_map row_line c.rows ++ last_line (length c.proofs) (length c.rows)))
 
 -- ---- its lines
 
 abbrev pub proof_lines : TraceProof → List (List ℕ)
 proof_lines proof = trace_line proof.id
-    ∷ (point_lines 0 proof.ranks proof.tables proof.pieces ++ end_line proof.id ∷ [])
+    ∷ (position_lines 0 proof.ranks proof.tables proof.pieces ++ end_line proof.id ∷ [])
 
 abbrev pub certificate_lines : Params → Certificate → List (List ℕ)
 certificate_lines p c =
-    first_line p ∷ (flat_map proof_lines c.proofs
+    certificate_first_line p ∷ (flat_map proof_lines c.proofs
     ++ (map row_line c.rows ++ last_line (length c.proofs) (length c.rows) ∷ []))

@@ -2,9 +2,9 @@
 use Rattle.std.specs.Prelude.{ℕ, ◌≡◌, ◌↔◌, ◌<◌, ◌≤◌, ◌^◌, List, length, Err}
 use Rattle.cost_model.specs.declared.params.Params.{Params}
 use Rattle.row_text.specs.LineFaults.{IsCutOf, IsFirstBadLineOf}
-use Rattle.potential_certificate.specs.CertificateText.{certificate_lines, text_limit}
+use Rattle.potential_certificate.specs.CertificateText.{certificate_lines, certificate_text_limit}
 use Rattle.potential_certificate.specs.HasText.{HasText}
-use Rattle.potential_certificate.specs.Reading.{certificate_of}
+use Rattle.potential_certificate.specs.Reading.{certificate_of_text}
 use Rattle.potential_certificate.specs.declared.fault.CertFault.TheVariants.{BadLine, Cut}
 use Rattle.potential_certificate.specs.declared.proof.Certificate.{Certificate}
 
@@ -24,13 +24,13 @@ pub record OptionsFit (p : Params) : Type 0 where
   pub back : p.back < 2 ^ 32
   pub gap : p.gap < 2 ^ 32
 
-abbrev pub BadLinesAreFirst : Type 0
-BadLinesAreFirst =
+abbrev pub BadCertificateLinesAreFirst : Type 0
+BadCertificateLinesAreFirst =
     (p : Params) (text : List ℕ) (n : ℕ) → OptionsFit p
-    → (certificate_of p text ≡ Err (BadLine n))
-    ↔ ((length text ≤ text_limit) × IsFirstBadLineOf (IsCertificate p) n text)
+    → (certificate_of_text p text ≡ Err (BadLine n))
+    ↔ ((length text ≤ certificate_text_limit) × IsFirstBadLineOf (IsCertificate p) n text)
 
-abbrev pub CutsLackTheirEnd : Type 0
-CutsLackTheirEnd =
+abbrev pub CutCertificatesLackTheirEnd : Type 0
+CutCertificatesLackTheirEnd =
     (p : Params) (text : List ℕ) → OptionsFit p
-    → (certificate_of p text ≡ Err Cut) ↔ ((length text ≤ text_limit) × IsCutOf (IsCertificate p) text)
+    → (certificate_of_text p text ≡ Err Cut) ↔ ((length text ≤ certificate_text_limit) × IsCutOf (IsCertificate p) text)

@@ -17,7 +17,7 @@ use Rattle.matching.specs.Cells.{empty_cell}
 use Rattle.matching.specs.declared.parts.Cell.{Cell}
 pub use Rattle.row_text.specs.LineFaults.{line_count}
 use Rattle.row_text.specs.Reading.{row_at}
-use Rattle.potential_certificate.specs.CertificateText.{first_line, last_line, text_limit}
+use Rattle.potential_certificate.specs.CertificateText.{certificate_first_line, last_line, certificate_text_limit}
 use Rattle.potential_certificate.specs.declared.fault.CertFault.{CertFault}
 use Rattle.potential_certificate.specs.declared.fault.CertFault.TheVariants.{BadLine, Cut, TooLong}
 use Rattle.potential_certificate.specs.declared.proof.Certificate.{Certificate}
@@ -32,8 +32,8 @@ abbrev pub line_number : (whole left : List ℕ) → ℕ
 line_number whole left = line_count whole - line_count left + 1
 
 -- the fault where the line that begins `left` is not allowed: without LF it is not complete
-abbrev pub fault_at : (whole left : List ℕ) → CertFault
-fault_at whole left =
+abbrev pub certificate_fault_at : (whole left : List ℕ) → CertFault
+certificate_fault_at whole left =
     if list_any (λ b. b == 10) left then BadLine (line_number whole left) else Cut
 
 -- ---- the cells of a layer
@@ -57,8 +57,8 @@ empty_or_cost text None = cost_at text
 empty_or_cost text (Some rest) = Some (empty_cell, rest)
 
 -- a cell, with the space before it
-unfoldable pub cell_at : List ℕ → Option (Cell × List ℕ)
-cell_at text = empty_or_cost text (after_bytes (codes " -") text)
+unfoldable pub cell_at_front : List ℕ → Option (Cell × List ℕ)
+cell_at_front text = empty_or_cost text (after_bytes (codes " -") text)
 
 -- ---- words up to the end of a line
 
@@ -98,7 +98,7 @@ ranked_at place text = do
 unfoldable pub layer_at : Place → List ℕ → Option (ProofLine × List ℕ)
 layer_at place text = do
   head ← ranked_at place text
-  cells ← all_words_at cell_at head.1
+  cells ← all_words_at cell_at_front head.1
   layer_with head.0 cells
 
 abbrev pub is_first : Option ℕ → ℕ → Bool
@@ -109,16 +109,16 @@ is_first (Some i) first = i == first
 abbrev pub is_open : Place → Head → Bool
 is_open place head = is_first place.waiting head.first && (head.last + 1 == place.next)
 
-abbrev pub piece_of : Head → List ℕ → Routed
-piece_of head route =
+abbrev pub routed_piece : Head → List ℕ → Routed
+routed_piece head route =
     record { first = head.first; last = head.last; cost = head.cost; route = route }
 
 abbrev pub piece_with : Place → Head → List ℕ × List ℕ → Option (Routed × List ℕ)
 piece_with place head read =
-    if is_open place head && nat_lt 0 (length read.0) then Some (piece_of head read.0, read.1) else None
+    if is_open place head && nat_lt 0 (length read.0) then Some (routed_piece head read.0, read.1) else None
 
-unfoldable pub piece_at : Place → List ℕ → Option (Routed × List ℕ)
-piece_at place text = do
+unfoldable pub piece_at_front : Place → List ℕ → Option (Routed × List ℕ)
+piece_at_front place text = do
   head ← head_at text
   route ← all_words_at (number_after (codes " ") most32) head.rest
   piece_with place head route
@@ -129,7 +129,7 @@ unfoldable pub line_at : Place → List ℕ → Option (ProofLine × List ℕ)
 line_at place text =
     option_or (option_map (λ read. (Missing, read.1)) (none_at place text))
     (option_or (layer_at place text)
-    (option_or (option_map (λ read. (Piece read.0, read.1)) (piece_at place text))
+    (option_or (option_map (λ read. (Piece read.0, read.1)) (piece_at_front place text))
     (option_map (λ read. (End, read.1)) (end_at place text))))
 
 -- the line of a match text with the same place after it
@@ -141,20 +141,20 @@ in_match End = EndLine
 
 -- ---- a proof
 
-abbrev pub with_point : Option ℕ → List Cell → TraceProof → TraceProof
-with_point rank cells proof = record
+abbrev pub with_position : Option ℕ → List Cell → TraceProof → TraceProof
+with_position rank cells proof = record
     { id = proof.id; ranks = rank ∷ proof.ranks; tables = cells ∷ proof.tables; pieces = proof.pieces }
 
 -- what this line says, and those after it
 abbrev pub with_line : ProofLine → TraceProof → TraceProof
-with_line Missing proof = with_point None [] proof
-with_line (Layer rank cells) proof = with_point (Some rank) cells proof
+with_line Missing proof = with_position None [] proof
+with_line (Layer rank cells) proof = with_position (Some rank) cells proof
 with_line (Piece piece) proof = record
     { id = proof.id; ranks = proof.ranks; tables = proof.tables; pieces = piece ∷ proof.pieces }
 with_line End proof = proof
 
-abbrev pub no_points : ℕ → TraceProof
-no_points id = record { id = id; ranks = []; tables = []; pieces = [] }
+abbrev pub empty_proof : ℕ → TraceProof
+empty_proof id = record { id = id; ranks = []; tables = []; pieces = [] }
 
 -- a proof and what comes after it, or the fault
 abbrev pub ProofRead : Type 0
@@ -165,7 +165,7 @@ adding line (Ok read) = Ok (with_line line read.0, read.1)
 adding line (Err fault) = Err fault
 
 abbrev pub line_and_more : (Place → List ℕ → ProofRead) → Place → ProofLine → List ℕ → ProofRead
-line_and_more more place End rest = Ok (no_points place.id, rest)
+line_and_more more place End rest = Ok (empty_proof place.id, rest)
 line_and_more more place Missing rest =
     adding Missing (more (place_after place (in_match Missing)) rest)
 line_and_more more place (Layer rank cells) rest =
@@ -175,7 +175,7 @@ line_and_more more place (Piece piece) rest =
 
 abbrev pub lines_behind : (Place → List ℕ → ProofRead) → (whole : List ℕ) → Place → List ℕ
     → Option (ProofLine × List ℕ) → ProofRead
-lines_behind more whole place text None = Err (fault_at whole text)
+lines_behind more whole place text None = Err (certificate_fault_at whole text)
 lines_behind more whole place text (Some read) = line_and_more more place read.0 read.1
 
 -- the lines from this place on to the end line; no text has as many as `fuel`
@@ -215,28 +215,28 @@ abbrev pub if_rises : ℕ → TableRow × List ℕ → Option (TableRow × List 
 if_rises least read = if nat_le least read.0.origin then Some read else None
 
 -- the row at the front, where its origin is not below `least`
-abbrev pub row_from : ℕ → List ℕ → Option (TableRow × List ℕ)
-row_from least text = row_at text >>= if_rises least
+abbrev pub row_at_least : ℕ → List ℕ → Option (TableRow × List ℕ)
+row_at_least least text = row_at text >>= if_rises least
 
-abbrev pub rows_behind : (ℕ → List ℕ → List TableRow × List ℕ) → List ℕ → Option (TableRow × List ℕ)
+abbrev pub rows_after_row : (ℕ → List ℕ → List TableRow × List ℕ) → List ℕ → Option (TableRow × List ℕ)
     → List TableRow × List ℕ
-rows_behind more text None = ([], text)
-rows_behind more text (Some read) =
+rows_after_row more text None = ([], text)
+rows_after_row more text (Some read) =
     let others = more (read.0.origin + 1) read.1 in (read.0 ∷ others.0, others.1)
 
 -- the rows at the front whose origins rise from `least` on, and what comes after them
-abbrev pub rows_at : (fuel least : ℕ) → List ℕ → List TableRow × List ℕ
-rows_at zero least text = ([], text)
-rows_at (suc fuel) least text = rows_behind (rows_at fuel) text (row_from least text)
+abbrev pub rows_at_front : (fuel least : ℕ) → List ℕ → List TableRow × List ℕ
+rows_at_front zero least text = ([], text)
+rows_at_front (suc fuel) least text = rows_after_row (rows_at_front fuel) text (row_at_least least text)
 
 abbrev pub all_rows_at : List ℕ → List TableRow × List ℕ
-all_rows_at text = rows_at (length text + 1) 0 text
+all_rows_at text = rows_at_front (length text + 1) 0 text
 
 -- ---- the certificate
 
 -- nothing may come after the last line
 abbrev pub ended : (whole : List ℕ) → Certificate → List ℕ → Option (List ℕ) → Result Certificate CertFault
-ended whole c left None = Err (fault_at whole left)
+ended whole c left None = Err (certificate_fault_at whole left)
 ended whole c left (Some []) = Ok c
 ended whole c left (Some (b ∷ bs)) = Err (BadLine (line_number whole (b ∷ bs)))
 
@@ -254,13 +254,13 @@ abbrev pub proofs_and_rows : (whole : List ℕ) → ProofsRead → Result Certif
 proofs_and_rows whole (Err fault) = Err fault
 proofs_and_rows whole (Ok read) = rows_and_end whole read.0 (all_rows_at read.1)
 
-abbrev pub behind_first : (whole : List ℕ) → Option (List ℕ) → Result Certificate CertFault
-behind_first whole None = Err (fault_at whole whole)
-behind_first whole (Some rest) =
+abbrev pub certificate_after_first : (whole : List ℕ) → Option (List ℕ) → Result Certificate CertFault
+certificate_after_first whole None = Err (certificate_fault_at whole whole)
+certificate_after_first whole (Some rest) =
     proofs_and_rows whole (proofs_at whole (length rest + 1) rest)
 
 -- the certificate whose text this is, for these options, or the first fault
-abbrev pub certificate_of : Params → List ℕ → Result Certificate CertFault
-certificate_of p text =
-    if nat_lt text_limit (length text) then Err TooLong
-    else behind_first text (after_bytes (first_line p) text)
+abbrev pub certificate_of_text : Params → List ℕ → Result Certificate CertFault
+certificate_of_text p text =
+    if nat_lt certificate_text_limit (length text) then Err TooLong
+    else certificate_after_first text (after_bytes (certificate_first_line p) text)

@@ -1,7 +1,7 @@
 //! A text stored as the proofs and rows read from it. Serves the reader of blocks; decided by `gathered_text`.
 ghost use Rattle.std.specs.Prelude.{◌≡◌, ◌<◌, ◌++◌, [], IfOk, IsErrOf, IsTrue, OnOk, length};
-ghost use Rattle.potential_certificate.specs.CertificateText.{certificate_text, text_limit};
-ghost use Rattle.potential_certificate.specs.inside.Gathering.{GoesOn, Grows, IsGathered, IsPartRead, gathered_text, least_after, lines_text, rises_from};
+ghost use Rattle.potential_certificate.specs.CertificateText.{certificate_text, certificate_text_limit};
+ghost use Rattle.potential_certificate.specs.inside.Gathering.{GoesOn, GathersMore, IsGathered, IsPartRead, gathered_text, least_after, lines_text, first_rises_from};
 
 use crate::drawing::read_parts;
 use crate::fault::WriteFault;
@@ -53,7 +53,7 @@ fn least_after(rows: &[Row]) -> u64
 
 // Whether these rows may follow others, if their first origin must be `least` or above.
 fn rises_from(least: u64, rows: &[Row]) -> bool
-    ensures { result ≡ rises_from least rows.now }
+    ensures { result ≡ first_rises_from least rows.now }
 {
     match rows.first() {
         Some(row) => least <= u64::from(row.origin().0),
@@ -89,7 +89,7 @@ impl Gathered {
     fn add(&mut self, read: PartRead<'_>) -> Result<(), AllocError>
         requires so_far { IsGathered self.old }
         requires read { IsPartRead read }
-        ensures { OnOk result (Grows self.old read.entry.part.now self.new) }
+        ensures { OnOk result (GathersMore self.old read.entry.part.now self.new) }
     {
         if !self.goes_on(&read) {
             return self.behind.extend_from_slice(read.part);
@@ -102,7 +102,7 @@ impl Gathered {
     // Reads the remaining text, whose last line is complete.
     pub fn settle(&mut self) -> Result<(), AllocError>
         requires { IsGathered self.old }
-        ensures { OnOk result (Grows self.old [] self.new) }
+        ensures { OnOk result (GathersMore self.old [] self.new) }
     {
         let part = mem::replace(&mut self.behind, Vec::new(self.alloc));
         let read = read_part(self.alloc, &part)?;
@@ -112,7 +112,7 @@ impl Gathered {
     // Adds proofs and rows, which are read in parallel.
     fn add_items<R: Threads + Sync>(&mut self, rt: &R, items: &[u8]) -> Result<(), AllocError>
         requires { IsGathered self.old }
-        ensures { OnOk result (Grows self.old items.now self.new) }
+        ensures { OnOk result (GathersMore self.old items.now self.new) }
     {
         let reads = read_parts(rt, self.alloc, items)?;
         for read in reads {
@@ -134,7 +134,7 @@ impl Gathered {
     // Adds bytes in which no proof or row begins.
     fn add_head(&mut self, head: &[u8]) -> Result<(), AllocError>
         requires { IsGathered self.old }
-        ensures { OnOk result (Grows self.old head.now self.new) }
+        ensures { OnOk result (GathersMore self.old head.now self.new) }
     {
         if self.is_in_first() {
             return self.first.extend_from_slice(head);
@@ -145,7 +145,7 @@ impl Gathered {
     // Adds bytes that begin with the line of a proof or a row.
     fn add_lines<R: Threads + Sync>(&mut self, rt: &R, lines: &[u8]) -> Result<(), AllocError>
         requires { IsGathered self.old }
-        ensures { OnOk result (Grows self.old lines.now self.new) }
+        ensures { OnOk result (GathersMore self.old lines.now self.new) }
     {
         self.settle()?;
         let (items, begun) = lines.split_at(last_item(lines));
@@ -157,7 +157,7 @@ impl Gathered {
     /// Adds more of the text. After `Err` its state is unspecified.
     pub fn push<R: Threads + Sync>(&mut self, rt: &R, block: &[u8]) -> Result<(), AllocError>
         requires { IsGathered self.old }
-        ensures { OnOk result (Grows self.old block.now self.new) }
+        ensures { OnOk result (GathersMore self.old block.now self.new) }
     {
         if self.is_stuck {
             return self.behind.extend_from_slice(block);
@@ -203,7 +203,7 @@ impl Gathered {
     /// The whole text, written out.
     pub fn into_text(mut self) -> Result<List<u8>, WriteFault>
         ensures ok { IfOk result (λ text. text ≡ gathered_text self) }
-        ensures too_long { IsErrOf result WriteFault.TooLong → text_limit < length (gathered_text self) }
+        ensures too_long { IsErrOf result WriteFault.TooLong → certificate_text_limit < length (gathered_text self) }
     {
         let first = mem::replace(&mut self.first, Vec::new(self.alloc));
         let mut text = List::from_vec(first);

@@ -1,5 +1,5 @@
 //! Laws of the texts of certificates. Each function exists for its clause and does nothing.
-ghost use Rattle.potential_certificate.specs.Faults.{BadLinesAreFirst, CutsLackTheirEnd};
+ghost use Rattle.potential_certificate.specs.Faults.{BadCertificateLinesAreFirst, CutCertificatesLackTheirEnd};
 ghost use Rattle.potential_certificate.specs.Laws.{CertificatesHaveOneText, CertificatesReadBack};
 
 /// A certificate that has a text, written within the limit, reads back as the same certificate.
@@ -15,10 +15,10 @@ pub fn certificates_have_one_text()
 /// `BadLine` has the number of the first line that is not allowed at its place: the lines before it
 /// begin the text of some certificate, and with it they do not.
 pub fn bad_lines_are_first()
-    ensures { BadLinesAreFirst }
+    ensures { BadCertificateLinesAreFirst }
 {}
 
 /// `Cut` says that each complete line is allowed and that the last line is missing.
 pub fn cuts_lack_their_end()
-    ensures { CutsLackTheirEnd }
+    ensures { CutCertificatesLackTheirEnd }
 {}

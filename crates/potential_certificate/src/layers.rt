@@ -2,7 +2,7 @@
 ghost use Rattle.std.specs.Prelude.{◌≡◌, ◌^◌, ◌-◌, IfOk, length};
 ghost use Rattle.std.specs.Option.{option_copied};
 ghost use Rattle.match_text.specs.Reading.{most32, number_after, numbered_at, seen};
-ghost use Rattle.potential_certificate.specs.Reading.{all_words_at, cell_at, cost_at, is_layer, layer_at, pointer_at, ranked_at};
+ghost use Rattle.potential_certificate.specs.Reading.{all_words_at, cell_at_front, cost_at, is_layer, layer_at, pointer_at, ranked_at};
 
 use crate::proof_line::ProofLine;
 use match_text::Place;
@@ -71,7 +71,7 @@ fn is_layer(rank: u32, cells: &[Cell]) -> bool
 
 // The cells up to the end of the line, and the text after the line.
 fn cells(alloc: Global, text: &[u8]) -> Result<Option<(List<Cell>, &[u8])>, AllocError>
-    ensures { IfOk result (λ read. seen read ≡ all_words_at cell_at text.now) }
+    ensures { IfOk result (λ read. seen read ≡ all_words_at cell_at_front text.now) }
 {
     let mut cells = List::new(alloc);
     let mut rest = text;
@@ -86,9 +86,9 @@ fn cells(alloc: Global, text: &[u8]) -> Result<Option<(List<Cell>, &[u8])>, Allo
 }
 
 // The cell after a space, and the text after it.
-#[tactic(auto, unfolding(crate::specs::Reading::cell_at))]
+#[tactic(auto, unfolding(crate::specs::Reading::cell_at_front))]
 fn cell(text: &[u8]) -> Option<(Cell, &[u8])>
-    ensures { seen result ≡ cell_at text.now }
+    ensures { seen result ≡ cell_at_front text.now }
 {
     if let Some(rest) = after(text, b" -") {
         let cell = Cell {

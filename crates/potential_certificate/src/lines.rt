@@ -1,7 +1,7 @@
 //! The first and the last line of a certificate. Serves the writer and the reader; decided by
-//! `first_line` and `last_line`.
+//! `certificate_first_line` and `last_line`.
 ghost use Rattle.std.specs.Prelude.{◌≡◌, ◌++◌, length, take, OnErr, OnOk};
-ghost use Rattle.potential_certificate.specs.CertificateText.{back_words, first_line, form, gap_words, last_line, option_words};
+ghost use Rattle.potential_certificate.specs.CertificateText.{back_words, certificate_first_line, form, gap_words, last_line, certificate_option_words};
 ghost use Rattle.potential_certificate.specs.inside.Words.{words_text};
 
 use cost_model::Params;
@@ -11,7 +11,7 @@ use std::alloc::AllocError;
 
 /// Appends the first line. On `Err`, a part of it may remain at the end.
 pub fn append_first(p: &Params, into: &mut List<u8>) -> Result<(), AllocError>
-    ensures ok { OnOk result (into.new ≡ into.old ++ first_line p.now) }
+    ensures ok { OnOk result (into.new ≡ into.old ++ certificate_first_line p.now) }
     ensures err { OnErr result (take (length into.old) into.new ≡ into.old) }
 {
     into.extend_from_slice(b"fmm-certificate")?;
@@ -37,7 +37,7 @@ fn form(p: &Params) -> u32
 
 // Appends the options that every form has. On `Err`, some of them may remain at the end.
 fn append_options(p: &Params, into: &mut List<u8>) -> Result<(), AllocError>
-    ensures ok { OnOk result (into.new ≡ into.old ++ words_text (option_words p.now)) }
+    ensures ok { OnOk result (into.new ≡ into.old ++ words_text (certificate_option_words p.now)) }
     ensures err { OnErr result (take (length into.old) into.new ≡ into.old) }
 {
     write_worded(b" k ", u64::from(p.k), into)?;

@@ -1,7 +1,7 @@
 //! The lines of a proof, written. Serves `write_certificate`; decided by `proof_text`.
 ghost use Rattle.std.specs.Prelude.{◌≡◌, ◌++◌, length, take, OnErr, OnOk};
 ghost use Rattle.std.specs.List.{concat, flat_map};
-ghost use Rattle.potential_certificate.specs.CertificateText.{cell_word, layer_line, point_line, point_lines, pointer_word, proof_text};
+ghost use Rattle.potential_certificate.specs.CertificateText.{cell_word, layer_line, point_line, position_lines, pointer_word, proof_text};
 ghost use Rattle.potential_certificate.specs.inside.Words.{cells_text};
 
 use crate::proof::TraceProof;
@@ -34,7 +34,7 @@ fn append_points(
     into: &mut List<u8>,
 ) -> Result<(), AllocError>
     ensures ok { OnOk result (into.new ≡ into.old
-        ++ concat (point_lines 0 ranks.now tables.now pieces.now)) }
+        ++ concat (position_lines 0 ranks.now tables.now pieces.now)) }
     ensures err { OnErr result (take (length into.old) into.new ≡ into.old) }
 {
     let mut unwritten = pieces;

@@ -1,10 +1,10 @@
-//! Reads a certificate whose text comes in blocks. Serves readers of files; decided by `certificate_of`. A block is
+//! Reads a certificate whose text comes in blocks. Serves readers of files; decided by `certificate_of_text`. A block is
 //! cut into parts before lines that may begin a proof or a row, which several threads read. Speed only: any cut is
 //! right.
 ghost use Rattle.std.specs.Prelude.{◌≡◌, ◌⊎◌, ◌++◌, ℕ, [], IfErr, IfOk, IsErrOf, Ok, Err};
 ghost use Rattle.row_text.specs.LineFaults.{IsCutOf, IsFirstBadLineOf};
 ghost use Rattle.potential_certificate.specs.Faults.{IsCertificate};
-ghost use Rattle.potential_certificate.specs.Reading.{certificate_of};
+ghost use Rattle.potential_certificate.specs.Reading.{certificate_of_text};
 ghost use Rattle.potential_certificate.specs.declared.fault.CertFault.TheVariants.{Memory};
 
 use crate::TEXT_LIMIT;
@@ -71,9 +71,9 @@ impl CertificateReader {
 
     /// The certificate whose text for these options was taken, as [`read_certificate`] returns it.
     pub fn finish(self, p: &Params) -> Result<Certificate, CertFault>
-        ensures ok { IfOk result (λ c. certificate_of p.now self ≡ Ok c) }
+        ensures ok { IfOk result (λ c. certificate_of_text p.now self ≡ Ok c) }
         ensures err { IfErr result (λ fault. (fault ≡ Memory)
-            ⊎ (certificate_of p.now self ≡ Err fault)) }
+            ⊎ (certificate_of_text p.now self ≡ Err fault)) }
         // Which line is bad, and what a text that is cut lacks.
         ensures bad_line { (n : ℕ) → IsErrOf result (CertFault.BadLine n)
             → IsFirstBadLineOf (IsCertificate p.now) n self }
@@ -85,9 +85,9 @@ impl CertificateReader {
 
     /// The certificate of the text that was taken, or its fault.
     fn close(self, p: &Params) -> Result<Certificate, CertFault>
-        ensures ok { IfOk result (λ c. certificate_of p.now self ≡ Ok c) }
+        ensures ok { IfOk result (λ c. certificate_of_text p.now self ≡ Ok c) }
         ensures err { IfErr result (λ fault. (fault ≡ Memory)
-            ⊎ (certificate_of p.now self ≡ Err fault)) }
+            ⊎ (certificate_of_text p.now self ≡ Err fault)) }
     {
         let CertificateReader {
             mut gathered,

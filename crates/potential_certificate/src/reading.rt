@@ -1,10 +1,10 @@
-//! The text of a certificate, read line by line. Serves all who take one; decided by `certificate_of`.
+//! The text of a certificate, read line by line. Serves all who take one; decided by `certificate_of_text`.
 ghost use Rattle.std.specs.Prelude.{◌≡◌, ◌⊎◌, ◌<◌, ◌+◌, ◌^◌, ◌==◌, ℕ, length, IfErr, IfOk, IsErrOf, OnOk, Ok, Err};
 ghost use Rattle.std.specs.List.{count_by, list_any};
 ghost use Rattle.row_text.specs.LineFaults.{IsCutOf, IsFirstBadLineOf};
-ghost use Rattle.potential_certificate.specs.CertificateText.{text_limit};
+ghost use Rattle.potential_certificate.specs.CertificateText.{certificate_text_limit};
 ghost use Rattle.potential_certificate.specs.Faults.{IsCertificate, OptionsFit};
-ghost use Rattle.potential_certificate.specs.Reading.{all_rows_at, certificate_ended, certificate_of, fault_at, line_count, line_number, proof_at, proofs_at, rows_and_end};
+ghost use Rattle.potential_certificate.specs.Reading.{all_rows_at, certificate_ended, certificate_of_text, certificate_fault_at, line_count, line_number, proof_at, proofs_at, rows_and_end};
 ghost use Rattle.potential_certificate.specs.declared.fault.CertFault.TheVariants.{Memory};
 
 use crate::TEXT_LIMIT;
@@ -24,9 +24,9 @@ use trellis::Potentials;
 ///
 /// The result has a text (`HasText`); whether it is right is not checked. Takes time linear in the text.
 pub fn read_certificate(alloc: Global, p: &Params, text: &[u8]) -> Result<Certificate, CertFault>
-    ensures ok { IfOk result (λ c. certificate_of p.now text.now ≡ Ok c) }
+    ensures ok { IfOk result (λ c. certificate_of_text p.now text.now ≡ Ok c) }
     ensures err { IfErr result (λ fault. (fault ≡ Memory)
-        ⊎ (certificate_of p.now text.now ≡ Err fault)) }
+        ⊎ (certificate_of_text p.now text.now ≡ Err fault)) }
     // Which line is bad, and what a text that is cut lacks.
     ensures bad_line { (n : ℕ) → IsErrOf result (CertFault.BadLine n)
         → IsFirstBadLineOf (IsCertificate p.now) n text.now }
@@ -45,9 +45,9 @@ pub fn known_options(p: Params)
 
 // The certificate of the text, or its fault.
 fn read_text(alloc: Global, p: &Params, text: &[u8]) -> Result<Certificate, CertFault>
-    ensures ok { IfOk result (λ c. certificate_of p.now text.now ≡ Ok c) }
+    ensures ok { IfOk result (λ c. certificate_of_text p.now text.now ≡ Ok c) }
     ensures err { IfErr result (λ fault. (fault ≡ Memory)
-        ⊎ (certificate_of p.now text.now ≡ Err fault)) }
+        ⊎ (certificate_of_text p.now text.now ≡ Err fault)) }
 {
     let (proofs, rest) = read_front(alloc, p, text)?;
     let (rows, rest) = read_rows(alloc, rest)?;
@@ -62,10 +62,10 @@ fn read_front<'a>(
     p: &Params,
     text: &'a [u8],
 ) -> Result<(List<TraceProof>, &'a [u8]), CertFault>
-    ensures ok { IfOk result (λ read. certificate_of p.now text.now
+    ensures ok { IfOk result (λ read. certificate_of_text p.now text.now
         ≡ rows_and_end text.now read.0 (all_rows_at read.1.now)) }
     ensures err { IfErr result (λ fault. (fault ≡ Memory)
-        ⊎ (certificate_of p.now text.now ≡ Err fault)) }
+        ⊎ (certificate_of_text p.now text.now ≡ Err fault)) }
 {
     if text.len() as u64 > TEXT_LIMIT {
         return Err(CertFault::TooLong);
@@ -104,7 +104,7 @@ fn check_end(
 
 // The fault of a text whose line at the start of `left` is not allowed.
 fn fault_at(whole: &[u8], left: &[u8]) -> CertFault
-    ensures { result ≡ fault_at whole.now left.now }
+    ensures { result ≡ certificate_fault_at whole.now left.now }
 {
     if has_line(left) {
         CertFault::BadLine(line_number(whole, left))

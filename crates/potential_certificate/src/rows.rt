@@ -1,7 +1,7 @@
-//! The rows of a certificate, read one after the other. Serves the reader; decided by `rows_at`.
+//! The rows of a certificate, read one after the other. Serves the reader; decided by `rows_at_front`.
 ghost use Rattle.std.specs.Prelude.{◌≡◌, ◌+◌, ◌++◌, IfOk, length};
 ghost use Rattle.match_text.specs.Reading.{seen};
-ghost use Rattle.potential_certificate.specs.Reading.{all_rows_at, row_from, rows_at};
+ghost use Rattle.potential_certificate.specs.Reading.{all_rows_at, row_at_least, rows_at_front};
 
 use bounded_table::Row;
 use plain_list::List;
@@ -23,9 +23,9 @@ pub fn more_rows(
     text: &[u8],
 ) -> Result<(List<Row>, &[u8]), AllocError>
     ensures rows { IfOk result
-        (λ read. read.0 ≡ front ++ (rows_at (length text.now + 1) least text.now).0) }
+        (λ read. read.0 ≡ front ++ (rows_at_front (length text.now + 1) least text.now).0) }
     ensures left { IfOk result
-        (λ read. read.1.now ≡ (rows_at (length text.now + 1) least text.now).1) }
+        (λ read. read.1.now ≡ (rows_at_front (length text.now + 1) least text.now).1) }
 {
     let mut rows = front;
     let mut least = least;
@@ -40,7 +40,7 @@ pub fn more_rows(
 
 // The row at the front, if its origin is not below `least`, and the text after its line.
 fn next_row(alloc: Global, least: u64, text: &[u8]) -> Result<Option<(Row, &[u8])>, AllocError>
-    ensures { IfOk result (λ read. seen read ≡ row_from least text.now) }
+    ensures { IfOk result (λ read. seen read ≡ row_at_least least text.now) }
 {
     let Some((row, rest)) = read_row(alloc, text)? else {
         return Ok(None);

@@ -2,7 +2,7 @@
 ghost use Rattle.std.specs.Prelude.{◌≡◌, ◌+◌, ◌<◌, ◌≤◌, ◌++◌, length, take, OnErr, OnOk, IsErrOf, nat_lt};
 ghost use Rattle.std.specs.List.{flat_map};
 ghost use Rattle.row_text.specs.RowLine.{row_line};
-ghost use Rattle.potential_certificate.specs.CertificateText.{certificate_text, first_line, last_line, proof_text, text_limit};
+ghost use Rattle.potential_certificate.specs.CertificateText.{certificate_text, certificate_first_line, last_line, proof_text, certificate_text_limit};
 
 use crate::TEXT_LIMIT;
 use crate::fault::WriteFault;
@@ -27,9 +27,9 @@ pub fn write_certificate(
     into: &mut List<u8>,
 ) -> Result<(), WriteFault>
     ensures ok { OnOk result (into.new ≡ into.old ++ certificate_text p.now c.now) }
-    ensures within { OnOk result (length (certificate_text p.now c.now) ≤ text_limit) }
+    ensures within { OnOk result (length (certificate_text p.now c.now) ≤ certificate_text_limit) }
     ensures too_long { IsErrOf result WriteFault.TooLong
-        → text_limit < length (certificate_text p.now c.now) }
+        → certificate_text_limit < length (certificate_text p.now c.now) }
     ensures err { OnErr result (into.new ≡ into.old) }
 {
     let start = into.len();
@@ -50,9 +50,9 @@ fn append_certificate(
 ) -> Result<(), WriteFault>
     requires { start ≡ length into.old }
     ensures ok { OnOk result (into.new ≡ into.old ++ certificate_text p.now c.now) }
-    ensures within { OnOk result (length into.new ≤ start + text_limit) }
+    ensures within { OnOk result (length into.new ≤ start + certificate_text_limit) }
     ensures too_long { IsErrOf result WriteFault.TooLong
-        → start + text_limit < length (into.old ++ certificate_text p.now c.now) }
+        → start + certificate_text_limit < length (into.old ++ certificate_text p.now c.now) }
     ensures err { OnErr result (take (length into.old) into.new ≡ into.old) }
 {
     append_begin(alloc, p, into)?;
@@ -67,7 +67,7 @@ fn append_certificate(
 
 // Appends the first line, or nothing.
 fn append_begin(alloc: Global, p: &Params, into: &mut List<u8>) -> Result<(), AllocError>
-    ensures ok { OnOk result (into.new ≡ into.old ++ first_line p.now) }
+    ensures ok { OnOk result (into.new ≡ into.old ++ certificate_first_line p.now) }
     ensures err { OnErr result (into.new ≡ into.old) }
 {
     let mut first = List::new(alloc);
@@ -88,7 +88,7 @@ fn append_finish(alloc: Global, c: &Certificate, into: &mut List<u8>) -> Result<
 // Whether the text that begins at `start` is too long.
 fn is_long(start: usize, into: &List<u8>) -> bool
     requires { start ≤ length into.now }
-    ensures { result ≡ nat_lt (start + text_limit) (length into.now) }
+    ensures { result ≡ nat_lt (start + certificate_text_limit) (length into.now) }
 {
     (into.len() - start) as u64 > TEXT_LIMIT
 }
@@ -103,7 +103,7 @@ pub fn append_proofs(
     requires { start ≤ length into.old }
     ensures ok { OnOk result (into.new ≡ into.old ++ flat_map proof_text proofs.now) }
     ensures too_long { IsErrOf result WriteFault.TooLong
-        → start + text_limit < length (into.old ++ flat_map proof_text proofs.now) }
+        → start + certificate_text_limit < length (into.old ++ flat_map proof_text proofs.now) }
     ensures err { OnErr result (take (length into.old) into.new ≡ into.old) }
 {
     for proof in proofs {
@@ -121,7 +121,7 @@ pub fn append_rows(rows: &[Row], start: usize, into: &mut List<u8>) -> Result<()
     requires { start ≤ length into.old }
     ensures ok { OnOk result (into.new ≡ into.old ++ flat_map row_line rows.now) }
     ensures too_long { IsErrOf result WriteFault.TooLong
-        → start + text_limit < length (into.old ++ flat_map row_line rows.now) }
+        → start + certificate_text_limit < length (into.old ++ flat_map row_line rows.now) }
     ensures err { OnErr result (take (length into.old) into.new ≡ into.old) }
 {
     for row in rows {

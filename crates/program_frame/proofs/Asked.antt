@@ -9,7 +9,7 @@ use Rattle.edge_io.specs.State.{ShelfState, SinkState}
 use Rattle.program_frame.specs.Asked.{Plans, asked_of, known_or_line}
 use Rattle.program_frame.specs.Performs.{Performs}
 use Rattle.program_frame.specs.Plan.{Plan}
-use Rattle.program_frame.specs.Refusals.{RefusesWords}
+use Rattle.program_frame.specs.inside.Refusing.{RefusesWords}
 use Rattle.program_frame.specs.declared.stop.Stop.{Stop}
 use Rattle.program_frame.specs.declared.stop.Stop.TheVariants.{Refused, NoMemory, Unread, Unwritten}
 use Rattle.program_frame.proofs.Stages.{memory_performs, words_stop}

@@ -6,11 +6,12 @@ use Rattle.edge_io.specs.State.{SinkState}
 use Rattle.edge_io.proofs.KnownBytes.{appends_more, prefix_whole, prefix_longer, prefix_after}
 use Rattle.trace_reader.specs.declared.trace.Trace.{Trace}
 use Rattle.trace_reader.specs.declared.fault.TraceFault.{TraceFault}
-use Rattle.program_frame.specs.Batches.{Holds, Later, PutsBefore, with_later}
-use Rattle.program_frame.specs.Jobs.{CanTake, Grows, IsBounded, JobText, TakesTraces, given_by, refused_behind, traces_give}
+use Rattle.program_frame.specs.Batches.{Holds, Later, with_later}
+use Rattle.program_frame.specs.inside.BatchSteps.{PutsBefore}
+use Rattle.program_frame.specs.Jobs.{CanTake, GrowsByTexts, IsBounded, JobText, TakesTraces, outcome_given_by, refused_behind, traces_give}
 use Rattle.program_frame.specs.Outcome.{Outcome}
 use Rattle.program_frame.specs.Performs.{FailsToPut}
-use Rattle.program_frame.specs.Refusals.{RefusesTraces}
+use Rattle.program_frame.specs.inside.Refusing.{RefusesTraces}
 use Rattle.program_frame.specs.Streams.{HasFront, StopsAs}
 use Rattle.program_frame.specs.declared.stop.Refusal.{Refusal}
 use Rattle.program_frame.specs.declared.stop.Refusal.TheVariants as refusals
@@ -120,7 +121,7 @@ refused_all {job} {has} {base} {out} {traces} fault (Refused refusal line) holds
     let allowed : job.refusal traces ≡ None = ap job.refusal all ∙ holds.allowed in
     same_kind (Unit {0}) (λ _. traces_give job traces (Some fault)) base out refusal line refuses.1 (record {
       text = job.texts traces;
-      is = λ _. ap (λ r. given_by r (Some fault) (job.texts traces) (job.ending traces)) allowed ∙ ap (refused_behind (job.texts traces)) (sym refuses.2);
+      is = λ _. ap (λ r. outcome_given_by r (Some fault) (job.texts traces) (job.ending traces)) allowed ∙ ap (refused_behind (job.texts traces)) (sym refuses.2);
       written = subst (λ t. Appends base.written out.written (job.texts t)) (sym all) holds.written;
       faults_are = holds.faults_are;
       is_traces = refl;
@@ -142,7 +143,7 @@ handed job has has' waiting slice old text given ended same empty is takes = rec
 takes_held : {job : JobText} {has has' : Has} {base out : SinkState} {traces waiting : List Trace} {given : List ℕ} {ended : Result (Unit {0}) Stop} → Handed job has has' waiting given ended → (holds : Holds job has base out traces waiting) → TakesTraces job has' holds.taken waiting [] given ended
 takes_held hand holds = hand.takes holds.taken holds.had (subst IsBounded holds.are holds.bounded)
 
-taken_ok : {job : JobText} {taken waiting : List Trace} {given : List ℕ} → Grows job taken waiting [] given → Taken job taken waiting given
+taken_ok : {job : JobText} {taken waiting : List Trace} {given : List ℕ} → GrowsByTexts job taken waiting [] given → Taken job taken waiting given
 taken_ok {job} {taken} grows = record { is = grows.is ∙ ap (λ t. job.texts taken ++ t) (sym grows.grown) }
 
 -- the job can take all that waits

@@ -9,16 +9,16 @@ use Rattle.trace_reader.specs.Reading.{closed, file_traces}
 use Rattle.trace_reader.specs.declared.trace.Trace.{Trace}
 use Rattle.trace_reader.proofs.Lawful.{IsLawfulTrace-closed, IsLawfulTrace-file_traces}
 use Rattle.program_frame.proofs.PointCounts.{points-append, points-closed, points-file_traces}
-use Rattle.program_frame.specs.Jobs.{IsBounded, points_of}
+use Rattle.program_frame.specs.Jobs.{IsBounded, position_count}
 
-no_more_traces : (traces : List Trace) → AllByRecursion IsLawfulTrace traces → length traces ≤ points_of traces
+no_more_traces : (traces : List Trace) → AllByRecursion IsLawfulTrace traces → length traces ≤ position_count traces
 no_more_traces [] lawful = omega arith
 no_more_traces (trace ∷ traces) lawful =
     let some = lawful.0.some in
-    let sum : points_of (trace ∷ traces) ≡ 0 + length trace.fixes + points_of traces = sum_by-append (λ t. length t.fixes) (trace ∷ []) traces in
+    let sum : position_count (trace ∷ traces) ≡ 0 + length trace.fixes + position_count traces = sum_by-append (λ t. length t.fixes) (trace ∷ []) traces in
     omega (arith, some, sum, no_more_traces traces lawful.1)
 
-bounded : (traces : List Trace) (n : ℕ) → All IsLawfulTrace traces → points_of traces ≤ n → n ≤ 2 ^ 61 → IsBounded traces
+bounded : (traces : List Trace) (n : ℕ) → All IsLawfulTrace traces → position_count traces ≤ n → n ≤ 2 ^ 61 → IsBounded traces
 bounded traces n lawful few short = record {
   few = omega (arith, no_more_traces traces (recursion_from_All IsLawfulTrace traces lawful));
   few_points = omega arith;

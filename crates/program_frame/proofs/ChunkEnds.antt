@@ -14,9 +14,11 @@ use Rattle.trace_reader.specs.declared.fault.TraceFault.{TraceFault}
 use Rattle.trace_reader.specs.declared.fault.TraceFault.TheVariants as faults
 use Rattle.trace_reader.proofs.Laws.{closed-none, file_fault_known, file_traces_known, fault_in_long, fault_in-StandsFor}
 use Rattle.edge_io.proofs.KnownBytes.{appends_nothing}
-use Rattle.program_frame.specs.Batches.{Holds, IsBetween, Later, RefusesAt, TakesChunk, WritesBatch, with_later}
+use Rattle.program_frame.specs.Batches.{Holds, Later, WritesBatch, with_later}
+use Rattle.program_frame.specs.inside.BatchSteps.{IsBetweenChunks, RefusesAt, TakesChunk}
 use Rattle.program_frame.specs.Jobs.{IsBatch, IsBounded, JobText, bytes_give, traces_give}
-use Rattle.program_frame.specs.Streams.{HasFront, StopsAs, StopsAt}
+use Rattle.program_frame.specs.Streams.{HasFront, StopsAs}
+use Rattle.program_frame.specs.inside.StreamSteps.{StopsAt}
 use Rattle.program_frame.specs.declared.stop.Stop.{Stop}
 use Rattle.program_frame.specs.declared.stop.Stop.TheVariants.{NoMemory}
 use Rattle.program_frame.proofs.Bounds.{bounded_closed, bounded_front}
@@ -49,7 +51,7 @@ waits_more {job} {has} {base} {out} {traces} {waiting} more left holds grown bou
 }
 
 -- bytes were taken
-pub takes_more : {job : JobText} {has : Has} {base out : SinkState} {fed : List ℕ} {reader : TraceReader} {waiting : List Trace} (chunk : List ℕ) (most n : ℕ) (after : TraceReader) (left : List Trace) → IsBetween job has base out fed reader waiting → length waiting + most ≤ 256 → Takes fed chunk most after waiting left n → Holds job has base out (closed (fed ++ take n chunk)) left
+pub takes_more : {job : JobText} {has : Has} {base out : SinkState} {fed : List ℕ} {reader : TraceReader} {waiting : List Trace} (chunk : List ℕ) (most n : ℕ) (after : TraceReader) (left : List Trace) → IsBetweenChunks job has base out fed reader waiting → length waiting + most ≤ 256 → Takes fed chunk most after waiting left n → Holds job has base out (closed (fed ++ take n chunk)) left
 takes_more {job} {has} {base} {out} {fed} chunk most n after left between room takes =
     let closes = takes.closes in
     let short = length-StandsFor after (fed ++ take n chunk) takes.stands in
@@ -66,7 +68,7 @@ takes_one fed chunk most zero after waiting left some long takes =
 takes_one fed chunk most (suc n) after waiting left some long takes = omega arith
 
 -- a fault was found, or memory ran out
-pub fails_held : {job : JobText} {has : Has} {base out : SinkState} {fed : List ℕ} {reader : TraceReader} {waiting : List Trace} (chunk : List ℕ) (fault : TraceFault) (left : List Trace) → IsBetween job has base out fed reader waiting → length chunk < 2 ^ 32 → length left ≤ 256 → (fails : Fails fed chunk waiting left fault) → Holds job has base out (closed fed ++ fails.more) left
+pub fails_held : {job : JobText} {has : Has} {base out : SinkState} {fed : List ℕ} {reader : TraceReader} {waiting : List Trace} (chunk : List ℕ) (fault : TraceFault) (left : List Trace) → IsBetweenChunks job has base out fed reader waiting → length chunk < 2 ^ 32 → length left ≤ 256 → (fails : Fails fed chunk waiting left fault) → Holds job has base out (closed fed ++ fails.more) left
 fails_held {job} {has} {base} {out} {fed} {reader} chunk fault left between few few_left fails =
     let short = length-StandsFor reader fed between.stands in
     let all : IsBounded (closed (fed ++ chunk)) = bounded_closed (fed ++ chunk) (omega (arith, short, length-append fed chunk)) in
@@ -101,7 +103,7 @@ known_rest job fed chunk rest fault more due known =
     ap (λ f. traces_give job (file_traces ((fed ++ chunk) ++ rest)) f) (file_fault_known (fed ++ chunk) rest fault known)
     ∙ ap (λ t. traces_give job t (Some fault)) (file_traces_known (fed ++ chunk) rest fault known ∙ due ∙ ap (λ m. closed fed ++ m) (append-nil more))
 
-pub fails_stops : {job : JobText} {has : Has} {base out : SinkState} {fed : List ℕ} {reader : TraceReader} {waiting : List Trace} (out' : SinkState) (chunk : List ℕ) (fault : TraceFault) (left : List Trace) (stop : Stop) → IsBetween job has base out fed reader waiting → (fails : Fails fed chunk waiting left fault) → RefusesAt job base out out' (closed fed ++ fails.more) fault stop → StopsAt (bytes_give job) base out' (fed ++ chunk) stop
+pub fails_stops : {job : JobText} {has : Has} {base out : SinkState} {fed : List ℕ} {reader : TraceReader} {waiting : List Trace} (out' : SinkState) (chunk : List ℕ) (fault : TraceFault) (left : List Trace) (stop : Stop) → IsBetweenChunks job has base out fed reader waiting → (fails : Fails fed chunk waiting left fault) → RefusesAt job base out out' (closed fed ++ fails.more) fault stop → StopsAt (bytes_give job) base out' (fed ++ chunk) stop
 fails_stops {job} {has} {base} {out} {fed} out' chunk fault left stop between fails refuses =
     elim (is_memory fault) as (λ _. StopsAt (bytes_give job) base out' (fed ++ chunk) stop) [
       | inl memory ↦
@@ -127,13 +129,13 @@ stops_in job base out fed chunk n stop stops =
     )) stops
 
 -- some bytes of a chunk were taken, and what waited was written
-pub batch_taken : (job : JobText) (has : Has) (base out : SinkState) (fed chunk : List ℕ) (n : ℕ) (reader : TraceReader) (waiting : List Trace) → StandsFor reader (fed ++ take n chunk) → WritesBatch job has base out (closed (fed ++ take n chunk)) waiting (Ok tt) → IsBetween job has base out (fed ++ take n chunk) reader waiting
+pub batch_taken : (job : JobText) (has : Has) (base out : SinkState) (fed chunk : List ℕ) (n : ℕ) (reader : TraceReader) (waiting : List Trace) → StandsFor reader (fed ++ take n chunk) → WritesBatch job has base out (closed (fed ++ take n chunk)) waiting (Ok tt) → IsBetweenChunks job has base out (fed ++ take n chunk) reader waiting
 batch_taken job has base out fed chunk n reader waiting stands writes =
     let none : length waiting ≡ 0 = ap length writes.1 in
     record { stands = stands; holds = writes.0; room = omega (arith, none) }
 
 -- the traces that waited between two chunks were written
-pub between_written : (job : JobText) (has has' : Has) (base out out' : SinkState) (fed : List ℕ) (reader after : TraceReader) (waiting left : List Trace) (ended : Result (Unit {0}) Stop) → IsBetween job has base out fed reader waiting → after ≡ reader → WritesBatch job has' base out' (closed fed) left ended → TakesChunk job has' base out' fed after left ended
+pub between_written : (job : JobText) (has has' : Has) (base out out' : SinkState) (fed : List ℕ) (reader after : TraceReader) (waiting left : List Trace) (ended : Result (Unit {0}) Stop) → IsBetweenChunks job has base out fed reader waiting → after ≡ reader → WritesBatch job has' base out' (closed fed) left ended → TakesChunk job has' base out' fed after left ended
 between_written job has has' base out out' fed reader after waiting left (Ok done) between same writes =
     let none : length left ≡ 0 = ap length writes.1 in
     record { stands = subst (λ r. StandsFor r fed) (sym same) between.stands; holds = writes.0; room = omega (arith, none) }
@@ -149,25 +151,25 @@ none_waits job has base out traces left (Err stop) writes = tt
 pub record IsUnderway (job : JobText) (has has' : List Trace → Type 0) (chunk rest : List ℕ) (first out : SinkState) (reader reader' : TraceReader) (waiting waiting' : List Trace) : Type 0 where
   pub front : List ℕ
   pub whole : chunk ≡ front ++ rest
-  pub goes : (base : SinkState) (fed : List ℕ) → IsBetween job has base first fed reader waiting → IsBetween job has' base out (fed ++ front) reader' waiting'
+  pub goes : (base : SinkState) (fed : List ℕ) → IsBetweenChunks job has base first fed reader waiting → IsBetweenChunks job has' base out (fed ++ front) reader' waiting'
 
 -- nothing of it was taken
 pub not_begun : {job : JobText} {has : Has} {chunk : List ℕ} {out : SinkState} {reader : TraceReader} {waiting : List Trace} → IsUnderway job has has chunk chunk out out reader reader waiting waiting
 not_begun {job} {has} {chunk} {out} {reader} {waiting} = record {
   front = [];
   whole = refl;
-  goes = λ base fed between. subst (λ b. IsBetween job has base out b reader waiting) (sym (append-nil fed)) between;
+  goes = λ base fed between. subst (λ b. IsBetweenChunks job has base out b reader waiting) (sym (append-nil fed)) between;
 }
 
-pub all_in : {job : JobText} {has has' : Has} {chunk rest : List ℕ} {first out : SinkState} {reader reader' : TraceReader} {waiting waiting' : List Trace} → IsUnderway job has has' chunk rest first out reader reader' waiting waiting' → rest ≡ [] → (base : SinkState) (fed : List ℕ) → IsBetween job has base first fed reader waiting → IsBetween job has' base out (fed ++ chunk) reader' waiting'
+pub all_in : {job : JobText} {has has' : Has} {chunk rest : List ℕ} {first out : SinkState} {reader reader' : TraceReader} {waiting waiting' : List Trace} → IsUnderway job has has' chunk rest first out reader reader' waiting waiting' → rest ≡ [] → (base : SinkState) (fed : List ℕ) → IsBetweenChunks job has base first fed reader waiting → IsBetweenChunks job has' base out (fed ++ chunk) reader' waiting'
 all_in {job} {has} {has'} {chunk} {rest} {first} {out} {reader} {reader'} {waiting} {waiting'} underway none base fed between =
-    subst (λ p. IsBetween job has' base out (fed ++ p) reader' waiting') (sym (underway.whole ∙ ap (λ r. underway.front ++ r) none ∙ append-nil underway.front)) (underway.goes base fed between)
+    subst (λ p. IsBetweenChunks job has' base out (fed ++ p) reader' waiting') (sym (underway.whole ∙ ap (λ r. underway.front ++ r) none ∙ append-nil underway.front)) (underway.goes base fed between)
 
-pub some_more : {job : JobText} {has has' : Has} {chunk rest : List ℕ} {first out : SinkState} {reader reader' : TraceReader} {waiting waiting' : List Trace} (has'' : Has) (out' : SinkState) (reader'' : TraceReader) (waiting'' : List Trace) (left : List ℕ) (n : ℕ) → IsUnderway job has has' chunk rest first out reader reader' waiting waiting' → left ≡ drop n rest → ((base : SinkState) (fed : List ℕ) → IsBetween job has' base out fed reader' waiting' → IsBetween job has'' base out' (fed ++ take n rest) reader'' waiting'') → IsUnderway job has has'' chunk left first out' reader reader'' waiting waiting''
+pub some_more : {job : JobText} {has has' : Has} {chunk rest : List ℕ} {first out : SinkState} {reader reader' : TraceReader} {waiting waiting' : List Trace} (has'' : Has) (out' : SinkState) (reader'' : TraceReader) (waiting'' : List Trace) (left : List ℕ) (n : ℕ) → IsUnderway job has has' chunk rest first out reader reader' waiting waiting' → left ≡ drop n rest → ((base : SinkState) (fed : List ℕ) → IsBetweenChunks job has' base out fed reader' waiting' → IsBetweenChunks job has'' base out' (fed ++ take n rest) reader'' waiting'') → IsUnderway job has has'' chunk left first out' reader reader'' waiting waiting''
 some_more {job} {has} {has'} {chunk} {rest} has'' out' reader'' waiting'' left n underway is takes = record {
   front = underway.front ++ take n rest;
   whole = underway.whole ∙ ap (λ r. underway.front ++ r) (sym (take-append-drop n rest)) ∙ sym (append_assoc underway.front (take n rest) (drop n rest)) ∙ ap (λ l. (underway.front ++ take n rest) ++ l) (sym is);
-  goes = λ base fed between. subst (λ b. IsBetween job has'' base out' b reader'' waiting'') (append_assoc fed underway.front (take n rest)) (takes base (fed ++ underway.front) (underway.goes base fed between));
+  goes = λ base fed between. subst (λ b. IsBetweenChunks job has'' base out' b reader'' waiting'') (append_assoc fed underway.front (take n rest)) (takes base (fed ++ underway.front) (underway.goes base fed between));
 }
 
 pub stops_chunk : {job : JobText} {has has' : Has} {chunk rest : List ℕ} {first out : SinkState} {reader reader' : TraceReader} {waiting waiting' : List Trace} (base out' : SinkState) (fed : List ℕ) (stop : Stop) → (underway : IsUnderway job has has' chunk rest first out reader reader' waiting waiting') → StopsAt (bytes_give job) base out' ((fed ++ underway.front) ++ rest) stop → StopsAt (bytes_give job) base out' (fed ++ chunk) stop
@@ -188,7 +190,7 @@ some_left [] is = absurd (cc)
 some_left (byte ∷ rest) is = omega arith
 
 -- nothing was read of a job that has taken nothing
-pub begun : (job : JobText) (has : Has) (base : SinkState) (reader : TraceReader) (waiting : List Trace) → has [] → StandsFor reader [] → waiting ≡ [] → IsBetween job has base base [] reader waiting
+pub begun : (job : JobText) (has : Has) (base : SinkState) (reader : TraceReader) (waiting : List Trace) → has [] → StandsFor reader [] → waiting ≡ [] → IsBetweenChunks job has base base [] reader waiting
 begun job has base reader waiting had stands none = record {
   stands = stands;
   holds = record {

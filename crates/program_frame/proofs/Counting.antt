@@ -1,14 +1,14 @@
 -- The counts of more traces.
 use Rattle.std.proofs.Common.{◌≡◌, ℕ, ◌+◌, List, ◌++◌, arith, length-append}
-use Rattle.program_frame.specs.Counts.{ArePieces, Counts}
+use Rattle.program_frame.specs.inside.Tallies.{IsCountOfPieces, Counts}
 use Rattle.program_frame.specs.Jobs.{IsBounded}
-use Rattle.program_frame.specs.Total.{Adds, Fits}
+use Rattle.program_frame.specs.Total.{AddsCounts, CountsFit}
 use Rattle.program_frame.specs.declared.total.Tally.{Tally}
 use Rattle.program_frame.proofs.PointCounts.{points-append}
 use Rattle.trace_reader.specs.declared.trace.Trace.{Trace}
 
 -- the counts of more traces fit
-pub fits_more : (pieces_of : List Trace → ℕ) (before more : List Trace) (tally : Tally) (pieces : ℕ) → IsBounded (before ++ more) → Counts pieces_of before tally → ArePieces pieces_of more pieces → Fits more pieces tally
+pub fits_more : (pieces_of : List Trace → ℕ) (before more : List Trace) (tally : Tally) (pieces : ℕ) → IsBounded (before ++ more) → Counts pieces_of before tally → IsCountOfPieces pieces_of more pieces → CountsFit more pieces tally
 fits_more pieces_of before more tally pieces bounded counts are =
     let few = bounded.few in
     let few_points = bounded.few_points in
@@ -20,7 +20,7 @@ fits_more pieces_of before more tally pieces bounded counts are =
 
 -- and are those of all, where the pieces of two lists are those of both together
 pub counts_more : (pieces_of : List Trace → ℕ) → ((front back : List Trace) → pieces_of (front ++ back) ≡ pieces_of front + pieces_of back)
-    → (before more : List Trace) (old new : Tally) (pieces : ℕ) → Counts pieces_of before old → ArePieces pieces_of more pieces → Adds more pieces old new → Counts pieces_of (before ++ more) new
+    → (before more : List Trace) (old new : Tally) (pieces : ℕ) → Counts pieces_of before old → IsCountOfPieces pieces_of more pieces → AddsCounts more pieces old new → Counts pieces_of (before ++ more) new
 counts_more pieces_of appended before more old new pieces counts are adds = record {
   traces_are = omega (arith, counts.traces_are, adds.more, length-append before more);
   points_are = omega (arith, counts.points_are, adds.more_points, points-append before more);

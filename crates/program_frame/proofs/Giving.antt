@@ -6,9 +6,9 @@ use Rattle.trace_reader.specs.declared.trace.Trace.{Trace}
 use Rattle.trace_reader.specs.declared.fault.TraceFault.{TraceFault}
 use Rattle.trace_reader.proofs.Laws.{file_traces-append}
 use Rattle.program_frame.specs.Batches.{Later, with_later}
-use Rattle.program_frame.specs.Jobs.{JobText, bytes_give, given_by, refused_behind, traces_give}
+use Rattle.program_frame.specs.Jobs.{JobText, bytes_give, outcome_given_by, refused_behind, traces_give}
 
-given_out : (refusal : Option (List ℕ)) (fault : Option TraceFault) (texts ending : List ℕ) → (more : List ℕ) × ((given_by refusal fault texts ending).out ≡ texts ++ more)
+given_out : (refusal : Option (List ℕ)) (fault : Option TraceFault) (texts ending : List ℕ) → (more : List ℕ) × ((outcome_given_by refusal fault texts ending).out ≡ texts ++ more)
 given_out (Some line) fault texts ending = ([], sym (append-nil texts))
 given_out None (Some fault) texts ending = ([], sym (append-nil texts))
 given_out None None texts ending = (ending, refl)
@@ -26,7 +26,7 @@ pub refused_later : (job : JobText) (traces : List Trace) (line : List ℕ) → 
 refused_later job traces line is later =
     let all = traces ++ later.more in
     let stays = job.stays traces later.more line is in
-    ap (λ r. given_by r later.fault (job.texts all) (job.ending all)) stays.0 ∙ ap (λ t. refused_behind t line) stays.1
+    ap (λ r. outcome_given_by r later.fault (job.texts all) (job.ending all)) stays.0 ∙ ap (λ t. refused_behind t line) stays.1
 
 -- what a file gives of which the front was read, by the traces that are closed in it
 pub rest_later : (job : JobText) (fed rest : List ℕ) → (later : Later) × (bytes_give job (fed ++ rest) ≡ with_later job (closed fed) later)

@@ -4,13 +4,14 @@ use Rattle.road_network.specs.NetworkFile.{network_of}
 use Rattle.road_network.specs.declared.fault.NetworkFault.{NetworkFault}
 use Rattle.road_network.specs.declared.fault.NetworkFault.TheVariants.{Memory}
 use Rattle.road_network.specs.declared.limits.NetworkLimits.{NetworkLimits}
-use Rattle.program_frame.specs.Loads.{Refuses}
-use Rattle.program_frame.specs.Refusals.{RefusesNetwork, network_said, said}
+use Rattle.program_frame.specs.Loads.{RefusesLoad}
+use Rattle.program_frame.specs.Refusals.{network_said, said}
+use Rattle.program_frame.specs.inside.Refusing.{RefusesNetwork}
 use Rattle.program_frame.specs.declared.stop.Refusal.TheVariants.{Network}
 use Rattle.program_frame.specs.declared.stop.Stop.{Stop}
 use Rattle.program_frame.specs.declared.stop.Stop.TheVariants.{Refused, NoMemory, Unread, Unwritten}
 
-pub network_refused : (limits : NetworkLimits) (bytes : List ℕ) (fault : NetworkFault) (stop : Stop) → (fault ≢ Memory → network_of limits bytes ≡ Err fault) → RefusesNetwork fault stop → Refuses Network (network_said limits bytes) stop
+pub network_refused : (limits : NetworkLimits) (bytes : List ℕ) (fault : NetworkFault) (stop : Stop) → (fault ≢ Memory → network_of limits bytes ≡ Err fault) → RefusesNetwork fault stop → RefusesLoad Network (network_said limits bytes) stop
 network_refused limits bytes fault (Refused refusal line) known refuses =
     (refuses.1, ap said (known refuses.0) ∙ ap (λ l. Err l) (sym refuses.2))
 network_refused limits bytes fault NoMemory known refuses = tt

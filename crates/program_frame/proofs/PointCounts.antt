@@ -10,14 +10,14 @@ use Rattle.trace_reader.specs.declared.row.Header.{Header}
 use Rattle.trace_reader.specs.declared.row.Row.{Row}
 use Rattle.trace_reader.specs.declared.trace.Trace.{Trace}
 use Rattle.trace_reader.specs.declared.fault.TraceFault.{TraceFault}
-use Rattle.program_frame.specs.Jobs.{points_of}
+use Rattle.program_frame.specs.Jobs.{position_count}
 
 abbrev open_points : Option Trace → ℕ
 open_points None = 0
 open_points (Some trace) = length trace.fixes
 
 abbrev IsFew : ℕ → Content → Type 0
-IsFew n content = points_of content.closed + open_points content.open_trace ≤ n
+IsFew n content = position_count content.closed + open_points content.open_trace ≤ n
 
 IsFewRead : ℕ → Result Content TraceFault → Type 0
 IsFewRead n (Ok content) = IsFew n content
@@ -25,16 +25,16 @@ IsFewRead n (Err fault) = Unit {0}
 
 IsFewReading : ℕ → Reading → Type 0
 IsFewReading n (reads p) = IsFew n p.content
-IsFewReading n (refused closed fault) = points_of closed ≤ n
+IsFewReading n (refused closed fault) = position_count closed ≤ n
 
 pub by_choice : {A : Type 0} (P : A → Type 0) (b : Bool) (x y : A) → P x → P y → P (cond b x y)
 by_choice P true x y f g = f
 by_choice P false x y f g = g
 
-pub points-append : (front back : List Trace) → points_of (front ++ back) ≡ points_of front + points_of back
+pub points-append : (front back : List Trace) → position_count (front ++ back) ≡ position_count front + position_count back
 points-append front back = sum_by-append (λ trace. length trace.fixes) front back
 
-few_add : (open_trace : Option Trace) (n line : ℕ) (content : Content) (row : Row) → points_of content.closed + open_points open_trace ≤ n → IsFewRead (n + 1) (add_to open_trace line content row)
+few_add : (open_trace : Option Trace) (n line : ℕ) (content : Content) (row : Row) → position_count content.closed + open_points open_trace ≤ n → IsFewRead (n + 1) (add_to open_trace line content row)
 unfolding IsFewRead
 few_add None n line content row few = omega arith
 few_add (Some trace) n line content row few =
@@ -91,33 +91,33 @@ few_reading : (bytes : List ℕ) → IsFewReading (length bytes) (reading_of byt
 unfolding reading_of IsFewReading
 few_reading bytes = more (0 + length bytes) (length bytes) (read_bytes (reads nothing_read) bytes) (omega arith) (few_bytes bytes 0 (reads nothing_read) (omega arith))
 
-few_closed : (n : ℕ) (reading : Reading) → IsFewReading n reading → points_of (closed_of reading) ≤ n
+few_closed : (n : ℕ) (reading : Reading) → IsFewReading n reading → position_count (closed_of reading) ≤ n
 unfolding IsFewReading
 few_closed n (reads p) few = omega arith
 few_closed n (refused closed fault) few = few
 
-pub points-closed : (bytes : List ℕ) → points_of (closed bytes) ≤ length bytes
+pub points-closed : (bytes : List ℕ) → position_count (closed bytes) ≤ length bytes
 unfolding closed
 points-closed bytes = few_closed (length bytes) (reading_of bytes) (few_reading bytes)
 
-few_open : (open_trace : Option Trace) → points_of (option_to_list open_trace) ≤ open_points open_trace
+few_open : (open_trace : Option Trace) → position_count (option_to_list open_trace) ≤ open_points open_trace
 few_open None = omega arith
 few_open (Some trace) = omega arith
 
-few_end_content : (n : ℕ) (content : Content) (header : Option Header) → IsFew n content → points_of (end_content content header).traces ≤ n
+few_end_content : (n : ℕ) (content : Content) (header : Option Header) → IsFew n content → position_count (end_content content header).traces ≤ n
 few_end_content n content None few = omega arith
 few_end_content n content (Some header) few = omega (arith, points-append content.closed (option_to_list content.open_trace), few_open content.open_trace)
 
-few_end_read : (n : ℕ) (before : Content) (read : Result Content TraceFault) → IsFew n before → IsFewRead (n + 1) read → points_of (end_read before read).traces ≤ n + 1
+few_end_read : (n : ℕ) (before : Content) (read : Result Content TraceFault) → IsFew n before → IsFewRead (n + 1) read → position_count (end_read before read).traces ≤ n + 1
 unfolding IsFewRead
 few_end_read n before (Ok content) few after = few_end_content (n + 1) content content.header after
 few_end_read n before (Err fault) few after = omega arith
 
-few_end_reading : (n : ℕ) (reading : Reading) → IsFewReading n reading → points_of (end_reading reading).traces ≤ n + 1
+few_end_reading : (n : ℕ) (reading : Reading) → IsFewReading n reading → position_count (end_reading reading).traces ≤ n + 1
 unfolding IsFewReading
 few_end_reading n (reads p) few = few_end_read n p.content (read_line (p.lines + 1) p.content p.line) few (few_line n (p.lines + 1) p.content p.line few)
 few_end_reading n (refused closed fault) few = omega arith
 
-pub points-file_traces : (bytes : List ℕ) → points_of (file_traces bytes) ≤ length bytes + 1
+pub points-file_traces : (bytes : List ℕ) → position_count (file_traces bytes) ≤ length bytes + 1
 unfolding file_traces
 points-file_traces bytes = few_end_reading (length bytes) (reading_of bytes) (few_reading bytes)

@@ -6,14 +6,15 @@ use Rattle.trace_reader.specs.Reading.{closed}
 use Rattle.trace_reader.specs.declared.reader.TraceReader.{TraceReader}
 use Rattle.trace_reader.specs.declared.trace.Trace.{Trace}
 use Rattle.trace_reader.proofs.Laws.{closed-none, fault_in-StandsFor}
-use Rattle.program_frame.specs.Batches.{Holds, IsBetween}
+use Rattle.program_frame.specs.Batches.{Holds}
+use Rattle.program_frame.specs.inside.BatchSteps.{IsBetweenChunks, IsReading}
 use Rattle.program_frame.specs.Chunks.{AreRead, IsChunk, MayReadOn}
 use Rattle.program_frame.specs.Jobs.{JobText, bytes_give}
 use Rattle.program_frame.specs.Performs.{Performs}
 use Rattle.program_frame.specs.Refusals.{trace_limit}
 use Rattle.program_frame.specs.Read.{FailsToRead, ReadsWhole}
-use Rattle.program_frame.specs.Stream.{IsReading, works_traces}
-use Rattle.program_frame.specs.Streams.{EndsWith, IsStreaming, StopsAt}
+use Rattle.program_frame.specs.Stream.{works_traces}
+use Rattle.program_frame.specs.inside.StreamSteps.{EndsWithOutcome, IsStreaming, StopsAt}
 use Rattle.program_frame.specs.declared.stop.File.TheVariants.{Traces}
 use Rattle.program_frame.specs.declared.stop.Stop.{Stop}
 use Rattle.program_frame.specs.declared.stop.Stop.TheVariants.{Refused, NoMemory, Unread, Unwritten}
@@ -22,7 +23,7 @@ use Rattle.program_frame.proofs.ChunkEnds.{held_rest}
 use Rattle.program_frame.proofs.Streaming.{front_begun, stream_ends, stream_starved, stream_stops, stream_unread}
 
 -- before the first read
-pub nothing_read : (job : JobText) (has : Has) (name : List ℕ) (shelf : ShelfState) (base : SinkState) (reader : TraceReader) (waiting : List Trace) → IsBetween job has base base [] reader waiting → IsReading job has name shelf base base 0 reader waiting
+pub nothing_read : (job : JobText) (has : Has) (name : List ℕ) (shelf : ShelfState) (base : SinkState) (reader : TraceReader) (waiting : List Trace) → IsBetweenChunks job has base base [] reader waiting → IsReading job has name shelf base base 0 reader waiting
 nothing_read job has name shelf base reader waiting between =
     record { fed = []; place = refl; front = front_begun shelf.holds name; between = between }
 
@@ -59,7 +60,7 @@ may_read_on {name = name} {at = at} {reader = reader} shelf' reading same within
 })
 
 -- one more chunk was taken
-pub reading_more : {job : JobText} {has : Has} {name : List ℕ} {shelf : ShelfState} {base out : SinkState} {at : ℕ} {reader : TraceReader} {waiting : List Trace} (has' : Has) (out' : SinkState) (at' : ℕ) (chunk : List ℕ) (reader' : TraceReader) (waiting' : List Trace) → (reading : IsReading job has name shelf base out at reader waiting) → AreRead name shelf at' (reading.fed ++ chunk) → IsBetween job has' base out' (reading.fed ++ chunk) reader' waiting' → IsReading job has' name shelf base out' at' reader' waiting'
+pub reading_more : {job : JobText} {has : Has} {name : List ℕ} {shelf : ShelfState} {base out : SinkState} {at : ℕ} {reader : TraceReader} {waiting : List Trace} (has' : Has) (out' : SinkState) (at' : ℕ) (chunk : List ℕ) (reader' : TraceReader) (waiting' : List Trace) → (reading : IsReading job has name shelf base out at reader waiting) → AreRead name shelf at' (reading.fed ++ chunk) → IsBetweenChunks job has' base out' (reading.fed ++ chunk) reader' waiting' → IsReading job has' name shelf base out' at' reader' waiting'
 reading_more has' out' at' chunk reader' waiting' reading read between =
     record { fed = reading.fed ++ chunk; place = read.place; front = read.front; between = between }
 
@@ -83,5 +84,5 @@ reading_fails {job} {has} {name} {shelf} {base} {out} shelf' shelf'' (Unread fil
 reading_fails shelf' shelf'' Unwritten reading same within fails = absurd fails
 
 -- the file was read whole, and its end was taken
-pub work_ends : {job : JobText} {has : Has} {name : List ℕ} {shelf : ShelfState} {base out : SinkState} {at : ℕ} {reader : TraceReader} {waiting : List Trace} (shelf' : ShelfState) (out' : SinkState) (ended : Result (Unit {0}) Stop) → (reading : IsReading job has name shelf base out at reader waiting) → ReadsWhole name trace_limit shelf shelf' reading.fed → EndsWith (bytes_give job reading.fed) base out' ended → Performs (Ok (works_traces name job)) shelf shelf' base out' ended
+pub work_ends : {job : JobText} {has : Has} {name : List ℕ} {shelf : ShelfState} {base out : SinkState} {at : ℕ} {reader : TraceReader} {waiting : List Trace} (shelf' : ShelfState) (out' : SinkState) (ended : Result (Unit {0}) Stop) → (reading : IsReading job has name shelf base out at reader waiting) → ReadsWhole name trace_limit shelf shelf' reading.fed → EndsWithOutcome (bytes_give job reading.fed) base out' ended → Performs (Ok (works_traces name job)) shelf shelf' base out' ended
 work_ends {job} {has} {name} shelf' out' ended reading whole is = stream_ends Traces name trace_limit (bytes_give job) reading.fed whole is

@@ -10,7 +10,7 @@ use Rattle.command_line.specs.Words.{command_of}
 use Rattle.command_line.specs.declared.fault.WordsFault.{WordsFault}
 use Rattle.command_line.specs.declared.fault.WordsFault.TheVariants.{Usage}
 use Rattle.program_frame.specs.Asked.{Plans, asked_of, known_or_line}
-use Rattle.program_frame.specs.Jobs.{given_by}
+use Rattle.program_frame.specs.Jobs.{outcome_given_by}
 use Rattle.program_frame.specs.Plan.{Plan, IsLineOf, accepts, plan_of}
 use Rattle.program_frame.specs.Plan.Plan.{ends}
 use Rattle.program_frame.specs.Promises.{Covers}
@@ -21,7 +21,7 @@ use Rattle.trace_reader.specs.Fault.{fault_line}
 use Rattle.trace_reader.specs.Reading.{file_fault}
 use Rattle.trace_reader.specs.declared.fault.TraceFault.{TraceFault}
 
-pub traces_end : (texts ending bytes : List ℕ) (fault : Option TraceFault) (status : ℕ) (line : List ℕ) → file_fault bytes ≡ fault → status ≢ 0 → IsLineOf (ends (given_by None fault texts ending)) status line → refusal_lines status line
+pub traces_end : (texts ending bytes : List ℕ) (fault : Option TraceFault) (status : ℕ) (line : List ℕ) → file_fault bytes ≡ fault → status ≢ 0 → IsLineOf (ends (outcome_given_by None fault texts ending)) status line → refusal_lines status line
 traces_end texts ending bytes (Some fault) status line known refused is = inr (inr (sym is.0, (bytes, ap (option_map fault_line) known ∙ ap (λ l. Some l) is.1)))
 traces_end texts ending bytes None status line known refused is = absurd (refused (sym is.0))
 

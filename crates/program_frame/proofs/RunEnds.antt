@@ -10,10 +10,10 @@ use Rattle.edge_io.specs.Sink.{AppendsPrefix, Puts, Rose}
 use Rattle.edge_io.proofs.Counts.{rose_counted}
 use Rattle.edge_io.specs.declared.sink.Put.{Put}
 use Rattle.edge_io.specs.declared.sink.Put.TheVariants as puts
-use Rattle.program_frame.specs.Stops.{stop_line, line_of, refusal_status, status_after, unread_line}
+use Rattle.program_frame.specs.Stops.{stop_line, line_of_result, refusal_status, status_after, unread_line}
 use Rattle.program_frame.specs.Lines.{memory_line, write_line}
 use Rattle.program_frame.specs.Outcome.{Outcome, out_text}
-use Rattle.program_frame.specs.Performs.{IsWhole, IsPartial, IsQuiet, IsSaid, IsUnread, Leaves, Performs, RefusesWords}
+use Rattle.program_frame.specs.Performs.{IsWholeOutcome, IsPartial, IsQuiet, IsSaid, IsUnreadFile, LeavesEnded, Performs, RefusesAskedWords}
 use Rattle.program_frame.specs.Promises.{Covers, IsSettled, IsOutcome, SaysAtMost, IsErrLine, SaysPartOfLine, faults_of, HasRisen, IsFaultless, IsAnswered, AreCountsSame, Promises}
 use Rattle.edge_io.specs.State.{ShelfState, SinkState}
 use Rattle.program_frame.specs.Plan.{Plan, AreRefused, IsFileOf, IsLineOf, outcome_of, plan_of}
@@ -28,17 +28,17 @@ Table = ℕ → List ℕ → Type 0
 
 -- the outcome was written whole, and its status is told
 
-whole_outcome : (asked : Result Plan (List ℕ)) (told : Option (List ℕ → Option (List ℕ))) (failed : List (List ℕ)) (out out' err err' : SinkState) (line : List ℕ) (status : ℕ) → IsWhole (plan_of asked) told out out' line status → Appends err.written err'.written line → IsOutcome asked (record { holds = told; failed = failed }) out out' err err' status
+whole_outcome : (asked : Result Plan (List ℕ)) (told : Option (List ℕ → Option (List ℕ))) (failed : List (List ℕ)) (out out' err err' : SinkState) (line : List ℕ) (status : ℕ) → IsWholeOutcome (plan_of asked) told out out' line status → Appends err.written err'.written line → IsOutcome asked (record { holds = told; failed = failed }) out out' err err' status
 whole_outcome asked None failed out out' err err' line status whole said = tt
 whole_outcome asked (Some files) failed out out' err err' line status whole said =
     subst (λ x. IsSomeAnd x (λ o. (status ≡ o.status) × Appends out.written out'.written o.out × Appends err.written err'.written o.err)) (sym whole.1) (refl, whole.2, said)
 
-whole_partial : (plan : Plan) (told : Option (List ℕ → Option (List ℕ))) (out out' : SinkState) (line : List ℕ) (status : ℕ) → IsWhole plan told out out' line status → IsPartial plan told out out'
+whole_partial : (plan : Plan) (told : Option (List ℕ → Option (List ℕ))) (out out' : SinkState) (line : List ℕ) (status : ℕ) → IsWholeOutcome plan told out out' line status → IsPartial plan told out out'
 whole_partial plan None out out' line status whole = tt
 whole_partial plan (Some files) out out' line status whole =
     subst (λ o. AppendsPrefix out.written out'.written (out_text o)) (sym whole.1) (prefix_whole out.written out'.written whole.0 whole.2)
 
-whole_answers : (asked : Result Plan (List ℕ)) (told : Option (List ℕ → Option (List ℕ))) (failed : List (List ℕ)) (out out' : SinkState) (line : List ℕ) (status : ℕ) → IsWhole (plan_of asked) told out out' line status → IsAnswered asked (record { holds = told; failed = failed }) status
+whole_answers : (asked : Result Plan (List ℕ)) (told : Option (List ℕ → Option (List ℕ))) (failed : List (List ℕ)) (out out' : SinkState) (line : List ℕ) (status : ℕ) → IsWholeOutcome (plan_of asked) told out out' line status → IsAnswered asked (record { holds = told; failed = failed }) status
 whole_answers asked None failed out out' line status whole = tt
 whole_answers asked (Some files) failed out out' line status whole =
     subst (λ o. MatchOption o (status ≡ 1) (λ o. (status ≡ o.status) ⊎ (status ≡ 1))) (sym whole.1) (inl refl)
@@ -59,7 +59,7 @@ record IsEnding (asked : Result Plan (List ℕ)) (out out' : SinkState) (line : 
   nothing_out : status ≢ 0 → status ≢ 6 → Appends out.written out'.written []
 
 -- a settled status: the outcome's texts were written whole
-settled : {lines : Table} (asked : Result Plan (List ℕ)) (shelf shelf' : ShelfState) (out out' err err' : SinkState) (line : List ℕ) (status : ℕ) → IsPartial (plan_of asked) shelf.holds out out' → IsWhole (plan_of asked) shelf.holds out out' line status → IsQuiet shelf shelf' out out' → IsSettled status → Appends err.written err'.written line → err'.faults ≡ err.faults → (status ≡ 2 → RefusesWords asked out out' line) → (AreRefused asked → status ≡ 2) → IsEnding asked out out' line status → Promises lines asked shelf shelf' out out' err err' status
+settled : {lines : Table} (asked : Result Plan (List ℕ)) (shelf shelf' : ShelfState) (out out' err err' : SinkState) (line : List ℕ) (status : ℕ) → IsPartial (plan_of asked) shelf.holds out out' → IsWholeOutcome (plan_of asked) shelf.holds out out' line status → IsQuiet shelf shelf' out out' → IsSettled status → Appends err.written err'.written line → err'.faults ≡ err.faults → (status ≡ 2 → RefusesAskedWords asked out out' line) → (AreRefused asked → status ≡ 2) → IsEnding asked out out' line status → Promises lines asked shelf shelf' out out' err err' status
 settled asked shelf shelf' out out' err err' line status partial whole quiet is said same words refused ending = record {
   outcome = λ _. whole_outcome asked shelf.holds shelf.failed out out' err err' line status whole said;
   prefix = partial;
@@ -110,7 +110,7 @@ noted_rises : (failed : List (List ℕ)) (name : List ℕ) → faults_of failed 
 noted_rises failed name =
     rw (fold-append (λ n other. n + cond (bytes_eq other name) 1 0) 0 failed (name ∷ []), same_name name) (omega arith)
 
-unread_risen : (asked : Result Plan (List ℕ)) (shelf shelf' : ShelfState) (out out' : SinkState) (file : File) → IsUnread asked shelf shelf' out out' file → HasRisen asked shelf shelf' file
+unread_risen : (asked : Result Plan (List ℕ)) (shelf shelf' : ShelfState) (out out' : SinkState) (file : File) → IsUnreadFile asked shelf shelf' out out' file → HasRisen asked shelf shelf' file
 unread_risen asked shelf shelf' out out' file is =
     (is.name, is.named, subst (λ names. faults_of shelf.failed is.name < faults_of names is.name) (sym (ap (λ s. s.failed) is.noted)) (noted_rises shelf.failed is.name))
 
@@ -119,7 +119,7 @@ refuses_nothing (Err line) file name named refused = named
 refuses_nothing (Ok plan) file name named refused = refused
 
 -- a file was not read, and its line was put
-unread_said : {lines : Table} (asked : Result Plan (List ℕ)) (shelf shelf' : ShelfState) (out out' err err' : SinkState) (file : File) → IsPartial (plan_of asked) shelf.holds out out' → IsUnread asked shelf shelf' out out' file → AreCountsSame out out' err err' → Appends err.written err'.written (unread_line file) → Promises lines asked shelf shelf' out out' err err' 3
+unread_said : {lines : Table} (asked : Result Plan (List ℕ)) (shelf shelf' : ShelfState) (out out' err err' : SinkState) (file : File) → IsPartial (plan_of asked) shelf.holds out out' → IsUnreadFile asked shelf shelf' out out' file → AreCountsSame out out' err err' → Appends err.written err'.written (unread_line file) → Promises lines asked shelf shelf' out out' err err' 3
 unread_said asked shelf shelf' out out' err err' file partial is counts said = record {
   outcome = λ s. absurd (s.1 refl);
   prefix = partial;
@@ -191,7 +191,7 @@ words_is_two refusals.TooLong asked others refused = absurd (others (λ e. cc) r
 words_is_two refusals.Table asked others refused = absurd (others (λ e. cc) refused)
 
 -- the shelf tells the same files, however the work ended
-same_files : (asked : Result Plan (List ℕ)) (shelf shelf' : ShelfState) (out out' : SinkState) (stop : Stop) → Leaves asked shelf shelf' out out' (Err stop) → shelf'.holds ≡ shelf.holds
+same_files : (asked : Result Plan (List ℕ)) (shelf shelf' : ShelfState) (out out' : SinkState) (stop : Stop) → LeavesEnded asked shelf shelf' out out' (Err stop) → shelf'.holds ≡ shelf.holds
 same_files asked shelf shelf' out out' (Refused refusal line) leaves = ap (λ s. s.holds) leaves.quiet.shelf_is
 same_files asked shelf shelf' out out' NoMemory leaves = ap (λ s. s.holds) leaves.shelf_is
 same_files asked shelf shelf' out out' (Unread file) leaves = ap (λ s. s.holds) leaves.noted
@@ -214,7 +214,7 @@ refusal_ends asked shelf shelf' out out' refusal line is = record {
 }
 
 -- the line of an early ending is a line
-line_is : (lines : Table) (asked : Result Plan (List ℕ)) (shelf shelf' : ShelfState) (out out' : SinkState) (stop : Stop) → Covers lines asked → Leaves asked shelf shelf' out out' (Err stop) → IsErrLine lines (stop_line stop)
+line_is : (lines : Table) (asked : Result Plan (List ℕ)) (shelf shelf' : ShelfState) (out out' : SinkState) (stop : Stop) → Covers lines asked → LeavesEnded asked shelf shelf' out out' (Err stop) → IsErrLine lines (stop_line stop)
 line_is lines asked shelf shelf' out out' (Refused refusal line) covers leaves = inl (refusal_status refusal, covers (refusal_status refusal) line (refusal_not_done refusal) leaves.is_line)
 line_is lines asked shelf shelf' out out' NoMemory covers leaves = inr (inr (inl refl))
 line_is lines asked shelf shelf' out out' (Unread file) covers leaves = inr (inl (file, refl))
@@ -253,7 +253,7 @@ done asked shelf shelf' out out' err err' performs said same =
     settled asked shelf shelf' out out' err err' [] 0 performs.partial performs.leaves.whole performs.leaves.quiet (λ e. cc, λ e. cc, λ e. cc) said same (λ e. cc) (λ refused. absurd (performs.leaves.accepted refused)) (record { of_plan = λ other. absurd (other refl); none = λ _. refl; nothing_out = λ other _. absurd (other refl) })
 
 -- the promises of a run, from what its work leaves and the put of its line
-pub promises : {lines : Table} (asked : Result Plan (List ℕ)) (shelf shelf' : ShelfState) (out out' err err' : SinkState) (ended : Result (Unit {0}) Stop) (put : Put) → Covers lines asked → Performs asked shelf shelf' out out' ended → Puts err err' (line_of ended) put → (IsOk ended → put ≡ puts.All) → Promises lines asked shelf shelf' out out' err err' (status_after ended put)
+pub promises : {lines : Table} (asked : Result Plan (List ℕ)) (shelf shelf' : ShelfState) (out out' err err' : SinkState) (ended : Result (Unit {0}) Stop) (put : Put) → Covers lines asked → Performs asked shelf shelf' out out' ended → Puts err err' (line_of_result ended) put → (IsOk ended → put ≡ puts.All) → Promises lines asked shelf shelf' out out' err err' (status_after ended put)
 promises asked shelf shelf' out out' err err' (Ok tt) puts.All covers performs said quiet = done asked shelf shelf' out out' err err' performs said.0 said.1
 promises asked shelf shelf' out out' err err' (Ok tt) puts.Failed covers performs said quiet = let same : puts.Failed ≡ puts.All = quiet refl in cc
 promises asked shelf shelf' out out' err err' (Ok tt) puts.NoMemory covers performs said quiet = let same : puts.NoMemory ≡ puts.All = quiet refl in cc

@@ -4,9 +4,10 @@ use Rattle.std.specs.declared.option.Option.{Option}
 use Rattle.edge_io.proofs.KnownBytes.{appends_nothing, prefix_nothing, prefix_whole}
 use Rattle.edge_io.specs.Sink.{AppendsPrefix}
 use Rattle.program_frame.specs.Stops.{refusal_status}
-use Rattle.program_frame.specs.Loads.{Accepts, Loads, Loaded, LoadFault, FailsToLoad, Refuses}
+use Rattle.program_frame.specs.Loads.{Loads, Loaded, LoadFault, FailsToLoad, RefusesLoad}
+use Rattle.program_frame.specs.inside.Refusing.{Accepts}
 use Rattle.program_frame.specs.Outcome.{out_text, done_with, refused_with}
-use Rattle.program_frame.specs.Performs.{IsWhole, IsPartial, IsQuiet, Leaves, Performs, PutLeaves, PutsText}
+use Rattle.program_frame.specs.Performs.{IsWholeOutcome, IsPartial, IsQuiet, LeavesEnded, Performs, PutLeaves, PutsText}
 use Rattle.program_frame.specs.Read.{IsReadWhole, FailsToRead, ReadsWhole}
 use Rattle.edge_io.specs.State.{ShelfState, SinkState}
 use Rattle.program_frame.specs.Plan.{Plan, Comes, IsFileOf, IsLineOf, accepts, and_holds, and_then, loads, outcome_of, plan_of}
@@ -29,7 +30,7 @@ pub record GoesOn (plan rest : Plan) (told : Option (List ℕ → Option (List �
   pub named : (file : File) (name : List ℕ) → IsFileOf rest file name → IsFileOf plan file name
   pub lines : (status : ℕ) (line : List ℕ) → IsLineOf rest status line → IsLineOf plan status line
 
-whole_on : (plan rest : Plan) (told : Option Files) (out out' : SinkState) (line : List ℕ) (status : ℕ) → Agrees plan rest told → IsWhole rest told out out' line status → IsWhole plan told out out' line status
+whole_on : (plan rest : Plan) (told : Option Files) (out out' : SinkState) (line : List ℕ) (status : ℕ) → Agrees plan rest told → IsWholeOutcome rest told out out' line status → IsWholeOutcome plan told out out' line status
 whole_on plan rest None out out' line status on whole = tt
 whole_on plan rest (Some files) out out' line status on whole = (whole.0, on.0 ∙ whole.1, whole.2)
 
@@ -41,7 +42,7 @@ before_on : (plan rest : Plan) (told : Option Files) (file : File) → Agrees pl
 before_on plan rest None file on comes = tt
 before_on plan rest (Some files) file on comes = on.1 file comes
 
-leaves_on : (plan rest : Plan) (shelf shelf' : ShelfState) (out out' : SinkState) (ended : Result (Unit {0}) Stop) → GoesOn plan rest shelf.holds → Leaves (Ok rest) shelf shelf' out out' ended → Leaves (Ok plan) shelf shelf' out out' ended
+leaves_on : (plan rest : Plan) (shelf shelf' : ShelfState) (out out' : SinkState) (ended : Result (Unit {0}) Stop) → GoesOn plan rest shelf.holds → LeavesEnded (Ok rest) shelf shelf' out out' ended → LeavesEnded (Ok plan) shelf shelf' out out' ended
 leaves_on plan rest shelf shelf' out out' (Ok done) on leaves =
     record { whole = whole_on plan rest shelf.holds out out' [] 0 on.agrees leaves.whole; quiet = leaves.quiet; accepted = leaves.accepted }
 leaves_on plan rest shelf shelf' out out' (Err (Refused refusal line)) on leaves =
@@ -68,7 +69,7 @@ pub memory_performs : (asked : Result Plan (List ℕ)) (shelf : ShelfState) (out
 memory_performs asked shelf out =
     record { partial = partial_same (plan_of asked) shelf.holds out; leaves = quiet_same shelf out }
 
-refused_whole : (told : Option Files) (out : SinkState) (line : List ℕ) (status : ℕ) → IsWhole (ends (refused_with status line)) told out out line status
+refused_whole : (told : Option Files) (out : SinkState) (line : List ℕ) (status : ℕ) → IsWholeOutcome (ends (refused_with status line)) told out out line status
 refused_whole None out line status = tt
 refused_whole (Some files) out line status = ([], refl, appends_nothing out.written)
 
@@ -85,7 +86,7 @@ same_line : (line said : List ℕ) → refused_as line ≡ refused_as said → l
 same_line line said is = cc is
 
 -- words that are refused, or no memory for their line
-pub words_stop : (line : List ℕ) (shelf : ShelfState) (out : SinkState) (stop : Stop) → Refuses Words (refused_as line) stop → Performs (Err line) shelf shelf out out (Err stop)
+pub words_stop : (line : List ℕ) (shelf : ShelfState) (out : SinkState) (stop : Stop) → RefusesLoad Words (refused_as line) stop → Performs (Err line) shelf shelf out out (Err stop)
 words_stop line shelf out (Refused r said) refuses =
     subst (λ l. Performs (Err line) shelf shelf out out (Err (Refused r l))) (same_line line said refuses.1) (subst (λ x. Performs (Err line) shelf shelf out out (Err (Refused x line))) (sym refuses.0) (words_refused line shelf out))
 words_stop line shelf out NoMemory refuses = memory_performs (Err line) shelf out
@@ -98,7 +99,7 @@ done_whole : (told : Option Files) (out out' : SinkState) (text : List ℕ) → 
 done_whole None out out' text grown = tt
 done_whole (Some files) out out' text grown = grown
 
-put_whole : (told : Option Files) (out out' : SinkState) (text : List ℕ) → PutLeaves out out' text (Ok tt) → IsWhole (ends (done_with text)) told out out' [] 0
+put_whole : (told : Option Files) (out out' : SinkState) (text : List ℕ) → PutLeaves out out' text (Ok tt) → IsWholeOutcome (ends (done_with text)) told out out' [] 0
 put_whole None out out' text puts = tt
 put_whole (Some files) out out' text puts = (text, refl, puts.0)
 
@@ -134,14 +135,14 @@ refused_performs refusal line shelf out other = record {
   leaves = record { whole = refused_whole shelf.holds out line (refusal_status refusal); quiet = quiet_same shelf out; is_line = (refl, refl); words = λ same. absurd (other same); others = λ _ no. no; nothing_out = λ _. appends_nothing out.written };
 }
 
-refusal_performs : {A : Type 0} (refusal : Refusal) (said : Result A (List ℕ)) (next : A → Plan) (shelf : ShelfState) (out : SinkState) (stop : Stop) → refusal ≢ Words → Refuses refusal said stop → Performs (Ok (accepts (refusal_status refusal) said next)) shelf shelf out out (Err stop)
+refusal_performs : {A : Type 0} (refusal : Refusal) (said : Result A (List ℕ)) (next : A → Plan) (shelf : ShelfState) (out : SinkState) (stop : Stop) → refusal ≢ Words → RefusesLoad refusal said stop → Performs (Ok (accepts (refusal_status refusal) said next)) shelf shelf out out (Err stop)
 refusal_performs refusal said next shelf out (Refused r line) other fails =
     subst (λ x. Performs (Ok (accepts (refusal_status refusal) said next)) shelf shelf out out (Err (Refused x line))) (sym fails.0) (subst (λ s. Performs (Ok (accepts (refusal_status refusal) s next)) shelf shelf out out (Err (Refused refusal line))) (sym fails.1) (refused_performs refusal line shelf out other))
 refusal_performs refusal said next shelf out NoMemory other fails = memory_performs (Ok (accepts (refusal_status refusal) said next)) shelf out
 refusal_performs refusal said next shelf out (Unread file) other fails = absurd fails
 refusal_performs refusal said next shelf out Unwritten other fails = absurd fails
 
-pub accepts_refuses : {A : Type 0} {shelf : ShelfState} {out : SinkState} {stop : Stop} (refusal : Refusal) (said : Result A (List ℕ)) (next : A → Plan) → refusal ≢ Words → Refuses refusal said stop → Performs (Ok (accepts (refusal_status refusal) said next)) shelf shelf out out (Err stop)
+pub accepts_refuses : {A : Type 0} {shelf : ShelfState} {out : SinkState} {stop : Stop} (refusal : Refusal) (said : Result A (List ℕ)) (next : A → Plan) → refusal ≢ Words → RefusesLoad refusal said stop → Performs (Ok (accepts (refusal_status refusal) said next)) shelf shelf out out (Err stop)
 accepts_refuses {A} {shelf} {out} {stop} refusal said next other fails = refusal_performs refusal said next shelf out stop other fails
 
 -- `reads`
@@ -205,7 +206,7 @@ load_unread file name shelf shelf' NoMemory fails = record { fault = fails }
 load_unread file name shelf shelf' (Unread f) fails = record { fault = fails }
 load_unread file name shelf shelf' Unwritten fails = absurd fails
 
-load_refused : {A : Type 0} (refusal : Refusal) (file : File) (name : List ℕ) (limit : ℕ) (said : List ℕ → Result A (List ℕ)) (shelf shelf' : ShelfState) (bytes : List ℕ) (stop : Stop) → ReadsWhole name limit shelf shelf' bytes → Refuses refusal (said bytes) stop → FailsToLoad refusal file name limit said shelf shelf' stop
+load_refused : {A : Type 0} (refusal : Refusal) (file : File) (name : List ℕ) (limit : ℕ) (said : List ℕ → Result A (List ℕ)) (shelf shelf' : ShelfState) (bytes : List ℕ) (stop : Stop) → ReadsWhole name limit shelf shelf' bytes → RefusesLoad refusal (said bytes) stop → FailsToLoad refusal file name limit said shelf shelf' stop
 load_refused refusal file name limit said shelf shelf' bytes (Refused r line) whole fails = record { fault = (bytes, whole, fails) }
 load_refused refusal file name limit said shelf shelf' bytes NoMemory whole fails = record { fault = whole.1 }
 load_refused refusal file name limit said shelf shelf' bytes (Unread f) whole fails = absurd fails
@@ -216,4 +217,4 @@ pub load_taken : {A : Type 0} (refusal : Refusal) (file : File) (name : List ℕ
 load_taken refusal file name limit said shelf shelf' bytes taken (Ok value) whole same taken_so =
     record { bytes = bytes; whole = whole; is = subst (λ b. said b ≡ Ok value) same taken_so }
 load_taken refusal file name limit said shelf shelf' bytes taken (Err stop) whole same taken_so =
-    load_refused refusal file name limit said shelf shelf' bytes stop whole (subst (λ b. Refuses refusal (said b) stop) same taken_so)
+    load_refused refusal file name limit said shelf shelf' bytes stop whole (subst (λ b. RefusesLoad refusal (said b) stop) same taken_so)

@@ -9,11 +9,12 @@ use Rattle.std.specs.Io.KnownBytes.{Appends}
 use Rattle.edge_io.proofs.KnownBytes.{prefix_whole}
 use Rattle.edge_io.specs.Sink.{AppendsPrefix}
 use Rattle.program_frame.specs.Stops.{refusal_status}
-use Rattle.program_frame.specs.Outcome.{Outcome, out_text, seen}
-use Rattle.program_frame.specs.Performs.{IsPartial, IsWhole, Performs}
+use Rattle.program_frame.specs.Outcome.{Outcome, out_text, bytes_seen}
+use Rattle.program_frame.specs.Performs.{IsPartial, IsWholeOutcome, Performs}
 use Rattle.program_frame.specs.Read.{IsFront, IsReadSoFar, IsReadWhole, Notes, ReadsWhole}
 use Rattle.edge_io.specs.State.{ShelfState, SinkState}
-use Rattle.program_frame.specs.Streams.{EndsWith, IsStreaming, StopsAt, streams}
+use Rattle.program_frame.specs.Streams.{streams}
+use Rattle.program_frame.specs.inside.StreamSteps.{EndsWithOutcome, IsStreaming, StopsAt}
 use Rattle.program_frame.specs.Plan.Plan.{ends}
 use Rattle.program_frame.proofs.Stages.{reads_performs}
 use Rattle.program_frame.specs.Plan.{Comes, IsLineOf, and_then}
@@ -36,7 +37,7 @@ front_rest limit fed file front within =
 
 -- out has a prefix of the outcome's text
 
-partial_file : (limit : ℕ) (expected : List ℕ → Outcome) (out out' : SinkState) (fed : List ℕ) (held : Option (List ℕ)) → IsFront fed held → length fed ≤ limit + 1 → ((rest : List ℕ) → AppendsPrefix out.written out'.written (expected (fed ++ rest)).out) → (fed ≡ [] → Appends out.written out'.written []) → AppendsPrefix out.written out'.written (out_text (and_then (seen limit held) (λ bytes. Some (expected bytes))))
+partial_file : (limit : ℕ) (expected : List ℕ → Outcome) (out out' : SinkState) (fed : List ℕ) (held : Option (List ℕ)) → IsFront fed held → length fed ≤ limit + 1 → ((rest : List ℕ) → AppendsPrefix out.written out'.written (expected (fed ++ rest)).out) → (fed ≡ [] → Appends out.written out'.written []) → AppendsPrefix out.written out'.written (out_text (and_then (bytes_seen limit held) (λ bytes. Some (expected bytes))))
 partial_file limit expected out out' fed None front within written nothing = (0, nothing front)
 partial_file limit expected out out' fed (Some file) front within written nothing =
     subst (λ bytes. AppendsPrefix out.written out'.written (expected bytes).out) (front_rest limit fed file front within) (written (drop (length fed) (take (limit + 1) file)))
@@ -76,12 +77,12 @@ stream_unread {name} {limit} {expected} {shelf} {shelf'} {shelf''} {out} {out'} 
 traces_not_words : (refusal : Refusal) → refusal ≡ refusals.Traces → refusal ≡ refusals.Words → ⊥
 traces_not_words refusal traces words = let same : refusals.Traces ≡ refusals.Words = sym traces ∙ words in cc
 
-whole_file : (limit : ℕ) (expected : List ℕ → Outcome) (o : Outcome) (fed : List ℕ) (held : Option (List ℕ)) → IsFront fed held → fed ≢ [] → length fed ≤ limit + 1 → ((rest : List ℕ) → expected (fed ++ rest) ≡ o) → and_then (seen limit held) (λ bytes. Some (expected bytes)) ≡ Some o
+whole_file : (limit : ℕ) (expected : List ℕ → Outcome) (o : Outcome) (fed : List ℕ) (held : Option (List ℕ)) → IsFront fed held → fed ≢ [] → length fed ≤ limit + 1 → ((rest : List ℕ) → expected (fed ++ rest) ≡ o) → and_then (bytes_seen limit held) (λ bytes. Some (expected bytes)) ≡ Some o
 whole_file limit expected o fed None front some within is = absurd (some front)
 whole_file limit expected o fed (Some file) front some within is =
     ap (λ bytes. Some (expected bytes)) (sym (front_rest limit fed file front within)) ∙ ap (λ x. Some x) (is (drop (length fed) (take (limit + 1) file)))
 
-stream_whole : (file : File) (name : List ℕ) (limit : ℕ) (expected : List ℕ → Outcome) (told : Option Files) (out out' : SinkState) (fed text line : List ℕ) (status : ℕ) → IsReadSoFar told name fed → fed ≢ [] → length fed ≤ limit + 1 → ((rest : List ℕ) → expected (fed ++ rest) ≡ record { out = text; err = line; status = status }) → Appends out.written out'.written text → IsWhole (streams file name limit expected) told out out' line status
+stream_whole : (file : File) (name : List ℕ) (limit : ℕ) (expected : List ℕ → Outcome) (told : Option Files) (out out' : SinkState) (fed text line : List ℕ) (status : ℕ) → IsReadSoFar told name fed → fed ≢ [] → length fed ≤ limit + 1 → ((rest : List ℕ) → expected (fed ++ rest) ≡ record { out = text; err = line; status = status }) → Appends out.written out'.written text → IsWholeOutcome (streams file name limit expected) told out out' line status
 stream_whole file name limit expected None out out' fed text line status front some within is written = tt
 stream_whole file name limit expected (Some files) out out' fed text line status front some within is written =
     (text, whole_file limit expected (record { out = text; err = line; status = status }) fed (files name) front some within is, written)
@@ -122,11 +123,11 @@ outcome_partial : (o : Outcome) (told : Option Files) (out out' : SinkState) →
 outcome_partial o None out out' grown = tt
 outcome_partial o (Some files) out out' grown = grown
 
-outcome_whole : (o : Outcome) (told : Option Files) (out out' : SinkState) (text line : List ℕ) (status : ℕ) → o ≡ record { out = text; err = line; status = status } → Appends out.written out'.written text → IsWhole (ends o) told out out' line status
+outcome_whole : (o : Outcome) (told : Option Files) (out out' : SinkState) (text line : List ℕ) (status : ℕ) → o ≡ record { out = text; err = line; status = status } → Appends out.written out'.written text → IsWholeOutcome (ends o) told out out' line status
 outcome_whole o None out out' text line status is grown = tt
 outcome_whole o (Some files) out out' text line status is grown = (text, ap (λ x. Some x) is, grown)
 
-outcome_performs : (o : Outcome) (shelf : ShelfState) (out out' : SinkState) (ended : Result (Unit {0}) Stop) → EndsWith o out out' ended → Performs (Ok (ends o)) shelf shelf out out' ended
+outcome_performs : (o : Outcome) (shelf : ShelfState) (out out' : SinkState) (ended : Result (Unit {0}) Stop) → EndsWithOutcome o out out' ended → Performs (Ok (ends o)) shelf shelf out out' ended
 outcome_performs o shelf out out' (Ok done) is = record {
   partial = outcome_partial o shelf.holds out out' (prefix_whole out.written out'.written o.out is.1);
   leaves = record { whole = outcome_whole o shelf.holds out out' o.out [] 0 is.0 is.1; quiet = record { shelf_is = refl; faults_are = is.2 }; accepted = λ no. no };
@@ -139,7 +140,7 @@ outcome_performs o shelf out out' (Err NoMemory) is = record { partial = outcome
 outcome_performs o shelf out out' (Err (Unread file)) is = absurd is
 outcome_performs o shelf out out' (Err Unwritten) is = record { partial = outcome_partial o shelf.holds out out' (is.0 tt); leaves = record { shelf_is = refl; rose = is.1 } }
 
-pub stream_ends : {shelf shelf' : ShelfState} {out out' : SinkState} {ended : Result (Unit {0}) Stop} (file : File) (name : List ℕ) (limit : ℕ) (expected : List ℕ → Outcome) (bytes : List ℕ) → ReadsWhole name limit shelf shelf' bytes → EndsWith (expected bytes) out out' ended → Performs (Ok (streams file name limit expected)) shelf shelf' out out' ended
+pub stream_ends : {shelf shelf' : ShelfState} {out out' : SinkState} {ended : Result (Unit {0}) Stop} (file : File) (name : List ℕ) (limit : ℕ) (expected : List ℕ → Outcome) (bytes : List ℕ) → ReadsWhole name limit shelf shelf' bytes → EndsWithOutcome (expected bytes) out out' ended → Performs (Ok (streams file name limit expected)) shelf shelf' out out' ended
 stream_ends {shelf} {shelf'} {out} {out'} {ended} file name limit expected bytes whole is =
     reads_performs file name limit (λ b. ends (expected b)) shelf shelf' shelf' out out' bytes ended whole (outcome_performs (expected bytes) shelf' out out' ended is)
 
@@ -180,7 +181,7 @@ read_more (Some files) name fed piece n front reads = read_front fed piece n (fi
 
 -- the end of the file, and the first byte above the limit
 
-end_file : (limit : ℕ) (fed piece : List ℕ) (file : Option (List ℕ)) → IsFront fed file → length fed ≤ limit → MatchOption file ⊥ (λ f. ReadsFile f (length fed) [] piece End) → seen limit file ≡ Some fed
+end_file : (limit : ℕ) (fed piece : List ℕ) (file : Option (List ℕ)) → IsFront fed file → length fed ≤ limit → MatchOption file ⊥ (λ f. ReadsFile f (length fed) [] piece End) → bytes_seen limit file ≡ Some fed
 end_file limit fed piece None front within end = absurd end
 end_file limit fed piece (Some file) front within end =
     ap (λ x. Some x) (take_all (limit + 1) file (omega arith) ∙ sym (take_all (length fed) file end) ∙ sym front)
@@ -189,7 +190,7 @@ pub read_end : (limit : ℕ) (told : Option Files) (name fed piece : List ℕ) �
 read_end limit None name fed piece front within end = tt
 read_end limit (Some files) name fed piece front within end = end_file limit fed piece (files name) front within end
 
-full_file : (limit : ℕ) (fed : List ℕ) (file : Option (List ℕ)) → IsFront fed file → length fed ≡ limit + 1 → seen limit file ≡ Some fed
+full_file : (limit : ℕ) (fed : List ℕ) (file : Option (List ℕ)) → IsFront fed file → length fed ≡ limit + 1 → bytes_seen limit file ≡ Some fed
 full_file limit fed None front full =
     let none : length fed ≡ 0 = ap length front in
     absurd (omega arith)

@@ -12,10 +12,12 @@ use Rattle.trace_reader.specs.declared.trace.Trace.{Trace}
 use Rattle.trace_reader.proofs.Laws.{closed-none, fault_in-StandsFor, file_fault_known}
 use Rattle.program_frame.specs.Chunks.{AreRead, IsChunk, MayReadOn}
 use Rattle.program_frame.specs.Loads.{FailsToLoad, Loads}
-use Rattle.program_frame.specs.Outcome.{seen}
+use Rattle.program_frame.specs.Outcome.{bytes_seen}
 use Rattle.program_frame.specs.Read.{IsFront, IsReadSoFar, IsReadWhole, ReadsWhole}
-use Rattle.program_frame.specs.Refusals.{RefusesTraces, trace_limit}
-use Rattle.program_frame.specs.WholeTraces.{IsFed, IsHolding, traces_or_line, traces_said}
+use Rattle.program_frame.specs.Refusals.{trace_limit}
+use Rattle.program_frame.specs.inside.Refusing.{RefusesTraces}
+use Rattle.program_frame.specs.WholeTraces.{traces_or_line, traces_said}
+use Rattle.program_frame.specs.inside.HeldTraces.{ReaderHasFile, IsHolding}
 use Rattle.program_frame.specs.declared.stop.File.TheVariants.{Traces}
 use Rattle.program_frame.specs.declared.stop.Refusal.TheVariants.{Traces as OfTraces}
 use Rattle.program_frame.specs.declared.stop.Stop.{Stop}
@@ -51,7 +53,7 @@ holds_more name shelf at at' reader reader' traces traces' chunk holds read stan
 }
 
 -- the file was read whole
-pub fed_whole : {name : List ℕ} {shelf : ShelfState} {at : ℕ} {reader : TraceReader} {traces : List Trace} (shelf' : ShelfState) → (holds : IsHolding name shelf at reader traces) → ReadsWhole name trace_limit shelf shelf' holds.fed → IsFed name shelf shelf' reader traces
+pub fed_whole : {name : List ℕ} {shelf : ShelfState} {at : ℕ} {reader : TraceReader} {traces : List Trace} (shelf' : ShelfState) → (holds : IsHolding name shelf at reader traces) → ReadsWhole name trace_limit shelf shelf' holds.fed → ReaderHasFile name shelf shelf' reader traces
 fed_whole shelf' holds whole = record { bytes = holds.fed; whole = whole; stands = holds.stands; are = holds.are }
 
 -- ---- refusals
@@ -67,7 +69,7 @@ whole_of_front : (limit : ℕ) (told : Option (List ℕ → Option (List ℕ))) 
 whole_of_front limit None name fed front some within = ([], tt)
 whole_of_front limit (Some files) name fed front some within = by_file (files name) front
   where
-    by_file : (file : Option (List ℕ)) → IsFront fed file → (rest : List ℕ) × (seen limit file ≡ Some (fed ++ rest))
+    by_file : (file : Option (List ℕ)) → IsFront fed file → (rest : List ℕ) × (bytes_seen limit file ≡ Some (fed ++ rest))
     by_file None front = absurd (some front)
     by_file (Some file) front = (drop (length fed) (take (limit + 1) file), ap (λ (t : List ℕ). let y : Option (List ℕ) = Some t in y) (sym (front_rest limit fed file front within)))
 
@@ -96,11 +98,11 @@ chunk_refused name shelf shelf' at at' reader traces traces' chunk fault stop ho
 
 -- ---- the end of the file
 
-pub end_refused : (name : List ℕ) (shelf shelf' : ShelfState) (reader : TraceReader) (traces traces' : List Trace) (fault : TraceFault) (stop : Stop) → (fed : IsFed name shelf shelf' reader traces) → EndsFaulty fed.bytes traces traces' fault → RefusesTraces fault stop → FailsTraces name shelf shelf' stop
+pub end_refused : (name : List ℕ) (shelf shelf' : ShelfState) (reader : TraceReader) (traces traces' : List Trace) (fault : TraceFault) (stop : Stop) → (fed : ReaderHasFile name shelf shelf' reader traces) → EndsFaulty fed.bytes traces traces' fault → RefusesTraces fault stop → FailsTraces name shelf shelf' stop
 end_refused name shelf shelf' reader traces traces' fault stop fed ends refuses =
     refused_at name shelf shelf' fed.bytes fault stop fed.whole.0 fed.whole.1 (λ other. (ends.known other).1) refuses
 
-pub end_accepted : (name : List ℕ) (shelf shelf' : ShelfState) (reader reader' : TraceReader) (traces traces' : List Trace) → (fed : IsFed name shelf shelf' reader traces) → Ends fed.bytes reader' traces traces' → Loads OfTraces Traces name trace_limit traces_said shelf shelf' (Ok traces')
+pub end_accepted : (name : List ℕ) (shelf shelf' : ShelfState) (reader reader' : TraceReader) (traces traces' : List Trace) → (fed : ReaderHasFile name shelf shelf' reader traces) → Ends fed.bytes reader' traces traces' → Loads OfTraces Traces name trace_limit traces_said shelf shelf' (Ok traces')
 end_accepted name shelf shelf' reader reader' traces traces' fed ends =
     let are : traces' ≡ file_traces fed.bytes = ends.grown ∙ ap (λ (t : List Trace). t ++ ends.more) fed.are ∙ sym ends.due in
     record {

@@ -33,27 +33,27 @@ abbrev pub refused_behind : List ℕ → List ℕ → Outcome
 refused_behind text line = record { out = text; err = line; status = 6 }
 
 -- the job's refusal comes before the fault of the file
-abbrev pub given_by : Option (List ℕ) → Option TraceFault → List ℕ → List ℕ → Outcome
-given_by (Some line) fault texts ending = refused_behind texts line
-given_by None (Some fault) texts ending = refused_behind texts (fault_line fault)
-given_by None None texts ending = done_with (texts ++ ending)
+abbrev pub outcome_given_by : Option (List ℕ) → Option TraceFault → List ℕ → List ℕ → Outcome
+outcome_given_by (Some line) fault texts ending = refused_behind texts line
+outcome_given_by None (Some fault) texts ending = refused_behind texts (fault_line fault)
+outcome_given_by None None texts ending = done_with (texts ++ ending)
 
 -- what these traces give, with this fault after them or none
 abbrev pub traces_give : JobText → List Trace → Option TraceFault → Outcome
 traces_give job traces fault =
-    given_by (job.refusal traces) fault (job.texts traces) (job.ending traces)
+    outcome_given_by (job.refusal traces) fault (job.texts traces) (job.ending traces)
 
 -- what a trace file of these bytes gives
 abbrev pub bytes_give : JobText → List ℕ → Outcome
 bytes_give job bytes = traces_give job (file_traces bytes) (file_fault bytes)
 
-abbrev pub points_of : List Trace → ℕ
-points_of traces = sum_by (λ trace. length trace.fixes) traces
+abbrev pub position_count : List Trace → ℕ
+position_count traces = sum_by (λ trace. length trace.fixes) traces
 
 -- lawful traces, no more than a file has
 pub record IsBounded (traces : List Trace) : Type 0 where
   pub few : length traces < 2 ^ 62
-  pub few_points : points_of traces < 2 ^ 62
+  pub few_points : position_count traces < 2 ^ 62
   pub lawful : All IsLawfulTrace traces
 
 -- some traces were taken
@@ -71,7 +71,7 @@ CanTake has more =
     (before : List Trace) × has before × IsBounded (before ++ more) × IsBatch more
 
 -- a list grew by the text of these traces after those before
-pub record Grows (job : JobText) (before more : List Trace) (old new : List ℕ) : Type 0 where
+pub record GrowsByTexts (job : JobText) (before more : List Trace) (old new : List ℕ) : Type 0 where
   pub text : List ℕ
   pub grown : new ≡ old ++ text
   pub is : job.texts (before ++ more) ≡ job.texts before ++ text
@@ -82,11 +82,11 @@ abbrev pub TakesTraces : JobText → (List Trace → Type 0) → List Trace → 
 TakesTraces job has before more old new (Ok done) =
     has (before ++ more)
     × (job.refusal (before ++ more) ≡ None)
-    × Grows job before more old new
+    × GrowsByTexts job before more old new
 TakesTraces job has before more old new (Err (Refused refusal line)) =
     (refusal ≡ Traces)
     × (job.refusal (before ++ more) ≡ Some line)
-    × Grows job before more old new
+    × GrowsByTexts job before more old new
 TakesTraces job has before more old new (Err NoMemory) = Unit {0}
 TakesTraces job has before more old new (Err (Unread file)) = ⊥
 TakesTraces job has before more old new (Err Unwritten) = ⊥

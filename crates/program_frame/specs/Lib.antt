@@ -19,3 +19,4 @@ pub mod Stream
 pub mod Streams
 pub mod Total
 pub mod WholeTraces
+pub mod inside

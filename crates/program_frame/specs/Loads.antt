@@ -8,16 +8,11 @@ use Rattle.program_frame.specs.declared.stop.Stop.{Stop}
 use Rattle.program_frame.specs.declared.stop.Stop.TheVariants.{Refused, NoMemory, Unread, Unwritten}
 
 -- how bytes are not accepted: this refusal with its line, or want of memory
-abbrev pub Refuses : {A : Type 0} → Refusal → Result A (List ℕ) → Stop → Type 0
-Refuses refusal said (Refused r line) = (r ≡ refusal) × (said ≡ Err line)
-Refuses refusal said NoMemory = Unit {0}
-Refuses refusal said (Unread file) = ⊥
-Refuses refusal said Unwritten = ⊥
-
--- bytes that were accepted or refused
-abbrev pub Accepts : {A : Type 0} → Refusal → Result A (List ℕ) → Result A Stop → Type 0
-Accepts refusal said (Ok value) = said ≡ Ok value
-Accepts refusal said (Err stop) = Refuses refusal said stop
+abbrev pub RefusesLoad : {A : Type 0} → Refusal → Result A (List ℕ) → Stop → Type 0
+RefusesLoad refusal said (Refused r line) = (r ≡ refusal) × (said ≡ Err line)
+RefusesLoad refusal said NoMemory = Unit {0}
+RefusesLoad refusal said (Unread file) = ⊥
+RefusesLoad refusal said Unwritten = ⊥
 
 -- the file was read to bytes that say this value
 pub record Loaded {A : Type 0} (name : List ℕ) (limit : ℕ) (said : List ℕ → Result A (List ℕ))
@@ -32,7 +27,7 @@ abbrev pub LoadFault : {A : Type 0} → Refusal → File → List ℕ → ℕ �
 LoadFault refusal file name limit said shelf shelf' (Refused r line) =
     (bytes : List ℕ)
     × ReadsWhole name limit shelf shelf' bytes
-    × Refuses refusal (said bytes) (Refused r line)
+    × RefusesLoad refusal (said bytes) (Refused r line)
 LoadFault refusal file name limit said shelf shelf' NoMemory = shelf' ≡ shelf
 LoadFault refusal file name limit said shelf shelf' (Unread f) =
     FailsToRead file name shelf shelf' (Unread f)

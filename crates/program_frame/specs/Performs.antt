@@ -16,9 +16,9 @@ use Rattle.program_frame.specs.declared.stop.Stop.{Stop}
 use Rattle.program_frame.specs.declared.stop.Stop.TheVariants.{Refused, NoMemory, Unread, Unwritten}
 
 -- out has gained the whole text of the outcome, whose line and status are these
-abbrev pub IsWhole : Plan → Option (List ℕ → Option (List ℕ)) → SinkState → SinkState
+abbrev pub IsWholeOutcome : Plan → Option (List ℕ → Option (List ℕ)) → SinkState → SinkState
     → List ℕ → ℕ → Type 0
-IsWhole plan told out out' line status =
+IsWholeOutcome plan told out out' line status =
     IfSome told (λ files. (text : List ℕ)
     × (outcome_of plan files ≡ Some (record { out = text; err = line; status = status }))
     × Appends out.written out'.written text)
@@ -34,7 +34,7 @@ pub record IsQuiet (shelf shelf' : ShelfState) (out out' : SinkState) : Type 0 w
   pub faults_are : out'.faults ≡ out.faults
 
 -- the words are refused with this line, and out has gained nothing
-pub record RefusesWords (asked : Result Plan (List ℕ)) (out out' : SinkState) (line : List ℕ)
+pub record RefusesAskedWords (asked : Result Plan (List ℕ)) (out out' : SinkState) (line : List ℕ)
     : Type 0 where
   pub refused : AreRefusedBy asked line
   pub nothing_out : Appends out.written out'.written []
@@ -43,22 +43,22 @@ pub record RefusesWords (asked : Result Plan (List ℕ)) (out out' : SinkState) 
 -- a refusal of the traces comes after some text
 pub record IsSaid (asked : Result Plan (List ℕ)) (shelf shelf' : ShelfState)
     (out out' : SinkState) (refusal : Refusal) (line : List ℕ) : Type 0 where
-  pub whole : IsWhole (plan_of asked) shelf.holds out out' line (refusal_status refusal)
+  pub whole : IsWholeOutcome (plan_of asked) shelf.holds out out' line (refusal_status refusal)
   pub quiet : IsQuiet shelf shelf' out out'
   pub is_line : IsLineOf (plan_of asked) (refusal_status refusal) line
-  pub words : refusal ≡ Words → RefusesWords asked out out' line
+  pub words : refusal ≡ Words → RefusesAskedWords asked out out' line
   pub others : refusal ≢ Words → ¬ AreRefused asked
   pub nothing_out : refusal ≢ OfTraces → Appends out.written out'.written []
 
 -- the text of the outcome was written whole
 pub record IsDone (asked : Result Plan (List ℕ)) (shelf shelf' : ShelfState) (out out' : SinkState)
     : Type 0 where
-  pub whole : IsWhole (plan_of asked) shelf.holds out out' [] 0
+  pub whole : IsWholeOutcome (plan_of asked) shelf.holds out out' [] 0
   pub quiet : IsQuiet shelf shelf' out out'
   pub accepted : ¬ AreRefused asked
 
 -- a read of this file failed, and was noted
-pub record IsUnread (asked : Result Plan (List ℕ)) (shelf shelf' : ShelfState) (out out' : SinkState)
+pub record IsUnreadFile (asked : Result Plan (List ℕ)) (shelf shelf' : ShelfState) (out out' : SinkState)
     (file : File) : Type 0 where
   pub name : List ℕ
   pub named : IsFileOf (plan_of asked) file name
@@ -72,21 +72,21 @@ pub record IsUnwritten (shelf shelf' : ShelfState) (out out' : SinkState) : Type
   pub shelf_is : shelf' ≡ shelf
   pub rose : Rose out.faults out'.faults
 
-abbrev pub Leaves : Result Plan (List ℕ) → ShelfState → ShelfState → SinkState → SinkState
+abbrev pub LeavesEnded : Result Plan (List ℕ) → ShelfState → ShelfState → SinkState → SinkState
     → Result (Unit {0}) Stop → Type 0
-Leaves asked shelf shelf' out out' (Ok done) = IsDone asked shelf shelf' out out'
-Leaves asked shelf shelf' out out' (Err (Refused refusal line)) =
+LeavesEnded asked shelf shelf' out out' (Ok done) = IsDone asked shelf shelf' out out'
+LeavesEnded asked shelf shelf' out out' (Err (Refused refusal line)) =
     IsSaid asked shelf shelf' out out' refusal line
-Leaves asked shelf shelf' out out' (Err NoMemory) = IsQuiet shelf shelf' out out'
-Leaves asked shelf shelf' out out' (Err (Unread file)) =
-    IsUnread asked shelf shelf' out out' file
-Leaves asked shelf shelf' out out' (Err Unwritten) = IsUnwritten shelf shelf' out out'
+LeavesEnded asked shelf shelf' out out' (Err NoMemory) = IsQuiet shelf shelf' out out'
+LeavesEnded asked shelf shelf' out out' (Err (Unread file)) =
+    IsUnreadFile asked shelf shelf' out out' file
+LeavesEnded asked shelf shelf' out out' (Err Unwritten) = IsUnwritten shelf shelf' out out'
 
 -- what the work of these words leaves: out has gained a prefix of the outcome's text, and what the ending says
 pub record Performs (asked : Result Plan (List ℕ)) (shelf shelf' : ShelfState)
     (out out' : SinkState) (ended : Result (Unit {0}) Stop) : Type 0 where
   pub partial : IsPartial (plan_of asked) shelf.holds out out'
-  pub leaves : Leaves asked shelf shelf' out out' ended
+  pub leaves : LeavesEnded asked shelf shelf' out out' ended
 
 -- how a put on out fails
 abbrev pub FailsToPut : SinkState → SinkState → List ℕ → Stop → Type 0

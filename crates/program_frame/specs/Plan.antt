@@ -1,7 +1,7 @@
 -- The plan of a command, put together from three words: `reads`, `accepts` and `ends`.
 use Rattle.std.specs.Prelude.{◌≡◌, ◌⊎◌, ℕ, List, Some, None, Result, Ok, Err}
 use Rattle.std.specs.declared.option.Option.{Option}
-use Rattle.program_frame.specs.Outcome.{Outcome, refused_with, seen}
+use Rattle.program_frame.specs.Outcome.{Outcome, refused_with, bytes_seen}
 use Rattle.program_frame.specs.declared.stop.File.{File}
 
 -- `ends` with an outcome; `reads` a file under a name, to its end or the first byte above its limit,
@@ -33,13 +33,13 @@ and_holds (Some value) next = next value
 abbrev pub outcome_of : Plan → (List ℕ → Option (List ℕ)) → Option Outcome
 outcome_of (ends o) files = Some o
 outcome_of (reads file name limit next) files =
-    and_then (seen limit (files name)) (λ bytes. outcome_of (next bytes) files)
+    and_then (bytes_seen limit (files name)) (λ bytes. outcome_of (next bytes) files)
 
 -- the turn of file f comes: each file before it is held and accepted
 abbrev pub Comes : Plan → (List ℕ → Option (List ℕ)) → File → Type 0
 Comes (ends o) files f = ⊥
 Comes (reads file name limit next) files f =
-    (f ≡ file) ⊎ and_holds (seen limit (files name)) (λ bytes. Comes (next bytes) files f)
+    (f ≡ file) ⊎ and_holds (bytes_seen limit (files name)) (λ bytes. Comes (next bytes) files f)
 
 -- the plan may read file f under name n
 abbrev pub IsFileOf : Plan → File → List ℕ → Type 0

@@ -10,7 +10,7 @@ use Rattle.program_frame.specs.Plan.{Plan}
 use Rattle.program_frame.specs.Plan.Plan.{ends}
 use Rattle.program_frame.specs.Promises.{Covers, Promises}
 use Rattle.program_frame.specs.Refusals.{refusal_lines}
-use Rattle.program_frame.specs.Stops.{line_of, status_after}
+use Rattle.program_frame.specs.Stops.{line_of_result, status_after}
 use Rattle.program_frame.specs.declared.stop.Stop.{Stop}
 
 -- the work of a plan was done, and the line of its end was put where there is one
@@ -20,7 +20,7 @@ PromisesAreKept =
     (ended : Result (Unit {0}) Stop) (put : Put)
     → Covers refusal_lines asked
     → Performs asked shelf shelf' out out' ended
-    → Puts err err' (line_of ended) put
+    → Puts err err' (line_of_result ended) put
     → (IsOk ended → put ≡ All)
     → Promises refusal_lines asked shelf shelf' out out' err err' (status_after ended put)
 

@@ -3,7 +3,7 @@ use Rattle.std.specs.Prelude.{◌≡◌, ℕ, List, [], length, take, Some, None
 use Rattle.std.specs.declared.option.Option.{Option}
 use Rattle.edge_io.specs.Shelf.{noted}
 use Rattle.edge_io.specs.State.{ShelfState}
-use Rattle.program_frame.specs.Outcome.{seen}
+use Rattle.program_frame.specs.Outcome.{bytes_seen}
 use Rattle.program_frame.specs.declared.stop.File.{File}
 use Rattle.program_frame.specs.declared.stop.Stop.{Stop}
 use Rattle.program_frame.specs.declared.stop.Stop.TheVariants.{Refused, NoMemory, Unread, Unwritten}
@@ -18,7 +18,7 @@ IsReadSoFar told name bytes = IfSome told (λ files. IsFront bytes (files name))
 
 -- the file was read to its end or to the first byte above the limit
 abbrev pub IsReadWhole : Option (List ℕ → Option (List ℕ)) → List ℕ → ℕ → List ℕ → Type 0
-IsReadWhole told name limit bytes = IfSome told (λ files. seen limit (files name) ≡ Some bytes)
+IsReadWhole told name limit bytes = IfSome told (λ files. bytes_seen limit (files name) ≡ Some bytes)
 
 -- a read of this name failed, and was noted
 abbrev pub Notes : ShelfState → ShelfState → List ℕ → Type 0

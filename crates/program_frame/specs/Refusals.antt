@@ -1,23 +1,14 @@
 -- The lines by which words, a network and traces are refused.
-use Rattle.std.specs.Prelude.{◌≡◌, ◌≢◌, ◌⊎◌, ℕ, List, Result, Ok, Err, Some, option_map}
+use Rattle.std.specs.Prelude.{◌≡◌, ◌⊎◌, ℕ, List, Result, Ok, Err, Some, option_map}
 use Rattle.std.specs.declared.option.Option.{Option}
 use Rattle.command_line.specs.Words.{command_or_line}
-use Rattle.command_line.specs.FaultLine.{fault_line as words_fault_line}
-use Rattle.command_line.specs.declared.fault.WordsFault.{WordsFault}
-use Rattle.command_line.specs.declared.fault.WordsFault.TheVariants as words_faults
 use Rattle.road_network.specs.FaultLine.{fault_line as network_fault_line}
 use Rattle.road_network.specs.Net.{Net}
 use Rattle.road_network.specs.NetworkFile.{network_of}
 use Rattle.road_network.specs.declared.fault.NetworkFault.{NetworkFault}
-use Rattle.road_network.specs.declared.fault.NetworkFault.TheVariants as network_faults
 use Rattle.road_network.specs.declared.limits.NetworkLimits.{NetworkLimits}
 use Rattle.trace_reader.specs.Fault.{fault_line as trace_fault_line}
 use Rattle.trace_reader.specs.Reading.{file_fault}
-use Rattle.trace_reader.specs.declared.fault.TraceFault.{TraceFault}
-use Rattle.trace_reader.specs.declared.fault.TraceFault.TheVariants as trace_faults
-use Rattle.program_frame.specs.Stops.{RefusesFault}
-use Rattle.program_frame.specs.declared.stop.Refusal.TheVariants as refusals
-use Rattle.program_frame.specs.declared.stop.Stop.{Stop}
 
 -- the line of a fault in place of the fault
 abbrev pub said : Result Net NetworkFault → Result Net (List ℕ)
@@ -42,15 +33,3 @@ refusal_lines status line =
     ⊎ ((status ≡ 5)
     × ((limits : NetworkLimits) × (bytes : List ℕ) × (network_said limits bytes ≡ Err line)))
     ⊎ ((status ≡ 6) × ((bytes : List ℕ) × (traces_line bytes ≡ Some line)))
-
--- the ending where the words, the network or the traces have this fault, or memory ran out
-abbrev pub RefusesWords : WordsFault → Stop → Type 0
-RefusesWords fault = RefusesFault refusals.Words (fault ≢ words_faults.Memory) (words_fault_line fault)
-
-abbrev pub RefusesNetwork : NetworkFault → Stop → Type 0
-RefusesNetwork fault =
-    RefusesFault refusals.Network (fault ≢ network_faults.Memory) (network_fault_line fault)
-
-abbrev pub RefusesTraces : TraceFault → Stop → Type 0
-RefusesTraces fault =
-    RefusesFault refusals.Traces (fault ≢ trace_faults.Memory) (trace_fault_line fault)

@@ -39,9 +39,9 @@ stop_status (Unread file) = 3
 stop_status Unwritten = 4
 
 -- the line that is put on err
-abbrev pub line_of : Result (Unit {0}) Stop → List ℕ
-line_of (Ok done) = []
-line_of (Err stop) = stop_line stop
+abbrev pub line_of_result : Result (Unit {0}) Stop → List ℕ
+line_of_result (Ok done) = []
+line_of_result (Err stop) = stop_line stop
 
 -- the status after the put of the line
 abbrev pub stop_status_after : Stop → Put → ℕ
@@ -59,7 +59,7 @@ status_after (Err stop) put = stop_status_after stop put
 -- the line of an ending was put on err, and this is the status
 pub record Reports (err err' : SinkState) (ended : Result (Unit {0}) Stop) (status : ℕ) : Type 0 where
   pub put : Put
-  pub puts : Puts err err' (line_of ended) put
+  pub puts : Puts err err' (line_of_result ended) put
   pub quiet : IsOk ended → put ≡ All
   pub is : status ≡ status_after ended put
 

@@ -1,12 +1,11 @@
--- A last stage that writes while its file is read in chunks.
-use Rattle.std.specs.Prelude.{◌≡◌, ℕ, ◌+◌, ◌≤◌, List, [], ◌++◌, length, Result, Ok, Err}
+-- A last stage that writes what its file gives, and how it stops.
+use Rattle.std.specs.Prelude.{◌≡◌, ℕ, List}
 use Rattle.std.specs.Io.KnownBytes.{Appends}
 use Rattle.edge_io.specs.Sink.{AppendsPrefix, Rose}
-use Rattle.edge_io.specs.State.{ShelfState, SinkState}
-use Rattle.program_frame.specs.Outcome.{Outcome, done_with}
+use Rattle.edge_io.specs.State.{SinkState}
+use Rattle.program_frame.specs.Outcome.{Outcome}
 use Rattle.program_frame.specs.Plan.{Plan}
 use Rattle.program_frame.specs.Plan.Plan.{ends, reads}
-use Rattle.program_frame.specs.Read.{IsReadSoFar}
 use Rattle.program_frame.specs.Stops.{refusal_status}
 use Rattle.program_frame.specs.declared.stop.File.{File}
 use Rattle.program_frame.specs.declared.stop.Refusal.{Refusal}
@@ -17,17 +16,6 @@ use Rattle.program_frame.specs.declared.stop.Stop.TheVariants.{Refused, NoMemory
 -- what the bytes of a file give
 abbrev pub streams : File → List ℕ → ℕ → (List ℕ → Outcome) → Plan
 streams file name limit expected = reads file name limit (λ bytes. ends (expected bytes))
-
--- a part of the file was read, and a part of its text was written: whatever comes after, out has a prefix of it
-pub record IsStreaming (name : List ℕ) (limit : ℕ) (expected : List ℕ → Outcome)
-    (shelf shelf' : ShelfState) (out out' : SinkState) (fed : List ℕ) : Type 0 where
-  pub shelf_is : shelf' ≡ shelf
-  pub front : IsReadSoFar shelf.holds name fed
-  pub within : length fed ≤ limit + 1
-  pub written : (rest : List ℕ)
-      → AppendsPrefix out.written out'.written (expected (fed ++ rest)).out
-  pub nothing : fed ≡ [] → Appends out.written out'.written []
-  pub faults_are : out'.faults ≡ out.faults
 
 -- whatever x is, the outcome is this refusal of the traces, and out has its text
 pub record IsRefusedAs (X : Type 0) (expected : X → Outcome) (out out' : SinkState)
@@ -53,16 +41,3 @@ StopsAs X expected out out' NoMemory =
 StopsAs X expected out out' (Unread file) = ⊥
 StopsAs X expected out out' Unwritten =
     HasFront X expected out out' × Rose out.faults out'.faults
-
--- how the work stops where these bytes were taken
-abbrev pub StopsAt : (List ℕ → Outcome) → SinkState → SinkState → List ℕ → Stop → Type 0
-StopsAt expected out out' fed stop =
-    StopsAs (List ℕ) (λ rest. expected (fed ++ rest)) out out' stop
-
--- how the work ends where the whole file was taken, and its outcome is this
-abbrev pub EndsWith : Outcome → SinkState → SinkState → Result (Unit {0}) Stop → Type 0
-EndsWith o out out' (Ok done) =
-    (o ≡ done_with o.out)
-    × Appends out.written out'.written o.out
-    × (out'.faults ≡ out.faults)
-EndsWith o out out' (Err stop) = StopsAs (Unit {0}) (λ _. o) out out' stop

@@ -2,7 +2,7 @@
 //! by `bytes_give`.
 ghost use Rattle.std.specs.Prelude.{◌≡◌, ◌≤◌, ◌<◌, ◌^◌, [], true, IfOk, OnOk, length, drop};
 ghost use Rattle.trace_reader.specs.Reader.{StandsFor};
-ghost use Rattle.program_frame.specs.Batches.{PutsBefore};
+ghost use Rattle.program_frame.specs.inside.BatchSteps.{PutsBefore};
 ghost use Rattle.program_frame.specs.Jobs.{HasTaken, JobText};
 
 use crate::fault_line::refuse_fault;
@@ -56,7 +56,7 @@ fn behind(chunk: &[u8], taken: usize) -> &[u8]
 }
 
 impl<J: Job + Drop> Batches<J> {
-    ghost use Rattle.program_frame.specs.Batches.{Finishes, IsHeld, IsReady, PutsEnding, Refuses, Takes, TakesFront, Writes, WritesRead};
+    ghost use Rattle.program_frame.specs.inside.BatchSteps.{FinishesBatches, HoldsTraces, IsReadyForChunk, PutsEnding, Refuses, TakesNextChunk, TakesFront, Writes, WritesRead};
 
     /// The state before the first read.
     pub fn open(alloc: Global, job: J) -> Batches<J>
@@ -73,7 +73,7 @@ impl<J: Job + Drop> Batches<J> {
 
     // Passes all waiting traces to the job, and writes their text.
     fn write<K: Sink>(&mut self, alloc: Global, out: &mut K) -> Result<(), Stop>
-        requires { IsHeld J.text J.has self.old (K.state out.old) }
+        requires { HoldsTraces J.text J.has self.old (K.state out.old) }
         ensures text { J.text self.new.job ≡ J.text self.old.job }
         ensures reader { self.new.reader ≡ self.old.reader }
         ensures writes { Writes J.text J.has self.old self.new
@@ -93,7 +93,7 @@ impl<J: Job + Drop> Batches<J> {
 
     // Writes the waiting traces, which were closed before a fault, and refuses the file for the fault.
     fn refuse<K: Sink>(&mut self, alloc: Global, fault: TraceFault, out: &mut K) -> Stop
-        requires { IsHeld J.text J.has self.old (K.state out.old) }
+        requires { HoldsTraces J.text J.has self.old (K.state out.old) }
         ensures text { J.text self.new.job ≡ J.text self.old.job }
         ensures refuses { Refuses J.text J.has self.old
             (K.state out.old) (K.state out.new) fault result }
@@ -115,7 +115,7 @@ impl<J: Job + Drop> Batches<J> {
         chunk: &[u8],
         out: &mut K,
     ) -> Result<usize, Stop>
-        requires ready { IsReady J.text J.has self.old (K.state out.old) }
+        requires ready { IsReadyForChunk J.text J.has self.old (K.state out.old) }
         requires sizes { (1 ≤ length chunk.now) × (length chunk.now < 2 ^ 32) }
         ensures text { J.text self.new.job ≡ J.text self.old.job }
         ensures some { IfOk result (λ taken. (1 ≤ taken) × (taken ≤ length chunk.now)) }
@@ -135,7 +135,7 @@ impl<J: Job + Drop> Batches<J> {
 
     // Writes the waiting traces if the job wants its text after each read.
     fn write_read<K: Sink>(&mut self, alloc: Global, out: &mut K) -> Result<(), Stop>
-        requires { IsReady J.text J.has self.old (K.state out.old) }
+        requires { IsReadyForChunk J.text J.has self.old (K.state out.old) }
         ensures text { J.text self.new.job ≡ J.text self.old.job }
         ensures writes { WritesRead J.text J.has self.old self.new
             (K.state out.old) (K.state out.new) result }
@@ -155,10 +155,10 @@ impl<J: Job + Drop> Batches<J> {
         chunk: &[u8],
         out: &mut K,
     ) -> Result<(), Stop>
-        requires ready { IsReady J.text J.has self.old (K.state out.old) }
+        requires ready { IsReadyForChunk J.text J.has self.old (K.state out.old) }
         requires short { length chunk.now < 2 ^ 32 }
         ensures text { J.text self.new.job ≡ J.text self.old.job }
-        ensures takes { Takes J.text J.has self.old self.new
+        ensures takes { TakesNextChunk J.text J.has self.old self.new
             (K.state out.old) (K.state out.new) chunk.now result }
         ensures none_waits { J.each_read ≡ true → OnOk result (self.new.waiting ≡ []) }
     {
@@ -183,8 +183,8 @@ impl<J: Job + Drop> Batches<J> {
 
     /// Takes the end of the file. Writes the waiting traces and the text that follows that of all traces.
     pub fn finish<K: Sink>(&mut self, alloc: Global, out: &mut K) -> Result<(), Stop>
-        requires { IsReady J.text J.has self.old (K.state out.old) }
-        ensures { Finishes J.text J.has self.old (K.state out.old) (K.state out.new) result }
+        requires { IsReadyForChunk J.text J.has self.old (K.state out.old) }
+        ensures { FinishesBatches J.text J.has self.old (K.state out.old) (K.state out.new) result }
     {
         if let Err(fault) = self.reader.finish(&mut self.waiting) {
             return Err(self.refuse(alloc, fault, out));

@@ -1,5 +1,6 @@
 //! The network, accepted or refused. Serves the commands; decided by `network_said`.
-ghost use Rattle.program_frame.specs.Loads.{Accepts, Loads};
+ghost use Rattle.program_frame.specs.Loads.{Loads};
+ghost use Rattle.program_frame.specs.inside.Refusing.{Accepts};
 ghost use Rattle.program_frame.specs.Refusals.{network_said};
 ghost use Rattle.road_network.specs.Limits.{file_limit};
 

@@ -1,7 +1,7 @@
 //! How the work of a command ends, and its error line. Serves `run`; decided by `Promises`.
 ghost use Rattle.std.specs.Prelude.{◌≡◌, IsOk};
 ghost use Rattle.edge_io.specs.Sink.{Puts};
-ghost use Rattle.program_frame.specs.Stops.{IsRefusalOr, IsStarved, Reports, line_of, refusal_status, status_after, stop_line, stop_status, stop_status_after};
+ghost use Rattle.program_frame.specs.Stops.{IsRefusalOr, IsStarved, Reports, line_of_result, refusal_status, status_after, stop_line, stop_status, stop_status_after};
 
 use edge_io::{Put, Sink};
 use plain_list::List;
@@ -93,7 +93,7 @@ impl Stop {
 
 // Writes the line of an early end to the error output.
 fn say<E: Sink>(ended: &Result<(), Stop>, err: &mut E) -> Put
-    ensures put { Puts (E.state err.old) (E.state err.new) (line_of ended.now) result }
+    ensures put { Puts (E.state err.old) (E.state err.new) (line_of_result ended.now) result }
     ensures quiet { IsOk ended.now → result ≡ Put.All }
 {
     match ended {

@@ -1,6 +1,6 @@
 //! The counts of the total line. Serves the jobs; decided by `total_line`.
 ghost use Rattle.std.specs.Prelude.{◌≡◌, ◌+◌, ◌++◌, ◌<◌, ◌^◌, length, OnOk};
-ghost use Rattle.program_frame.specs.Jobs.{points_of};
+ghost use Rattle.program_frame.specs.Jobs.{position_count};
 
 use decimal_text::write_worded;
 use plain_list::List;
@@ -17,14 +17,14 @@ pub struct Tally {
 
 // How many positions the traces have.
 fn count_points(traces: &[Trace]) -> u64
-    requires { points_of traces.now < 2 ^ 63 }
-    ensures { result ≡ points_of traces.now }
+    requires { position_count traces.now < 2 ^ 63 }
+    ensures { result ≡ position_count traces.now }
 {
     traces.iter().map(|trace| trace.fixes.len() as u64).sum()
 }
 
 impl Tally {
-    ghost use Rattle.program_frame.specs.Total.{Adds, Fits, total_line};
+    ghost use Rattle.program_frame.specs.Total.{AddsCounts, CountsFit, total_line};
 
     pub const NONE: Tally = Tally {
         traces: 0,
@@ -34,8 +34,8 @@ impl Tally {
 
     /// Counts these traces and this many pieces.
     pub fn add(&mut self, traces: &[Trace], pieces: u64)
-        requires { Fits traces.now pieces self.old }
-        ensures { Adds traces.now pieces self.old self.new }
+        requires { CountsFit traces.now pieces self.old }
+        ensures { AddsCounts traces.now pieces self.old self.new }
     {
         self.traces += traces.len() as u64;
         self.points += count_points(traces);

@@ -4,7 +4,8 @@ ghost use Rattle.trace_reader.specs.Reader.{StandsFor};
 ghost use Rattle.program_frame.specs.Loads.{Loads};
 ghost use Rattle.program_frame.specs.Refusals.{trace_limit};
 ghost use Rattle.program_frame.specs.declared.stop.File.{File};
-ghost use Rattle.program_frame.specs.WholeTraces.{FeedsFile, traces_said};
+ghost use Rattle.program_frame.specs.WholeTraces.{traces_said};
+ghost use Rattle.program_frame.specs.inside.HeldTraces.{FeedsFile};
 
 use crate::chunks::Chunks;
 use crate::fault_line::refuse_fault;

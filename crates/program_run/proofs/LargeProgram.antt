@@ -9,7 +9,7 @@ use Rattle.command_line.specs.Words.{command_of}
 use Rattle.command_line.specs.declared.fault.WordsFault.{WordsFault}
 use Rattle.cost_model.specs.declared.params.Params.{Params}
 use Rattle.program_frame.specs.Asked.{asked_of}
-use Rattle.program_frame.specs.Outcome.{Outcome, seen}
+use Rattle.program_frame.specs.Outcome.{Outcome, bytes_seen}
 use Rattle.program_frame.specs.Plan.{Plan, IsFileOf, accepts, and_then, loads, outcome_of, plan_of}
 use Rattle.program_frame.specs.Refusals.{network_said, said}
 use Rattle.program_frame.specs.declared.stop.File.TheVariants.{Network}
@@ -37,7 +37,7 @@ kept_short bytes keeps =
     ]
 
 -- a file that fits two limits is read whole within both
-within : (limit : ℕ) (f : List ℕ → Option Outcome) (bytes : List ℕ) → length bytes ≤ limit → and_then (seen limit (Some bytes)) f ≡ f bytes
+within : (limit : ℕ) (f : List ℕ → Option Outcome) (bytes : List ℕ) → length bytes ≤ limit → and_then (bytes_seen limit (Some bytes)) f ≡ f bytes
 within limit f bytes fits = ap f (take_all (limit + 1) bytes (omega (arith, fits)))
 
 record FitsBoth (large small : ℕ) (f g : List ℕ → Option Outcome) (bytes : List ℕ) : Type 0 where
@@ -45,7 +45,7 @@ record FitsBoth (large small : ℕ) (f g : List ℕ → Option Outcome) (bytes :
   small_fits : length bytes ≤ small
   alike : f bytes ≡ g bytes
 
-read_alike : (large small : ℕ) (f g : List ℕ → Option Outcome) (held : Option (List ℕ)) → IfSome held (FitsBoth large small f g) → and_then (seen large held) f ≡ and_then (seen small held) g
+read_alike : (large small : ℕ) (f g : List ℕ → Option Outcome) (held : Option (List ℕ)) → IfSome held (FitsBoth large small f g) → and_then (bytes_seen large held) f ≡ and_then (bytes_seen small held) g
 read_alike large small f g None fits = refl
 read_alike large small f g (Some bytes) fits = within large f bytes fits.large_fits ∙ fits.alike ∙ sym (within small g bytes fits.small_fits)
 

@@ -5,7 +5,7 @@ use Rattle.std.specs.declared.option.Option.{Option}
 use Rattle.command_line.specs.Work.{PlainCommand, PlainWork}
 use Rattle.command_line.specs.Work.PlainWork.{check_files, follow_files, match_files, match_town, prove_files, stream_files, table_of_network}
 use Rattle.cost_model.specs.declared.params.Params.{Params}
-use Rattle.program_frame.specs.Jobs.{JobText, given_by}
+use Rattle.program_frame.specs.Jobs.{JobText, outcome_given_by}
 use Rattle.program_frame.specs.Plan.{Plan, IsLineOf, accepts, loads}
 use Rattle.program_frame.specs.Plan.Plan.{ends}
 use Rattle.program_frame.specs.Promises.{Covers}
@@ -22,8 +22,8 @@ use Rattle.trace_reader.specs.Reading.{file_fault, file_traces}
 use Rattle.trace_reader.specs.declared.fault.TraceFault.{TraceFault}
 use Rattle.trace_reader.specs.declared.trace.Trace.{Trace}
 use Rattle.trace_sessions.specs.StreamText.{full_id, points_in}
-use Rattle.table_work.specs.TableText.{text_limit}
-use Rattle.potential_certificate.specs.CertificateText.{text_limit as certificate_limit}
+use Rattle.table_work.specs.TableText.{table_text_limit}
+use Rattle.potential_certificate.specs.CertificateText.{certificate_text_limit as certificate_limit}
 use Rattle.program_run.specs.RunLines.{run_lines}
 use Rattle.trace_match.specs.Setting.{Setting}
 use Rattle.program_run.specs.Words.{asked_within, every_work, work_plan}
@@ -47,7 +47,7 @@ follows_end : (on : Setting) (name : List ℕ) (status : ℕ) (line : List ℕ) 
 follows_end on name status line refused is = inl (traces_end _ _ is.0 (file_fault is.0) status line refl refused is.1)
 
 streams_end : (on : Setting) (texts ending bytes : List ℕ) (full : Option ℕ) (status : ℕ) (line : List ℕ) → status ≢ 0
-    → IsLineOf (ends (given_by (option_map too_long_line full) (file_fault bytes) texts ending)) status line → run_lines status line
+    → IsLineOf (ends (outcome_given_by (option_map too_long_line full) (file_fault bytes) texts ending)) status line → run_lines status line
 streams_end on texts ending bytes None status line refused is = inl (traces_end texts ending bytes (file_fault bytes) status line refl refused is)
 streams_end on texts ending bytes (Some id) status line refused is = inr (inl (sym is.0, (id, sym is.1)))
 
@@ -60,7 +60,7 @@ within_end on idle name false status line refused is = streams_end on _ _ is.0 (
 table_end : (network : List ℕ) (options : Params) (said : Result (List ℕ) (List ℕ)) (net : Net) (status : ℕ) (line : List ℕ) → table_said net options.bound ≡ said → status ≢ 0
     → IsLineOf (accepts 8 said (λ text. ends (done_with text))) status line → run_lines status line
 table_end network options (Ok text) net status line known refused is = absurd (refused (sym is.0))
-table_end network options (Err said) net status line known refused is = inr (inr (inl (sym is.0, inl (sym is.1 ∙ too_long_said (nat_lt text_limit (length (text_of_network net options.bound))) known))))
+table_end network options (Err said) net status line known refused is = inr (inr (inl (sym is.0, inl (sym is.1 ∙ too_long_said (nat_lt table_text_limit (length (text_of_network net options.bound))) known))))
   where
     too_long_said : (long : Bool) → cond {A = Result (List ℕ) (List ℕ)} long (Err table_too_long) (Ok (text_of_network net options.bound)) ≡ Err said → said ≡ table_too_long
     too_long_said true e = cc

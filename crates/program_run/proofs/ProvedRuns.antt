@@ -9,10 +9,10 @@ use Rattle.command_line.specs.Options.{and_then as then_ok}
 use Rattle.command_line.specs.Work.{PlainCommand}
 use Rattle.command_line.specs.Words.{command_of}
 use Rattle.command_line.specs.declared.fault.WordsFault.{WordsFault}
-use Rattle.potential_certificate.specs.CertificateText.{text_limit}
+use Rattle.potential_certificate.specs.CertificateText.{certificate_text_limit}
 use Rattle.potential_certificate.specs.declared.proof.Certificate.{Certificate}
 use Rattle.program_frame.specs.Asked.{asked_of}
-use Rattle.program_frame.specs.Outcome.{Outcome, done_with, refused_with, seen}
+use Rattle.program_frame.specs.Outcome.{Outcome, done_with, refused_with, bytes_seen}
 use Rattle.program_frame.specs.Plan.{Plan, accepts, and_then, loads, outcome_of, plan_of}
 use Rattle.program_frame.specs.Plan.Plan.{ends}
 use Rattle.program_frame.specs.Refusals.{network_said, trace_limit}
@@ -40,7 +40,7 @@ Files = List ℕ → Option (List ℕ)
 record IsLoaded {A : Type 0} (name : List ℕ) (limit : ℕ) (said : List ℕ → Result A (List ℕ)) (next : A → Plan) (files : Files) (o : Outcome) : Type 0 where
   bytes : List ℕ
   value : A
-  bytes_are : seen limit (files name) ≡ Some bytes
+  bytes_are : bytes_seen limit (files name) ≡ Some bytes
   value_is : said bytes ≡ Ok value
   then_is : outcome_of (next value) files ≡ Some o
 
@@ -59,7 +59,7 @@ taken-if_done status (Err line) next files o some is done =
     absurd (omega (arith, some, done, status_is))
 
 loaded_of : {A : Type 0} (held : Option (List ℕ)) (status : ℕ) (name : List ℕ) (limit : ℕ) (said : List ℕ → Result A (List ℕ)) (next : A → Plan) (files : Files) (o : Outcome)
-    → seen limit (files name) ≡ held → 1 ≤ status → and_then held (λ bytes. outcome_of (accepts status (said bytes) next) files) ≡ Some o → o.status ≡ 0
+    → bytes_seen limit (files name) ≡ held → 1 ≤ status → and_then held (λ bytes. outcome_of (accepts status (said bytes) next) files) ≡ Some o → o.status ≡ 0
     → IsLoaded name limit said next files o
 loaded_of None status name limit said next files o held_is some is done = absurd (cc is)
 loaded_of (Some bytes) status name limit said next files o held_is some is done =
@@ -70,19 +70,19 @@ loaded : {A : Type 0} (file : File) (name : List ℕ) (limit status : ℕ) (said
     → 1 ≤ status → outcome_of (loads file name limit status said next) files ≡ Some o → o.status ≡ 0
     → IsLoaded name limit said next files o
 loaded file name limit status said next files o some is done =
-    loaded_of (seen limit (files name)) status name limit said next files o refl some is done
+    loaded_of (bytes_seen limit (files name)) status name limit said next files o refl some is done
 
 -- such a file leads on
 leads_on : {A : Type 0} (file : File) (name : List ℕ) (limit status : ℕ) (said : List ℕ → Result A (List ℕ)) (next : A → Plan) (files : Files) (bytes : List ℕ) (value : A)
-    → seen limit (files name) ≡ Some bytes → said bytes ≡ Ok value
+    → bytes_seen limit (files name) ≡ Some bytes → said bytes ≡ Ok value
     → outcome_of (loads file name limit status said next) files ≡ outcome_of (next value) files
 leads_on file name limit status said next files bytes value bytes_are value_is =
     ap (λ (held : Option (List ℕ)). and_then held (λ b. outcome_of (accepts status (said b) next) files)) bytes_are
     ∙ ap (λ (r : Result _ (List ℕ)). outcome_of (accepts status r next) files) value_is
 
-seen_whole : (limit : ℕ) (file : Option (List ℕ)) (text : List ℕ) → file ≡ Some text → length text ≤ limit → seen limit file ≡ Some text
+seen_whole : (limit : ℕ) (file : Option (List ℕ)) (text : List ℕ) → file ≡ Some text → length text ≤ limit → bytes_seen limit file ≡ Some text
 seen_whole limit file text is within =
-    ap (seen limit) is ∙ ap (λ (t : List ℕ). let r : Option (List ℕ) = Some t in r) (take_all (limit + 1) text (omega (arith, within)))
+    ap (bytes_seen limit) is ∙ ap (λ (t : List ℕ). let r : Option (List ℕ) = Some t in r) (take_all (limit + 1) text (omega (arith, within)))
 
 -- ---- the line of `check`
 
@@ -118,16 +118,16 @@ proved_runs_are_accepted limits proves checks files files' o runs is done =
     let said = taken-if_done 8 (prove_said on tra.value) (λ text. ends (done_with text)) files o (omega arith) tra.then_is done in
     let text = said.value in
     let same : done_with text ≡ o = cc (said.then_is) in
-    let short = subst (λ (t : List ℕ). length t ≤ text_limit) (written (text_of_proofs on tra.value) text (nat_lt text_limit (length (text_of_proofs on tra.value))) refl said.value_is).0
-    (written (text_of_proofs on tra.value) text (nat_lt text_limit (length (text_of_proofs on tra.value))) refl said.value_is).1 in
+    let short = subst (λ (t : List ℕ). length t ≤ certificate_text_limit) (written (text_of_proofs on tra.value) text (nat_lt certificate_text_limit (length (text_of_proofs on tra.value))) refl said.value_is).0
+    (written (text_of_proofs on tra.value) text (nat_lt certificate_text_limit (length (text_of_proofs on tra.value))) refl said.value_is).1 in
     let held : files' runs.certificate ≡ Some text = runs.text_is ∙ ap (λ (x : Outcome). let r : Option (List ℕ) = Some (x.out) in r) (sym same) in
     let checked = proved_files_are_accepted limits net.bytes tra.bytes p net.value tra.value text accepted net.value_is tra.value_is said.value_is in
     let of = proved_of on tra.value text _ (certificate_in p text) refl checked in (
       of.c,
       subst (λ (t : List ℕ). certificate_in p t ≡ Ok of.c) (ap (λ (x : Outcome). x.out) same) of.is,
       ap (λ (plan : Plan). outcome_of plan files') (plan_is limits checks _ runs.checks_is)
-          ∙ leads_on Network runs.network (file_limit limits) 5 (network_said limits) _ files' net.bytes net.value (ap (seen (file_limit limits)) runs.same_network ∙ net.bytes_are) net.value_is
-          ∙ leads_on Traces runs.traces trace_limit 6 traces_said _ files' tra.bytes tra.value (ap (seen trace_limit) runs.same_traces ∙ tra.bytes_are) tra.value_is
-          ∙ leads_on OfCertificate runs.certificate text_limit 7 (check_said on tra.value) (λ t. ends (done_with t)) files' text _ (seen_whole text_limit (files' runs.certificate) text held short) checked
+          ∙ leads_on Network runs.network (file_limit limits) 5 (network_said limits) _ files' net.bytes net.value (ap (bytes_seen (file_limit limits)) runs.same_network ∙ net.bytes_are) net.value_is
+          ∙ leads_on Traces runs.traces trace_limit 6 traces_said _ files' tra.bytes tra.value (ap (bytes_seen trace_limit) runs.same_traces ∙ tra.bytes_are) tra.value_is
+          ∙ leads_on OfCertificate runs.certificate certificate_text_limit 7 (check_said on tra.value) (λ t. ends (done_with t)) files' text _ (seen_whole certificate_text_limit (files' runs.certificate) text held short) checked
           ∙ ap (λ (l : List ℕ). let r : Option Outcome = Some (done_with l) in r) of.line_is,
     )

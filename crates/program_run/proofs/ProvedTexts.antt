@@ -14,8 +14,8 @@ use Rattle.cert_checker.proofs.WholeVerdict.{matches_are_proved}
 use Rattle.command_line.specs.Options.{and_then}
 use Rattle.cost_model.specs.declared.params.Params.{Params}
 use Rattle.trace_match.specs.Totals.{is_asked_by}
-use Rattle.potential_certificate.specs.CertificateText.{text_limit}
-use Rattle.potential_certificate.specs.Reading.{certificate_of as certificate_read}
+use Rattle.potential_certificate.specs.CertificateText.{certificate_text_limit}
+use Rattle.potential_certificate.specs.Reading.{certificate_of_text as certificate_read}
 use Rattle.potential_certificate.specs.declared.fault.CertFault.{CertFault}
 use Rattle.potential_certificate.specs.declared.proof.Certificate.{Certificate}
 use Rattle.potential_certificate.proofs.Certificates.{certificates_read_back}
@@ -34,10 +34,10 @@ not_above : (a b : ℕ) → nat_lt a b ≡ false → b ≤ a
 not_above a b is = grind (arith, nat_tests)
 
 -- the text that is written is that of the certificate, within the limit
-pub written : (whole : List ℕ) (text : List ℕ) (long : Bool) → nat_lt text_limit (length whole) ≡ long → cond {A = Result (List ℕ) (List ℕ)} long (Err certificate_too_long) (Ok whole) ≡ Ok text
-    → (whole ≡ text) × (length whole ≤ text_limit)
+pub written : (whole : List ℕ) (text : List ℕ) (long : Bool) → nat_lt certificate_text_limit (length whole) ≡ long → cond {A = Result (List ℕ) (List ℕ)} long (Err certificate_too_long) (Ok whole) ≡ Ok text
+    → (whole ≡ text) × (length whole ≤ certificate_text_limit)
 written whole text true is said = absurd (cc)
-written whole text false is said = (cc, not_above text_limit (length whole) is)
+written whole text false is said = (cc, not_above certificate_text_limit (length whole) is)
 
 -- ---- the proofs and the rows
 
@@ -65,7 +65,7 @@ proved_texts_are_accepted on traces text lawful accepted fixes ids said =
     let p = on.params in
     let proofs = map (proof_of n p) traces in
     let c = certificate_of on traces in
-    let w = written (text_of_proofs on traces) text (nat_lt text_limit (length (text_of_proofs on traces))) refl said in
+    let w = written (text_of_proofs on traces) text (nat_lt certificate_text_limit (length (text_of_proofs on traces))) refl said in
     let has = matches_have_text n p traces proofs (is_asked_by on traces) lawful accepted fixes ids (proofs_are n p traces) in
     let read = subst (λ (t : List ℕ). certificate_read p t ≡ Ok c) w.0 (certificates_read_back p c has w.1) in
     said_proved on traces text c read (matches_are_proved n p traces proofs (is_asked_by on traces) lawful accepted fixes (proofs_are n p traces) (λ k d low v is. asked_at on traces k d v low is))

@@ -13,7 +13,7 @@ use Rattle.follow_work.specs.Streams.{streams_within}
 use Rattle.table_work.specs.Preload.{preloads, table_file_said}
 use Rattle.table_work.specs.Table.{table_said}
 use Rattle.program_frame.specs.Asked.{asked_of}
-use Rattle.program_frame.specs.Jobs.{JobText, given_by}
+use Rattle.program_frame.specs.Jobs.{JobText, outcome_given_by}
 use Rattle.program_frame.specs.Outcome.{done_with}
 use Rattle.program_frame.specs.Plan.{Plan, IsLineOf, accepts, loads}
 use Rattle.program_frame.specs.Plan.Plan.{ends}
@@ -22,7 +22,7 @@ use Rattle.program_frame.specs.Refusals.{network_said, trace_limit}
 use Rattle.program_frame.specs.Stream.{works_traces}
 use Rattle.program_frame.specs.WholeTraces.{traces_said}
 use Rattle.program_frame.specs.declared.stop.File.TheVariants.{Certificate as OfCertificate, Traces}
-use Rattle.potential_certificate.specs.CertificateText.{text_limit}
+use Rattle.potential_certificate.specs.CertificateText.{certificate_text_limit}
 use Rattle.program_run.specs.RunLines.{run_lines}
 use Rattle.program_run.specs.Statuses.{HasTable, IsCheck, IsTown, StatusesTellCommands, TellsCommand}
 use Rattle.program_run.specs.Words.{every_work, work_plan}
@@ -41,7 +41,7 @@ accepted_end P refused (Ok value) next status line holds rest is = rest value is
 accepted_end P refused (Err said) next status line holds rest is = subst P is.0 holds
 
 given_end : (P : ℕ → Type 0) (refusal : Option (List ℕ)) (fault : Option TraceFault) (texts ending : List ℕ) (status : ℕ) (line : List ℕ)
-    → P 0 → P 6 → IsLineOf (ends (given_by refusal fault texts ending)) status line → P status
+    → P 0 → P 6 → IsLineOf (ends (outcome_given_by refusal fault texts ending)) status line → P status
 given_end P (Some said) fault texts ending status line done refused is = subst P is.0 refused
 given_end P None (Some fault) texts ending status line done refused is = subst P is.0 refused
 given_end P None None texts ending status line done refused is = subst P is.0 done
@@ -72,7 +72,7 @@ abbrev proves : Setting → List Trace → Plan
 proves on taken = accepts 8 (prove_said on taken) (λ text. ends (done_with text))
 
 abbrev checks : List ℕ → Setting → List Trace → Plan
-checks certificate on taken = loads OfCertificate certificate text_limit 7 (check_said on taken) (λ text. ends (done_with text))
+checks certificate on taken = loads OfCertificate certificate certificate_text_limit 7 (check_said on taken) (λ text. ends (done_with text))
 
 abbrev with_traces : List ℕ → (Setting → List Trace → Plan) → Params → Net → Plan
 with_traces traces next options net = loads Traces traces trace_limit 6 traces_said (next (on_net net options))

@@ -11,7 +11,8 @@ use Rattle.matching.specs.Value.{Solution, solution}
 use Rattle.matching.proofs.Values.{solution-is}
 use Rattle.potential_certificate.specs.declared.proof.TraceProof.{TraceProof}
 use Rattle.road_network.specs.Net.{Net}
-use Rattle.trace_match.specs.Match.{as_solution, solution_of}
+use Rattle.trace_match.specs.Match.{solution_of}
+use Rattle.trace_match.specs.inside.Solved.{as_solution}
 use Rattle.trace_reader.specs.declared.trace.Trace.{Trace}
 use Rattle.prove_work.specs.Certificates.{proof_of}
 

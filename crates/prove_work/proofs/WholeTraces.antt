@@ -1,6 +1,6 @@
 -- Traces that were loaded whole.
 use Rattle.std.proofs.Common.{◌≡◌, ℕ, List, Result, ap, subst, ◌∙◌}
-use Rattle.program_frame.specs.Loads.{Refuses}
+use Rattle.program_frame.specs.Loads.{RefusesLoad}
 use Rattle.program_frame.specs.declared.stop.Refusal.TheVariants.{TooLong}
 use Rattle.program_frame.specs.declared.stop.Stop.{Stop}
 use Rattle.trace_reader.specs.declared.trace.Trace.{Trace}
@@ -11,5 +11,5 @@ use Rattle.prove_work.specs.Prove.{prove_said}
 pub said_of_taken : (matcher on : Setting) (traces taken : List Trace) → matcher ≡ on → traces ≡ taken → prove_said matcher traces ≡ prove_said on taken
 said_of_taken matcher on traces taken same all = ap (λ (s : Setting). prove_said s traces) same ∙ ap (prove_said on) all
 
-pub taken_refused : (stop : Stop) (matcher on : Setting) (traces taken : List Trace) → matcher ≡ on → traces ≡ taken → Refuses TooLong (prove_said matcher traces) stop → Refuses TooLong (prove_said on taken) stop
-taken_refused stop matcher on traces taken same all refuses = subst (λ (s : Result (List ℕ) (List ℕ)). Refuses TooLong s stop) (said_of_taken matcher on traces taken same all) refuses
+pub taken_refused : (stop : Stop) (matcher on : Setting) (traces taken : List Trace) → matcher ≡ on → traces ≡ taken → RefusesLoad TooLong (prove_said matcher traces) stop → RefusesLoad TooLong (prove_said on taken) stop
+taken_refused stop matcher on traces taken same all refuses = subst (λ (s : Result (List ℕ) (List ℕ)). RefusesLoad TooLong s stop) (said_of_taken matcher on traces taken same all) refuses

@@ -2,7 +2,7 @@
 use Rattle.std.proofs.Common.{◌≡◌, ◌<◌, ℕ, List, Result, Err, length, refl, ◌∙◌, ap, subst}
 use Rattle.std.specs.Prelude.{IsErrOf}
 use Rattle.cost_model.specs.declared.params.Params.{Params}
-use Rattle.potential_certificate.specs.CertificateText.{certificate_text, text_limit}
+use Rattle.potential_certificate.specs.CertificateText.{certificate_text, certificate_text_limit}
 use Rattle.potential_certificate.specs.declared.fault.WriteFault.{WriteFault}
 use Rattle.potential_certificate.specs.declared.fault.WriteFault.TheVariants.{TooLong, Memory}
 use Rattle.potential_certificate.specs.declared.proof.Certificate.{Certificate}
@@ -26,6 +26,6 @@ abbrev pub failed : WriteFault → Result (Unit {0}) WriteFault
 failed fault = Err fault
 
 pub writing_fails : (on : Setting) (p : Params) (traces : List Trace) (c : Certificate) (fault : WriteFault) → IsMadeBy on p traces c
-    → (IsErrOf (failed fault) TooLong → text_limit < length (certificate_text p c)) → WritesProofs on traces (Err fault)
-writing_fails on p traces c TooLong made long = subst (λ (t : List ℕ). text_limit < length t) (text_is on p traces c made) (long refl)
+    → (IsErrOf (failed fault) TooLong → certificate_text_limit < length (certificate_text p c)) → WritesProofs on traces (Err fault)
+writing_fails on p traces c TooLong made long = subst (λ (t : List ℕ). certificate_text_limit < length t) (text_is on p traces c made) (long refl)
 writing_fails on p traces c Memory made long = tt

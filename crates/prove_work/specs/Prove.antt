@@ -1,7 +1,7 @@
 -- `prove NET TRACES`: the certificate text of the matches of all traces.
 use Rattle.std.specs.Prelude.{ℕ, List, [], ◌∷◌, ◌++◌, Result, Ok, Err, codes, if◌then◌else◌, length, nat_lt}
 use Rattle.cost_model.specs.declared.params.Params.{Params}
-use Rattle.potential_certificate.specs.CertificateText.{certificate_text, text_limit}
+use Rattle.potential_certificate.specs.CertificateText.{certificate_text, certificate_text_limit}
 use Rattle.program_frame.specs.Outcome.{done_with}
 use Rattle.program_frame.specs.Plan.{Plan, accepts, loads}
 use Rattle.program_frame.specs.Plan.Plan.{ends}
@@ -24,7 +24,7 @@ text_of_proofs on traces = certificate_text on.params (certificate_of on traces)
 -- the text, or the line where it is too long
 abbrev pub prove_said : Setting → List Trace → Result (List ℕ) (List ℕ)
 prove_said on traces =
-    if nat_lt text_limit (length (text_of_proofs on traces))
+    if nat_lt certificate_text_limit (length (text_of_proofs on traces))
     then Err certificate_too_long else Ok (text_of_proofs on traces)
 
 -- the network is read and accepted, then the traces, and then their certificate is written, or

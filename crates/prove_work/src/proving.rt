@@ -1,7 +1,7 @@
 //! `prove NET TRACES`. Serves the program; decided by `prove_plan`.
 ghost use Rattle.std.specs.Prelude.{All, Ok};
 ghost use Rattle.cost_model.specs.Options.{IsAccepted};
-ghost use Rattle.program_frame.specs.Loads.{Accepts};
+ghost use Rattle.program_frame.specs.inside.Refusing.{Accepts};
 ghost use Rattle.program_frame.specs.Performs.{Performs};
 ghost use Rattle.trace_reader.specs.Trace.{IsLawfulTrace};
 ghost use Rattle.prove_work.specs.Prove.{prove_plan, prove_said};

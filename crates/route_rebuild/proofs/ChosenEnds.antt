@@ -15,7 +15,8 @@ use Rattle.matching.specs.Match.{IsMatchedPiece, from_to}
 use Rattle.matching.specs.Pieces.{AreNear, ArePieces, IsPiece}
 use Rattle.matching.specs.Sequences.{Trellis, IsRankReached, cost}
 use Rattle.matching.proofs.Costs.{cost-length, cost-parts}
-use Rattle.route_rebuild.specs.Chosen.{IsChosenPoint, IsSolved}
+use Rattle.route_rebuild.specs.Chosen.{IsSolved}
+use Rattle.route_rebuild.specs.inside.ChosenRuns.{IsChosenPoint}
 use Rattle.route_rebuild.specs.Routes.{IsWalkStart, no_layer, piece_at}
 use Rattle.route_rebuild.proofs.ChosenRun.{IsInPiece, between, chosen_run, length_between, pieces_within, point_rank}
 use Rattle.trellis.specs.declared.parts.Solved.{Solved}

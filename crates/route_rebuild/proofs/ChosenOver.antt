@@ -11,7 +11,8 @@ use Rattle.matching.specs.Routes.{HasNoRoute, IsTheRoute}
 use Rattle.road_network.specs.Net.{Net, target}
 use Rattle.road_network.specs.declared.Candidate.{Candidate}
 use Rattle.trellis.specs.Links.{IsDirect}
-use Rattle.route_rebuild.specs.Chosen.{AreChosenFrom, IsCandidateRun, IsChosenRun}
+use Rattle.route_rebuild.specs.Chosen.{IsCandidateRun}
+use Rattle.route_rebuild.specs.inside.ChosenRuns.{AreChosenFrom, IsChosenRun}
 use Rattle.route_rebuild.specs.Routes.{AreLegs, IsRouteOf, IsRouteOver, IsWalkStart, IsWalkStartOver, candidate_in, chosen_at, edges_of}
 
 -- legs depend on the candidates alone

@@ -18,7 +18,8 @@ use Rattle.matching.specs.Sequences.{Trellis, cost}
 use Rattle.matching.proofs.Costs.{cost-in_range, cost-length, cost-parts}
 use Rattle.matching.proofs.Lists.{at_some, length-map_some}
 use Rattle.matching.proofs.RouteLengths.{route_lengths_least}
-use Rattle.route_rebuild.specs.Chosen.{IsChosenRun, IsSolved}
+use Rattle.route_rebuild.specs.Chosen.{IsSolved}
+use Rattle.route_rebuild.specs.inside.ChosenRuns.{IsChosenRun}
 use Rattle.route_rebuild.specs.Routes.{no_layer, piece_at}
 use Rattle.trellis.specs.declared.parts.Solved.{Solved}
 

@@ -10,7 +10,7 @@ use Rattle.road_network.specs.Net.{Net, HasEdge, source, span, target}
 use Rattle.road_network.specs.Walk.{Leads, walk_length}
 use Rattle.road_network.specs.declared.Candidate.{Candidate}
 use Rattle.road_network.proofs.Travel.{leads_from_walk}
-use Rattle.route_rebuild.specs.Chosen.{IsChosenRun}
+use Rattle.route_rebuild.specs.inside.ChosenRuns.{IsChosenRun}
 use Rattle.route_rebuild.specs.Laws.{AddsUp, AreTotals, IsJoinedRoute, RoutesAreJoined, edges_length, move_back}
 use Rattle.route_rebuild.specs.Routes.{AreLegs, IsRouteOf, chosen_at, edges_of, piece_at}
 use Rattle.route_rebuild.proofs.ChosenRun.{chosen_run}

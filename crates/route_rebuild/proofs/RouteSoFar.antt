@@ -14,16 +14,16 @@ use Rattle.matching.specs.Layers.{no_candidate}
 use Rattle.matching.proofs.Routes.{direct_route, over_route}
 use Rattle.route_rebuild.specs.Numbers.{numbers}
 use Rattle.route_rebuild.specs.Routes.{AreLegs, edges_of}
-use Rattle.route_rebuild.specs.inside.Runs.{HasWalk, IsDirectLeg, IsLegAdded, IsRouteOfRun, IsWalkStartAt, IsWalkStartOf, chosen_in, last_in}
+use Rattle.route_rebuild.specs.inside.Runs.{HasWalk, IsDirectLeg, IsLegAdded, IsRouteOfRun, IsWalkStartAt, IsWalkStartOf, chosen_in_run, last_in}
 use Rattle.route_rebuild.specs.declared.run.Run.{Run}
 use Rattle.route_rebuild.proofs.RouteValue.{route_found}
 
 -- es is the route over the points from the run's first to i; with the legs from there it is the route over the run
 pub record IsSoFar (run : Run) (i : ℕ) (es : List ℕ) : Type 0 where
   pub tail : List ℕ
-  pub begins : es ≡ (chosen_in run 0).edge.0 ∷ tail
-  pub legs : (rest : List ℕ) → AreLegs run.net.now run.params.now.bound run.params.now.back (chosen_in run) i (last_in run - i) rest
-      → AreLegs run.net.now run.params.now.bound run.params.now.back (chosen_in run) 0 (last_in run - 0) (tail ++ rest)
+  pub begins : es ≡ (chosen_in_run run 0).edge.0 ∷ tail
+  pub legs : (rest : List ℕ) → AreLegs run.net.now run.params.now.bound run.params.now.back (chosen_in_run run) i (last_in run - i) rest
+      → AreLegs run.net.now run.params.now.bound run.params.now.back (chosen_in_run run) 0 (last_in run - 0) (tail ++ rest)
 
 pub so_far_more : (run : Run) (i : ℕ) (es more : List ℕ) → i < last_in run → IsSoFar run i es → IsLegAdded run i es more → IsSoFar run (i + 1) more
 so_far_more run i es more lt far leg =
@@ -32,14 +32,14 @@ so_far_more run i es more lt far leg =
     let back = run.params.now.back in
     let first : ℕ = 0 in
     let last = last_in run in
-    let edges : List ℕ = edges_of (chosen_in run (i + 1)) leg.route in
+    let edges : List ℕ = edges_of (chosen_in_run run (i + 1)) leg.route in
     let count : suc (last - (i + 1)) ≡ last - i = omega (arith, lt) in
     record {
       tail = far.tail ++ edges;
       begins = leg.added ∙ ap (λ (k : List ℕ). k ++ edges) far.begins;
       legs = λ rest h.
-          subst (λ (k : List ℕ). AreLegs n bound back (chosen_in run) first (last - first) k) (sym (append_assoc far.tail edges rest))
-          (far.legs (edges ++ rest) (subst (λ (k : ℕ). AreLegs n bound back (chosen_in run) i k (edges ++ rest)) count (leg.route, rest, leg.is, refl, h)));
+          subst (λ (k : List ℕ). AreLegs n bound back (chosen_in_run run) first (last - first) k) (sym (append_assoc far.tail edges rest))
+          (far.legs (edges ++ rest) (subst (λ (k : ℕ). AreLegs n bound back (chosen_in_run run) i k (edges ++ rest)) count (leg.route, rest, leg.is, refl, h)));
     }
 
 pub so_far_end : (run : Run) (i : ℕ) (es : List ℕ) → i ≡ last_in run → IsSoFar run i es → IsRouteOfRun run es
@@ -54,9 +54,9 @@ so_far_end run i es at far =
     record {
       rest = far.tail;
       begins = far.begins;
-      legs_are = subst (λ (k : ℕ). AreLegs n bound back (chosen_in run) 0 k far.tail) all
-          (subst (λ (k : List ℕ). AreLegs n bound back (chosen_in run) first (last - first) k) (append-nil far.tail)
-          (far.legs [] (subst (λ (k : ℕ). AreLegs n bound back (chosen_in run) i k []) none refl)));
+      legs_are = subst (λ (k : ℕ). AreLegs n bound back (chosen_in_run run) 0 k far.tail) all
+          (subst (λ (k : List ℕ). AreLegs n bound back (chosen_in_run run) first (last - first) k) (append-nil far.tail)
+          (far.legs [] (subst (λ (k : ℕ). AreLegs n bound back (chosen_in_run run) i k []) none refl)));
     }
 
 -- where no route is direct, there is a walk within the bound
@@ -91,11 +91,11 @@ pub start_all : (run : Run) (i v : ℕ) → i ≡ last_in run → IsWalkStartOf 
 start_all run i v at (k, less, none, here) = (k, omega (arith, less, at), (none, here))
 
 -- asking for the row of the node where the first edge ends is asking for where this leg's walk starts
-pub asks_walk : {A E : Type 0} {s0 s1 : RowsState} {result : Result A E} (run : Run) (i v : ℕ) (a b : Candidate) → a ≡ chosen_in run i → b ≡ chosen_in run (i + 1)
+pub asks_walk : {A E : Type 0} {s0 s1 : RowsState} {result : Result A E} (run : Run) (i v : ℕ) (a b : Candidate) → a ≡ chosen_in_run run i → b ≡ chosen_in_run run (i + 1)
     → (IsRoute run.net.now run.params.now.bound run.params.now.back a b Direct → ⊥) → v ≡ target run.net.now a.edge.0 → AsksFor s0 (λ w. w ≡ v) result s1 → AsksFor s0 (IsWalkStartAt run i) result s1
 asks_walk run i v a b a_is b_is none is asks =
     let long : IsDirectLeg run i → ⊥ = rw (a_is, b_is) at none in
-    let start : v ≡ target run.net.now (chosen_in run i).edge.0 = rw a_is at is in
+    let start : v ≡ target run.net.now (chosen_in_run run i).edge.0 = rw a_is at is in
     asks_by asks (λ w same. (long, same ∙ start)) (λ w walk. walk.1 ∙ sym start)
 
 numbers_append : (xs ys : List EdgeId) → numbers (xs ++ ys) ≡ numbers xs ++ numbers ys
@@ -112,37 +112,37 @@ appended b edges walk after is =
 pub direct_leg : (run : Run) (i : ℕ) (es : List ℕ) → IsDirectLeg run i → IsLegAdded run i es es
 direct_leg run i es is = record {
   route = Direct;
-  is = direct_route run.net.now run.params.now.bound run.params.now.back (chosen_in run i) (chosen_in run (i + 1)) is;
+  is = direct_route run.net.now run.params.now.bound run.params.now.back (chosen_in_run run i) (chosen_in_run run (i + 1)) is;
   added = sym (append-nil es);
 }
 
 -- the two ends of a leg have edges of the network
-pub leg_edges : (run : Run) (i : ℕ) → i + 1 < length run.chosen.now → HasEdge run.net.now (chosen_in run i).edge.0 × HasEdge run.net.now (chosen_in run (i + 1)).edge.0
+pub leg_edges : (run : Run) (i : ℕ) → i + 1 < length run.chosen.now → HasEdge run.net.now (chosen_in_run run i).edge.0 × HasEdge run.net.now (chosen_in_run run (i + 1)).edge.0
 leg_edges run i lt = ((run.is.candidates i no_candidate (omega (arith, lt))).edge, (run.is.candidates (i + 1) no_candidate lt).edge)
 
 -- and what is added to the offset of its second one fits 32 bits
-pub offset_fits : (run : Run) (i : ℕ) → IsLawful run.net.now → i + 1 < length run.chosen.now → (chosen_in run (i + 1)).offset + run.params.now.back < 2 ^ 32
+pub offset_fits : (run : Run) (i : ℕ) → IsLawful run.net.now → i + 1 < length run.chosen.now → (chosen_in_run run (i + 1)).offset + run.params.now.back < 2 ^ 32
 offset_fits run i lawful lt =
     let b = run.is.candidates (i + 1) no_candidate lt in
-    omega (arith, b.offset, lawful.not_long (chosen_in run (i + 1)).edge.0 b.edge, run.is.options.back)
+    omega (arith, b.offset, lawful.not_long (chosen_in_run run (i + 1)).edge.0 b.edge, run.is.options.back)
 
 -- where there is none, there is a walk from point i to the next
-pub leg_walk : (run : Run) (i : ℕ) → IsLawful run.net.now → i + 1 < length run.chosen.now → (IsDirectLeg run i → ⊥) → HasWalk run.net.now run.params.now.bound (chosen_in run i).edge.0 (chosen_in run (i + 1)).edge.0
+pub leg_walk : (run : Run) (i : ℕ) → IsLawful run.net.now → i + 1 < length run.chosen.now → (IsDirectLeg run i → ⊥) → HasWalk run.net.now run.params.now.bound (chosen_in_run run i).edge.0 (chosen_in_run run (i + 1)).edge.0
 leg_walk run i lawful lt none =
     let n = run.net.now in
     let bound = run.params.now.bound in
     let back = run.params.now.back in
-    let found = route_found n bound back (chosen_in run i) (chosen_in run (i + 1)) lawful (run.is.routes i lt) in
-    walk_of n bound back (chosen_in run i) (chosen_in run (i + 1)) found.0 found.2.route none
+    let found = route_found n bound back (chosen_in_run run i) (chosen_in_run run (i + 1)) lawful (run.is.routes i lt) in
+    walk_of n bound back (chosen_in_run run i) (chosen_in_run run (i + 1)) found.0 found.2.route none
 
 -- the walk and the next edge, as they are appended
-pub walk_leg : (run : Run) (i : ℕ) (edges walk after : List EdgeId) → HasWalk run.net.now run.params.now.bound (chosen_in run i).edge.0 (chosen_in run (i + 1)).edge.0 → (IsDirectLeg run i → ⊥)
-    → IsLeastWalk run.net.now (target run.net.now (chosen_in run i).edge.0) (reverse (numbers walk)) (source run.net.now (chosen_in run (i + 1)).edge.0)
-    → after ≡ (edges ++ walk) ++ (chosen_in run (i + 1)).edge ∷ [] → IsLegAdded run i (numbers edges) (numbers after)
+pub walk_leg : (run : Run) (i : ℕ) (edges walk after : List EdgeId) → HasWalk run.net.now run.params.now.bound (chosen_in_run run i).edge.0 (chosen_in_run run (i + 1)).edge.0 → (IsDirectLeg run i → ⊥)
+    → IsLeastWalk run.net.now (target run.net.now (chosen_in_run run i).edge.0) (reverse (numbers walk)) (source run.net.now (chosen_in_run run (i + 1)).edge.0)
+    → after ≡ (edges ++ walk) ++ (chosen_in_run run (i + 1)).edge ∷ [] → IsLegAdded run i (numbers edges) (numbers after)
 walk_leg run i edges walk after found none least added =
-    let b = chosen_in run (i + 1) in
+    let b = chosen_in_run run (i + 1) in
     record {
       route = Over (reverse (numbers walk));
-      is = least_route run.net.now run.params.now.bound run.params.now.back (chosen_in run i) b (reverse (numbers walk)) found none least;
+      is = least_route run.net.now run.params.now.bound run.params.now.back (chosen_in_run run i) b (reverse (numbers walk)) found none least;
       added = appended b edges walk after added;
     }

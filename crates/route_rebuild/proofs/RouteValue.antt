@@ -8,7 +8,7 @@ use Rattle.matching.specs.declared.parts.Layer.{Layer}
 use Rattle.matching.specs.declared.parts.Piece.{Piece}
 use Rattle.road_network.specs.declared.Candidate.{Candidate}
 use Rattle.road_network.specs.Net.{Net, IsLawful}
-use Rattle.route_rebuild.specs.Chosen.{IsChosenRun}
+use Rattle.route_rebuild.specs.inside.ChosenRuns.{IsChosenRun}
 use Rattle.route_rebuild.specs.Laws.{RoutesAreTheValue}
 use Rattle.route_rebuild.specs.Routes.{AreLegs, IsRouteOf, chosen_at, edges_to, legs, piece_at, route_of}
 use Rattle.route_rebuild.proofs.ChosenRun.{chosen_run}

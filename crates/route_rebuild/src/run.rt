@@ -1,7 +1,8 @@
 //! Chosen candidates with routes between neighbours, the input of `route_over`. Decided by `IsCandidateRun`, which is
 //! part of the type.
 ghost use Rattle.std.specs.Prelude.{◌≡◌, ◌+◌, ◌-◌, ◌<◌, ◌≤◌, ℕ, IfOk, length};
-ghost use Rattle.route_rebuild.specs.Chosen.{AreChosenFrom, IsCandidateRun, IsChosenPoint};
+ghost use Rattle.route_rebuild.specs.Chosen.{IsCandidateRun};
+ghost use Rattle.route_rebuild.specs.inside.ChosenRuns.{AreChosenFrom, IsChosenPoint};
 ghost use Rattle.route_rebuild.specs.Routes.{candidate_in};
 
 use cost_model::Params;

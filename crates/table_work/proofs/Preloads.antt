@@ -2,13 +2,14 @@
 use Rattle.std.proofs.Common.{◌≡◌, ℕ, List, ◌∷◌, length, Result, Ok, sym, ◌∙◌, ap, subst}
 use Rattle.bounded_table.specs.Table.{TableRow}
 use Rattle.command_line.specs.Options.{and_then}
-use Rattle.program_frame.specs.Loads.{Accepts, Refuses}
+use Rattle.program_frame.specs.Loads.{RefusesLoad}
+use Rattle.program_frame.specs.inside.Refusing.{Accepts}
 use Rattle.program_frame.specs.declared.stop.Refusal.{Refusal}
 use Rattle.program_frame.specs.declared.stop.Refusal.TheVariants.{Table}
 use Rattle.program_frame.specs.declared.stop.Stop.{Stop}
 use Rattle.program_frame.specs.declared.stop.Stop.TheVariants.{Refused, NoMemory, Unread, Unwritten}
 use Rattle.road_network.specs.Net.{Net}
-use Rattle.table_work.specs.Reading.{table_of}
+use Rattle.table_work.specs.Reading.{table_of_text}
 use Rattle.table_work.specs.Preload.{row_said, rows_in, rows_said, table_file_said}
 
 -- ---- the text
@@ -19,16 +20,16 @@ pub record IsCallFor (net : Net) (bytes : List ℕ) (nodes edges : ℕ) (text : 
   pub edges_are : edges ≡ length net.edges
   pub text_is : text ≡ bytes
 
-pub called : (net : Net) (bound : ℕ) (bytes : List ℕ) (nodes edges : ℕ) (text : List ℕ) → IsCallFor net bytes nodes edges text → table_of bound nodes edges text ≡ table_of bound (length net.nodes) (length net.edges) bytes
+pub called : (net : Net) (bound : ℕ) (bytes : List ℕ) (nodes edges : ℕ) (text : List ℕ) → IsCallFor net bytes nodes edges text → table_of_text bound nodes edges text ≡ table_of_text bound (length net.nodes) (length net.edges) bytes
 called net bound bytes nodes edges text call =
-    ap (λ n. table_of bound n edges text) call.nodes_are
-    ∙ ap (λ n. table_of bound (length net.nodes) n text) call.edges_are
-    ∙ ap (table_of bound (length net.nodes) (length net.edges)) call.text_is
+    ap (λ n. table_of_text bound n edges text) call.nodes_are
+    ∙ ap (λ n. table_of_text bound (length net.nodes) n text) call.edges_are
+    ∙ ap (table_of_text bound (length net.nodes) (length net.edges)) call.text_is
 
 -- ---- one part accepted or refused before the next
 
 -- a refusal of the first part is one of both
-pub first_refuses : {A B : Type 0} (refusal : Refusal) (said : Result A (List ℕ)) (next : A → Result B (List ℕ)) (stop : Stop) → Refuses refusal said stop → Refuses refusal (and_then said next) stop
+pub first_refuses : {A B : Type 0} (refusal : Refusal) (said : Result A (List ℕ)) (next : A → Result B (List ℕ)) (stop : Stop) → RefusesLoad refusal said stop → RefusesLoad refusal (and_then said next) stop
 first_refuses {A} {B} refusal said next (Refused r line) refuses = (refuses.0, ap (λ (s : Result A (List ℕ)). and_then s next) refuses.1)
 first_refuses refusal said next NoMemory refuses = tt
 first_refuses refusal said next (Unread file) refuses = absurd refuses
@@ -42,9 +43,9 @@ rows_left net bound row all left rest next is before =
     sym (ap (rows_said net bound) next ∙ ap (λ (s : Result (Unit {0}) (List ℕ)). and_then s (λ _. rows_said net bound rest)) is) ∙ before
 
 -- a row is refused, and so are all
-pub rows_refused : (net : Net) (bound : ℕ) (row : TableRow) (all left rest : List TableRow) (stop : Stop) → left ≡ row ∷ rest → rows_said net bound left ≡ rows_said net bound all → Refuses Table (row_said net bound row) stop → Refuses Table (rows_said net bound all) stop
+pub rows_refused : (net : Net) (bound : ℕ) (row : TableRow) (all left rest : List TableRow) (stop : Stop) → left ≡ row ∷ rest → rows_said net bound left ≡ rows_said net bound all → RefusesLoad Table (row_said net bound row) stop → RefusesLoad Table (rows_said net bound all) stop
 rows_refused net bound row all left rest stop next before refuses =
-    subst (λ (s : Result (Unit {0}) (List ℕ)). Refuses Table s stop) (sym (ap (rows_said net bound) next) ∙ before) (first_refuses Table (row_said net bound row) (λ _. rows_said net bound rest) stop refuses)
+    subst (λ (s : Result (Unit {0}) (List ℕ)). RefusesLoad Table s stop) (sym (ap (rows_said net bound) next) ∙ before) (first_refuses Table (row_said net bound row) (λ _. rows_said net bound rest) stop refuses)
 
 -- ---- the file
 

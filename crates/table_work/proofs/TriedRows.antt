@@ -11,9 +11,9 @@ use Rattle.bounded_table.specs.declared.table_row.Entry.{Entry}
 use Rattle.bounded_table.specs.declared.table_row.Label.{Label}
 use Rattle.road_network.specs.Net.{HasNode, IsLawful, Net, node_name}
 use Rattle.table_work.proofs.Tables.{tables_have_one_text}
-use Rattle.table_work.specs.Laws.{AreRowsFrom, IsEntryBelow}
-use Rattle.table_work.specs.Reading.{table_of}
-use Rattle.program_frame.specs.Loads.{Refuses}
+use Rattle.table_work.specs.Laws.{AreTableRowsFrom, IsEntryBelow}
+use Rattle.table_work.specs.Reading.{table_of_text}
+use Rattle.program_frame.specs.Loads.{RefusesLoad}
 use Rattle.program_frame.specs.Stops.{RefusesFault}
 use Rattle.program_frame.specs.declared.stop.Refusal.{Refusal}
 use Rattle.program_frame.specs.declared.stop.Refusal.TheVariants.{Table}
@@ -43,13 +43,13 @@ pub right_said : (net : Net) (table : BoundedTable) (row : TableRow) (origin : �
 right_said net table row origin tried = said_by net table.bound row true (answer_is net table row origin true tried)
 
 -- a refusal with the line that is said
-refused_said : {A : Type 0} (refusal : Refusal) (said : Result A (List ℕ)) (line : List ℕ) (stop : Stop) → said ≡ Err line → RefusesFault refusal (Unit {0}) line stop → Refuses refusal said stop
+refused_said : {A : Type 0} (refusal : Refusal) (said : Result A (List ℕ)) (line : List ℕ) (stop : Stop) → said ≡ Err line → RefusesFault refusal (Unit {0}) line stop → RefusesLoad refusal said stop
 refused_said refusal said line (Refused r l) is stops = (stops.1, is ∙ ap (λ t. Err t) (sym stops.2))
 refused_said refusal said line NoMemory is stops = tt
 refused_said refusal said line (Unread file) is stops = absurd stops
 refused_said refusal said line Unwritten is stops = absurd stops
 
-pub wrong_said : (net : Net) (table : BoundedTable) (row : TableRow) (origin id : ℕ) (stop : Stop) → IsTried net table row origin false → id ≡ node_name net origin → RefusesFault Table (Unit {0}) (wrong_row_line id) stop → Refuses Table (row_said net table.bound row) stop
+pub wrong_said : (net : Net) (table : BoundedTable) (row : TableRow) (origin id : ℕ) (stop : Stop) → IsTried net table row origin false → id ≡ node_name net origin → RefusesFault Table (Unit {0}) (wrong_row_line id) stop → RefusesLoad Table (row_said net table.bound row) stop
 wrong_said net table row origin id stop tried named stops =
     let own : id ≡ node_name net row.origin = named ∙ ap (node_name net) tried.of_origin in
     refused_said Table (row_said net table.bound row) (wrong_row_line id) stop
@@ -65,12 +65,12 @@ listed_below nodes edges v l (x ∷ entries) below e = by_test (x.node.0 == v) r
     by_test true is later e = subst (λ n. n < nodes) ((Decides-eqb x.node.0 v).0 is) below.0.node
     by_test false is later e = later e
 
-origins_below : (nodes edges least : ℕ) (rows : List TableRow) → AreRowsFrom nodes edges least rows → All (λ (row : TableRow). row.origin < nodes) rows
+origins_below : (nodes edges least : ℕ) (rows : List TableRow) → AreTableRowsFrom nodes edges least rows → All (λ (row : TableRow). row.origin < nodes) rows
 origins_below nodes edges least [] are = All-nil (λ (row : TableRow). row.origin < nodes)
 origins_below nodes edges least (row ∷ rows) are =
     All-cons (λ (r : TableRow). r.origin < nodes) row rows (listed_below nodes edges row.origin _ row.entries are.0.below are.0.value.rules.origin) (origins_below nodes edges (row.origin + 1) rows are.1)
 
 -- the origin of a row that was read is a node
-pub have_nodes : (net : Net) (bound : ℕ) (bytes : List ℕ) (rows : List TableRow) → table_of bound (length net.nodes) (length net.edges) bytes ≡ Ok rows → All (λ (row : TableRow). HasNode net row.origin) rows
+pub have_nodes : (net : Net) (bound : ℕ) (bytes : List ℕ) (rows : List TableRow) → table_of_text bound (length net.nodes) (length net.edges) bytes ≡ Ok rows → All (λ (row : TableRow). HasNode net row.origin) rows
 have_nodes net bound bytes rows is =
     origins_below (length net.nodes) (length net.edges) 0 rows (tables_have_one_text bound (length net.nodes) (length net.edges) rows bytes is).rows_are

@@ -4,9 +4,9 @@ use Rattle.std.specs.List.{AllByRecursion}
 use Rattle.bounded_table.specs.Table.{TableRow}
 use Rattle.bounded_table.specs.declared.table_row.Entry.{Entry}
 use Rattle.row_text.specs.Laws.{IsRowValue}
-use Rattle.table_work.specs.Draft.{Draft, no_rows, with_row}
-use Rattle.table_work.specs.Reading.{table_of}
-use Rattle.table_work.specs.TableText.{end_line, table_text, text_limit}
+use Rattle.table_work.specs.Draft.{Draft, draft_of_no_rows, draft_with_row}
+use Rattle.table_work.specs.Reading.{table_of_text}
+use Rattle.table_work.specs.TableText.{table_end_line, table_text, table_text_limit}
 
 -- the node and the last edge of an entry are below these numbers of nodes and edges
 pub record IsEntryBelow (nodes edges : ℕ) (x : Entry) : Type 0 where
@@ -20,38 +20,38 @@ pub record IsTableRow (nodes edges least : ℕ) (row : TableRow) : Type 0 where
   pub below : AllByRecursion (IsEntryBelow nodes edges) row.entries
 
 -- rows of such a table, whose origins rise strictly
-abbrev pub AreRowsFrom : (nodes edges least : ℕ) → List TableRow → Type 0
-AreRowsFrom nodes edges least [] = Unit {0}
-AreRowsFrom nodes edges least (row ∷ rows) =
-    IsTableRow nodes edges least row × AreRowsFrom nodes edges (row.origin + 1) rows
+abbrev pub AreTableRowsFrom : (nodes edges least : ℕ) → List TableRow → Type 0
+AreTableRowsFrom nodes edges least [] = Unit {0}
+AreTableRowsFrom nodes edges least (row ∷ rows) =
+    IsTableRow nodes edges least row × AreTableRowsFrom nodes edges (row.origin + 1) rows
 
 abbrev pub AreTableRows : (nodes edges : ℕ) → List TableRow → Type 0
-AreTableRows nodes edges rows = AreRowsFrom nodes edges 0 rows
+AreTableRows nodes edges rows = AreTableRowsFrom nodes edges 0 rows
 
 -- what was written of rows, within the limit, is read as these rows
 abbrev pub TablesReadBack : Type 0
 TablesReadBack =
     (bound nodes edges : ℕ) (rows : List TableRow) → AreTableRows nodes edges rows
-    → length (table_text bound nodes edges rows) ≤ text_limit
-    → table_of bound nodes edges (table_text bound nodes edges rows) ≡ Ok rows
+    → length (table_text bound nodes edges rows) ≤ table_text_limit
+    → table_of_text bound nodes edges (table_text bound nodes edges rows) ≡ Ok rows
 
 -- what a text that is read as rows is
 pub record IsTableText (bound nodes edges : ℕ) (rows : List TableRow) (text : List ℕ) : Type 0 where
   pub rows_are : AreTableRows nodes edges rows
   pub text_is : text ≡ table_text bound nodes edges rows
-  pub short : length text ≤ text_limit
+  pub short : length text ≤ table_text_limit
 
 abbrev pub TablesHaveOneText : Type 0
 TablesHaveOneText =
     (bound nodes edges : ℕ) (rows : List TableRow) (text : List ℕ)
-    → table_of bound nodes edges text ≡ Ok rows → IsTableText bound nodes edges rows text
+    → table_of_text bound nodes edges text ≡ Ok rows → IsTableText bound nodes edges rows text
 
 -- a draft with its last line
 abbrev pub finished : Draft → List ℕ
-finished draft = draft.lines ++ end_line draft.rows
+finished draft = draft.lines ++ table_end_line draft.rows
 
 -- the draft that took these rows and no others is the text of them
 abbrev pub DraftsAreTables : Type 0
 DraftsAreTables =
     (bound nodes edges : ℕ) (rows : List TableRow)
-    → finished (fold with_row (no_rows bound nodes edges) rows) ≡ table_text bound nodes edges rows
+    → finished (fold draft_with_row (draft_of_no_rows bound nodes edges) rows) ≡ table_text bound nodes edges rows

@@ -8,8 +8,8 @@ use Rattle.decimal_text.specs.Number.{decimal}
 use Rattle.program_frame.specs.Plan.{Plan, loads}
 use Rattle.program_frame.specs.declared.stop.File.TheVariants.{Table}
 use Rattle.road_network.specs.Net.{Net, node_name}
-use Rattle.table_work.specs.Reading.{table_of}
-use Rattle.table_work.specs.TableText.{text_limit}
+use Rattle.table_work.specs.Reading.{table_of_text}
+use Rattle.table_work.specs.TableText.{table_text_limit}
 use Rattle.table_work.specs.declared.fault.TableFault.{TableFault}
 use Rattle.table_work.specs.declared.fault.TableFault.TheVariants.{BadLine, Cut, TooLong, Memory}
 
@@ -31,7 +31,7 @@ wrong_row_line id = codes "refused table origin " ++ decimal id ++ codes ": Row"
 abbrev pub rows_in : Net → ℕ → List ℕ → Result (List TableRow) (List ℕ)
 rows_in net bound bytes =
     result_map_both (λ rows. rows) table_fault_line
-    (table_of bound (length net.nodes) (length net.edges) bytes)
+    (table_of_text bound (length net.nodes) (length net.edges) bytes)
 
 abbrev pub row_said : Net → ℕ → TableRow → Result (Unit {0}) (List ℕ)
 row_said net bound row =
@@ -51,4 +51,4 @@ table_file_said net bound bytes = and_then (rows_in net bound bytes) (rows_said 
 -- the table file is read and accepted before what follows, which is the same as without it
 abbrev pub preloads : List ℕ → Net → ℕ → Plan → Plan
 preloads name net bound next =
-    loads Table name text_limit 9 (table_file_said net bound) (λ _. next)
+    loads Table name table_text_limit 9 (table_file_said net bound) (λ _. next)

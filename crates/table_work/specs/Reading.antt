@@ -7,7 +7,7 @@ use Rattle.bounded_table.specs.declared.table_row.Entry.{Entry}
 use Rattle.match_text.specs.Reading.{◌>>=◌, after_bytes}
 use Rattle.road_network.specs.declared.EdgeId.{EdgeId}
 use Rattle.row_text.specs.Reading.{row_at}
-use Rattle.table_work.specs.TableText.{end_line, first_line, text_limit}
+use Rattle.table_work.specs.TableText.{table_end_line, table_first_line, table_text_limit}
 use Rattle.table_work.specs.declared.fault.TableFault.{TableFault}
 use Rattle.table_work.specs.declared.fault.TableFault.TheVariants.{BadLine, Cut, TooLong, Memory}
 use Rattle.table_work.specs.declared.reading.Counts.{Counts}
@@ -37,8 +37,8 @@ row_allowed_at counts least text = row_at text >>= if_allowed counts least
 -- ---- the lines
 
 -- the fault where the line of this number is not allowed: without a LF it is not complete
-abbrev pub fault_at : ℕ → List ℕ → TableFault
-fault_at number text = if list_any (λ b. b == 10) text then BadLine number else Cut
+abbrev pub table_fault_at : ℕ → List ℕ → TableFault
+table_fault_at number text = if list_any (λ b. b == 10) text then BadLine number else Cut
 
 abbrev pub with_first : TableRow → Result (List TableRow) TableFault → Result (List TableRow) TableFault
 with_first row (Ok rows) = Ok (row ∷ rows)
@@ -49,10 +49,10 @@ abbrev pub From : Type 0
 From = (count least : ℕ) → List ℕ → Result (List TableRow) TableFault
 
 -- if a row was read, it and those after it
-abbrev pub rows_behind : From → (count : ℕ) → List ℕ → Option (TableRow × List ℕ)
+abbrev pub rows_after_read : From → (count : ℕ) → List ℕ → Option (TableRow × List ℕ)
     → Result (List TableRow) TableFault
-rows_behind more count text None = Err (fault_at (count + 2) text)
-rows_behind more count text (Some read) =
+rows_after_read more count text None = Err (table_fault_at (count + 2) text)
+rows_after_read more count text (Some read) =
     with_first read.0 (more (count + 1) (read.0.origin + 1) read.1)
 
 -- if the last line was read, no more rows, and nothing may come after it
@@ -61,28 +61,28 @@ abbrev pub rows_to_end : From → Counts → (count least : ℕ) → List ℕ �
 rows_to_end more counts count least text (Some []) = Ok []
 rows_to_end more counts count least text (Some (b ∷ bs)) = Err (BadLine (count + 3))
 rows_to_end more counts count least text None =
-    rows_behind more count text (row_allowed_at counts least text)
+    rows_after_read more count text (row_allowed_at counts least text)
 
 -- all rows up to the last line; no text has as many lines as `fuel`, which is above its length
-abbrev pub rows_at : Counts → (fuel : ℕ) → From
-rows_at counts zero count least text = Err Cut
-rows_at counts (suc fuel) count least text =
-    rows_to_end (rows_at counts fuel) counts count least text (after_bytes (end_line count) text)
+abbrev pub rows_to_last : Counts → (fuel : ℕ) → From
+rows_to_last counts zero count least text = Err Cut
+rows_to_last counts (suc fuel) count least text =
+    rows_to_end (rows_to_last counts fuel) counts count least text (after_bytes (table_end_line count) text)
 
 -- the rows after the first line
-abbrev pub rows_of : Counts → List ℕ → Result (List TableRow) TableFault
-rows_of counts text = rows_at counts (length text + 1) 0 0 text
+abbrev pub rows_after_first : Counts → List ℕ → Result (List TableRow) TableFault
+rows_after_first counts text = rows_to_last counts (length text + 1) 0 0 text
 
-abbrev pub behind_first : Counts → List ℕ → Option (List ℕ) → Result (List TableRow) TableFault
-behind_first counts text None = Err (fault_at 1 text)
-behind_first counts text (Some rest) = rows_of counts rest
+abbrev pub table_after_first : Counts → List ℕ → Option (List ℕ) → Result (List TableRow) TableFault
+table_after_first counts text None = Err (table_fault_at 1 text)
+table_after_first counts text (Some rest) = rows_after_first counts rest
 
 -- the rows whose table text this is, or the first fault
-abbrev pub table_of : (bound nodes edges : ℕ) → List ℕ → Result (List TableRow) TableFault
-table_of bound nodes edges text =
-    if nat_lt text_limit (length text) then Err TooLong
-    else behind_first (record { nodes = nodes; edges = edges }) text
-    (after_bytes (first_line bound nodes edges) text)
+abbrev pub table_of_text : (bound nodes edges : ℕ) → List ℕ → Result (List TableRow) TableFault
+table_of_text bound nodes edges text =
+    if nat_lt table_text_limit (length text) then Err TooLong
+    else table_after_first (record { nodes = nodes; edges = edges }) text
+    (after_bytes (table_first_line bound nodes edges) text)
 
 -- ---- what a call answers: this, or want of memory
 
@@ -90,8 +90,5 @@ abbrev pub Answers : Result (List TableRow) TableFault → Result (List TableRow
 Answers is (Ok rows) = is ≡ Ok rows
 Answers is (Err fault) = (fault ≡ Memory) ⊎ (is ≡ Err fault)
 
-abbrev pub ReadsRows : Counts → List ℕ → Result (List TableRow) TableFault → Type 0
-ReadsRows counts text result = Answers (rows_of counts text) result
-
 abbrev pub ReadsTable : (bound nodes edges : ℕ) → List ℕ → Result (List TableRow) TableFault → Type 0
-ReadsTable bound nodes edges text result = Answers (table_of bound nodes edges text) result
+ReadsTable bound nodes edges text result = Answers (table_of_text bound nodes edges text) result

@@ -12,7 +12,7 @@ use Rattle.program_frame.specs.declared.stop.File.TheVariants.{Network}
 use Rattle.road_network.specs.Limits.{file_limit}
 use Rattle.road_network.specs.Net.{Net}
 use Rattle.road_network.specs.declared.limits.NetworkLimits.{NetworkLimits}
-use Rattle.table_work.specs.TableText.{table_text, text_limit}
+use Rattle.table_work.specs.TableText.{table_text, table_text_limit}
 
 abbrev pub table_too_long : List ℕ
 table_too_long = codes "fmm: table too long" ++ 10 ∷ []
@@ -29,7 +29,7 @@ text_of_network net bound =
 -- the text, or the line where it is too long
 abbrev pub table_said : Net → ℕ → Result (List ℕ) (List ℕ)
 table_said net bound =
-    if nat_lt text_limit (length (text_of_network net bound))
+    if nat_lt table_text_limit (length (text_of_network net bound))
     then Err table_too_long else Ok (text_of_network net bound)
 
 -- the network is read and accepted, and then its table is written, or refused as too long

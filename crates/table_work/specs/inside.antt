@@ -2,3 +2,4 @@ pub mod PreloadDone
 pub mod TableDone
 pub mod RecentInside
 pub mod WriterInside
+pub mod RowsRead

@@ -1,5 +1,5 @@
 //! Laws of table texts. Each function exists for its clause and does nothing.
-ghost use Rattle.table_work.specs.Faults.{BadLinesAreFirst, CutsLackTheirEnd};
+ghost use Rattle.table_work.specs.Faults.{BadTableLinesAreFirst, CutTablesLackTheirEnd};
 ghost use Rattle.table_work.specs.Laws.{DraftsAreTables, TablesHaveOneText, TablesReadBack};
 
 /// A table written within the limit reads back as the same table.
@@ -20,10 +20,10 @@ pub fn drafts_are_tables()
 /// `BadLine` has the number of the first line that is not allowed at its place: the lines before it
 /// begin the text of some table, and with it they do not.
 pub fn bad_lines_are_first()
-    ensures { BadLinesAreFirst }
+    ensures { BadTableLinesAreFirst }
 {}
 
 /// `Cut` says that each complete line is allowed and that the last line is missing.
 pub fn cuts_lack_their_end()
-    ensures { CutsLackTheirEnd }
+    ensures { CutTablesLackTheirEnd }
 {}

@@ -1,7 +1,7 @@
 //! The first and the last line of a table text. Serves the writer and the reader; decided by
-//! `first_line` and `end_line`.
+//! `table_first_line` and `table_end_line`.
 ghost use Rattle.std.specs.Prelude.{◌≡◌, ◌++◌, length, take, OnErr, OnOk};
-ghost use Rattle.table_work.specs.TableText.{end_line, first_line};
+ghost use Rattle.table_work.specs.TableText.{table_end_line, table_first_line};
 
 use decimal_text::write_worded;
 use plain_list::List;
@@ -14,7 +14,7 @@ pub fn append_first(
     edges: u32,
     into: &mut List<u8>,
 ) -> Result<(), AllocError>
-    ensures ok { OnOk result (into.new ≡ into.old ++ first_line bound nodes edges) }
+    ensures ok { OnOk result (into.new ≡ into.old ++ table_first_line bound nodes edges) }
     ensures err { OnErr result (take (length into.old) into.new ≡ into.old) }
 {
     write_worded(b"fmm-table 1 bound ", u64::from(bound), into)?;
@@ -25,7 +25,7 @@ pub fn append_first(
 
 /// Appends the last line. On `Err`, a part of it may remain at the end.
 pub fn append_end(rows: u64, into: &mut List<u8>) -> Result<(), AllocError>
-    ensures ok { OnOk result (into.new ≡ into.old ++ end_line rows) }
+    ensures ok { OnOk result (into.new ≡ into.old ++ table_end_line rows) }
     ensures err { OnErr result (take (length into.old) into.new ≡ into.old) }
 {
     write_worded(b"end rows ", rows, into)?;

@@ -1,9 +1,10 @@
 //! `--table FILE` of `match`: a table computed beforehand, whose rows are checked one by one
 //! and offered to a store. Serves the program; decided by `table_file_said`.
 ghost use Rattle.std.specs.Prelude.{◌≡◌, ◌≢◌, ◌≤◌, ◌++◌, All, IfOk, OnOk};
-ghost use Rattle.program_frame.specs.Loads.{Accepts, Loads};
+ghost use Rattle.program_frame.specs.Loads.{Loads};
+ghost use Rattle.program_frame.specs.inside.Refusing.{Accepts};
 ghost use Rattle.road_network.specs.Net.{HasNode};
-ghost use Rattle.table_work.specs.TableText.{text_limit};
+ghost use Rattle.table_work.specs.TableText.{table_text_limit};
 ghost use Rattle.table_work.specs.Preload.{row_said, rows_in, rows_said, table_fault_line, table_file_said, wrong_row_line};
 
 use crate::TEXT_LIMIT;
@@ -54,11 +55,11 @@ enum TableFileFault {
 }
 
 impl FaultLine for TableFileFault {
-    ghost use Rattle.table_work.specs.inside.PreloadDone.{fault_line, has_fault_line};
+    ghost use Rattle.table_work.specs.inside.PreloadDone.{table_file_fault_line, has_table_file_fault_line};
 
-    ghost has_line = { λ fault. has_fault_line fault };
+    ghost has_line = { λ fault. has_table_file_fault_line fault };
 
-    ghost line = { λ fault. fault_line fault };
+    ghost line = { λ fault. table_file_fault_line fault };
 
     fn append_line(&self, _alloc: Global, into: &mut List<u8>) -> Result<(), AllocError> {
         match self {
@@ -149,7 +150,7 @@ pub fn preload<S: Shelf>(
     store: &RowStore<'_>,
 ) -> Result<(), Stop>
     requires { store.now.bound ≤ 10_000_000 }
-    ensures { Loads Refusal.Table File.Table table.now text_limit
+    ensures { Loads Refusal.Table File.Table table.now table_text_limit
         (table_file_said store.now.network store.now.bound)
         (S.state shelf.old) (S.state shelf.new) result }
 {

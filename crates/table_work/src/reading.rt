@@ -3,9 +3,10 @@ ghost use Rattle.std.specs.Prelude.{◌≡◌, ◌≤◌, ◌==◌, ℕ, length,
 ghost use Rattle.std.specs.List.{list_all, list_any};
 ghost use Rattle.match_text.specs.Reading.{after_bytes, seen};
 ghost use Rattle.row_text.specs.LineFaults.{IsCutOf, IsFirstBadLineOf};
-ghost use Rattle.table_work.specs.Faults.{IsTable};
-ghost use Rattle.table_work.specs.TableText.{end_line, text_limit};
-ghost use Rattle.table_work.specs.Reading.{ReadsRows, ReadsTable, fault_at, is_entry_below, is_row_allowed, row_allowed_at};
+ghost use Rattle.table_work.specs.Faults.{AreTableLines};
+ghost use Rattle.table_work.specs.TableText.{table_end_line, table_text_limit};
+ghost use Rattle.table_work.specs.Reading.{ReadsTable, table_fault_at, is_entry_below, is_row_allowed, row_allowed_at};
+ghost use Rattle.table_work.specs.inside.RowsRead.{ReadsRows};
 
 use crate::TEXT_LIMIT;
 use crate::fault::TableFault;
@@ -36,8 +37,8 @@ pub fn read_table(
     ensures read { ReadsTable bound nodes edges text.now result }
     // Which line is bad, and what a text that is cut lacks.
     ensures bad_line { (n : ℕ) → IsErrOf result (TableFault.BadLine n)
-        → IsFirstBadLineOf (IsTable bound nodes edges) n text.now }
-    ensures cut { IsErrOf result TableFault.Cut → IsCutOf (IsTable bound nodes edges) text.now }
+        → IsFirstBadLineOf (AreTableLines bound nodes edges) n text.now }
+    ensures cut { IsErrOf result TableFault.Cut → IsCutOf (AreTableLines bound nodes edges) text.now }
 {
     read_text(alloc, bound, nodes, edges, text)
 }
@@ -65,7 +66,7 @@ fn read_text(
 
 // The fault of a text whose line with this number is not allowed.
 fn fault_at(text: &[u8], line: u64) -> TableFault
-    ensures { result ≡ fault_at line text.now }
+    ensures { result ≡ table_fault_at line text.now }
 {
     if has_line(text) {
         TableFault::BadLine(line)
@@ -83,7 +84,7 @@ fn has_line(text: &[u8]) -> bool
 
 // The rows in the lines after the first.
 fn read_rows(alloc: Global, counts: Counts, text: &[u8]) -> Result<List<Row>, TableFault>
-    requires { length text.now ≤ text_limit }
+    requires { length text.now ≤ table_text_limit }
     ensures { ReadsRows counts text.now result }
 {
     let mut rows = List::new(alloc);
@@ -108,7 +109,7 @@ fn read_rows(alloc: Global, counts: Counts, text: &[u8]) -> Result<List<Row>, Ta
 
 // The text after the last line of a table with this many rows, if that line is at the front.
 fn after_end(alloc: Global, text: &[u8], rows: u64) -> Result<Option<&[u8]>, AllocError>
-    ensures { IfOk result (λ behind. option_copied behind ≡ after_bytes (end_line rows) text.now) }
+    ensures { IfOk result (λ behind. option_copied behind ≡ after_bytes (table_end_line rows) text.now) }
 {
     let mut end = List::new(alloc);
     append_end(rows, &mut end)?;

@@ -1,7 +1,7 @@
 //! `table NET`. Serves the program; decided by `table_plan`.
 ghost use Rattle.std.specs.Prelude.{◌≡◌, ◌≤◌, Ok, length};
 ghost use Rattle.cost_model.specs.Options.{IsAccepted};
-ghost use Rattle.program_frame.specs.Loads.{Accepts};
+ghost use Rattle.program_frame.specs.inside.Refusing.{Accepts};
 ghost use Rattle.program_frame.specs.Performs.{Performs};
 ghost use Rattle.road_network.specs.Net.{IsLawful};
 ghost use Rattle.table_work.specs.Table.{table_plan, table_said};

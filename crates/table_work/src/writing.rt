@@ -1,7 +1,7 @@
 //! Writes a table text row by row. Serves the program; decided by `table_text`.
 ghost use Rattle.std.specs.Prelude.{◌≡◌, ◌<◌, ◌≤◌, ◌++◌, length, IfOk, OnErr, OnOk, IsErrOf};
-ghost use Rattle.table_work.specs.TableText.{end_line, text_limit};
-ghost use Rattle.table_work.specs.Draft.{no_rows, with_row};
+ghost use Rattle.table_work.specs.TableText.{table_end_line, table_text_limit};
+ghost use Rattle.table_work.specs.Draft.{draft_of_no_rows, draft_with_row};
 
 use crate::TEXT_LIMIT;
 use crate::fault::TableWriteFault;
@@ -27,11 +27,11 @@ impl Model for TableWriter {
 
     ghost Value = { Draft };
 
-    ghost use Rattle.table_work.specs.inside.WriterInside.{draft_of, IsWithin};
+    ghost use Rattle.table_work.specs.inside.WriterInside.{draft_of, IsWithinLimit};
 
     ghost view = { draft_of };
 
-    ghost invariant = { IsWithin };
+    ghost invariant = { IsWithinLimit };
 }
 
 impl TableWriter {
@@ -42,7 +42,7 @@ impl TableWriter {
         nodes: u32,
         edges: u32,
     ) -> Result<TableWriter, AllocError>
-        ensures { IfOk result (λ writer. writer ≡ no_rows bound nodes edges) }
+        ensures { IfOk result (λ writer. writer ≡ draft_of_no_rows bound nodes edges) }
     {
         let mut text = List::new(alloc);
         append_first(bound, nodes, edges, &mut text)?;
@@ -51,11 +51,11 @@ impl TableWriter {
 
     /// Adds a row. On `Err`, the writer is unchanged.
     pub fn add(&mut self, row: &Row) -> Result<(), TableWriteFault>
-        ensures ok { OnOk result (self.new ≡ with_row self.old row.now) }
+        ensures ok { OnOk result (self.new ≡ draft_with_row self.old row.now) }
         ensures err { OnErr result (self.new ≡ self.old) }
-        ensures within { OnOk result (length self.new.lines ≤ text_limit) }
+        ensures within { OnOk result (length self.new.lines ≤ table_text_limit) }
         ensures too_long { IsErrOf result TableWriteFault.TooLong
-            → text_limit < length (with_row self.old row.now).lines }
+            → table_text_limit < length (draft_with_row self.old row.now).lines }
     {
         let len = self.text.len();
         write_row(row, &mut self.text)?;
@@ -69,10 +69,10 @@ impl TableWriter {
 
     /// The table text of the added rows.
     pub fn finish(self) -> Result<List<u8>, TableWriteFault>
-        ensures ok { IfOk result (λ text. text ≡ self.lines ++ end_line self.rows) }
-        ensures within { IfOk result (λ text. length text ≤ text_limit) }
+        ensures ok { IfOk result (λ text. text ≡ self.lines ++ table_end_line self.rows) }
+        ensures within { IfOk result (λ text. length text ≤ table_text_limit) }
         ensures too_long { IsErrOf result TableWriteFault.TooLong
-            → text_limit < length (self.lines ++ end_line self.rows) }
+            → table_text_limit < length (self.lines ++ table_end_line self.rows) }
     {
         let mut text = self.text;
         append_end(self.rows, &mut text)?;

@@ -13,7 +13,7 @@ use Rattle.road_network.specs.Net.{Net, IsLawful, edge_name}
 use Rattle.road_network.specs.Near.{candidate_at, candidates, in_order, is_before, placed, within}
 use Rattle.trace_match.specs.Laws.{LabelsAgreeAsRanks}
 use Rattle.trace_reader.specs.Trace.{point_of_fix}
-use Rattle.trace_match.specs.Match.{label_of, label_on, layer_of}
+use Rattle.trace_match.specs.Match.{label_of_rank, label_on, layer_of}
 
 -- no candidate lies on edge e
 abbrev NotOn : ℕ → List Candidate → Type 0
@@ -115,7 +115,7 @@ one_rank n p l a b lawful layer apart lt lt2 same =
     one_place l.candidates a b no_candidate apart lt lt2 (lawful.names_differ (candidate_of_rank l a).edge.0 (candidate_of_rank l b).edge.0 has has2 names)
 
 ranks_agree : (n : Net) (p : Params) (l : Layer) (a b : Option ℕ) → IsLawful n → IsLayer n p l → AreApart l.candidates
-    → IfSome a (λ r. r < length l.candidates) → IfSome b (λ r. r < length l.candidates) → label_of n l a ≡ label_of n l b → a ≡ b
+    → IfSome a (λ r. r < length l.candidates) → IfSome b (λ r. r < length l.candidates) → label_of_rank n l a ≡ label_of_rank n l b → a ≡ b
 ranks_agree n p l None None lawful layer apart lt lt2 same = refl
 ranks_agree n p l None (Some b) lawful layer apart lt lt2 same = absurd (cc)
 ranks_agree n p l (Some a) None lawful layer apart lt lt2 same = absurd (cc)
@@ -126,5 +126,5 @@ labels_agree n p fix a b lawful in_range among among2 =
     let l = layer_of n p fix in
     let layer : IsLayer n p l = layer_of_candidates n p l in_range refl in (
       ranks_agree n p l a b lawful layer (candidates_apart n p.k p.radius (point_of_fix fix)) among among2,
-      (λ same. ap (label_of n l) same),
+      (λ same. ap (label_of_rank n l) same),
     )

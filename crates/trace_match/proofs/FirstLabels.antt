@@ -9,14 +9,14 @@ use Rattle.matching.specs.Layers.{trellis}
 use Rattle.matching.specs.Value.{solution}
 use Rattle.matching.proofs.CommittedValues.{committed_stays}
 use Rattle.road_network.specs.Net.{Net}
-use Rattle.trace_match.specs.Laws.{BeginsWith, CommittedLabelsStay, FirstLabelsStay, with_more}
-use Rattle.trace_match.specs.Match.{label_of, labels_of, layer_of, layers_of, match_of}
+use Rattle.trace_match.specs.Laws.{LabelsBeginWith, CommittedLabelsStay, FirstLabelsStay, with_more}
+use Rattle.trace_match.specs.Match.{label_of_rank, labels_of, layer_of, layers_of, match_of}
 
 pub first_labels : FirstLabelsStay
 first_labels n layers ranks zero = refl
 first_labels n [] ranks (suc count) = refl
 first_labels n (l ∷ layers) [] (suc count) = refl
-first_labels n (l ∷ layers) (rank ∷ ranks) (suc count) = ap (λ ls. label_of n l rank ∷ ls) (first_labels n layers ranks count)
+first_labels n (l ∷ layers) (rank ∷ ranks) (suc count) = ap (λ ls. label_of_rank n l rank ∷ ls) (first_labels n layers ranks count)
 
 -- the labels of the match of these layers
 abbrev labels_for : Net → Params → List Layer → List Label
@@ -39,21 +39,21 @@ same_labels n p layers more =
     ∙ ap (labels_of n (take k layers)) (sym is.stays)
     ∙ sym (first_labels n layers ranks k)
 
-begins : (whole front : List Label) (k : ℕ) → take k whole ≡ front → BeginsWith whole front
+begins : (whole front : List Label) (k : ℕ) → take k whole ≡ front → LabelsBeginWith whole front
 begins whole front k is = (drop k whole, sym (take-append-drop k whole) ∙ ap (λ ls. ls ++ drop k whole) is)
 
-labels_begin : (n : Net) (p : Params) (layers more all : List Layer) → layers ++ more ≡ all → BeginsWith (labels_for n p all) (committed_for n p layers)
+labels_begin : (n : Net) (p : Params) (layers more all : List Layer) → layers ++ more ≡ all → LabelsBeginWith (labels_for n p all) (committed_for n p layers)
 labels_begin n p layers more all is =
-    subst (λ ls. BeginsWith (labels_for n p ls) (committed_for n p layers)) is
+    subst (λ ls. LabelsBeginWith (labels_for n p ls) (committed_for n p layers)) is
     (begins (labels_for n p (layers ++ more)) (committed_for n p layers) (committed_of (trellis n p) layers) (same_labels n p layers more))
 
-committed_begin : (n : Net) (p : Params) (layers more all : List Layer) → layers ++ more ≡ all → BeginsWith (committed_for n p all) (committed_for n p layers)
+committed_begin : (n : Net) (p : Params) (layers more all : List Layer) → layers ++ more ≡ all → LabelsBeginWith (committed_for n p all) (committed_for n p layers)
 committed_begin n p layers more all is =
     let t = trellis n p in
     let k = committed_of t layers in
     let whole = layers ++ more in
     let committed : IsCommittedFor t layers more = committed_stays t layers more in
-    subst (λ ls. BeginsWith (committed_for n p ls) (committed_for n p layers)) is
+    subst (λ ls. LabelsBeginWith (committed_for n p ls) (committed_for n p layers)) is
     (begins (committed_for n p whole) (committed_for n p layers) k
     (take-take k (committed_of t whole) (labels_for n p whole) committed.grows ∙ same_labels n p layers more))
 

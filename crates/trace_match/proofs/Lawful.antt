@@ -17,7 +17,8 @@ use Rattle.match_text.specs.MatchText.{IsCovered, IsLawful, IsMatched, IsOn, IsR
 use Rattle.std.proofs.lemmas.List.{length-map}
 use Rattle.trellis.specs.declared.parts.Solved.{Solved}
 use Rattle.trace_match.specs.Laws.{MatchesAreLawful}
-use Rattle.trace_match.specs.Match.{as_solution, label_of, labels_of, layer_of, layers_of, match_of, matched_of, routed_of}
+use Rattle.trace_match.specs.Match.{label_of_rank, labels_of, layer_of, layers_of, match_of, matched_of, routed_of}
+use Rattle.trace_match.specs.inside.Solved.{as_solution}
 use Rattle.trace_match.proofs.Points.{LiesIn, lies_below, lies_earlier, lies_later, pieces_count, rank_there, ranked_lies}
 
 -- ---- labels
@@ -32,11 +33,11 @@ labels_all n [] ranks e = refl
 labels_all n (l ∷ layers) [] e = absurd (omega (arith, e))
 labels_all n (l ∷ layers) (rank ∷ ranks) e = ap suc (labels_all n layers ranks (omega (arith, e)))
 
-on_if : (n : Net) (l : Layer) (rank : Option ℕ) (r : ℕ) → rank ≡ Some r → IsOn (label_of n l rank)
+on_if : (n : Net) (l : Layer) (rank : Option ℕ) (r : ℕ) → rank ≡ Some r → IsOn (label_of_rank n l rank)
 on_if n l None r e = absurd (cc)
 on_if n l (Some s) r e = tt
 
-some_if : (n : Net) (l : Layer) (rank : Option ℕ) → IsOn (label_of n l rank) → (r : ℕ) × (rank ≡ Some r)
+some_if : (n : Net) (l : Layer) (rank : Option ℕ) → IsOn (label_of_rank n l rank) → (r : ℕ) × (rank ≡ Some r)
 some_if n l None h = absurd h
 some_if n l (Some r) h = (r, refl)
 

@@ -12,10 +12,10 @@ use Rattle.road_network.specs.Net.{Net, IsLawful as IsLawfulNet}
 use Rattle.trace_reader.specs.declared.trace.Fix.{Fix}
 use Rattle.trace_reader.specs.declared.trace.Trace.{Trace}
 use Rattle.trace_reader.specs.Trace.{IsLawfulTrace, point_of_fix}
-use Rattle.trace_match.specs.Match.{label_of, labels_of, layer_of, layers_of, match_of}
+use Rattle.trace_match.specs.Match.{label_of_rank, labels_of, layer_of, layers_of, match_of}
 
 -- the match of a trace can be written, and has a label for each fix and no more pieces than fixes
-pub record IsMatchText (n : Net) (p : Params) (trace : Trace) : Type 0 where
+pub record IsWritableMatch (n : Net) (p : Params) (trace : Trace) : Type 0 where
   pub lawful : IsLawful (match_of n p trace)
   pub labels_count : length (match_of n p trace).labels ≡ length trace.fixes
   pub pieces_few : length (match_of n p trace).pieces ≤ length trace.fixes
@@ -23,7 +23,7 @@ pub record IsMatchText (n : Net) (p : Params) (trace : Trace) : Type 0 where
 abbrev pub MatchesAreLawful : Type 0
 MatchesAreLawful =
     (n : Net) (p : Params) (trace : Trace) → IsAccepted p → IsLawfulTrace trace
-    → IsMatchText n p trace
+    → IsWritableMatch n p trace
 
 -- this rank, if it is one, is that of a candidate of the fix
 abbrev pub IsRankOf : Net → Params → Fix → Option ℕ → Type 0
@@ -34,7 +34,7 @@ abbrev pub LabelsAgreeAsRanks : Type 0
 LabelsAgreeAsRanks =
     (n : Net) (p : Params) (fix : Fix) (a b : Option ℕ)
     → IsLawfulNet n → InRange (point_of_fix fix) → IsRankOf n p fix a → IsRankOf n p fix b
-    → (label_of n (layer_of n p fix) a ≡ label_of n (layer_of n p fix) b) ↔ (a ≡ b)
+    → (label_of_rank n (layer_of n p fix) a ≡ label_of_rank n (layer_of n p fix) b) ↔ (a ≡ b)
 
 -- the first labels depend on the first layers and ranks alone
 abbrev pub FirstLabelsStay : Type 0
@@ -52,15 +52,15 @@ abbrev pub with_more : Trace → List Fix → Trace
 with_more trace more = record trace { fixes = trace.fixes ++ more }
 
 -- the list begins with this one
-abbrev pub BeginsWith : List Label → List Label → Type 0
-BeginsWith whole front = (rest : List Label) × (whole ≡ front ++ rest)
+abbrev pub LabelsBeginWith : List Label → List Label → Type 0
+LabelsBeginWith whole front = (rest : List Label) × (whole ≡ front ++ rest)
 
 -- whatever fixes follow, the labels that are committed are those that the match of the whole trace
 -- begins with, and those that are committed then
 pub record AreLabelsCommitted (n : Net) (p : Params) (trace : Trace)
     (more : List Fix) : Type 0 where
-  pub stay : BeginsWith (match_of n p (with_more trace more)).labels (committed_labels n p trace)
-  pub grow : BeginsWith (committed_labels n p (with_more trace more)) (committed_labels n p trace)
+  pub stay : LabelsBeginWith (match_of n p (with_more trace more)).labels (committed_labels n p trace)
+  pub grow : LabelsBeginWith (committed_labels n p (with_more trace more)) (committed_labels n p trace)
 
 abbrev pub CommittedLabelsStay : Type 0
 CommittedLabelsStay =

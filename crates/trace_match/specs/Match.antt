@@ -14,7 +14,6 @@ use Rattle.matching.specs.Layers.{candidate_of_rank, end_of, trellis}
 use Rattle.matching.specs.Value.{Solution, solution}
 use Rattle.matching.specs.AskedValue.{is_asked_node}
 use Rattle.route_rebuild.specs.Routes.{route_of}
-use Rattle.trellis.specs.declared.parts.Solved.{Solved}
 use Rattle.match_text.specs.declared.matched.Label.{Label}
 use Rattle.match_text.specs.declared.matched.Label.TheVariants.{Missing, On}
 use Rattle.match_text.specs.declared.matched.Routed.{Routed}
@@ -41,15 +40,15 @@ abbrev pub label_on : Net → Candidate → Label
 label_on n c = On (edge_name n c.edge.0) c.offset c.d2
 
 -- the label of a position: that of its ranked candidate, or none
-abbrev pub label_of : Net → Layer → Option ℕ → Label
-label_of n l None = Missing
-label_of n l (Some rank) = label_on n (candidate_of_rank l rank)
+abbrev pub label_of_rank : Net → Layer → Option ℕ → Label
+label_of_rank n l None = Missing
+label_of_rank n l (Some rank) = label_on n (candidate_of_rank l rank)
 
 -- the labels of positions, one for each rank
 abbrev pub labels_of : Net → List Layer → List (Option ℕ) → List Label
 labels_of n [] ranks = []
 labels_of n (l ∷ layers) [] = []
-labels_of n (l ∷ layers) (rank ∷ ranks) = label_of n l rank ∷ labels_of n layers ranks
+labels_of n (l ∷ layers) (rank ∷ ranks) = label_of_rank n l rank ∷ labels_of n layers ranks
 
 -- a piece with the route over these edges, in the names of the network file
 abbrev pub routed_over : Net → Piece → List ℕ → Routed
@@ -63,10 +62,6 @@ routed_over n piece es = record {
 -- a piece with its route
 abbrev pub routed_of : Net → Params → List Layer → List (Option ℕ) → Piece → Routed
 routed_of n p layers ranks piece = routed_over n piece (route_of n p layers ranks piece)
-
--- what was found for a trace, as a value
-abbrev pub as_solution : Solved → Solution
-as_solution s = record { ranks = s.ranks; pieces = s.pieces; tables = s.tables }
 
 -- the match of a trace of this id, with these layers, ranks and pieces
 abbrev pub matched_of : Net → Params → ℕ → List Layer → Solution → MatchedTrace

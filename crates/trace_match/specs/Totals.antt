@@ -5,13 +5,13 @@ use Rattle.trace_match.specs.Match.{asks, match_of}
 use Rattle.trace_match.specs.Setting.{Setting}
 use Rattle.trace_reader.specs.declared.trace.Trace.{Trace}
 
-abbrev pub pieces_of : Setting → List Trace → ℕ
-pieces_of on traces = sum_by (λ trace. length (match_of on.network on.params trace).pieces) traces
+abbrev pub piece_count : Setting → List Trace → ℕ
+piece_count on traces = sum_by (λ trace. length (match_of on.network on.params trace).pieces) traces
 
 -- whether one of these traces asks for the row of node v
 abbrev pub is_asked_by : Setting → List Trace → ℕ → Bool
 is_asked_by on traces v = list_any (λ trace. asks on.network on.params trace v) traces
 
 -- how many nodes of the network the traces ask for, each once
-abbrev pub rows_of : Setting → List Trace → ℕ
-rows_of on traces = count_by (is_asked_by on traces) (range_with_len 0 (length on.network.nodes))
+abbrev pub asked_count : Setting → List Trace → ℕ
+asked_count on traces = count_by (is_asked_by on traces) (range_with_len 0 (length on.network.nodes))

@@ -1,2 +1,3 @@
 pub mod MatcherInside
 pub mod Asked
+pub mod Solved

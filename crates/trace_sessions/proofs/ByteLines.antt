@@ -22,10 +22,10 @@ use Rattle.matching.specs.declared.parts.Layer.{Layer}
 use Rattle.online_commit.specs.declared.items.Item.{Item}
 use Rattle.online_commit.specs.declared.items.Item.TheVariants.{At, Missing, Closed}
 use Rattle.route_rebuild.specs.Numbers.{numbers}
-use Rattle.trace_sessions.specs.FollowText.{finish_line, fix_line, follow_text, handed_at, last_lines, left_of, point_lines}
+use Rattle.trace_sessions.specs.FollowText.{finish_line, fix_line, follow_text, handed_at, last_lines, left_of, followed_lines}
 use Rattle.trace_sessions.specs.ItemText.{item_line, item_lines, lead_of}
 use Rattle.trace_sessions.specs.Sessions.{Pair, fixes_of, with_fix}
-use Rattle.trace_sessions.specs.StreamText.{IdsHaveFollowTexts, Point, all_lines, closing_lines, first_line, fixes_among, full_id, has_room, led_by, lines_at_end, lines_led_by, lines_of_fix, stream_lines, text_led_by, with_points}
+use Rattle.trace_sessions.specs.StreamText.{IdsHaveFollowTexts, Point, all_lines, closing_lines, trace_first_line, fixes_among, full_id, has_room, led_by, lines_at_end, lines_led_by, lines_of_fix, stream_lines, text_led_by, with_points}
 use Rattle.trace_sessions.proofs.StreamAlone.{ids_are_followed_alone, led-append}
 
 -- ---- texts without LF
@@ -149,17 +149,17 @@ led-one id (text ∷ lines) are =
 
 -- ---- the lines of a stream
 
-first-one : (id : ℕ) (fixes : List Fix) → All IsOneLine (first_line id fixes)
+first-one : (id : ℕ) (fixes : List Fix) → All IsOneLine (trace_first_line id fixes)
 first-one id [] = All-cons IsOneLine (trace_line id) [] (numbered (codes "trace") id refl) (All-nil IsOneLine)
 first-one id (fix ∷ fixes) = All-nil IsOneLine
 
-point-one : (n : Net) (p : Params) (layers : List Layer) (i : ℕ) → All IsOneLine (point_lines n p layers i)
+point-one : (n : Net) (p : Params) (layers : List Layer) (i : ℕ) → All IsOneLine (followed_lines n p layers i)
 point-one n p layers i = All-cons IsOneLine (fix_line i) (item_lines n None (handed_at n p layers i)) (numbered (codes "fix") i refl) (items-one n (handed_at n p layers i))
 
 pub fix-one : (n : Net) (p : Params) (id : ℕ) (fixes : List Fix) (fix : Fix) → All IsOneLine (lines_of_fix n p id fixes fix)
 fix-one n p id fixes fix =
     let layers = map (layer_of n p) (fixes ++ fix ∷ []) in
-    All-append IsOneLine (first_line id fixes) (point_lines n p layers (length fixes)) (first-one id fixes) (point-one n p layers (length fixes))
+    All-append IsOneLine (trace_first_line id fixes) (followed_lines n p layers (length fixes)) (first-one id fixes) (point-one n p layers (length fixes))
 
 stream-one : (n : Net) (p : Params) (pairs : List Pair) (points : List Point) → All IsOneLine (stream_lines n p pairs points)
 stream-one n p pairs [] = All-nil IsOneLine

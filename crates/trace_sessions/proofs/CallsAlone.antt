@@ -9,9 +9,10 @@ use Rattle.road_network.specs.Net.{Net}
 use Rattle.trace_reader.specs.declared.trace.Fix.{Fix}
 use Rattle.online_commit.specs.declared.items.Item.{Item}
 use Rattle.trace_match.specs.Match.{layer_of}
-use Rattle.trace_sessions.specs.Calls.{CallGives, CallsGive, IdsAreAnsweredAlone, answers, id_of, pairs_after}
+use Rattle.trace_sessions.specs.Calls.{CallGives, CallsGive, IdsAreAnsweredAlone, id_of}
+use Rattle.trace_sessions.specs.inside.CallAnswers.{answers, pairs_after}
 use Rattle.trace_sessions.specs.FollowText.{handed_at, left_of}
-use Rattle.trace_sessions.specs.Sessions.{Call, Keeps, Pair, SessionsState, fixes_of, items_of_call}
+use Rattle.trace_sessions.specs.Sessions.{Call, RepresentsPairs, Pair, SessionsState, fixes_of, items_of_call}
 use Rattle.trace_sessions.specs.Sessions.Call.{closes, feeds}
 use Rattle.trace_sessions.specs.StreamText.{Point}
 use Rattle.trace_sessions.proofs.StreamPoints.{Once, fixes-with, once-insert}
@@ -120,9 +121,9 @@ record IsStep (n : Net) (p : Params) (new : SessionsState) (pairs : List Pair) (
   pub are : items ≡ items_of_call n p pairs call
   pub network : new.network ≡ n
   pub params : new.params ≡ p
-  pub keeps : Keeps new (pairs_after pairs call)
+  pub keeps : RepresentsPairs new (pairs_after pairs call)
 
-step-of : (n : Net) (p : Params) (s new : SessionsState) (pairs : List Pair) (call : Call) (items : List Item) → s.network ≡ n → s.params ≡ p → Keeps s pairs → CallGives s call new items
+step-of : (n : Net) (p : Params) (s new : SessionsState) (pairs : List Pair) (call : Call) (items : List Item) → s.network ≡ n → s.params ≡ p → RepresentsPairs s pairs → CallGives s call new items
     → IsStep n p new pairs call items
 step-of n p s new pairs (feeds k fix) items net par keeps gives = record {
   are = subst (λ m. items ≡ items_of_call m p pairs (feeds k fix)) net (subst (λ q. items ≡ items_of_call s.network q pairs (feeds k fix)) par (gives.are pairs keeps));
@@ -137,7 +138,7 @@ step-of n p s new pairs (closes k) items net par keeps gives = record {
   keeps = gives.stands pairs keeps;
 }
 
-given-are : (n : Net) (p : Params) (s : SessionsState) (pairs : List Pair) (calls : List Call) (given : List (ℕ × List Item)) → s.network ≡ n → s.params ≡ p → Keeps s pairs → CallsGive s calls given
+given-are : (n : Net) (p : Params) (s : SessionsState) (pairs : List Pair) (calls : List Call) (given : List (ℕ × List Item)) → s.network ≡ n → s.params ≡ p → RepresentsPairs s pairs → CallsGive s calls given
     → given ≡ answers n p pairs calls
 given-are n p s pairs [] [] net par keeps h = refl
 given-are n p s pairs [] (answer ∷ given) net par keeps h = absurd h

@@ -20,8 +20,8 @@ use Rattle.matching.proofs.SolutionMatches.{best_of-is, solution_is_a_match}
 use Rattle.matching.proofs.Splits.{from_point, from_joins, Splits}
 use Rattle.match_text.specs.declared.matched.Label.{Label}
 use Rattle.online_commit.proofs.Handed.{solution-now}
-use Rattle.trace_match.specs.Laws.{BeginsWith, committed_labels}
-use Rattle.trace_match.specs.Match.{label_of, labels_of, layer_of, layers_of, match_of}
+use Rattle.trace_match.specs.Laws.{LabelsBeginWith, committed_labels}
+use Rattle.trace_match.specs.Match.{label_of_rank, labels_of, layer_of, layers_of, match_of}
 use Rattle.trace_match.proofs.DifferentEdges.{labels_agree}
 use Rattle.trace_match.proofs.FirstLabels.{first_labels}
 use Rattle.trace_reader.specs.declared.trace.Fix.{Fix}
@@ -37,7 +37,7 @@ labels-parts : (n : Net) (front back : List Layer) (rs ss : List (Option ℕ)) �
 labels-parts n [] back [] ss e = refl
 labels-parts n [] back (r ∷ rs) ss e = absurd (omega (arith, e))
 labels-parts n (l ∷ front) back [] ss e = absurd (omega (arith, e))
-labels-parts n (l ∷ front) back (r ∷ rs) ss e = ap (λ ls. label_of n l r ∷ ls) (labels-parts n front back rs ss (omega (arith, e)))
+labels-parts n (l ∷ front) back (r ∷ rs) ss e = ap (λ ls. label_of_rank n l r ∷ ls) (labels-parts n front back rs ss (omega (arith, e)))
 
 labels-count : (n : Net) (layers : List Layer) (rs : List (Option ℕ)) → length rs ≡ length layers → length (labels_of n layers rs) ≡ length layers
 labels-count n [] rs e = refl
@@ -46,7 +46,7 @@ labels-count n (l ∷ layers) (r ∷ rs) e = ap suc (labels-count n layers rs (o
 
 -- labels of ranks of candidates tell the ranks
 IsTelling : Net → Params → Layer → Type 0
-IsTelling n p l = (x y : ℕ) → x < (trellis n p).width l → y < (trellis n p).width l → label_of n l (Some x) ≡ label_of n l (Some y) → x ≡ y
+IsTelling n p l = (x y : ℕ) → x < (trellis n p).width l → y < (trellis n p).width l → label_of_rank n l (Some x) ≡ label_of_rank n l (Some y) → x ≡ y
 
 AreTelling : Net → Params → List Layer → Type 0
 AreTelling n p [] = Unit {0}
@@ -86,8 +86,8 @@ same-ranks n p (l ∷ layers) (x ∷ xs) [] (suc m) tells hx hy same = absurd hy
 same-ranks n p (l ∷ layers) (x ∷ xs) (y ∷ ys) (suc m) tells hx hy same =
     let xs_left = take m (labels_of n layers (some_of xs)) in
     let ys_left = take m (labels_of n layers (some_of ys)) in
-    let now = heads (label_of n l (Some x)) (label_of n l (Some y)) xs_left ys_left same in
-    let later = tails (label_of n l (Some x)) (label_of n l (Some y)) xs_left ys_left same in
+    let now = heads (label_of_rank n l (Some x)) (label_of_rank n l (Some y)) xs_left ys_left same in
+    let later = tails (label_of_rank n l (Some x)) (label_of_rank n l (Some y)) xs_left ys_left same in
     ap (λ r. r ∷ take m xs) (tells.0 x y hx.0 hy.0 now) ∙ ap (λ rs. y ∷ rs) (same-ranks n p layers xs ys m tells.1 hx.1 hy.1 later)
 
 -- ---- the law
@@ -133,7 +133,7 @@ same-front n p layers first k closed b committed s x h =
 
 begins-with_committed : (n : Net) (p : Params) (layers : List Layer) (first k : ℕ) (closed : List Label) (b : List ℕ) (committed : List Label) → Stands n p layers first k closed b committed
     → (x : List ℕ) → IsEnd (trellis n p) (reverse (drop first layers)) x
-    → BeginsWith (labels_of n layers (take first (solution (trellis n p) layers).ranks ++ some_of x)) committed
+    → LabelsBeginWith (labels_of n layers (take first (solution (trellis n p) layers).ranks ++ some_of x)) committed
 begins-with_committed n p layers first k closed b committed s x h =
     let xs = drop first layers in
     let rest = drop k (tail_of n xs x) in (
@@ -152,7 +152,7 @@ next-labels closed tail other rest first count le same =
 longer : (n : Net) (p : Params) (layers : List Layer) (first k : ℕ) (closed : List Label) (b : List ℕ) (committed : List Label) → Stands n p layers first k closed b committed
     → (other : List Label)
     → ((x : List ℕ) → IsEnd (trellis n p) (reverse (drop first layers)) x
-    → BeginsWith (labels_of n layers (take first (solution (trellis n p) layers).ranks ++ some_of x)) other)
+    → LabelsBeginWith (labels_of n layers (take first (solution (trellis n p) layers).ranks ++ some_of x)) other)
     → first ≤ length other → length other ≤ first + k
 longer n p layers first k closed b committed s other all le =
     let t = trellis n p in
@@ -181,10 +181,10 @@ law-from n p layers first k closed b committed s =
     let size : length committed ≡ first + k = ap length s.is ∙ length-append closed (take k (tail_of n xs b))
     ∙ omega (arith, s.count, length-take-le k (tail_of n xs b) (omega (arith, w, length-reverse xs, tail-count n p xs b s.end))) in
     record {
-      common = All-map (λ labels. BeginsWith labels committed) list ends (all-among (λ x. BeginsWith (list x) committed) ends (λ x among. begins-with_committed n p layers first k closed b committed s x (ends-told t (reverse xs) x among)));
+      common = All-map (λ labels. LabelsBeginWith labels committed) list ends (all-among (λ x. LabelsBeginWith (list x) committed) ends (λ x among. begins-with_committed n p layers first k closed b committed s x (ends-told t (reverse xs) x among)));
       longest = λ other all.
-          let each : (x : List ℕ) → IsEnd t (reverse xs) x → BeginsWith (list x) other = λ x h.
-          among-all (λ y. BeginsWith (list y) other) ends x (among-mapped list (λ labels. BeginsWith labels other) ends all)
+          let each : (x : List ℕ) → IsEnd t (reverse xs) x → LabelsBeginWith (list x) other = λ x h.
+          among-all (λ y. LabelsBeginWith (list y) other) ends x (among-mapped list (λ labels. LabelsBeginWith labels other) ends all)
           (subst (λ y. Among y ends) (sym h.is) (ends-have t (reverse xs) h.rank h.price h.ranks h.best)) in
           ⊎_elim (λ few. omega (arith, few, size)) (λ many. let most = longer n p layers first k closed b committed s other each many in omega (arith, most, size)) (cases_lt (length other) first);
     }

@@ -7,7 +7,7 @@ use Rattle.std.proofs.lemmas.List.Folds.{concat-append}
 use Rattle.cost_model.specs.declared.params.Params.{Params}
 use Rattle.decimal_text.specs.Number.{decimal}
 use Rattle.road_network.specs.Net.{Net}
-use Rattle.trace_sessions.specs.Drives.{Fleet, all_drive_lines, drive_lines, drives_of, ended_at, no_drives, open_at, row_lines, with_row, with_rows}
+use Rattle.trace_sessions.specs.Drives.{Fleet, all_drive_lines, drive_lines, drives_of, ended_at, no_drives, open_at, fleet_lines, fleet_after, fleet_after_all}
 use Rattle.trace_sessions.specs.DrivesAlone.{drives_with}
 use Rattle.trace_sessions.specs.FollowText.{follow_lines, follow_text}
 use Rattle.trace_sessions.specs.ItemText.{lead_of}
@@ -17,7 +17,7 @@ use Rattle.trace_sessions.proofs.ByteLines.{IsOneLine, IsPlain, begins, closing-
 use Rattle.trace_sessions.proofs.DrivesAlone.{drives_are_followed_alone}
 use Rattle.trace_sessions.proofs.StreamAlone.{led-append}
 
-row-one : (n : Net) (p : Params) (idle : ℕ) (fleet : Fleet) (x : Point) → All IsOneLine (row_lines n p idle fleet x)
+row-one : (n : Net) (p : Params) (idle : ℕ) (fleet : Fleet) (x : Point) → All IsOneLine (fleet_lines n p idle fleet x)
 row-one n p idle fleet x =
     let fixes = fixes_of (open_at idle fleet x) x.0 in
     All-append IsOneLine (closing_lines n p (ended_at idle fleet x)) (led_by x.0 (lines_of_fix n p x.0 fixes x.1)) (closing-one n p (ended_at idle fleet x))
@@ -26,7 +26,7 @@ row-one n p idle fleet x =
 drives-one : (n : Net) (p : Params) (idle : ℕ) (fleet : Fleet) (points : List Point) → All IsOneLine (drive_lines n p idle fleet points)
 drives-one n p idle fleet [] = All-nil IsOneLine
 drives-one n p idle fleet (x ∷ more) =
-    All-append IsOneLine (row_lines n p idle fleet x) (drive_lines n p idle (with_row idle fleet x) more) (row-one n p idle fleet x) (drives-one n p idle (with_row idle fleet x) more)
+    All-append IsOneLine (fleet_lines n p idle fleet x) (drive_lines n p idle (fleet_after idle fleet x) more) (row-one n p idle fleet x) (drives-one n p idle (fleet_after idle fleet x) more)
 
 -- the follow texts of drives are those of their lines
 texts-of : (n : Net) (p : Params) (drives : List Pair) → concat (flat_map (λ drive. follow_lines n p (trace_of drive)) drives) ≡ flat_map (λ drive. follow_text n p (trace_of drive)) drives
@@ -44,7 +44,7 @@ drives_have_follow_texts_before n p idle points id last small own one other =
     let lines = all_drive_lines n p idle points in
     let plain = All-append IsPlain (decimal id) (32 ∷ []) (decimal-plain id) (All-cons IsPlain 32 [] refl (All-nil IsPlain)) in
     let count = length-append (decimal id) (32 ∷ []) in
-    let closed = (with_rows idle no_drives points).drives in
+    let closed = (fleet_after_all idle no_drives points).drives in
     let all = All-append IsOneLine (drive_lines n p idle no_drives points) (closing_lines n p closed) (drives-one n p idle no_drives points) (closing-one n p closed) in
     let are = All-append IsOneLine lines (last ∷ []) all (All-cons IsOneLine last [] one (All-nil IsOneLine)) in
     let whole : concat (lines ++ last ∷ []) ≡ concat lines ++ last = concat-append lines (last ∷ []) ∙ ap (λ t. concat lines ++ t) (append-nil last) in

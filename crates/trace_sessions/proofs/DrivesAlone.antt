@@ -14,7 +14,7 @@ use Rattle.trace_reader.specs.declared.trace.Fix.{Fix}
 use Rattle.trace_sessions.specs.FollowText.{follow_lines, last_lines}
 use Rattle.trace_sessions.specs.Sessions.{Pair, fixes_of, with_fix}
 use Rattle.trace_sessions.specs.StreamText.{Point, closing_lines, fixes_among, led_by, lines_at_end, lines_led_by, lines_of_fix, trace_of}
-use Rattle.trace_sessions.specs.Drives.{Fleet, awake_at, clock_at, drive_lines, ended_among, ended_at, is_full_of, is_idle, no_drives, open_at, with_row, with_rows}
+use Rattle.trace_sessions.specs.Drives.{Fleet, awake_at, clock_at, drive_lines, ended_among, ended_at, is_full_of, is_idle, no_drives, open_at, fleet_after, fleet_after_all}
 use Rattle.trace_sessions.specs.DrivesAlone.{DrivesAreFollowedAlone, DrivesHaveEachPosition, drives_with}
 use Rattle.trace_sessions.proofs.StreamPoints.{fixes-with}
 use Rattle.trace_sessions.proofs.StreamAlone.{IsShort, IsSmall, alone-all, alone_step, closing-alone, ends_alone, led-append, lines_alone, part}
@@ -124,18 +124,18 @@ three_parts a l m r f b c g one two three =
     ∙ ap (λ x. f ++ x) (sym (append_assoc b m r) ∙ ap (λ x. x ++ r) two ∙ three)
 
 rows-alone : (n : Net) (p : Params) (idle : ℕ) (fleet : Fleet) (points : List Point) (id : ℕ) → id < 2 ^ 32 → All IsSmall points → AreDrives IsShort fleet.drives
-    → begun n p id fleet.drives ++ lines_led_by id (drive_lines n p idle fleet points ++ closing_lines n p (with_rows idle fleet points).drives)
-    ≡ follows n p (drives_with id (ended_among idle fleet points ++ (with_rows idle fleet points).drives))
+    → begun n p id fleet.drives ++ lines_led_by id (drive_lines n p idle fleet points ++ closing_lines n p (fleet_after_all idle fleet points).drives)
+    ≡ follows n p (drives_with id (ended_among idle fleet points ++ (fleet_after_all idle fleet points).drives))
 rows-alone n p idle fleet [] id small are drives = all-end n p id fleet.drives small drives
 rows-alone n p idle fleet (x ∷ more) id small are drives =
-    let next = with_row idle fleet x in
+    let next = fleet_after idle fleet x in
     let gone = closing_lines n p (ended_at idle fleet x) in
     let here = led_by x.0 (lines_of_fix n p x.0 (fixes_of (open_at idle fleet x) x.0) x.1) in
     let behind = drive_lines n p idle next more in
-    let last = closing_lines n p (with_rows idle next more).drives in
+    let last = closing_lines n p (fleet_after_all idle next more).drives in
     let ended = ended_at idle fleet x in
     let later = ended_among idle next more in
-    let last_open = (with_rows idle next more).drives in
+    let last_open = (fleet_after_all idle next more).drives in
     ap (λ ls. begun n p id fleet.drives ++ lines_led_by id ls) (append_assoc (gone ++ here) behind last)
     ∙ ap (λ ls. begun n p id fleet.drives ++ ls)
     (led-append id (gone ++ here) (behind ++ last) ∙ ap (λ ls. ls ++ lines_led_by id (behind ++ last)) (led-append id gone here))
@@ -202,15 +202,15 @@ among-first id x more = step (nat_eq id x.0)
     step false = refl
 
 rows-pass : (idle : ℕ) (fleet : Fleet) (points : List Point) (id : ℕ) → AreDrives Any fleet.drives
-    → fixes_of fleet.drives id ++ fixes_among id points ≡ positions (drives_with id (ended_among idle fleet points ++ (with_rows idle fleet points).drives))
+    → fixes_of fleet.drives id ++ fixes_among id points ≡ positions (drives_with id (ended_among idle fleet points ++ (fleet_after_all idle fleet points).drives))
 rows-pass idle fleet [] id are =
     append-nil (fixes_of fleet.drives id) ∙ whole_case id (lookup (nat_eq id) fleet.drives) ∙ ap positions (sym (with-lookup Any id fleet.drives are.once))
 rows-pass idle fleet (x ∷ more) id are =
-    let next = with_row idle fleet x in
+    let next = fleet_after idle fleet x in
     let still = open_at idle fleet x in
     let ended = ended_at idle fleet x in
     let later = ended_among idle next more in
-    let last_open = (with_rows idle next more).drives in
+    let last_open = (fleet_after_all idle next more).drives in
     let gone = positions (drives_with id ended) in
     ap (λ fs. fs ++ fixes_among id (x ∷ more)) (pass-here idle fleet x id are)
     ∙ append_assoc gone (fixes_of still id) (fixes_among id (x ∷ more))

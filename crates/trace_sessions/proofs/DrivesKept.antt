@@ -8,7 +8,7 @@ use Rattle.std.proofs.lemmas.List.{append_assoc, length-append}
 use Rattle.trace_reader.specs.declared.trace.Fix.{Fix}
 use Rattle.trace_sessions.specs.Sessions.{Pair, fixes_and, fixes_of}
 use Rattle.trace_sessions.specs.StreamText.{Point}
-use Rattle.trace_sessions.specs.Drives.{Fleet, open_at, with_row}
+use Rattle.trace_sessions.specs.Drives.{Fleet, open_at, fleet_after}
 use Rattle.trace_sessions.specs.DrivesAlone.{drives_with}
 use Rattle.trace_sessions.proofs.StreamPoints.{Once, insert-lookup, once-insert}
 
@@ -106,7 +106,7 @@ others-are P ends es are = filter-are P (λ drive. not (ends drive)) es are
 pub open-are : (P : ℕ → Type 0) (idle : ℕ) (fleet : Fleet) (x : Point) → AreDrives P fleet.drives → AreDrives P (open_at idle fleet x)
 open-are P idle fleet x are = others-are P _ _ (others-are P _ _ are)
 
-pub row-are : (P : ℕ → Type 0) (idle : ℕ) (fleet : Fleet) (x : Point) → P x.0 → AreDrives P fleet.drives → AreDrives P (with_row idle fleet x).drives
+pub row-are : (P : ℕ → Type 0) (idle : ℕ) (fleet : Fleet) (x : Point) → P x.0 → AreDrives P fleet.drives → AreDrives P (fleet_after idle fleet x).drives
 row-are P idle fleet x has are =
     let es = open_at idle fleet x in
     let own = open-are P idle fleet x are in

@@ -11,15 +11,15 @@ use Rattle.trace_match.specs.Match.{layers_of, match_of}
 use Rattle.online_commit.specs.declared.items.Item.{Item}
 use Rattle.online_commit.specs.declared.items.Item.TheVariants.{At, Missing, Closed}
 use Rattle.online_commit.specs.Items.{handed, items_of}
-use Rattle.online_commit.specs.Session.{BeginsWith}
+use Rattle.online_commit.specs.Session.{ItemsBeginWith}
 use Rattle.online_commit.proofs.Growing.{handed-grows, handed-stays}
 use Rattle.trace_sessions.specs.ItemText.{item_line, item_lines}
-use Rattle.trace_sessions.specs.FollowText.{FollowIsMatch, handed_at, is_step_line, last_lines, left_of, point_lines}
+use Rattle.trace_sessions.specs.FollowText.{FollowIsMatch, handed_at, is_step_line, last_lines, left_of, followed_lines}
 use Rattle.trace_sessions.proofs.ItemLines.{items_lines}
 
 -- ---- what is handed out
 
-behind_front : (whole front : List Item) → BeginsWith whole front → whole ≡ front ++ drop (length front) whole
+behind_front : (whole front : List Item) → ItemsBeginWith whole front → whole ≡ front ++ drop (length front) whole
 behind_front whole front begins =
     begins.1 ∙ ap (λ xs. front ++ xs) (sym (drop_at front begins.0 (length front) refl) ∙ ap (drop (length front)) (sym begins.1))
 
@@ -31,13 +31,13 @@ handed_next n p layers i =
     let parts : fed ++ more ≡ take (suc i) layers =
     ap (λ xs. xs ++ more) (sym (take-take i (suc i) layers (omega arith))) ∙ take-append-drop i (take (suc i) layers) in
     behind_front (handed n p (take (suc i) layers)) (handed n p fed)
-    (subst (λ ls. BeginsWith (handed n p ls) (handed n p fed)) parts (handed-grows n p fed more))
+    (subst (λ ls. ItemsBeginWith (handed n p ls) (handed n p fed)) parts (handed-grows n p fed more))
 
 -- and the end what is left
 pub left_behind : (n : Net) (p : Params) (layers : List Layer) → items_of n p layers ≡ handed n p layers ++ left_of n p layers
 left_behind n p layers =
     behind_front (items_of n p layers) (handed n p layers)
-    (subst (λ ls. BeginsWith (items_of n p ls) (handed n p layers)) (append-nil layers) (handed-stays n p layers []))
+    (subst (λ ls. ItemsBeginWith (items_of n p ls) (handed n p layers)) (append-nil layers) (handed-stays n p layers []))
 
 front_of_none : (xs ys : List Item) → [] ≡ xs ++ ys → xs ≡ []
 front_of_none [] ys e = refl
@@ -70,14 +70,14 @@ items_kept n (x ∷ items) =
 
 -- the lines of k points from point i on go on from those of the points before
 points_kept : (n : Net) (p : Params) (layers : List Layer) (i k : ℕ)
-    → map (item_line n) (handed n p (take i layers)) ++ filter is_kept (flat_map (point_lines n p layers) (range_with_len i k)) ≡ map (item_line n) (handed n p (take (i + k) layers))
+    → map (item_line n) (handed n p (take i layers)) ++ filter is_kept (flat_map (followed_lines n p layers) (range_with_len i k)) ≡ map (item_line n) (handed n p (take (i + k) layers))
 points_kept n p layers i zero =
     let e : i ≡ i + 0 = omega arith in
     append-nil (map (item_line n) (handed n p (take i layers))) ∙ ap (λ j. map (item_line n) (handed n p (take j layers))) e
 points_kept n p layers i (suc k) =
     let old = handed n p (take i layers) in
     let now = handed_at n p layers i in
-    let more = flat_map (point_lines n p layers) (range_with_len (i + 1) k) in
+    let more = flat_map (followed_lines n p layers) (range_with_len (i + 1) k) in
     let one : suc i ≡ i + 1 = omega arith in
     let all : i + 1 + k ≡ i + suc k = omega arith in
     ap (λ ts. map (item_line n) old ++ ts) (filter-append is_kept (item_lines n None now) more ∙ ap (λ ts. ts ++ filter is_kept more) (items_kept n now))
@@ -88,9 +88,9 @@ points_kept n p layers i (suc k) =
     ∙ ap (λ j. map (item_line n) (handed n p (take j layers))) all
 
 all_kept : (n : Net) (p : Params) (layers : List Layer)
-    → filter is_kept (flat_map (point_lines n p layers) (range_with_len 0 (length layers))) ≡ map (item_line n) (handed n p layers)
+    → filter is_kept (flat_map (followed_lines n p layers) (range_with_len 0 (length layers))) ≡ map (item_line n) (handed n p layers)
 all_kept n p layers =
-    let lines = filter is_kept (flat_map (point_lines n p layers) (range_with_len 0 (length layers))) in
+    let lines = filter is_kept (flat_map (followed_lines n p layers) (range_with_len 0 (length layers))) in
     ap (λ xs. map (item_line n) xs ++ lines) (sym (none_handed n p))
     ∙ points_kept n p layers 0 (length layers)
     ∙ ap (λ ls. map (item_line n) (handed n p ls)) (take_all (0 + length layers) layers (omega arith))
@@ -105,7 +105,7 @@ pub follow_is_match : FollowIsMatch
 unfolding match_of
 follow_is_match n p trace =
     let layers = layers_of n p trace in
-    let points = flat_map (point_lines n p layers) (range_with_len 0 (length layers)) in
+    let points = flat_map (followed_lines n p layers) (range_with_len 0 (length layers)) in
     let left = left_of n p layers in
     let end = end_line trace.id ∷ [] in
     ap (λ ts. trace_line trace.id ∷ ts)

@@ -21,7 +21,7 @@ use Rattle.trace_match.proofs.Lawful.{match_lawful}
 use Rattle.trace_match.proofs.TraceLayers.{matchable}
 use Rattle.online_commit.specs.declared.items.Item.{Item}
 use Rattle.online_commit.specs.Items.{handed, items_of, items_with}
-use Rattle.online_commit.specs.Session.{CanFeed, IsFed, IsFedLayer, IsFinished, Session, StandsFor, no_points_of, points_of}
+use Rattle.online_commit.specs.Session.{CanFeed, FeedsLayer, IsFedLayer, IsFinished, Session, RepresentsLayers, no_points_of, fed_position_count}
 use Rattle.online_commit.proofs.Growing.{handed-stays}
 use Rattle.online_commit.proofs.Opened.{opened-stands}
 use Rattle.trace_sessions.specs.FollowText.{handed_at, left_of}
@@ -38,7 +38,7 @@ first_layers n p trace i = take i (layers_of n p trace)
 pub record HasFollowed (n : Net) (p : Params) (trace : Trace) (i : ℕ) (s : Session) (pieces : ℕ) : Type 0 where
   pub network : s.network ≡ n
   pub params : s.params ≡ p
-  pub stands : StandsFor s (first_layers n p trace i)
+  pub stands : RepresentsLayers s (first_layers n p trace i)
   pub counted : pieces ≡ pieces_among (handed n p (first_layers n p trace i))
 
 -- these items are those that the point behind the first i hands out
@@ -67,7 +67,7 @@ fed_layer n p fix accepted place = record {
 }
 
 -- as many points were fed as were taken
-pub fed_count : (n : Net) (p : Params) (trace : Trace) (i : ℕ) (s : Session) (pieces : ℕ) → HasFollowed n p trace i s pieces → i ≤ length trace.fixes → points_of s ≡ i
+pub fed_count : (n : Net) (p : Params) (trace : Trace) (i : ℕ) (s : Session) (pieces : ℕ) → HasFollowed n p trace i s pieces → i ≤ length trace.fixes → fed_position_count s ≡ i
 fed_count n p trace i s pieces has low =
     let count = count_layers n p trace in
     has.stands.count ∙ length-take-le i (layers_of n p trace) (omega (arith, low, count))
@@ -79,7 +79,7 @@ nothing_handed n p =
     let found = solution (trellis n p) [] in
     ap (items_with n p [] found.ranks (closed_pieces found.pieces 0)) ((opened-stands n p).told_is)
 
-pub none_followed : (n : Net) (p : Params) (trace : Trace) (s : Session) → s ≡ no_points_of n p → StandsFor s [] → HasFollowed n p trace 0 s 0
+pub none_followed : (n : Net) (p : Params) (trace : Trace) (s : Session) → s ≡ no_points_of n p → RepresentsLayers s [] → HasFollowed n p trace 0 s 0
 none_followed n p trace s is stands = record {
   network = ap (λ (x : Session). x.network) is;
   params = ap (λ (x : Session). x.params) is;
@@ -88,7 +88,7 @@ none_followed n p trace s is stands = record {
 }
 
 pub next_handed : (n : Net) (p : Params) (trace : Trace) (i : ℕ) (fix : Fix) (s new : Session) (pieces : ℕ) (items : List Item) → HasFollowed n p trace i s pieces
-    → i < length trace.fixes → fix ≡ get_or trace.fixes i fix → IsFed s (layer_of n p fix) new items → IsNextHanded n p trace i items
+    → i < length trace.fixes → fix ≡ get_or trace.fixes i fix → FeedsLayer s (layer_of n p fix) new items → IsNextHanded n p trace i items
 next_handed n p trace i fix s new pieces items has low is fed =
     let front = first_layers n p trace i in
     let l = layer_of n p fix in
@@ -106,7 +106,7 @@ next_handed n p trace i fix s new pieces items has low is fed =
     }
 
 pub next_followed : (n : Net) (p : Params) (trace : Trace) (i : ℕ) (fix : Fix) (s new : Session) (pieces count : ℕ) (items : List Item) → HasFollowed n p trace i s pieces
-    → i < length trace.fixes → fix ≡ get_or trace.fixes i fix → IsFed s (layer_of n p fix) new items → count ≡ pieces_among items → HasFollowed n p trace (i + 1) new (pieces + count)
+    → i < length trace.fixes → fix ≡ get_or trace.fixes i fix → FeedsLayer s (layer_of n p fix) new items → count ≡ pieces_among items → HasFollowed n p trace (i + 1) new (pieces + count)
 next_followed n p trace i fix s new pieces count items has low is fed counted =
     let front = first_layers n p trace i in
     let handed_next = next_handed n p trace i fix s new pieces items has low is fed in
@@ -115,7 +115,7 @@ next_followed n p trace i fix s new pieces count items has low is fed counted =
     record {
       network = fed.network ∙ has.network;
       params = fed.params ∙ has.params;
-      stands = subst (StandsFor new) (sym (next_layers n p trace i fix low is)) (fed.stands front has.stands);
+      stands = subst (RepresentsLayers new) (sym (next_layers n p trace i fix low is)) (fed.stands front has.stands);
       counted = ap (λ (m : ℕ). m + count) before ∙ ap (λ (m : ℕ). pieces_among (handed n p front) + m) counted ∙ sym both;
     }
 
@@ -166,7 +166,7 @@ pub last_left : (n : Net) (p : Params) (trace : Trace) (i : ℕ) (s new : Sessio
     → IsFinished s new items → IsLeft n p trace items
 last_left n p trace i s new pieces items has over finished =
     let whole = layers_of n p trace in
-    let stands = subst (StandsFor s) (all_layers n p trace i over) has.stands in
+    let stands = subst (RepresentsLayers s) (all_layers n p trace i over) has.stands in
     let own = finished.rest whole stands in
     let all : items_of n p whole ≡ handed n p whole ++ items =
     subst (λ (m : Net). items_of m p whole ≡ handed m p whole ++ items) has.network
@@ -210,12 +210,12 @@ pub record IsTurn (n : Net) (p : Params) (trace : Trace) (i : ℕ) (layer : Laye
   pub followed : (count : ℕ) → count ≡ pieces_among items → HasFollowed n p trace (i + 1) new (pieces + count)
 
 pub turned : (n : Net) (p : Params) (trace : Trace) (fixes : List Fix) (i : ℕ) (d : Fix) (layer : Layer) (s new : Session) (pieces : ℕ) (items : List Item) → IsLawful n → IsAccepted p → IsLawfulTrace trace
-    → fixes ≡ trace.fixes → i < length fixes → layer ≡ layer_of n p (get_or fixes i d) → HasFollowed n p trace i s pieces → IsFed s layer new items → IsTurn n p trace i layer new pieces items
+    → fixes ≡ trace.fixes → i < length fixes → layer ≡ layer_of n p (get_or fixes i d) → HasFollowed n p trace i s pieces → FeedsLayer s layer new items → IsTurn n p trace i layer new pieces items
 turned n p trace fixes i d layer s new pieces items lawful accepted trace_lawful all low is has fed =
     let fix = get_or fixes i d in
     let within : i < length trace.fixes = subst (λ (fs : List Fix). i < length fs) all low in
     let here : fix ≡ get_or trace.fixes i fix = get_or_default fixes i d fix low ∙ ap (λ (fs : List Fix). get_or fs i fix) all in
-    let own = subst (λ (l : Layer). IsFed s l new items) is fed in
+    let own = subst (λ (l : Layer). FeedsLayer s l new items) is fed in
     let next = next_handed n p trace i fix s new pieces items has within here own in
     record {
       layers = turn_layers n p trace fixes i d layer all low is;
@@ -240,5 +240,5 @@ can_feed n p trace fixes i d layer s pieces accepted lawful all low is has =
 
 -- ---- the end
 
-pub all_fed : (n : Net) (p : Params) (trace : Trace) (i : ℕ) (s : Session) (pieces : ℕ) → HasFollowed n p trace i s pieces → length trace.fixes ≤ i → StandsFor s (layers_of n p trace)
-all_fed n p trace i s pieces has over = subst (StandsFor s) (all_layers n p trace i over) has.stands
+pub all_fed : (n : Net) (p : Params) (trace : Trace) (i : ℕ) (s : Session) (pieces : ℕ) → HasFollowed n p trace i s pieces → length trace.fixes ≤ i → RepresentsLayers s (layers_of n p trace)
+all_fed n p trace i s pieces has over = subst (RepresentsLayers s) (all_layers n p trace i over) has.stands

@@ -14,7 +14,7 @@ use Rattle.matching.proofs.CommittedValues.{whole}
 use Rattle.trace_match.specs.Match.{asks, layer_of, layers_of}
 use Rattle.trace_reader.specs.declared.trace.Fix.{Fix}
 use Rattle.trace_reader.specs.declared.trace.Trace.{Trace}
-use Rattle.online_commit.specs.Session.{AsksFed, AsksFinished, AsksPoints, Session, StandsFor}
+use Rattle.online_commit.specs.Session.{AsksFed, AsksFinished, AsksPoints, Session, RepresentsLayers}
 use Rattle.online_commit.proofs.Asking.{asks-more}
 use Rattle.trace_sessions.proofs.FollowedPoints.{first_layers, turn_layers}
 
@@ -48,11 +48,11 @@ by_names {first = first} {now = now} n p s layers network params asks =
 
 -- one point more was fed
 pub next_asked : {A E : Type 0} {first old new : RowsState} {result : Result A E} {x : A} (n : Net) (p : Params) (s : Session) (fed : List Layer) (l : Layer) → s.network ≡ n → s.params ≡ p
-    → StandsFor s fed → AsksAll first old (AsksPoints n p fed) → AsksFed s l old result new → result ≡ Ok x → AsksAll first new (AsksPoints n p (fed ++ l ∷ []))
+    → RepresentsLayers s fed → AsksAll first old (AsksPoints n p fed) → AsksFed s l old result new → result ≡ Ok x → AsksAll first new (AsksPoints n p (fed ++ l ∷ []))
 next_asked {first = first} {new = new} n p s fed l network params stands before asks is =
     let one = by_session n p s fed network params before in
     let two = asks.only fed stands in
-    let all = subst (λ r. OnOk r ((front : List Layer) (v : ℕ) → StandsFor s front → AsksPoints s.network s.params (front ++ l ∷ []) v
+    let all = subst (λ r. OnOk r ((front : List Layer) (v : ℕ) → RepresentsLayers s front → AsksPoints s.network s.params (front ++ l ∷ []) v
     → AsksPoints s.network s.params front v ⊎ Contains new.known v)) is asks.all in
     let both : AsksAll first new (AsksPoints s.network s.params (fed ++ l ∷ [])) = record {
       only = only_then one.only two (λ v h. ⊎_elim (λ asked. asks-more s.network s.params fed (l ∷ []) (whole (trellis s.network s.params) fed) v asked) (λ asked. asked) h);
@@ -61,7 +61,7 @@ next_asked {first = first} {new = new} n p s fed l network params stands before 
     by_names n p s (fed ++ l ∷ []) network params both
 
 -- all points were fed, and the trace has ended
-pub all_asked : {first old new : RowsState} (n : Net) (p : Params) (trace : Trace) (s : Session) → s.network ≡ n → s.params ≡ p → StandsFor s (layers_of n p trace)
+pub all_asked : {first old new : RowsState} (n : Net) (p : Params) (trace : Trace) (s : Session) → s.network ≡ n → s.params ≡ p → RepresentsLayers s (layers_of n p trace)
     → AsksAll first old (AsksPoints n p (layers_of n p trace)) → AsksFinished s old new → AsksAll first new (λ v. asks n p trace v ≡ true)
 unfolding asks
 all_asked {first = first} {new = new} n p trace s network params stands before asked_last =
@@ -102,14 +102,14 @@ asked_then {old = old} {new = new} n p trace s i k network params before own =
 
 -- a point was fed, or was refused
 pub fed_asked : {A E : Type 0} {first old new : RowsState} {result : Result A E} (n : Net) (p : Params) (trace : Trace) (fixes : List Fix) (i : ℕ) (d : Fix) (layer : Layer) (s : Session)
-    → fixes ≡ trace.fixes → i < length fixes → layer ≡ layer_of n p (get_or fixes i d) → s.network ≡ n → s.params ≡ p → StandsFor s (first_layers n p trace i)
+    → fixes ≡ trace.fixes → i < length fixes → layer ≡ layer_of n p (get_or fixes i d) → s.network ≡ n → s.params ≡ p → RepresentsLayers s (first_layers n p trace i)
     → AsksAll first old (AsksPoints n p (first_layers n p trace i)) → AsksFed s layer old result new → AsksOnly first new (λ v. asks n p trace v ≡ true)
 fed_asked {old = old} {new = new} n p trace fixes i d layer s all low is network params stands before asks =
     asked_then n p trace s i (i + 1) network params before
     (subst (λ ls. AsksOnly old new (AsksPoints s.network s.params ls)) (sym (turn_layers n p trace fixes i d layer all low is)) (asks.only (first_layers n p trace i) stands))
 
 -- the session was finished, or was not
-pub last_asked : {first old new : RowsState} (n : Net) (p : Params) (trace : Trace) (i : ℕ) (s : Session) → s.network ≡ n → s.params ≡ p → StandsFor s (first_layers n p trace i)
+pub last_asked : {first old new : RowsState} (n : Net) (p : Params) (trace : Trace) (i : ℕ) (s : Session) → s.network ≡ n → s.params ≡ p → RepresentsLayers s (first_layers n p trace i)
     → AsksAll first old (AsksPoints n p (first_layers n p trace i)) → AsksFinished s old new → AsksOnly first new (λ v. asks n p trace v ≡ true)
 last_asked n p trace i s network params stands before asks =
     asked_then n p trace s i i network params before (asks.only (first_layers n p trace i) stands)

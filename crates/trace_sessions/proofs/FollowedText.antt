@@ -9,12 +9,12 @@ use Rattle.match_text.specs.MatchText.{trace_line}
 use Rattle.online_commit.specs.declared.items.Item.{Item}
 use Rattle.trace_match.specs.Match.{layers_of}
 use Rattle.trace_reader.specs.declared.trace.Trace.{Trace}
-use Rattle.trace_sessions.specs.FollowText.{follow_text, handed_at, left_of, point_lines}
+use Rattle.trace_sessions.specs.FollowText.{follow_text, handed_at, left_of, followed_lines}
 use Rattle.trace_sessions.specs.inside.StreamingInside.{rest_lines, step_lines}
 
 -- the lines of the first i points
 abbrev first_lines : Net → Params → Trace → ℕ → List (List ℕ)
-first_lines n p trace i = flat_map (point_lines n p (layers_of n p trace)) (range_with_len 0 i)
+first_lines n p trace i = flat_map (followed_lines n p (layers_of n p trace)) (range_with_len 0 i)
 
 -- the text up to and with them
 abbrev pub text_so_far : Net → Params → Trace → ℕ → List ℕ
@@ -24,9 +24,9 @@ range_more : (a k j : ℕ) → a + k ≡ j → range_with_len a (suc k) ≡ rang
 range_more a zero j e = ap (λ (m : ℕ). m ∷ []) (let same : a ≡ j = omega (arith, e) in same)
 range_more a (suc k) j e = ap (λ (xs : List ℕ). a ∷ xs) (range_more (a + 1) k j (omega (arith, e)))
 
-more_lines : (n : Net) (p : Params) (trace : Trace) (i : ℕ) → first_lines n p trace (i + 1) ≡ first_lines n p trace i ++ point_lines n p (layers_of n p trace) i
+more_lines : (n : Net) (p : Params) (trace : Trace) (i : ℕ) → first_lines n p trace (i + 1) ≡ first_lines n p trace i ++ followed_lines n p (layers_of n p trace) i
 more_lines n p trace i =
-    let f = point_lines n p (layers_of n p trace) in
+    let f = followed_lines n p (layers_of n p trace) in
     ap (λ (k : ℕ). flat_map f (range_with_len 0 k)) (add-one i)
     ∙ ap (flat_map f) (range_more 0 i i (omega arith))
     ∙ flat_map-append f (range_with_len 0 i) (i ∷ [])
@@ -42,9 +42,9 @@ pub text_next : (n : Net) (p : Params) (trace : Trace) (i point : ℕ) (items : 
 text_next n p trace i point items base old new before at are written =
     let lines = concat (first_lines n p trace i) in
     let head = trace_line trace.id in
-    let step = concat (point_lines n p (layers_of n p trace) i) in
+    let step = concat (followed_lines n p (layers_of n p trace) i) in
     let grown : concat (first_lines n p trace (i + 1)) ≡ lines ++ step =
-    ap concat (more_lines n p trace i) ∙ concat-append (first_lines n p trace i) (point_lines n p (layers_of n p trace) i) in
+    ap concat (more_lines n p trace i) ∙ concat-append (first_lines n p trace i) (followed_lines n p (layers_of n p trace) i) in
     written
     ∙ ap (λ (k : ℕ). old ++ concat (step_lines n None k items)) at
     ∙ ap (λ (xs : List Item). old ++ concat (step_lines n None i xs)) are

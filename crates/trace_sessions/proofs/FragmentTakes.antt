@@ -12,7 +12,7 @@ use Rattle.trace_reader.specs.declared.trace.Fix.{Fix}
 use Rattle.trace_reader.specs.Trace.{IsLawfulTrace, point_of_fix}
 use Rattle.trace_reader.specs.declared.trace.Trace.{Trace}
 use Rattle.trace_sessions.specs.declared.sessions.SessionFault.{SessionFault}
-use Rattle.trace_sessions.specs.Sessions.{Keeps, Pair, SessionsState}
+use Rattle.trace_sessions.specs.Sessions.{RepresentsPairs, Pair, SessionsState}
 use Rattle.trace_sessions.specs.StreamText.{Point, fragment_points, with_points}
 use Rattle.trace_sessions.specs.Streaming.{AsksStream, CanStream, Streams, TakesPoints}
 use Rattle.trace_sessions.proofs.StreamLines.{told-few}
@@ -27,7 +27,7 @@ first_points trace i = map (λ fix. (trace.id, fix)) (take i trace.fixes)
 
 -- they were taken
 pub record HasStreamed (s0 s : SessionsState) (trace : Trace) (i : ℕ) (t0 t : List ℕ) (rows0 rows : RowsState) (pieces : ℕ) : Type 0 where
-  pub takes : (pairs : List Pair) → Keeps s0 pairs → TakesPoints s0 pairs (first_points trace i) s t0 t pieces
+  pub takes : (pairs : List Pair) → RepresentsPairs s0 pairs → TakesPoints s0 pairs (first_points trace i) s t0 t pieces
   pub asks : AsksStream {A = ℕ} {E = SessionFault} s0 (first_points trace i) rows0 (Ok pieces) rows
 
 pub none-streamed : (s : SessionsState) (trace : Trace) (t : List ℕ) (rows : RowsState) → HasStreamed s s trace 0 t t rows rows 0
@@ -89,7 +89,7 @@ streamed-rows s0 s trace i more t0 t rows0 rows pieces can are has =
 -- one point more
 pub streamed-next : (s0 s1 s2 : SessionsState) (trace : Trace) (fixes : List Fix) (i : ℕ) (d : Fix) (more : ℕ) (t0 t1 t2 : List ℕ) (r0 r1 r2 : RowsState) (pieces count : ℕ) (result : Result ℕ SessionFault)
     → fixes ≡ trace.fixes → i < length fixes → CanStream s0 more → HasStreamed s0 s1 trace i t0 t1 r0 r1 pieces
-    → ((pairs : List Pair) → Keeps s1 pairs → Streams s1 pairs ((trace.id, get_or fixes i d) ∷ []) s2 t1 t2 result)
+    → ((pairs : List Pair) → RepresentsPairs s1 pairs → Streams s1 pairs ((trace.id, get_or fixes i d) ∷ []) s2 t1 t2 result)
     → AsksStream s1 ((trace.id, get_or fixes i d) ∷ []) r1 result r2 → result ≡ Ok count
     → HasStreamed s0 s2 trace (i + 1) t0 t2 r0 r2 (pieces + count)
 streamed-next s0 s1 s2 trace fixes i d more t0 t1 t2 r0 r1 r2 pieces count result all low can has streams asks is =
@@ -127,8 +127,8 @@ streamed-few s0 s2 trace fixes i t0 t2 r0 r2 pieces all low accepted lawful can 
 
 -- where a point was refused
 pub streamed-refused : (s0 s1 s2 : SessionsState) (trace : Trace) (fixes : List Fix) (i : ℕ) (d : Fix) (t0 t1 t2 : List ℕ) (r0 r1 : RowsState) (pieces : ℕ) (fault : SessionFault) → fixes ≡ trace.fixes → i < length fixes
-    → HasStreamed s0 s1 trace i t0 t1 r0 r1 pieces → ((pairs : List Pair) → Keeps s1 pairs → Streams s1 pairs ((trace.id, get_or fixes i d) ∷ []) s2 t1 t2 (Err fault))
-    → (pairs : List Pair) → Keeps s0 pairs → Streams s0 pairs (fragment_points trace) s2 t0 t2 (Err fault)
+    → HasStreamed s0 s1 trace i t0 t1 r0 r1 pieces → ((pairs : List Pair) → RepresentsPairs s1 pairs → Streams s1 pairs ((trace.id, get_or fixes i d) ∷ []) s2 t1 t2 (Err fault))
+    → (pairs : List Pair) → RepresentsPairs s0 pairs → Streams s0 pairs (fragment_points trace) s2 t0 t2 (Err fault)
 streamed-refused s0 s1 s2 trace fixes i d t0 t1 t2 r0 r1 pieces fault all low has streams pairs h =
     let one = has.takes pairs h in
     subst (λ ps. Streams s0 pairs ps s2 t0 t2 (Err fault)) (points-parts trace fixes i d all low)

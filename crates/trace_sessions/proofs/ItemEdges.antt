@@ -21,8 +21,8 @@ use Rattle.trace_match.specs.Ranked.{IsRanked}
 use Rattle.trace_match.proofs.Ranks.{are_ranked}
 use Rattle.trace_match.proofs.RouteNames.{route_edges}
 use Rattle.online_commit.specs.declared.items.Item.{Item}
-use Rattle.online_commit.specs.Items.{closed_at, closed_item, edge_ids, handed, items_of, label_at, label_item, points_from}
-use Rattle.online_commit.specs.Session.{IsFed, IsFinished, Session, StandsFor}
+use Rattle.online_commit.specs.Items.{closed_at, closed_item, edge_ids, handed, items_of, item_at, label_item, points_from}
+use Rattle.online_commit.specs.Session.{FeedsLayer, IsFinished, Session, RepresentsLayers}
 use Rattle.online_commit.proofs.Growing.{handed-stays}
 use Rattle.trace_sessions.specs.ItemText.{AreItemsOf, IsItemOf}
 use Rattle.trace_sessions.proofs.ItemLines.{numbers_of_ids}
@@ -71,7 +71,7 @@ items_edges n p layers lawful matchable =
     let s = solved_of (solution (trellis n p) layers) in
     let is = solved n p layers matchable in
     let ranked = are_ranked n p layers s lawful is in
-    all_points (IsItemOf n) (label_at layers s.ranks) (closed_at n p layers s.ranks s.pieces) 0 (length layers)
+    all_points (IsItemOf n) (item_at layers s.ranks) (closed_at n p layers s.ranks s.pieces) 0 (length layers)
     (λ i lt. label_edge n i (get_or layers i no_layer) (get_or s.ranks i None) (ranked.each i (get_or layers i no_layer) (at-get_or layers i no_layer (omega (arith, lt)))))
     (λ i. All-map (IsItemOf n) (closed_item n p layers s.ranks) (filter (λ (q : Piece). eqb q.last i) s.pieces)
     (All-filter (λ (q : Piece). eqb q.last i) (λ q. IsItemOf n (closed_item n p layers s.ranks q)) s.pieces
@@ -86,13 +86,13 @@ handed_edges n p layers lawful matchable =
 -- what a session hands out with a point, and at the end
 
 pub fed_edges : (old : Session) (l : Layer) (new : Session) (items : List Item) (fed : List Layer) → IsLawful old.network → IsMatchable old.network old.params (fed ++ l ∷ [])
-    → StandsFor old fed → IsFed old l new items → AreItemsOf old.network items
+    → RepresentsLayers old fed → FeedsLayer old l new items → AreItemsOf old.network items
 fed_edges old l new items fed lawful matchable stands is =
     back_of (IsItemOf old.network) (handed old.network old.params fed) items
     (subst (AreItemsOf old.network) (is.handed_on fed stands) (handed_edges old.network old.params (fed ++ l ∷ []) lawful matchable))
 
 pub finished_edges : (old new : Session) (items : List Item) (fed : List Layer) → IsLawful old.network → IsMatchable old.network old.params fed
-    → StandsFor old fed → IsFinished old new items → AreItemsOf old.network items
+    → RepresentsLayers old fed → IsFinished old new items → AreItemsOf old.network items
 finished_edges old new items fed lawful matchable stands is =
     back_of (IsItemOf old.network) (handed old.network old.params fed) items
     (subst (AreItemsOf old.network) (is.rest fed stands) (items_edges old.network old.params fed lawful matchable))

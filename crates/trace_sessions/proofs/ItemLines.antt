@@ -16,10 +16,10 @@ use Rattle.route_rebuild.specs.Numbers.{numbers}
 use Rattle.route_rebuild.specs.Routes.{no_layer, route_of}
 use Rattle.match_text.specs.declared.matched.Label.{Label}
 use Rattle.match_text.specs.MatchText.{label_line, piece_line, point_lines as match_lines}
-use Rattle.trace_match.specs.Match.{label_of, labels_of, routed_of, routed_over}
+use Rattle.trace_match.specs.Match.{label_of_rank, labels_of, routed_of, routed_over}
 use Rattle.trace_match.proofs.Lawful.{labels_all}
 use Rattle.online_commit.specs.declared.items.Item.{Item}
-use Rattle.online_commit.specs.Items.{closed_item, edge_ids, items_of, items_with, label_at, label_item, points_from}
+use Rattle.online_commit.specs.Items.{closed_item, edge_ids, items_of, items_with, item_at, label_item, points_from}
 use Rattle.online_commit.proofs.Handed.{NoneEnds, closed-here, closed-none, no_pieces}
 use Rattle.online_commit.proofs.Points.{points-same}
 use Rattle.trace_sessions.specs.ItemText.{item_line}
@@ -56,7 +56,7 @@ ends_rise n p layers at (q ∷ pieces) are =
 
 -- ---- single lines
 
-label_line_is : (n : Net) (i : ℕ) (l : Layer) (rank : Option ℕ) → item_line n (label_item i l rank) ≡ label_line i (label_of n l rank)
+label_line_is : (n : Net) (i : ℕ) (l : Layer) (rank : Option ℕ) → item_line n (label_item i l rank) ≡ label_line i (label_of_rank n l rank)
 label_line_is n i l None = refl
 label_line_is n i l (Some rank) = refl
 
@@ -149,9 +149,9 @@ items_lines n p layers =
     let s = solution (trellis n p) layers in
     let is = solution_is_a_match (trellis n p) layers in
     ap (λ k. map (item_line n) (items_with n p layers s.ranks s.pieces k)) (sym (labels_all n layers s.ranks is.ranks_count))
-    ∙ lines_are n p layers s.ranks (label_at layers s.ranks) 0 (labels_of n layers s.ranks) s.pieces
-    (are_written n (label_at layers s.ranks) 0 layers s.ranks is.ranks_count
+    ∙ lines_are n p layers s.ranks (item_at layers s.ranks) 0 (labels_of n layers s.ranks) s.pieces
+    (are_written n (item_at layers s.ranks) 0 layers s.ranks is.ranks_count
     (λ j lt.
     let z : 0 + j ≡ j = omega arith in
-    ap (label_at layers s.ranks) z ∙ ap (λ k. label_item k (get_or layers j no_layer) (get_or s.ranks j None)) (sym z)))
+    ap (item_at layers s.ranks) z ∙ ap (λ k. label_item k (get_or layers j no_layer) (get_or s.ranks j None)) (sym z)))
     (ends_rise n p layers 0 s.pieces is.pieces_are)

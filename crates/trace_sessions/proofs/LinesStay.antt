@@ -10,7 +10,7 @@ use Rattle.match_text.specs.MatchText.{end_line, trace_line}
 use Rattle.trace_match.specs.Match.{layer_of, layers_of}
 use Rattle.online_commit.specs.Items.{handed}
 use Rattle.trace_sessions.specs.ItemText.{item_lines}
-use Rattle.trace_sessions.specs.FollowText.{WrittenLinesStay, fix_line, handed_at, last_lines, point_lines}
+use Rattle.trace_sessions.specs.FollowText.{WrittenLinesStay, fix_line, handed_at, last_lines, followed_lines}
 
 -- ---- points one by one
 
@@ -39,15 +39,15 @@ same_handed n p layers more i lt =
     ∙ ap (λ fed. drop (length (handed n p (take i layers))) (handed n p fed)) (take-append-le (suc i) layers more (omega (arith, lt)))
 
 points_split : (n : Net) (p : Params) (layers more : List Layer)
-    → flat_map (point_lines n p (layers ++ more)) (range_with_len 0 (length (layers ++ more)))
-    ≡ flat_map (point_lines n p layers) (range_with_len 0 (length layers)) ++ flat_map (point_lines n p (layers ++ more)) (range_with_len (0 + length layers) (length more))
+    → flat_map (followed_lines n p (layers ++ more)) (range_with_len 0 (length (layers ++ more)))
+    ≡ flat_map (followed_lines n p layers) (range_with_len 0 (length layers)) ++ flat_map (followed_lines n p (layers ++ more)) (range_with_len (0 + length layers) (length more))
 points_split n p layers more =
-    let lines = point_lines n p (layers ++ more) in
+    let lines = followed_lines n p (layers ++ more) in
     ap (λ k. flat_map lines (range_with_len 0 k)) (length-append layers more)
     ∙ ap (flat_map lines) (range_split 0 (length layers) (length more))
     ∙ flat_map-append lines (range_with_len 0 (length layers)) (range_with_len (0 + length layers) (length more))
     ∙ ap (λ ls. ls ++ flat_map lines (range_with_len (0 + length layers) (length more)))
-    (same_lines lines (point_lines n p layers) 0 (length layers)
+    (same_lines lines (followed_lines n p layers) 0 (length layers)
     (λ i lt. ap (λ items. fix_line i ∷ item_lines n None items) (same_handed n p layers more i (omega (arith, lt)))))
 
 -- ---- the law
@@ -56,9 +56,9 @@ pub written_lines_stay : WrittenLinesStay
 written_lines_stay n p trace more =
     let layers = layers_of n p trace in
     let later = map (layer_of n p) more in
-    let points : List Layer → List (List ℕ) = λ ls. flat_map (point_lines n p ls) (range_with_len 0 (length ls)) in
+    let points : List Layer → List (List ℕ) = λ ls. flat_map (followed_lines n p ls) (range_with_len 0 (length ls)) in
     let end : List Layer → List (List ℕ) = λ ls. last_lines n p ls ++ end_line trace.id ∷ [] in
-    let new = flat_map (point_lines n p (layers ++ later)) (range_with_len (0 + length layers) (length later)) in (
+    let new = flat_map (followed_lines n p (layers ++ later)) (range_with_len (0 + length layers) (length later)) in (
       new ++ end (layers ++ later),
       ap (λ ls. trace_line trace.id ∷ (points ls ++ end ls)) (map-append (layer_of n p) trace.fixes more)
           ∙ ap (λ ls. trace_line trace.id ∷ (ls ++ end (layers ++ later))) (points_split n p layers later)

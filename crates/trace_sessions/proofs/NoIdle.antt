@@ -10,7 +10,7 @@ use Rattle.cost_model.specs.declared.params.Params.{Params}
 use Rattle.road_network.specs.Net.{Net}
 use Rattle.trace_sessions.specs.Sessions.{Pair, fixes_and, fixes_of, with_fix}
 use Rattle.trace_sessions.specs.StreamText.{Point, closing_lines, full_id, has_room, led_by, lines_of_fix, stream_lines, with_points}
-use Rattle.trace_sessions.specs.Drives.{Fleet, awake_at, clock_at, drive_lines, ended_among, ended_at, is_full_of, is_idle, newest, no_drives, open_at, with_row, with_rows}
+use Rattle.trace_sessions.specs.Drives.{Fleet, awake_at, clock_at, drive_lines, ended_among, ended_at, is_full_of, is_idle, newest, no_drives, open_at, fleet_after, fleet_after_all}
 use Rattle.trace_sessions.specs.DrivesAlone.{IdsHaveOneDrive, NoDriveIsIdle}
 use Rattle.trace_sessions.proofs.StreamPoints.{Once, once-insert}
 use Rattle.trace_sessions.proofs.DrivesKept.{others}
@@ -69,16 +69,16 @@ IsTimely x = x.1.time ≤ 4_294_967_295
 record GoesOn (fleet : Fleet) (points : List Point) : Type 0 where
   ended : ended_among 4_294_967_295 fleet points ≡ []
   lines : (n : Net) (p : Params) → drive_lines n p 4_294_967_295 fleet points ≡ stream_lines n p fleet.drives points
-  drives : (with_rows 4_294_967_295 fleet points).drives ≡ with_points fleet.drives points
+  drives : (fleet_after_all 4_294_967_295 fleet points).drives ≡ with_points fleet.drives points
 
 goes-on : (fleet : Fleet) (points : List Point) → Once Any fleet.drives → fleet.clock ≤ 4_294_967_295 → All IsTimely points → full_id fleet.drives points ≡ None
     → GoesOn fleet points
 goes-on fleet [] once low are room = record { ended = refl; lines = λ n p. refl; drives = refl }
-goes-on fleet (x ∷ more) once low are room = step (has_room fleet.drives x.0) refl room (goes-on (with_row 4_294_967_295 fleet x) more)
+goes-on fleet (x ∷ more) once low are room = step (has_room fleet.drives x.0) refl room (goes-on (fleet_after 4_294_967_295 fleet x) more)
   where
     step : (b : Bool) → has_room fleet.drives x.0 ≡ b → cond b (full_id (with_fix fleet.drives x.0 x.1) more) (Some x.0) ≡ None
-        → (Once Any (with_row 4_294_967_295 fleet x).drives → clock_at fleet x ≤ 4_294_967_295 → All IsTimely more → full_id (with_row 4_294_967_295 fleet x).drives more ≡ None
-        → GoesOn (with_row 4_294_967_295 fleet x) more)
+        → (Once Any (fleet_after 4_294_967_295 fleet x).drives → clock_at fleet x ≤ 4_294_967_295 → All IsTimely more → full_id (fleet_after 4_294_967_295 fleet x).drives more ≡ None
+        → GoesOn (fleet_after 4_294_967_295 fleet x) more)
         → GoesOn fleet (x ∷ more)
     step false is full later = absurd cc
     step true is rest later =
@@ -91,11 +91,11 @@ goes-on fleet (x ∷ more) once low are room = step (has_room fleet.drives x.0) 
         (subst (Once Any) (sym drives) (once-insert Any x.0 (fixes_and fleet.drives x.0 x.1) fleet.drives tt once)) clock (All-tail IsTimely x more are)
         (ap (λ ds. full_id ds more) drives ∙ rest) in
         record {
-          ended = ap (λ ds. ds ++ ended_among 4_294_967_295 (with_row 4_294_967_295 fleet x) more) none.ended ∙ behind.ended;
+          ended = ap (λ ds. ds ++ ended_among 4_294_967_295 (fleet_after 4_294_967_295 fleet x) more) none.ended ∙ behind.ended;
           lines = λ n p.
               let own = led_by x.0 (lines_of_fix n p x.0 (fixes_of fleet.drives x.0) x.1) in
-              ap (λ ds. (closing_lines n p ds ++ led_by x.0 (lines_of_fix n p x.0 (fixes_of (open_at 4_294_967_295 fleet x) x.0) x.1)) ++ drive_lines n p 4_294_967_295 (with_row 4_294_967_295 fleet x) more) none.ended
-              ∙ ap (λ ds. led_by x.0 (lines_of_fix n p x.0 (fixes_of ds x.0) x.1) ++ drive_lines n p 4_294_967_295 (with_row 4_294_967_295 fleet x) more) none.goes_on
+              ap (λ ds. (closing_lines n p ds ++ led_by x.0 (lines_of_fix n p x.0 (fixes_of (open_at 4_294_967_295 fleet x) x.0) x.1)) ++ drive_lines n p 4_294_967_295 (fleet_after 4_294_967_295 fleet x) more) none.ended
+              ∙ ap (λ ds. led_by x.0 (lines_of_fix n p x.0 (fixes_of ds x.0) x.1) ++ drive_lines n p 4_294_967_295 (fleet_after 4_294_967_295 fleet x) more) none.goes_on
               ∙ ap (λ ls. own ++ ls) (behind.lines n p ∙ ap (λ ds. stream_lines n p ds more) drives)
               ∙ sym (ap (λ b. cond b (own ++ stream_lines n p (with_fix fleet.drives x.0 x.1) more) []) is);
           drives = behind.drives ∙ ap (λ ds. with_points ds more) drives;
@@ -104,10 +104,10 @@ goes-on fleet (x ∷ more) once low are room = step (has_room fleet.drives x.0) 
 pub no_drive_is_idle : NoDriveIsIdle
 no_drive_is_idle n p points are room =
     let all = goes-on no_drives points tt (omega arith) are room in
-    ap (λ ls. ls ++ closing_lines n p (with_rows 4_294_967_295 no_drives points).drives) (all.lines n p)
+    ap (λ ls. ls ++ closing_lines n p (fleet_after_all 4_294_967_295 no_drives points).drives) (all.lines n p)
     ∙ ap (λ ds. stream_lines n p [] points ++ closing_lines n p ds) all.drives
 
 pub ids_have_one_drive : IdsHaveOneDrive
 ids_have_one_drive points are room =
     let all = goes-on no_drives points tt (omega arith) are room in
-    ap (λ ds. ds ++ (with_rows 4_294_967_295 no_drives points).drives) all.ended ∙ all.drives
+    ap (λ ds. ds ++ (fleet_after_all 4_294_967_295 no_drives points).drives) all.ended ∙ all.drives

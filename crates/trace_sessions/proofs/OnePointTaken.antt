@@ -20,8 +20,8 @@ use Rattle.trace_sessions.specs.declared.sessions.SessionFault.TheVariants.{Memo
 use Rattle.trace_sessions.specs.FollowText.{fix_line, handed_at}
 use Rattle.trace_sessions.specs.Following.{pieces_among}
 use Rattle.trace_sessions.specs.ItemText.{AddsPrefix, AreItemsOf, item_lines}
-use Rattle.trace_sessions.specs.Sessions.{IsFeedFault, Keeps, Pair, SessionsState, TakesFix, fixes_and, fixes_of, with_fix}
-use Rattle.trace_sessions.specs.StreamText.{first_line, has_room, led_by, lines_of_fix, stream_lines, trace_of, with_taken}
+use Rattle.trace_sessions.specs.Sessions.{IsFeedFault, RepresentsPairs, Pair, SessionsState, TakesFix, fixes_and, fixes_of, with_fix}
+use Rattle.trace_sessions.specs.StreamText.{trace_first_line, has_room, led_by, lines_of_fix, stream_lines, trace_of, with_taken}
 use Rattle.trace_sessions.specs.Streaming.{AreLawful, Streams, TakesPoints, pieces_told}
 use Rattle.trace_sessions.specs.inside.StreamingInside.{heading, lines_of_items}
 use Rattle.trace_sessions.proofs.FollowLines.{none_handed}
@@ -49,7 +49,7 @@ room-is pairs id low = let e : nat_lt (length (fixes_of pairs id)) 100_000 ≡ t
 room-not : (pairs : List Pair) (id : ℕ) → 100_000 ≤ length (fixes_of pairs id) → has_room pairs id ≡ false
 room-not pairs id full = let e : nat_lt (length (fixes_of pairs id)) 100_000 ≡ false = grind (arith, nat_tests) in e
 
-heading-is : (id : ℕ) (fixes : List Fix) → heading id (length fixes) ≡ first_line id fixes
+heading-is : (id : ℕ) (fixes : List Fix) → heading id (length fixes) ≡ trace_first_line id fixes
 heading-is id [] = refl
 heading-is id (fix ∷ fixes) = refl
 
@@ -61,7 +61,7 @@ point-lines n p pairs id fix point items room count are =
     let fixes = fixes_of pairs id in
     ap (λ k. led_by id (heading id k ++ fix_line k ∷ item_lines n None items)) count
     ∙ ap (λ ls. led_by id (ls ++ fix_line (length fixes) ∷ item_lines n None items)) (heading-is id fixes)
-    ∙ ap (λ xs. led_by id (first_line id fixes ++ fix_line (length fixes) ∷ item_lines n None xs)) are
+    ∙ ap (λ xs. led_by id (trace_first_line id fixes ++ fix_line (length fixes) ∷ item_lines n None xs)) are
     ∙ sym (append-nil (led_by id (lines_of_fix n p id fixes fix)))
     ∙ sym (ap (λ b. cond b (led_by id (lines_of_fix n p id fixes fix) ++ []) []) room)
 
@@ -74,7 +74,7 @@ told-with n p pairs id fix items grown =
     let new : f (fixes_and pairs id fix) ≡ f (fixes_of pairs id) + pieces_among items = ap pieces_among grown ∙ among-append (handed n p (layers n p (fixes_of pairs id))) items in
     omega (arith, sum, new)
 
-pub point-taken : (old new : SessionsState) (pairs : List Pair) (id : ℕ) (fix : Fix) (items : List Item) (point count : ℕ) (text text' : List ℕ) → Keeps old pairs → TakesFix old id fix new items
+pub point-taken : (old new : SessionsState) (pairs : List Pair) (id : ℕ) (fix : Fix) (items : List Item) (point count : ℕ) (text text' : List ℕ) → RepresentsPairs old pairs → TakesFix old id fix new items
     → point ≡ length (fixes_of pairs id) → count ≡ pieces_among items → text' ≡ text ++ concat (lines_of_items old.network id point items)
     → TakesPoints old pairs ((id, fix) ∷ []) new text text' count
 point-taken old new pairs id fix items point count text text' keeps fed at counted written =
@@ -92,7 +92,7 @@ point-taken old new pairs id fix items point count text text' keeps fed at count
     }
 
 -- where its lines were written in part
-pub point-cut : (old new : SessionsState) (pairs : List Pair) (id : ℕ) (fix : Fix) (items : List Item) (point : ℕ) (text text' : List ℕ) → Keeps old pairs → TakesFix old id fix new items
+pub point-cut : (old new : SessionsState) (pairs : List Pair) (id : ℕ) (fix : Fix) (items : List Item) (point : ℕ) (text text' : List ℕ) → RepresentsPairs old pairs → TakesFix old id fix new items
     → point ≡ length (fixes_of pairs id) → AddsPrefix text (concat (lines_of_items old.network id point items)) text' → Streams old pairs ((id, fix) ∷ []) new text text' (Err Memory)
 point-cut old new pairs id fix items point text text' keeps fed at cut =
     let room = room-is pairs id (fed.room pairs keeps) in
@@ -112,7 +112,7 @@ point-cut old new pairs id fix items point text text' keeps fed at cut =
       written = subst (λ t. AddsPrefix t (concat lines) text') (sym (append-nil text)) own;
     }
 
-pub point-refused : (old new : SessionsState) (pairs : List Pair) (id : ℕ) (fix : Fix) (fault : SessionFault) (text : List ℕ) → Keeps old pairs → IsFeedFault old id fault → new ≡ old
+pub point-refused : (old new : SessionsState) (pairs : List Pair) (id : ℕ) (fix : Fix) (fault : SessionFault) (text : List ℕ) → RepresentsPairs old pairs → IsFeedFault old id fault → new ≡ old
     → Streams old pairs ((id, fix) ∷ []) new text text (Err fault)
 point-refused old new pairs id fix fault text keeps (inl memory) same =
     subst (λ f. Streams old pairs ((id, fix) ∷ []) new text text (Err f)) (sym memory)
@@ -125,7 +125,7 @@ point-refused old new pairs id fix fault text keeps (inl memory) same =
       network = ap (λ (s : SessionsState). s.network) same;
       params = ap (λ (s : SessionsState). s.params) same;
       room = refl;
-      stands = subst (λ s. Keeps s pairs) (sym same) keeps;
+      stands = subst (λ s. RepresentsPairs s pairs) (sym same) keeps;
       written = adds-none (text ++ []) [] text (sym (append-nil text));
     })
 point-refused old new pairs id fix fault text keeps (inr full) same =
@@ -137,7 +137,7 @@ point-refused old new pairs id fix fault text keeps (inr full) same =
       network = ap (λ (s : SessionsState). s.network) same;
       params = ap (λ (s : SessionsState). s.params) same;
       full = not-full pairs (id, fix) none;
-      stands = subst (λ s. Keeps s (with_taken pairs ((id, fix) ∷ []))) (sym same) (subst (Keeps old) (sym (none-more pairs (id, fix) none)) keeps);
+      stands = subst (λ s. RepresentsPairs s (with_taken pairs ((id, fix) ∷ []))) (sym same) (subst (RepresentsPairs old) (sym (none-more pairs (id, fix) none)) keeps);
       written = sym (ap (λ ls. text ++ concat ls) no_lines ∙ append-nil text);
     })
 

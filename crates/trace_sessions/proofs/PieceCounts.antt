@@ -17,7 +17,7 @@ use Rattle.route_rebuild.specs.Routes.{no_layer}
 use Rattle.route_rebuild.proofs.ChosenRun.{pieces_within}
 use Rattle.trace_match.specs.Match.{layers_of, match_of, routed_of}
 use Rattle.online_commit.specs.declared.items.Item.{Item}
-use Rattle.online_commit.specs.Items.{closed_item, items_of, label_at, label_item, points_from}
+use Rattle.online_commit.specs.Items.{closed_item, items_of, item_at, label_item, points_from}
 use Rattle.trace_sessions.specs.Following.{is_piece, pieces_among}
 
 -- one for a piece, and nothing for a label
@@ -107,7 +107,7 @@ count_items : (n : Net) (p : Params) (layers : List Layer) → pieces_among (ite
 unfolding items_of
 count_items n p layers =
     let s = solution (trellis n p) layers in
-    all_met (label_at layers s.ranks) (closed_item n p layers s.ranks) s.pieces (length layers)
+    all_met (item_at layers s.ranks) (closed_item n p layers s.ranks) s.pieces (length layers)
     (λ j. label_weighs j (get_or layers j no_layer) (get_or s.ranks j None))
     (λ q. refl)
     (λ k d lt. (pieces_within (trellis n p) layers 0 s.pieces k d (solution_is_a_match (trellis n p) layers).pieces_are lt).inside)

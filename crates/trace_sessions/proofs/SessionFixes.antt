@@ -19,12 +19,12 @@ use Rattle.matching.proofs.CandidateLayers.{candidates_narrow, layer_of_candidat
 use Rattle.trace_match.specs.Match.{layer_of}
 use Rattle.online_commit.specs.declared.items.Item.{Item}
 use Rattle.online_commit.specs.Items.{handed, items_of}
-use Rattle.online_commit.specs.Session.{AsksFed, AsksFinished, AsksPoints, IsFed, IsFedLayer, Session, StandsFor, no_points_of, points_of}
+use Rattle.online_commit.specs.Session.{AsksFed, AsksFinished, AsksPoints, FeedsLayer, IsFedLayer, Session, RepresentsLayers, no_points_of, fed_position_count}
 use Rattle.online_commit.proofs.Opened.{opened-stands}
 use Rattle.trace_sessions.specs.declared.sessions.SessionFault.{SessionFault}
 use Rattle.trace_sessions.specs.declared.sessions.SessionFault.TheVariants.{Memory, NotOpen, TooLong}
 use Rattle.trace_sessions.specs.FollowText.{handed_at}
-use Rattle.trace_sessions.specs.Sessions.{AsksClosed, AsksFedTo, Closes, HasPair, IsCloseFault, IsFeedFault, IsSessionOf, Keeps, KeepsEach, Pair, SessionsState, TakesFix, fixes_and, fixes_of, length_of, with_fix, without}
+use Rattle.trace_sessions.specs.Sessions.{AsksClosed, AsksFedTo, ClosesSession, HasPair, IsCloseFault, IsFeedFault, IsSessionOf, RepresentsPairs, KeepsEach, Pair, SessionsState, TakesFix, fixes_and, fixes_of, length_of, with_fix, without_pair}
 use Rattle.trace_sessions.specs.inside.SessionsInside.{AreOf, FeedsAt, FinishesAt, session_at, session_in}
 use Rattle.trace_sessions.proofs.SessionPairs.{Both, are-at, are-insert, kept-insert, kept-keys, kept-lookup, kept-remove, set-inserts}
 
@@ -55,26 +55,26 @@ in_case n p d own (Some s) None h = absurd h
 in_case n p d own (Some s) (Some f) h = h.0
 
 -- the session of the id, or a new one, stands for its fixes
-pub stands-in : (n : Net) (p : Params) (id : ℕ) (es : List (ℕ × Session)) (pairs : List Pair) (d : Session) → IsSessionOf n p d [] → Keeps (state n p es) pairs
+pub stands-in : (n : Net) (p : Params) (id : ℕ) (es : List (ℕ × Session)) (pairs : List Pair) (d : Session) → IsSessionOf n p d [] → RepresentsPairs (state n p es) pairs
     → IsSessionOf n p (session_at es id d) (fixes_of pairs id)
 stands-in n p id es pairs d own h =
     in_case n p d own (lookup (nat_eq id) es) (lookup (nat_eq id) pairs) (kept-lookup n p id es pairs h.each)
 
-pub count_of : (n : Net) (p : Params) (s : Session) (fixes : List Fix) → IsSessionOf n p s fixes → points_of s ≡ length fixes
+pub count_of : (n : Net) (p : Params) (s : Session) (fixes : List Fix) → IsSessionOf n p s fixes → fed_position_count s ≡ length fixes
 count_of n p s fixes is = is.stands.count ∙ length-map fixes (layer_of n p)
 
 one_more : (n : Net) (p : Params) (fixes : List Fix) (fix : Fix) (l : Layer) → l ≡ layer_of n p fix → layers n p (fixes ++ fix ∷ []) ≡ layers n p fixes ++ l ∷ []
 one_more n p fixes fix l is = map-append (layer_of n p) fixes (fix ∷ []) ∙ ap (λ (x : Layer). layers n p fixes ++ x ∷ []) (sym is)
 
-fed_to : (n : Net) (p : Params) (s t : Session) (fixes : List Fix) (fix : Fix) (l : Layer) (items : List Item) → IsSessionOf n p s fixes → l ≡ layer_of n p fix → IsFed s l t items
+fed_to : (n : Net) (p : Params) (s t : Session) (fixes : List Fix) (fix : Fix) (l : Layer) (items : List Item) → IsSessionOf n p s fixes → l ≡ layer_of n p fix → FeedsLayer s l t items
     → IsSessionOf n p t (fixes ++ fix ∷ [])
 fed_to n p s t fixes fix l items is same fed = record {
   network = fed.network ∙ is.network;
   params = fed.params ∙ is.params;
-  stands = subst (StandsFor t) (sym (one_more n p fixes fix l same)) (fed.stands (layers n p fixes) is.stands);
+  stands = subst (RepresentsLayers t) (sym (one_more n p fixes fix l same)) (fed.stands (layers n p fixes) is.stands);
 }
 
-handed_to : (n : Net) (p : Params) (s t : Session) (fixes : List Fix) (fix : Fix) (l : Layer) (items : List Item) → IsSessionOf n p s fixes → l ≡ layer_of n p fix → IsFed s l t items
+handed_to : (n : Net) (p : Params) (s t : Session) (fixes : List Fix) (fix : Fix) (l : Layer) (items : List Item) → IsSessionOf n p s fixes → l ≡ layer_of n p fix → FeedsLayer s l t items
     → handed n p (layers n p (fixes ++ fix ∷ [])) ≡ handed n p (layers n p fixes) ++ items
 handed_to n p s t fixes fix l items is same fed =
     ap (handed n p) (one_more n p fixes fix l same)
@@ -113,8 +113,8 @@ layer-fed n p id es d fix l are is accepted place same =
     let at = at_id n p id es d are is in
     carry (λ (m : Net) (q : Params). IsFedLayer m q l) (sym at.0) (sym at.1) (subst (IsFedLayer n p) (sym same) (fed-layer n p fix accepted place))
 
-pub few-fed : (n : Net) (p : Params) (id : ℕ) (es : List (ℕ × Session)) (d : Session) → d ≡ no_points_of n p → points_of (session_in (state n p es) id) < 100_000 → points_of (session_at es id d) < 100_000
-few-fed n p id es d is few = subst (λ (s : Session). points_of (session_at es id s) < 100_000) (sym is) few
+pub few-fed : (n : Net) (p : Params) (id : ℕ) (es : List (ℕ × Session)) (d : Session) → d ≡ no_points_of n p → fed_position_count (session_in (state n p es) id) < 100_000 → fed_position_count (session_at es id d) < 100_000
+few-fed n p id es d is few = subst (λ (s : Session). fed_position_count (session_at es id s) < 100_000) (sym is) few
 
 pub are-taken : (n : Net) (p : Params) (id : ℕ) (es new : List (ℕ × Session)) (d : Session) (l : Layer) (items : List Item) → AreOf n p es → d ≡ no_points_of n p → FeedsAt es id d l new items → AreOf n p new
 are-taken n p id es new d l items are is fed =
@@ -122,11 +122,11 @@ are-taken n p id es new d l items are is fed =
     subst (AreOf n p) (sym fed.entries) (are-insert n p id es fed.session are (fed.fed.network ∙ at.0) (fed.fed.params ∙ at.1))
 
 -- the session of the id took the layer
-pub feeds-at : {E : Type 0} (id : ℕ) (es new : List (ℕ × Session)) (d was now : Session) (l : Layer) (result : Result (List Item) E) → lookup (nat_eq id) es ≡ Some was → IfOk result (IsFed was l now)
+pub feeds-at : {E : Type 0} (id : ℕ) (es new : List (ℕ × Session)) (d was now : Session) (l : Layer) (result : Result (List Item) E) → lookup (nat_eq id) es ≡ Some was → IfOk result (FeedsLayer was l now)
     → new ≡ set_value (nat_eq id) es now → IsDistinct nat_eq (keys_of new) → IfOk result (FeedsAt es id d l new)
 feeds-at id es new d was now l (Ok items) found fed written different = record {
   session = now;
-  fed = subst (λ (o : Option Session). IsFed (unwrap_or o d) l now items) (sym found) fed;
+  fed = subst (λ (o : Option Session). FeedsLayer (unwrap_or o d) l now items) (sym found) fed;
   entries = written ∙ set-inserts id es now was found;
   different = different;
 }
@@ -140,7 +140,7 @@ stays-at id es new was now (Err e) found same written =
     written ∙ ap (set_value (nat_eq id) es) same ∙ set_value_same (nat_eq id) es was found
 
 pub takes : (n : Net) (p : Params) (id : ℕ) (fix : Fix) (es new : List (ℕ × Session)) (d : Session) (l : Layer) (items : List Item) → IsSessionOf n p d [] → l ≡ layer_of n p fix
-    → points_of (session_at es id d) < 100_000 → FeedsAt es id d l new items → TakesFix (state n p es) id fix (state n p new) items
+    → fed_position_count (session_at es id d) < 100_000 → FeedsAt es id d l new items → TakesFix (state n p es) id fix (state n p new) items
 takes n p id fix es new d l items own same few at =
     let s = session_at es id d in
     record {
@@ -159,7 +159,7 @@ takes n p id fix es new d l items own same few at =
       are = λ pairs h. handed-here n p (fixes_of pairs id) fix items (handed_to n p s at.session (fixes_of pairs id) fix l items (stands-in n p id es pairs d own h) same at.fed);
     }
 
-pub too-long : (n : Net) (p : Params) (id : ℕ) (es : List (ℕ × Session)) → 100_000 ≤ points_of (session_at es id (no_points_of n p)) → IsFeedFault (state n p es) id (TooLong id)
+pub too-long : (n : Net) (p : Params) (id : ℕ) (es : List (ℕ × Session)) → 100_000 ≤ fed_position_count (session_at es id (no_points_of n p)) → IsFeedFault (state n p es) id (TooLong id)
 too-long n p id es many = inr (
   refl,
   λ pairs h.
@@ -216,10 +216,10 @@ of_case n p s (Some t) (Some f) h e =
     (refl, subst (λ (x : Session). IsSessionOf n p x f) same h.0)
 
 pub closes : {E : Type 0} (n : Net) (p : Params) (id : ℕ) (es new : List (ℕ × Session)) (result : Result (List Item) E) → IfOk result (FinishesAt es id new)
-    → IfOk result (Closes (state n p es) id (state n p new))
+    → IfOk result (ClosesSession (state n p es) id (state n p new))
 closes n p id es new (Ok items) at =
-    let found : (pairs : List Pair) → Keeps (state n p es) pairs → HasPair pairs id × IsSessionOf n p at.session (fixes_of pairs id) = λ pairs h. of_case n p at.session (lookup (nat_eq id) es) (lookup (nat_eq id) pairs) (kept-lookup n p id es pairs h.each) at.was in
-    let rest : (pairs : List Pair) → Keeps (state n p es) pairs → items_of n p (layers n p (fixes_of pairs id)) ≡ handed n p (layers n p (fixes_of pairs id)) ++ items = λ pairs h.
+    let found : (pairs : List Pair) → RepresentsPairs (state n p es) pairs → HasPair pairs id × IsSessionOf n p at.session (fixes_of pairs id) = λ pairs h. of_case n p at.session (lookup (nat_eq id) es) (lookup (nat_eq id) pairs) (kept-lookup n p id es pairs h.each) at.was in
+    let rest : (pairs : List Pair) → RepresentsPairs (state n p es) pairs → items_of n p (layers n p (fixes_of pairs id)) ≡ handed n p (layers n p (fixes_of pairs id)) ++ items = λ pairs h.
     let is = (found pairs h).1 in
     carry (λ (m : Net) (q : Params). items_of m q (layers n p (fixes_of pairs id)) ≡ handed m q (layers n p (fixes_of pairs id)) ++ items) is.network is.params
     (at.finished.rest (layers n p (fixes_of pairs id)) is.stands) in
@@ -228,8 +228,8 @@ closes n p id es new (Ok items) at =
       params = refl;
       was_open = λ pairs h. (found pairs h).0;
       stands = λ pairs h.
-          let each = subst (λ (xs : List (ℕ × Session)). KeepsEach n p xs (without pairs id)) (sym at.entries) (kept-remove n p id es pairs h.each) in
-          record { each = each; different = subst (IsDistinct nat_eq) (kept-keys n p new (without pairs id) each) at.different };
+          let each = subst (λ (xs : List (ℕ × Session)). KeepsEach n p xs (without_pair pairs id)) (sym at.entries) (kept-remove n p id es pairs h.each) in
+          record { each = each; different = subst (IsDistinct nat_eq) (kept-keys n p new (without_pair pairs id) each) at.different };
       rest = rest;
       are = λ pairs h.
           let was = handed n p (layers n p (fixes_of pairs id)) in
@@ -263,14 +263,14 @@ close-asks n p id es rows new asks =
 
 -- ---- what is read
 
-length_case : (n : Net) (p : Params) (a : Option Session) (b : Option (List Fix)) → Both n p a b → option_map points_of a ≡ option_map length b
+length_case : (n : Net) (p : Params) (a : Option Session) (b : Option (List Fix)) → Both n p a b → option_map fed_position_count a ≡ option_map length b
 length_case n p None None h = refl
 length_case n p None (Some f) h = absurd h
 length_case n p (Some s) None h = absurd h
 length_case n p (Some s) (Some f) h = ap (λ (k : ℕ). Some k) (count_of n p s f h.0)
 
-pub length-in : (n : Net) (p : Params) (id : ℕ) (es : List (ℕ × Session)) (pairs : List Pair) → Keeps (state n p es) pairs
-    → option_map points_of (lookup (nat_eq id) es) ≡ length_of pairs id
+pub length-in : (n : Net) (p : Params) (id : ℕ) (es : List (ℕ × Session)) (pairs : List Pair) → RepresentsPairs (state n p es) pairs
+    → option_map fed_position_count (lookup (nat_eq id) es) ≡ length_of pairs id
 length-in n p id es pairs h = length_case n p (lookup (nat_eq id) es) (lookup (nat_eq id) pairs) (kept-lookup n p id es pairs h.each)
 
 pub on-err : {A E P : Type 0} (result : Result A E) → P → OnErr result P

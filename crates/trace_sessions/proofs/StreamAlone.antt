@@ -16,10 +16,10 @@ use Rattle.matching.specs.declared.parts.Layer.{Layer}
 use Rattle.trace_match.specs.Match.{layer_of}
 use Rattle.trace_reader.specs.declared.trace.Fix.{Fix}
 use Rattle.online_commit.specs.declared.items.Item.{Item}
-use Rattle.trace_sessions.specs.FollowText.{fix_line, handed_at, last_lines, lines_so_far, point_lines}
+use Rattle.trace_sessions.specs.FollowText.{fix_line, handed_at, last_lines, lines_so_far, followed_lines}
 use Rattle.trace_sessions.specs.ItemText.{item_lines, lead_of}
 use Rattle.trace_sessions.specs.Sessions.{Pair, fixes_and, fixes_of, with_fix}
-use Rattle.trace_sessions.specs.StreamText.{IdsAreFollowedAlone, Point, closing_lines, first_line, fixes_among, full_id, has_room, led_by, lines_led_by, lines_of_fix, stream_lines, with_points}
+use Rattle.trace_sessions.specs.StreamText.{IdsAreFollowedAlone, Point, closing_lines, trace_first_line, fixes_among, full_id, has_room, led_by, lines_led_by, lines_of_fix, stream_lines, with_points}
 use Rattle.trace_sessions.proofs.LinesStay.{same_handed}
 use Rattle.trace_sessions.proofs.StreamPoints.{Once, fixes-behind, fixes-with, once-insert}
 
@@ -125,13 +125,13 @@ stream-alone n p id pairs (x ∷ more) small are room =
         (λ e. ap (λ j. lines_of_fix n p j (fixes_of pairs j) x.1) (sym e))
     step false is rest = absurd cc
 
-no_first : (id : ℕ) (fixes : List Fix) → 0 < length fixes → first_line id fixes ≡ []
+no_first : (id : ℕ) (fixes : List Fix) → 0 < length fixes → trace_first_line id fixes ≡ []
 no_first id [] some = absurd (omega (arith, some))
 no_first id (fix ∷ fixes) some = refl
 
 -- behind the first fix
 alone-behind : (n : Net) (p : Params) (id : ℕ) (front back : List Fix) → 0 < length front
-    → lines_alone n p id front back ≡ flat_map (point_lines n p (map (layer_of n p) (front ++ back))) (range_with_len (length front) (length back))
+    → lines_alone n p id front back ≡ flat_map (followed_lines n p (map (layer_of n p) (front ++ back))) (range_with_len (length front) (length back))
 alone-behind n p id front [] some = refl
 alone-behind n p id front (fix ∷ more) some =
     let i = length front in
@@ -142,13 +142,13 @@ alone-behind n p id front (fix ∷ more) some =
     let parts : all ≡ fed ++ map (layer_of n p) more = ap (map (layer_of n p)) (sym whole) ∙ map-append (layer_of n p) (front ++ fix ∷ []) more in
     let count : length (front ++ fix ∷ []) ≡ i + 1 = length-append front (fix ∷ []) in
     let long : length fed ≡ i + 1 = ap length (map-append (layer_of n p) front (fix ∷ [])) ∙ length_two front in
-    ap (λ ls. (ls ++ point_lines n p fed i) ++ rest) (no_first id front some)
+    ap (λ ls. (ls ++ followed_lines n p fed i) ++ rest) (no_first id front some)
     ∙ ap (λ items. (fix_line i ∷ item_lines n None items) ++ rest)
     (sym (same_handed n p fed (map (layer_of n p) more) i (omega (arith, long))) ∙ ap (λ ls. handed_there ls i) (sym parts))
-    ∙ ap (λ ls. point_lines n p all i ++ ls)
+    ∙ ap (λ ls. followed_lines n p all i ++ ls)
     (alone-behind n p id (front ++ fix ∷ []) more (omega (arith, count))
-    ∙ ap (λ fs. flat_map (point_lines n p (map (layer_of n p) fs)) (range_with_len (length (front ++ fix ∷ [])) (length more))) whole
-    ∙ ap (λ k. flat_map (point_lines n p all) (range_with_len k (length more))) count)
+    ∙ ap (λ fs. flat_map (followed_lines n p (map (layer_of n p) fs)) (range_with_len (length (front ++ fix ∷ [])) (length more))) whole
+    ∙ ap (λ k. flat_map (followed_lines n p all) (range_with_len k (length more))) count)
   where
     handed_there : List Layer → ℕ → List Item
     handed_there ls i = handed_at n p ls i
@@ -164,8 +164,8 @@ alone-all n p id (fix ∷ more) some =
     let count : length all ≡ suc (length more) = length-map (fix ∷ more) (layer_of n p) in
     ap (λ items. trace_line id ∷ (fix_line 0 ∷ item_lines n None items) ++ rest)
     (sym (same_handed n p (layer_of n p fix ∷ []) (map (layer_of n p) more) 0 (omega arith)))
-    ∙ ap (λ ls. trace_line id ∷ point_lines n p all 0 ++ ls) (alone-behind n p id (fix ∷ []) more (omega arith))
-    ∙ ap (λ k. trace_line id ∷ flat_map (point_lines n p all) (range_with_len 0 k)) (sym count)
+    ∙ ap (λ ls. trace_line id ∷ followed_lines n p all 0 ++ ls) (alone-behind n p id (fix ∷ []) more (omega arith))
+    ∙ ap (λ k. trace_line id ∷ flat_map (followed_lines n p all) (range_with_len 0 k)) (sym count)
 
 -- ---- the lines at the end
 

@@ -18,13 +18,14 @@ use Rattle.trace_match.specs.Match.{layer_of, match_of}
 use Rattle.trace_reader.specs.declared.trace.Fix.{Fix}
 use Rattle.trace_reader.specs.Trace.{IsLawfulTrace}
 use Rattle.online_commit.specs.Items.{handed}
-use Rattle.online_commit.specs.Session.{AsksFinished, AsksPoints, Session, StandsFor}
+use Rattle.online_commit.specs.Session.{AsksFinished, AsksPoints, Session, RepresentsLayers}
 use Rattle.trace_sessions.specs.Calls.{IsEmpty}
 use Rattle.trace_sessions.specs.Following.{pieces_among}
 use Rattle.trace_sessions.specs.ItemText.{AddsPrefix}
-use Rattle.trace_sessions.specs.Sessions.{IsPairOf, IsSessionOf, Keeps, KeepsEach, Pair, SessionsState, fixes_of}
+use Rattle.trace_sessions.specs.Sessions.{IsPairOf, IsSessionOf, RepresentsPairs, KeepsEach, Pair, SessionsState, fixes_of}
 use Rattle.trace_sessions.specs.StreamText.{closing_lines, lines_at_end, trace_of}
-use Rattle.trace_sessions.specs.Streaming.{AreLawful, AsksSome, CanEnd, CanStream, EndsPair, EndsPairs, fixes_in, pieces_of_all, pieces_told}
+use Rattle.trace_sessions.specs.Streaming.{AreLawful, AsksSome, CanStream, EndsPair, EndsPairs, fixes_in, pieces_of_all, pieces_told}
+use Rattle.trace_sessions.specs.inside.SessionsInside.{CanEnd}
 use Rattle.trace_sessions.proofs.StreamLines.{few-pieces}
 use Rattle.trace_sessions.proofs.Written.{adds-first, adds-then}
 
@@ -55,7 +56,7 @@ pub record EndsFront (s : SessionsState) (pairs : List Pair) (left : List (ℕ �
   pub asks : AsksOnly r0 r (AsksSome s pairs)
 
 abbrev pub HasEnded : SessionsState → List (ℕ × Session) → List ℕ → List ℕ → RowsState → RowsState → ℕ → Type 0
-HasEnded s left t0 t r0 r pieces = (pairs : List Pair) → Keeps s pairs → EndsFront s pairs left t0 t r0 r pieces
+HasEnded s left t0 t r0 r pieces = (pairs : List Pair) → RepresentsPairs s pairs → EndsFront s pairs left t0 t r0 r pieces
 
 pub none-ended : (s : SessionsState) (left : List (ℕ × Session)) (t : List ℕ) (r : RowsState) → left ≡ s.sessions → HasEnded s left t t r r 0
 none-ended s left t r is pairs keeps = record {
@@ -87,7 +88,7 @@ next-pair s pairs whole left id session t0 t r0 r pieces is has =
     next_case s pairs has.front has.back id session left (subst (λ es. KeepsEach s.network s.params es has.back) is has.each)
 
 pub own-params : (n : Net) (p : Params) (s : Session) (fixes : List Fix) → IsSessionOf n p s fixes → IsSessionOf n s.params s fixes
-own-params n p s fixes is = record { network = is.network; params = refl; stands = subst (λ q. StandsFor s (map (layer_of n q) fixes)) (sym is.params) is.stands }
+own-params n p s fixes is = record { network = is.network; params = refl; stands = subst (λ q. RepresentsLayers s (map (layer_of n q) fixes)) (sym is.params) is.stands }
 
 lawful-there : (front back : List Pair) (x : Pair) → AreLawful (front ++ x ∷ back) → IsLawfulTrace (trace_of x)
 lawful-there front back x are =
@@ -169,7 +170,7 @@ ended-next s net whole left id session t0 t t' r0 r r' pieces count network is h
 
 -- where one was not ended
 pub ended-err : (s : SessionsState) (whole left : List (ℕ × Session)) (id : ℕ) (session : Session) (t0 t : List ℕ) (r0 r r' : RowsState) (pieces : ℕ) → whole ≡ (id, session) ∷ left
-    → HasEnded s whole t0 t r0 r pieces → AsksFinished session r r' → (pairs : List Pair) → Keeps s pairs → AsksOnly r0 r' (AsksSome s pairs)
+    → HasEnded s whole t0 t r0 r pieces → AsksFinished session r r' → (pairs : List Pair) → RepresentsPairs s pairs → AsksOnly r0 r' (AsksSome s pairs)
 ended-err s whole left id session t0 t r0 r r' pieces is has asks pairs keeps =
     let old = has pairs keeps in
     let next = next-pair s pairs whole left id session t0 t r0 r pieces is old in
@@ -181,7 +182,7 @@ ended-err s whole left id session t0 t r0 r r' pieces is has asks pairs keeps =
 pub ended-cut : (s : SessionsState) (net : Net) (whole left : List (ℕ × Session)) (id : ℕ) (session : Session) (t0 t t' : List ℕ) (r0 r : RowsState) (pieces : ℕ) → net ≡ s.network
     → whole ≡ (id, session) ∷ left → HasEnded s whole t0 t r0 r pieces
     → ((fixes : List Fix) → IsSessionOf net session.params session fixes → AddsPrefix t (concat (lines_at_end net session.params (id, fixes))) t')
-    → (pairs : List Pair) → Keeps s pairs → AddsPrefix t0 (concat (closing_lines s.network s.params pairs)) t'
+    → (pairs : List Pair) → RepresentsPairs s pairs → AddsPrefix t0 (concat (closing_lines s.network s.params pairs)) t'
 ended-cut s net whole left id session t0 t t' r0 r pieces network is has cut pairs keeps =
     let n = s.network in
     let p = s.params in
@@ -221,7 +222,7 @@ none_left n p [] (x ∷ back) is each = absurd each
 none_left n p (e ∷ left) back is each = absurd cc
 
 pub all-ended : (s : SessionsState) (left : List (ℕ × Session)) (t0 t : List ℕ) (r0 r : RowsState) (pieces : ℕ) → left ≡ [] → HasEnded s left t0 t r0 r pieces
-    → (pairs : List Pair) → Keeps s pairs → EndsPairs s pairs t0 t pieces
+    → (pairs : List Pair) → RepresentsPairs s pairs → EndsPairs s pairs t0 t pieces
 all-ended s left t0 t r0 r pieces none has pairs keeps =
     let old = has pairs keeps in
     let front : old.front ≡ pairs = sym (old.parts ∙ ap (λ ps. old.front ++ ps) (none_left s.network s.params left old.back none old.each) ∙ append-nil old.front) in

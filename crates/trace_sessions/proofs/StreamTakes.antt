@@ -14,12 +14,12 @@ use Rattle.trace_reader.specs.declared.trace.Fix.{Fix}
 use Rattle.trace_reader.specs.Trace.{point_of_fix}
 use Rattle.matching.specs.Layers.{trellis}
 use Rattle.matching.proofs.CommittedValues.{whole}
-use Rattle.online_commit.specs.Session.{AsksPoints, no_points_of, points_of}
+use Rattle.online_commit.specs.Session.{AsksPoints, no_points_of, fed_position_count}
 use Rattle.online_commit.proofs.Asking.{asks-more}
 use Rattle.trace_sessions.specs.declared.sessions.SessionFault.{SessionFault}
 use Rattle.trace_sessions.specs.declared.sessions.SessionFault.TheVariants.{Memory, NotOpen, TooLong}
 use Rattle.trace_sessions.specs.ItemText.{AddsPrefix}
-use Rattle.trace_sessions.specs.Sessions.{AsksFedTo, AsksFixes, Keeps, Pair, SessionsState, fixes_and, fixes_of, with_fix}
+use Rattle.trace_sessions.specs.Sessions.{AsksFedTo, AsksFixes, RepresentsPairs, Pair, SessionsState, fixes_and, fixes_of, with_fix}
 use Rattle.trace_sessions.specs.inside.SessionsInside.{session_at, session_in}
 use Rattle.trace_sessions.specs.StreamText.{Point, fixes_among, full_id, has_room, stream_lines, with_points}
 use Rattle.trace_sessions.specs.Streaming.{AreLawful, AsksAmong, AsksSome, AsksStream, Streams, TakesPoints, pieces_told}
@@ -45,7 +45,7 @@ takes-then s0 s1 s2 pairs front back t0 t1 t2 k1 k2 one two =
       network = two.network ∙ one.network;
       params = two.params ∙ one.params;
       room = full-append pairs front back one.room ∙ two.room;
-      stands = subst (Keeps s2) (sym all) two.stands;
+      stands = subst (RepresentsPairs s2) (sym all) two.stands;
       written =
           of_state (λ m q. t2 ≡ t1 ++ concat (stream_lines m q next back)) one.network one.params two.written
           ∙ ap (λ t. t ++ concat more) one.written
@@ -83,7 +83,7 @@ refused-then s0 s1 s2 pairs front back rest t0 t1 t2 k Memory one two =
       network = two.network ∙ one.network;
       params = two.params ∙ one.params;
       room = ap (full_id pairs) all ∙ full-append pairs front (whole ++ last) one.room ∙ two.room;
-      stands = subst (Keeps s2) (sym (ap (with_points pairs) all ∙ with-append pairs front (whole ++ last))) two.stands;
+      stands = subst (RepresentsPairs s2) (sym (ap (with_points pairs) all ∙ with-append pairs front (whole ++ last))) two.stands;
       written =
           subst (λ t. AddsPrefix t (concat (stream_lines n p (with_points pairs (front ++ whole)) last)) t2) base
           (subst (λ qs. AddsPrefix (t1 ++ concat more) (concat (stream_lines n p qs last)) t2) behind cut);
@@ -100,7 +100,7 @@ refused-then s0 s1 s2 pairs front back rest t0 t1 t2 k (TooLong id) one two =
       network = two.network ∙ one.network;
       params = two.params ∙ one.params;
       full = full-append pairs front (back ++ rest) one.room ∙ stays.0;
-      stands = subst (Keeps s2) (sym (taken-append pairs front (back ++ rest) one.room ∙ taken-stays next back rest id two.full)) two.stands;
+      stands = subst (RepresentsPairs s2) (sym (taken-append pairs front (back ++ rest) one.room ∙ taken-stays next back rest id two.full)) two.stands;
       written = of_state (λ m q. t2 ≡ t1 ++ concat (stream_lines m q next back)) one.network one.params two.written
           ∙ ap (λ t. t ++ concat more) one.written
           ∙ append_assoc t0 (concat lines) (concat more)
@@ -111,7 +111,7 @@ refused-then s0 s1 s2 pairs front back rest t0 t1 t2 k (TooLong id) one two =
     }
 
 -- no points yet
-pub none-taken : (s : SessionsState) (pairs : List Pair) (text : List ℕ) → Keeps s pairs → TakesPoints s pairs [] s text text 0
+pub none-taken : (s : SessionsState) (pairs : List Pair) (text : List ℕ) → RepresentsPairs s pairs → TakesPoints s pairs [] s text text 0
 none-taken s pairs text keeps = record {
   network = refl;
   params = refl;
@@ -214,7 +214,7 @@ to_names s0 s1 pairs v network params (id, asked) =
 
 -- one part of the points after the other
 pub asks-then : {A E B F : Type 0} {x : B} (s0 s1 : SessionsState) (front back : List Point) (r0 r1 r2 : RowsState) (result : Result A E) → s1.network ≡ s0.network → s1.params ≡ s0.params
-    → ((pairs : List Pair) → Keeps s0 pairs → Keeps s1 (with_points pairs front)) → AsksStream {A = B} {E = F} s0 front r0 (Ok x) r1 → AsksStream s1 back r1 result r2
+    → ((pairs : List Pair) → RepresentsPairs s0 pairs → RepresentsPairs s1 (with_points pairs front)) → AsksStream {A = B} {E = F} s0 front r0 (Ok x) r1 → AsksStream s1 back r1 result r2
     → AsksStream s0 (front ++ back) r0 result r2
 asks-then s0 s1 front back r0 r1 r2 result network params stands one two = record {
   keeps = keeps_then one.keeps two.keeps;
@@ -267,7 +267,7 @@ lawful-behind pairs (x ∷ more) are places room =
     step false is room more = absurd cc
 
 -- how many points the session of an id has
-pub points-in : (s : SessionsState) (pairs : List Pair) (id : ℕ) → Keeps s pairs → points_of (session_in s id) ≡ length (fixes_of pairs id)
+pub points-in : (s : SessionsState) (pairs : List Pair) (id : ℕ) → RepresentsPairs s pairs → fed_position_count (session_in s id) ≡ length (fixes_of pairs id)
 points-in s pairs id keeps =
     let d = no_points_of s.network s.params in
     count_of s.network s.params (session_at s.sessions id d) (fixes_of pairs id)

@@ -11,10 +11,10 @@ use Rattle.bounded_table.specs.Rows.{RowsState, AreRowsOf}
 use Rattle.trace_reader.specs.declared.trace.Fix.{Fix}
 use Rattle.trace_reader.specs.Trace.{IsLawfulTrace}
 use Rattle.online_commit.specs.Session.{AsksFinished, Session}
-use Rattle.trace_sessions.specs.Sessions.{AsksClosed, HasPair, IsSessionOf, Keeps, KeepsEach, Pair, SessionsState, fixes_of, without}
+use Rattle.trace_sessions.specs.Sessions.{AsksClosed, HasPair, IsSessionOf, RepresentsPairs, KeepsEach, Pair, SessionsState, fixes_of, without_pair}
 use Rattle.trace_sessions.specs.StreamText.{trace_of}
-use Rattle.trace_sessions.specs.Streaming.{AreLawful, CanEnd, CanStream, EndsNone, EndsOne, EndsTrace}
-use Rattle.trace_sessions.specs.inside.SessionsInside.{AreOf}
+use Rattle.trace_sessions.specs.Streaming.{AreLawful, CanStream, EndsNone, EndsOne, EndsTrace}
+use Rattle.trace_sessions.specs.inside.SessionsInside.{AreOf, CanEnd}
 use Rattle.trace_sessions.proofs.SessionPairs.{are-remove, kept-lookup, kept-remove}
 use Rattle.trace_sessions.proofs.SessionFixes.{close-asks, none_case, of_case, state}
 use Rattle.trace_sessions.proofs.StreamEnds.{own-params, same_trace}
@@ -52,7 +52,7 @@ lawful-of id (e ∷ es) are has = step (nat_eq id e.0) has (lawful-of id es (All
     step true has rest = same_trace e.0 id e.1 (All-head L e es are)
     step false has rest = rest has
 
-pub found : (s : SessionsState) (pairs : List Pair) (id : ℕ) (session : Session) → Keeps s pairs → lookup (nat_eq id) s.sessions ≡ Some session
+pub found : (s : SessionsState) (pairs : List Pair) (id : ℕ) (session : Session) → RepresentsPairs s pairs → lookup (nat_eq id) s.sessions ≡ Some session
     → HasPair pairs id × IsSessionOf s.network s.params session (fixes_of pairs id)
 found s pairs id session keeps is =
     of_case s.network s.params session (lookup (nat_eq id) s.sessions) (lookup (nat_eq id) pairs) (kept-lookup s.network s.params id s.sessions pairs keeps.each) is
@@ -78,7 +78,7 @@ trace-can s net id session more network accepted can is =
 -- ---- what ending it leaves
 
 pub trace-ended : {E : Type 0} (n : Net) (p : Params) (id : ℕ) (es new : List (ℕ × Session)) (session : Session) (pairs : List Pair) (text text' : List ℕ) (result : Result ℕ E)
-    → lookup (nat_eq id) es ≡ Some session → new ≡ remove_entry (nat_eq id) es → Keeps (state n p es) pairs
+    → lookup (nat_eq id) es ≡ Some session → new ≡ remove_entry (nat_eq id) es → RepresentsPairs (state n p es) pairs
     → ((fixes : List Fix) → IsSessionOf n session.params session fixes → EndsOne n session.params (id, fixes) text text' result)
     → EndsTrace (state n p es) pairs id (state n p new) text text' result
 trace-ended n p id es new session pairs text text' result is gone keeps ends =
@@ -89,13 +89,13 @@ trace-ended n p id es new session pairs text text' result is gone keeps ends =
       params = refl;
       was_open = own.0;
       stands = record {
-        each = subst (λ (xs : List (ℕ × Session)). KeepsEach n p xs (without pairs id)) (sym gone) (kept-remove n p id es pairs keeps.each);
+        each = subst (λ (xs : List (ℕ × Session)). KeepsEach n p xs (without_pair pairs id)) (sym gone) (kept-remove n p id es pairs keeps.each);
         different = distinct-removed (nat_eq id) pairs keeps.different;
       };
       ended = subst (λ q. EndsOne n q (id, fixes) text text' result) own.1.params (ends fixes (own-params n p session fixes own.1));
     }
 
-pub none-ended-here : (n : Net) (p : Params) (id : ℕ) (es new : List (ℕ × Session)) (pairs : List Pair) (text : List ℕ) → lookup (nat_eq id) es ≡ None → new ≡ es → Keeps (state n p es) pairs
+pub none-ended-here : (n : Net) (p : Params) (id : ℕ) (es new : List (ℕ × Session)) (pairs : List Pair) (text : List ℕ) → lookup (nat_eq id) es ≡ None → new ≡ es → RepresentsPairs (state n p es) pairs
     → EndsNone (state n p es) pairs id (state n p new) text text
 none-ended-here n p id es new pairs text none same keeps = record {
   none = none_case n p (lookup (nat_eq id) es) (lookup (nat_eq id) pairs) (kept-lookup n p id es pairs keeps.each) none;

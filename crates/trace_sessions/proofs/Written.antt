@@ -8,8 +8,8 @@ use Rattle.match_text.proofs.Written.{concat-append}
 use Rattle.online_commit.specs.declared.items.Item.{Item}
 use Rattle.match_text.specs.MatchText.{end_line}
 use Rattle.trace_sessions.specs.FollowText.{finish_line, fix_line}
-use Rattle.trace_sessions.specs.inside.StreamingInside.{rest_lines, step_lines}
-use Rattle.trace_sessions.specs.ItemText.{AddsPrefix, Stays, item_line, item_lines, lead_of}
+use Rattle.trace_sessions.specs.inside.StreamingInside.{rest_lines, step_lines, KeepsFront}
+use Rattle.trace_sessions.specs.ItemText.{AddsPrefix, item_line, item_lines, lead_of}
 
 -- the lines of one item more
 pub lines_more : (n : Net) (id : Option ℕ) (items : List Item) (i : ℕ) (x : Item) (old before lead new : List ℕ) → i < length items → x ≡ get_or items i x
@@ -47,11 +47,11 @@ rest-written n lead id items t0 t1 t2 t3 t4 t5 one two three four five =
 
 -- ---- what stood stays
 
-pub stays-itself : (text : List ℕ) → Stays text text
+pub stays-itself : (text : List ℕ) → KeepsFront text text
 stays-itself text = take_all (length text) text (omega arith)
 
 -- behind what was appended
-pub stays-behind : (old lines mid new : List ℕ) → mid ≡ old ++ lines → Stays mid new → Stays old new
+pub stays-behind : (old lines mid new : List ℕ) → mid ≡ old ++ lines → KeepsFront mid new → KeepsFront old new
 stays-behind old lines mid new written stays =
     let count : length mid ≡ length old + length lines = ap length written ∙ length-append old lines in
     sym (take-take (length old) (length mid) new (omega (arith, count))) ∙ ap (take (length old)) (stays ∙ written) ∙ take_at old lines (length old) refl
@@ -79,7 +79,7 @@ adds-then old a b mid new whole h = record {
   written = h.written ∙ ap (λ t. t ++ h.front) whole ∙ append_assoc old a h.front;
 }
 
-pub adds-stays : (old more new : List ℕ) → AddsPrefix old more new → Stays old new
+pub adds-stays : (old more new : List ℕ) → AddsPrefix old more new → KeepsFront old new
 adds-stays old more new h = ap (take (length old)) h.written ∙ take_at old h.front (length old) refl
 
 -- the line of a point is written in three parts

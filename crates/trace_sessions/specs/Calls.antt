@@ -4,28 +4,17 @@ use Rattle.std.specs.List.{filter}
 use Rattle.cost_model.specs.declared.params.Params.{Params}
 use Rattle.road_network.specs.Net.{Net}
 use Rattle.online_commit.specs.declared.items.Item.{Item}
-use Rattle.trace_sessions.specs.Sessions.{Call, Closes, Keeps, Pair, SessionsState, TakesFix, items_of_call, with_fix, without}
+use Rattle.trace_sessions.specs.Sessions.{Call, ClosesSession, RepresentsPairs, SessionsState, TakesFix}
 use Rattle.trace_sessions.specs.Sessions.Call.{closes, feeds}
 
 abbrev pub id_of : Call → ℕ
 id_of (feeds id fix) = id
 id_of (closes id) = id
 
--- the pairs after it
-abbrev pub pairs_after : List Pair → Call → List Pair
-pairs_after pairs (feeds id fix) = with_fix pairs id fix
-pairs_after pairs (closes id) = without pairs id
-
--- the answers to calls, each with its id
-abbrev pub answers : Net → Params → List Pair → List Call → List (ℕ × List Item)
-answers n p pairs [] = []
-answers n p pairs (call ∷ calls) =
-    (id_of call, items_of_call n p pairs call) ∷ answers n p (pairs_after pairs call) calls
-
 -- what a call does to the sessions, with these items
 abbrev pub CallGives : SessionsState → Call → SessionsState → List Item → Type 0
 CallGives old (feeds id fix) new items = TakesFix old id fix new items
-CallGives old (closes id) new items = Closes old id new items
+CallGives old (closes id) new items = ClosesSession old id new items
 
 -- these calls, one after the other, give these answers
 abbrev pub CallsGive : SessionsState → List Call → List (ℕ × List Item) → Type 0
@@ -39,7 +28,7 @@ CallsGive s (call ∷ calls) (answer ∷ given) =
 pub record IsEmpty (n : Net) (p : Params) (s : SessionsState) : Type 0 where
   pub network : s.network ≡ n
   pub params : s.params ≡ p
-  pub none : Keeps s []
+  pub none : RepresentsPairs s []
 
 -- the calls of an id give the same answers among others and alone
 abbrev pub IdsAreAnsweredAlone : Type 0

@@ -8,15 +8,15 @@ use Rattle.matching.specs.Layers.{HasCandidateAt, trellis}
 use Rattle.matching.specs.Value.{solution}
 use Rattle.match_text.specs.declared.matched.Label.{Label}
 use Rattle.matching.specs.declared.parts.Layer.{Layer}
-use Rattle.trace_match.specs.Laws.{BeginsWith, committed_labels}
+use Rattle.trace_match.specs.Laws.{LabelsBeginWith, committed_labels}
 use Rattle.trace_match.specs.Match.{labels_of, layers_of, match_of}
 use Rattle.trace_reader.specs.declared.trace.Trace.{Trace}
 use Rattle.trace_reader.specs.Trace.{IsLawfulTrace}
 
 -- each of these lists begins with this one, and with none that is longer
 pub record IsLongestCommonPrefix (lists : List (List Label)) (front : List Label) : Type 0 where
-  pub common : All (λ labels. BeginsWith labels front) lists
-  pub longest : (other : List Label) → All (λ labels. BeginsWith labels other) lists
+  pub common : All (λ labels. LabelsBeginWith labels front) lists
+  pub longest : (other : List Label) → All (λ labels. LabelsBeginWith labels other) lists
       → length other ≤ length front
 
 -- the labels of all positions: those of the closed pieces, which end before position `first`, and then those of

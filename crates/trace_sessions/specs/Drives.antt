@@ -49,37 +49,37 @@ abbrev pub open_at : (idle : ℕ) → Fleet → Point → List Pair
 open_at idle fleet x = filter (λ drive. not (is_full_of x.0 drive)) (awake_at idle fleet x)
 
 -- after a position: it is the next of its id's open drive, or the first of a new one
-abbrev pub with_row : (idle : ℕ) → Fleet → Point → Fleet
-with_row idle fleet x =
+abbrev pub fleet_after : (idle : ℕ) → Fleet → Point → Fleet
+fleet_after idle fleet x =
     record { clock = clock_at fleet x; drives = with_fix (open_at idle fleet x) x.0 x.1 }
 
-abbrev pub with_rows : (idle : ℕ) → Fleet → List Point → Fleet
-with_rows idle fleet [] = fleet
-with_rows idle fleet (x ∷ more) = with_rows idle (with_row idle fleet x) more
+abbrev pub fleet_after_all : (idle : ℕ) → Fleet → List Point → Fleet
+fleet_after_all idle fleet [] = fleet
+fleet_after_all idle fleet (x ∷ more) = fleet_after_all idle (fleet_after idle fleet x) more
 
 -- the drives that end among these positions, in the order of their ends
 abbrev pub ended_among : (idle : ℕ) → Fleet → List Point → List Pair
 ended_among idle fleet [] = []
-ended_among idle fleet (x ∷ more) = ended_at idle fleet x ++ ended_among idle (with_row idle fleet x) more
+ended_among idle fleet (x ∷ more) = ended_at idle fleet x ++ ended_among idle (fleet_after idle fleet x) more
 
 -- all drives of a file's positions: those that end among them, and those that end with the file
 abbrev pub drives_of : (idle : ℕ) → List Point → List Pair
 drives_of idle points =
-    ended_among idle no_drives points ++ (with_rows idle no_drives points).drives
+    ended_among idle no_drives points ++ (fleet_after_all idle no_drives points).drives
 
 -- the lines of a position: the last lines of the drives that it ends, and then its own
-abbrev pub row_lines : Net → Params → (idle : ℕ) → Fleet → Point → List (List ℕ)
-row_lines n p idle fleet x =
+abbrev pub fleet_lines : Net → Params → (idle : ℕ) → Fleet → Point → List (List ℕ)
+fleet_lines n p idle fleet x =
     closing_lines n p (ended_at idle fleet x)
     ++ led_by x.0 (lines_of_fix n p x.0 (fixes_of (open_at idle fleet x) x.0) x.1)
 
 abbrev pub drive_lines : Net → Params → (idle : ℕ) → Fleet → List Point → List (List ℕ)
 drive_lines n p idle fleet [] = []
 drive_lines n p idle fleet (x ∷ more) =
-    row_lines n p idle fleet x ++ drive_lines n p idle (with_row idle fleet x) more
+    fleet_lines n p idle fleet x ++ drive_lines n p idle (fleet_after idle fleet x) more
 
 -- all lines of a file's positions
 abbrev pub all_drive_lines : Net → Params → (idle : ℕ) → List Point → List (List ℕ)
 all_drive_lines n p idle points =
     drive_lines n p idle no_drives points
-    ++ closing_lines n p (with_rows idle no_drives points).drives
+    ++ closing_lines n p (fleet_after_all idle no_drives points).drives

@@ -36,8 +36,8 @@ abbrev pub finish_line : List ℕ
 finish_line = line (codes "finish") []
 
 -- the line of position i and the lines of what it makes certain
-abbrev pub point_lines : Net → Params → List Layer → ℕ → List (List ℕ)
-point_lines n p layers i = fix_line i ∷ item_lines n None (handed_at n p layers i)
+abbrev pub followed_lines : Net → Params → List Layer → ℕ → List (List ℕ)
+followed_lines n p layers i = fix_line i ∷ item_lines n None (handed_at n p layers i)
 
 -- the line `finish` and the lines of what is left
 abbrev pub last_lines : Net → Params → List Layer → List (List ℕ)
@@ -47,7 +47,7 @@ last_lines n p layers = finish_line ∷ item_lines n None (left_of n p layers)
 abbrev pub lines_so_far : Net → Params → Trace → List (List ℕ)
 lines_so_far n p trace =
     let layers = layers_of n p trace in
-    trace_line trace.id ∷ flat_map (point_lines n p layers) (range_with_len 0 (length layers))
+    trace_line trace.id ∷ flat_map (followed_lines n p layers) (range_with_len 0 (length layers))
 
 abbrev pub follow_lines : Net → Params → Trace → List (List ℕ)
 follow_lines n p trace =

@@ -1,5 +1,5 @@
 -- The lines of what is handed out, with edges by the ids of the network file.
-use Rattle.std.specs.Prelude.{◌≡◌, ℕ, List, [], ◌∷◌, ◌++◌, Option, Some, None, length, map, take}
+use Rattle.std.specs.Prelude.{◌≡◌, ℕ, List, [], ◌∷◌, ◌++◌, Option, Some, None, map}
 use Rattle.std.specs.List.{All}
 use Rattle.decimal_text.specs.Number.{decimal}
 use Rattle.road_network.specs.Net.{Net, HasEdge}
@@ -40,7 +40,3 @@ pub record AddsPrefix (text more text' : List ℕ) : Type 0 where
   pub rest : List ℕ
   pub is : more ≡ front ++ rest
   pub written : text' ≡ text ++ front
-
--- what was in a text is still at its front
-abbrev pub Stays : (text text' : List ℕ) → Type 0
-Stays text text' = take (length text) text' ≡ text

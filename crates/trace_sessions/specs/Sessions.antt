@@ -11,7 +11,7 @@ use Rattle.trace_reader.specs.declared.trace.Fix.{Fix}
 use Rattle.trace_match.specs.Match.{layer_of}
 use Rattle.online_commit.specs.declared.items.Item.{Item}
 use Rattle.online_commit.specs.Items.{handed, items_of}
-use Rattle.online_commit.specs.Session.{AsksPoints, Session, StandsFor}
+use Rattle.online_commit.specs.Session.{AsksPoints, Session, RepresentsLayers}
 use Rattle.trace_sessions.specs.FollowText.{handed_at, left_of}
 use Rattle.trace_sessions.specs.declared.sessions.SessionFault.{SessionFault}
 use Rattle.trace_sessions.specs.declared.sessions.SessionFault.TheVariants.{Memory, NotOpen, TooLong}
@@ -40,8 +40,8 @@ abbrev pub with_fix : List Pair → ℕ → Fix → List Pair
 with_fix pairs id fix = insert_entry nat_eq pairs id (fixes_and pairs id fix)
 
 -- the pair of the id is gone, the others keep their order
-abbrev pub without : List Pair → ℕ → List Pair
-without pairs id = remove_entry (nat_eq id) pairs
+abbrev pub without_pair : List Pair → ℕ → List Pair
+without_pair pairs id = remove_entry (nat_eq id) pairs
 
 abbrev pub HasPair : List Pair → ℕ → Type 0
 HasPair pairs id = IsSome (lookup (nat_eq id) pairs)
@@ -62,7 +62,7 @@ length_of pairs id = option_map length (lookup (nat_eq id) pairs)
 pub record IsSessionOf (n : Net) (p : Params) (s : Session) (fixes : List Fix) : Type 0 where
   pub network : s.network ≡ n
   pub params : s.params ≡ p
-  pub stands : StandsFor s (map (layer_of n p) fixes)
+  pub stands : RepresentsLayers s (map (layer_of n p) fixes)
 
 -- the session of a pair
 pub record IsPairOf (n : Net) (p : Params) (entry : ℕ × Session) (pair : Pair) : Type 0 where
@@ -78,7 +78,7 @@ KeepsEach n p (entry ∷ entries) [] = ⊥
 KeepsEach n p (entry ∷ entries) (pair ∷ pairs) = IsPairOf n p entry pair × KeepsEach n p entries pairs
 
 -- the sessions represent these pairs, which have different ids
-pub record Keeps (s : SessionsState) (pairs : List Pair) : Type 0 where
+pub record RepresentsPairs (s : SessionsState) (pairs : List Pair) : Type 0 where
   pub each : KeepsEach s.network s.params s.sessions pairs
   pub different : IsDistinct nat_eq (keys_of pairs)
 
@@ -110,32 +110,32 @@ items_of_call n p pairs (closes id) = left_of n p (map (layer_of n p) (fixes_of 
 pub record TakesFix (old : SessionsState) (id : ℕ) (fix : Fix) (new : SessionsState) (items : List Item) : Type 0 where
   pub network : new.network ≡ old.network
   pub params : new.params ≡ old.params
-  pub room : (pairs : List Pair) → Keeps old pairs → length (fixes_of pairs id) < 100_000
-  pub stands : (pairs : List Pair) → Keeps old pairs → Keeps new (with_fix pairs id fix)
-  pub handed_on : (pairs : List Pair) → Keeps old pairs
+  pub room : (pairs : List Pair) → RepresentsPairs old pairs → length (fixes_of pairs id) < 100_000
+  pub stands : (pairs : List Pair) → RepresentsPairs old pairs → RepresentsPairs new (with_fix pairs id fix)
+  pub handed_on : (pairs : List Pair) → RepresentsPairs old pairs
       → handed_of old (fixes_and pairs id fix) ≡ handed_of old (fixes_of pairs id) ++ items
-  pub are : (pairs : List Pair) → Keeps old pairs
+  pub are : (pairs : List Pair) → RepresentsPairs old pairs
       → items ≡ items_of_call old.network old.params pairs (feeds id fix)
 
 -- the id had a pair, which is gone, and these are the items that were left of it
-pub record Closes (old : SessionsState) (id : ℕ) (new : SessionsState) (items : List Item) : Type 0 where
+pub record ClosesSession (old : SessionsState) (id : ℕ) (new : SessionsState) (items : List Item) : Type 0 where
   pub network : new.network ≡ old.network
   pub params : new.params ≡ old.params
-  pub was_open : (pairs : List Pair) → Keeps old pairs → HasPair pairs id
-  pub stands : (pairs : List Pair) → Keeps old pairs → Keeps new (without pairs id)
-  pub rest : (pairs : List Pair) → Keeps old pairs
+  pub was_open : (pairs : List Pair) → RepresentsPairs old pairs → HasPair pairs id
+  pub stands : (pairs : List Pair) → RepresentsPairs old pairs → RepresentsPairs new (without_pair pairs id)
+  pub rest : (pairs : List Pair) → RepresentsPairs old pairs
       → all_of old (fixes_of pairs id) ≡ handed_of old (fixes_of pairs id) ++ items
-  pub are : (pairs : List Pair) → Keeps old pairs
+  pub are : (pairs : List Pair) → RepresentsPairs old pairs
       → items ≡ items_of_call old.network old.params pairs (closes id)
 
 -- why a fix was not taken, and why an id was not closed
 abbrev pub IsFeedFault : SessionsState → ℕ → SessionFault → Type 0
 IsFeedFault s id fault =
-    (fault ≡ Memory) ⊎ ((fault ≡ TooLong id) × ((pairs : List Pair) → Keeps s pairs → IsFull pairs id))
+    (fault ≡ Memory) ⊎ ((fault ≡ TooLong id) × ((pairs : List Pair) → RepresentsPairs s pairs → IsFull pairs id))
 
 abbrev pub IsCloseFault : SessionsState → ℕ → SessionFault → Type 0
 IsCloseFault s id fault =
-    (fault ≡ Memory) ⊎ ((fault ≡ NotOpen id) × ((pairs : List Pair) → Keeps s pairs → HasNoPair pairs id))
+    (fault ≡ Memory) ⊎ ((fault ≡ NotOpen id) × ((pairs : List Pair) → RepresentsPairs s pairs → HasNoPair pairs id))
 
 -- it was not taken for this reason, and the sessions are as before
 pub record RefusesFix (old : SessionsState) (id : ℕ) (new : SessionsState) (fault : SessionFault) : Type 0 where
@@ -147,11 +147,11 @@ pub record RefusesFix (old : SessionsState) (id : ℕ) (new : SessionsState) (fa
 pub record AsksFedTo {A E : Type 0} (old : SessionsState) (id : ℕ) (fix : Fix) (rows : RowsState) (result : Result A E)
     (new : RowsState) : Type 0 where
   pub keeps : KeepsRows rows new
-  pub only : (pairs : List Pair) → Keeps old pairs → AsksOnly rows new (AsksFixes old (fixes_and pairs id fix))
-  pub all : OnOk result ((pairs : List Pair) (v : ℕ) → Keeps old pairs → AsksFixes old (fixes_and pairs id fix) v
+  pub only : (pairs : List Pair) → RepresentsPairs old pairs → AsksOnly rows new (AsksFixes old (fixes_and pairs id fix))
+  pub all : OnOk result ((pairs : List Pair) (v : ℕ) → RepresentsPairs old pairs → AsksFixes old (fixes_and pairs id fix) v
       → AsksFixes old (fixes_of pairs id) v ⊎ Contains new.known v)
 
 -- nothing became known but what the id's fixes ask for
 pub record AsksClosed (old : SessionsState) (id : ℕ) (rows new : RowsState) : Type 0 where
   pub keeps : KeepsRows rows new
-  pub only : (pairs : List Pair) → Keeps old pairs → AsksOnly rows new (AsksFixes old (fixes_of pairs id))
+  pub only : (pairs : List Pair) → RepresentsPairs old pairs → AsksOnly rows new (AsksFixes old (fixes_of pairs id))

@@ -9,7 +9,7 @@ use Rattle.trace_reader.specs.declared.trace.Trace.{Trace}
 use Rattle.trace_reader.specs.LineByLine.{lines_in}
 use Rattle.match_text.specs.MatchText.{end_line, trace_line}
 use Rattle.trace_match.specs.Match.{layer_of}
-use Rattle.trace_sessions.specs.FollowText.{follow_lines, follow_text, last_lines, point_lines}
+use Rattle.trace_sessions.specs.FollowText.{follow_lines, follow_text, last_lines, followed_lines}
 use Rattle.trace_sessions.specs.ItemText.{lead_of}
 use Rattle.trace_sessions.specs.Sessions.{Pair, fixes_of, with_fix}
 
@@ -52,14 +52,14 @@ abbrev pub led_by : ℕ → List (List ℕ) → List (List ℕ)
 led_by id lines = map (λ text. lead_of (Some id) ++ text) lines
 
 -- the line that begins a trace, before the lines of its first fix
-abbrev pub first_line : ℕ → List Fix → List (List ℕ)
-first_line id [] = trace_line id ∷ []
-first_line id (fix ∷ fixes) = []
+abbrev pub trace_first_line : ℕ → List Fix → List (List ℕ)
+trace_first_line id [] = trace_line id ∷ []
+trace_first_line id (fix ∷ fixes) = []
 
 -- the lines of a fix after the others of its id
 abbrev pub lines_of_fix : Net → Params → ℕ → List Fix → Fix → List (List ℕ)
 lines_of_fix n p id fixes fix =
-    first_line id fixes ++ point_lines n p (map (layer_of n p) (fixes ++ fix ∷ [])) (length fixes)
+    trace_first_line id fixes ++ followed_lines n p (map (layer_of n p) (fixes ++ fix ∷ [])) (length fixes)
 
 -- the lines of positions after those of the pairs, up to the first whose id has no room
 abbrev pub stream_lines : Net → Params → List Pair → List Point → List (List ℕ)

@@ -1,20 +1,17 @@
 -- What taking the positions of a stream, and ending it, leave.
 use Rattle.std.specs.Prelude.{◌≡◌, ◌⊎◌, ℕ, ◌+◌, ◌<◌, ◌≤◌, ◌^◌, List, ◌++◌, Result, Ok, Err, Some, None, OnOk, All, Contains, length, map}
 use Rattle.std.specs.List.{concat, sum_by}
-use Rattle.cost_model.specs.Options.{IsAccepted}
 use Rattle.cost_model.specs.declared.params.Params.{Params}
 use Rattle.road_network.specs.Net.{Net}
 use Rattle.bounded_table.specs.Rows.{RowsState, AsksOnly, Keeps as KeepsRows}
 use Rattle.trace_reader.specs.Trace.{IsLawfulTrace}
-use Rattle.trace_reader.specs.declared.trace.Fix.{Fix}
 use Rattle.trace_match.specs.Match.{layer_of, match_of}
 use Rattle.online_commit.specs.Items.{handed}
-use Rattle.online_commit.specs.Session.{Session}
 use Rattle.trace_sessions.specs.declared.sessions.SessionFault.{SessionFault}
 use Rattle.trace_sessions.specs.declared.sessions.SessionFault.TheVariants.{Memory, NotOpen, TooLong}
 use Rattle.trace_sessions.specs.Following.{pieces_among}
 use Rattle.trace_sessions.specs.ItemText.{AddsPrefix}
-use Rattle.trace_sessions.specs.Sessions.{AsksFixes, HasNoPair, HasPair, IsSessionOf, Keeps, Pair, SessionsState, fixes_of, without}
+use Rattle.trace_sessions.specs.Sessions.{AsksFixes, HasNoPair, HasPair, RepresentsPairs, Pair, SessionsState, fixes_of, without_pair}
 use Rattle.trace_sessions.specs.StreamText.{Point, closing_lines, fixes_among, full_id, lines_at_end, stream_lines, trace_of, with_points, with_taken}
 
 -- how many fixes the ids have
@@ -46,7 +43,7 @@ AreLawful pairs = All (λ pair. IsLawfulTrace (trace_of pair)) pairs
 -- the sessions represent lawful pairs, which have room for this many more positions
 pub record CanStream (s : SessionsState) (more : ℕ) : Type 0 where
   pub pairs : List Pair
-  pub keeps : Keeps s pairs
+  pub keeps : RepresentsPairs s pairs
   pub lawful : AreLawful pairs
   pub few : fixes_in pairs + more < 2 ^ 62
 
@@ -56,7 +53,7 @@ pub record TakesPoints (old : SessionsState) (pairs : List Pair) (points : List 
   pub network : new.network ≡ old.network
   pub params : new.params ≡ old.params
   pub room : full_id pairs points ≡ None
-  pub stands : Keeps new (with_points pairs points)
+  pub stands : RepresentsPairs new (with_points pairs points)
   pub written : text' ≡ text ++ concat (stream_lines old.network old.params pairs points)
   pub counted : pieces_told old.network old.params (with_points pairs points)
       ≡ pieces_told old.network old.params pairs + pieces
@@ -67,7 +64,7 @@ pub record TakesUntilFull (old : SessionsState) (pairs : List Pair) (points : Li
   pub network : new.network ≡ old.network
   pub params : new.params ≡ old.params
   pub full : full_id pairs points ≡ Some id
-  pub stands : Keeps new (with_taken pairs points)
+  pub stands : RepresentsPairs new (with_taken pairs points)
   pub written : text' ≡ text ++ concat (stream_lines old.network old.params pairs points)
 
 -- memory ran out: some positions were taken, and their lines written, those of the last one maybe only in part
@@ -81,7 +78,7 @@ pub record TakesUntilMemory (old : SessionsState) (pairs : List Pair) (points : 
   pub network : new.network ≡ old.network
   pub params : new.params ≡ old.params
   pub room : full_id pairs (whole ++ last) ≡ None
-  pub stands : Keeps new (with_points pairs (whole ++ last))
+  pub stands : RepresentsPairs new (with_points pairs (whole ++ last))
   pub written : AddsPrefix (text ++ concat (stream_lines old.network old.params pairs whole))
       (concat (stream_lines old.network old.params (with_points pairs whole) last)) text'
 
@@ -99,9 +96,9 @@ Streams old pairs points new text text' (Err Memory) = TakesUntilMemory old pair
 pub record AsksStream {A E : Type 0} (old : SessionsState) (points : List Point) (rows : RowsState)
     (result : Result A E) (new : RowsState) : Type 0 where
   pub keeps : KeepsRows rows new
-  pub only : (pairs : List Pair) → Keeps old pairs
+  pub only : (pairs : List Pair) → RepresentsPairs old pairs
       → AsksOnly rows new (AsksAmong old pairs points)
-  pub all : OnOk result ((pairs : List Pair) (v : ℕ) → Keeps old pairs
+  pub all : OnOk result ((pairs : List Pair) (v : ℕ) → RepresentsPairs old pairs
       → AsksSome old (with_points pairs points) v → AsksSome old pairs v ⊎ Contains new.known v)
 
 -- the last lines of the pairs were written, and with these pieces all are told
@@ -112,19 +109,12 @@ pub record EndsPairs (old : SessionsState) (pairs : List Pair) (text text' : Lis
       ≡ pieces_told old.network old.params pairs + pieces
 
 -- all were ended, or memory ran out and a prefix of the last lines was written
-abbrev pub Ends : {E : Type 0} → SessionsState → List Pair → List ℕ → List ℕ → Result ℕ E → Type 0
-Ends old pairs text text' (Ok pieces) = EndsPairs old pairs text text' pieces
-Ends old pairs text text' (Err refused) =
+abbrev pub EndsSessions : {E : Type 0} → SessionsState → List Pair → List ℕ → List ℕ → Result ℕ E → Type 0
+EndsSessions old pairs text text' (Ok pieces) = EndsPairs old pairs text text' pieces
+EndsSessions old pairs text text' (Err refused) =
     AddsPrefix text (concat (closing_lines old.network old.params pairs)) text'
 
 -- ---- one id at its end
-
--- a session of this network that represents the fixes of a lawful trace
-pub record CanEnd (n : Net) (s : Session) (id : ℕ) : Type 0 where
-  pub fixes : List Fix
-  pub is : IsSessionOf n s.params s fixes
-  pub lawful : IsLawfulTrace (trace_of (id, fixes))
-  pub accepted : IsAccepted s.params
 
 -- its last lines were written, and with these pieces all are told
 pub record EndsPair (n : Net) (p : Params) (pair : Pair) (text text' : List ℕ) (pieces : ℕ) : Type 0 where
@@ -145,7 +135,7 @@ pub record EndsTrace {E : Type 0} (old : SessionsState) (pairs : List Pair) (id 
   pub network : new.network ≡ old.network
   pub params : new.params ≡ old.params
   pub was_open : HasPair pairs id
-  pub stands : Keeps new (without pairs id)
+  pub stands : RepresentsPairs new (without_pair pairs id)
   pub ended : EndsOne old.network old.params (id, fixes_of pairs id) text text' result
 
 -- the id had no pair, and nothing was done

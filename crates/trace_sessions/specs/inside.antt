@@ -1,2 +1,3 @@
 pub mod SessionsInside
 pub mod StreamingInside
+pub mod CallAnswers

@@ -6,8 +6,8 @@ ghost use Rattle.trace_match.specs.Match.{asks};
 ghost use Rattle.trace_reader.specs.Trace.{IsLawfulTrace};
 ghost use Rattle.trace_sessions.specs.FollowText.{fix_line};
 ghost use Rattle.trace_sessions.specs.Following.{IsFollowed, pieces_among};
-ghost use Rattle.trace_sessions.specs.ItemText.{AddsPrefix, AreItemsOf, Stays};
-ghost use Rattle.trace_sessions.specs.inside.StreamingInside.{rest_lines, step_lines};
+ghost use Rattle.trace_sessions.specs.ItemText.{AddsPrefix, AreItemsOf};
+ghost use Rattle.trace_sessions.specs.inside.StreamingInside.{rest_lines, step_lines, KeepsFront};
 
 use crate::basis::Basis;
 use crate::items::{Writer, write_items, write_lead};
@@ -61,7 +61,7 @@ fn append_followed<R: Rows>(
     requires trace { IsLawfulTrace trace.now }
     ensures followed { IfOk result
         (IsFollowed on.now.net.now on.now.params.now trace.now into.old into.new) }
-    ensures err { OnErr result (Stays into.old into.new) }
+    ensures err { OnErr result (KeepsFront into.old into.new) }
     ensures asks { AsksFor (R.state rows.old)
         (λ v. asks on.now.net.now on.now.params.now trace.now v ≡ true) result (R.state rows.new) }
 {

@@ -1,7 +1,8 @@
 //! The lines of the output of a session. Serves those who follow traces; decided by `item_lines`.
 ghost use Rattle.std.specs.Prelude.{◌≡◌, ◌++◌, OnOk, OnErr};
 ghost use Rattle.std.specs.List.{concat};
-ghost use Rattle.trace_sessions.specs.ItemText.{AreItemsOf, IsItemOf, Stays, item_line, item_lines, lead_of};
+ghost use Rattle.trace_sessions.specs.ItemText.{AreItemsOf, IsItemOf, item_line, item_lines, lead_of};
+ghost use Rattle.trace_sessions.specs.inside.StreamingInside.{KeepsFront};
 
 use itoa::write_digits;
 use match_text::{Label, write_label, write_piece};
@@ -51,7 +52,7 @@ fn append_items(
 ) -> Result<(), AllocError>
     requires { AreItemsOf net.now items.now }
     ensures ok { OnOk result (into.new ≡ into.old ++ concat (item_lines net.now id items.now)) }
-    ensures err { OnErr result (Stays into.old into.new) }
+    ensures err { OnErr result (KeepsFront into.old into.new) }
 {
     for item in items {
         write_lead(id, into)?;

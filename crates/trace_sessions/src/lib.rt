@@ -11,7 +11,7 @@
 //! [`follow_trace`] appends the follow text of a trace on a [`Basis`]: it feeds one position after the other to a
 //! session, and writes what the session returns.
 //!
-//! [`Sessions`] keeps the sessions of many traces at once, one for each id. `Keeps` in
+//! [`Sessions`] keeps the sessions of many traces at once, one for each id. `RepresentsPairs` in
 //! `specs/Sessions.antt` says which ids and positions they represent. What [`Sessions::feed`] and
 //! [`Sessions::close`] return depends only on the positions of their id.
 //!
@@ -27,7 +27,7 @@
 //! number of seconds no drive ends before the file ([`no_drive_is_idle`]), and an id has one ([`ids_have_one_drive`]).
 //!
 //! Read first: `item_lines` in `specs/ItemText.antt`, then `follow_lines` and `FollowIsMatch`; and
-//! `Keeps`, `TakesFix` and `Closes`; `stream_lines` and `closing_lines` in `specs/StreamText.antt`;
+//! `RepresentsPairs`, `TakesFix` and `ClosesSession`; `stream_lines` and `closing_lines` in `specs/StreamText.antt`;
 //! `drives_of` and `all_drive_lines` in `specs/Drives.antt`.
 #![tactic(auto)]
 

@@ -1,4 +1,4 @@
-//! Many sessions at once. Serves those who follow interleaved traces; decided by `TakesFix` and `Closes`.
+//! Many sessions at once. Serves those who follow interleaved traces; decided by `TakesFix` and `ClosesSession`.
 ghost use Rattle.std.specs.Prelude.{◌≡◌, ◌<◌, ◌⊎◌, List, [], None, nat_eq, length, slice_get, IfOk, IfErr, IfSome, OnErr};
 ghost use Rattle.std.specs.Map.{keys_of, lookup};
 ghost use Rattle.polyline_geometry.specs.Plane.{InRange};
@@ -7,9 +7,9 @@ ghost use Rattle.cost_model.specs.Options.{IsAccepted};
 ghost use Rattle.road_network.specs.Net.{IsLawful};
 ghost use Rattle.trace_match.specs.Ground.{IsGridFor};
 ghost use Rattle.trace_reader.specs.Trace.{point_of_fix};
-ghost use Rattle.online_commit.specs.Session.{AsksFed, AsksFinished, CanFeed, Session, points_of};
+ghost use Rattle.online_commit.specs.Session.{AsksFed, AsksFinished, CanFeed, Session, fed_position_count};
 ghost use Rattle.trace_sessions.specs.declared.sessions.SessionFault.TheVariants.{Memory, NotOpen};
-ghost use Rattle.trace_sessions.specs.Sessions.{AsksClosed, AsksFedTo, Closes, IsCloseFault, Keeps, Pair, RefusesFix, TakesFix, length_of};
+ghost use Rattle.trace_sessions.specs.Sessions.{AsksClosed, AsksFedTo, ClosesSession, IsCloseFault, RepresentsPairs, Pair, RefusesFix, TakesFix, length_of};
 ghost use Rattle.trace_sessions.specs.inside.SessionsInside.{FeedsAt, FinishesAt, session_at, session_in};
 
 use arrivals::Arrivals;
@@ -48,7 +48,7 @@ impl From<AllocError> for SessionFault {
 }
 
 /// The sessions of traces whose points are interleaved, one for each id. A contract sees the sessions
-/// by id; `Keeps` says which ids and positions they represent.
+/// by id; `RepresentsPairs` says which ids and positions they represent.
 pub struct Sessions<'n> {
     alloc: Global,
     net: &'n Network,
@@ -72,13 +72,13 @@ impl<'n> Drop for Sessions<'n> {
 
 impl<'n> Model for Sessions<'n> {
     ghost use Rattle.trace_sessions.specs.Sessions.{SessionsState};
-    ghost use Rattle.trace_sessions.specs.inside.SessionsInside.{shown_sessions, IsKept};
+    ghost use Rattle.trace_sessions.specs.inside.SessionsInside.{shown_sessions, AreSessionsKept};
 
     ghost Value = { SessionsState };
 
     ghost view = { shown_sessions };
 
-    ghost invariant = { IsKept };
+    ghost invariant = { AreSessionsKept };
 }
 
 // Feeds the session of the id, or else this newly opened one, which is kept if it took the position.
@@ -137,7 +137,7 @@ impl<'n> Sessions<'n> {
         requires { IsGridFor net.now p.now grid.now }
         ensures network { result.network ≡ net.now }
         ensures params { result.params ≡ p.now }
-        ensures none { Keeps result [] }
+        ensures none { RepresentsPairs result [] }
     {
         Sessions {
             alloc,
@@ -164,7 +164,7 @@ impl<'n> Sessions<'n> {
 
     /// The number of ids with a session.
     pub fn count(&self) -> u64
-        ensures { (pairs : List Pair) → Keeps self.now pairs → result ≡ length pairs }
+        ensures { (pairs : List Pair) → RepresentsPairs self.now pairs → result ≡ length pairs }
     {
         self.sessions.len() as u64
     }
@@ -172,7 +172,7 @@ impl<'n> Sessions<'n> {
     /// The id whose session is at this index, from 0, in order of first appearance. Takes time for each session
     /// after that one.
     pub fn id_at(&self, place: u64) -> Option<u32>
-        ensures { (pairs : List Pair) → Keeps self.now pairs
+        ensures { (pairs : List Pair) → RepresentsPairs self.now pairs
             → result ≡ slice_get (keys_of pairs) place }
     {
         self.sessions.id_at(place as usize)
@@ -180,7 +180,7 @@ impl<'n> Sessions<'n> {
 
     /// The number of positions of the id, or `None` if it has no session.
     pub fn length(&self, id: u32) -> Option<u32>
-        ensures { (pairs : List Pair) → Keeps self.now pairs → result ≡ length_of pairs id }
+        ensures { (pairs : List Pair) → RepresentsPairs self.now pairs → result ≡ length_of pairs id }
     {
         match self.sessions.get(id) {
             Some(session) => Some(session.count()),
@@ -198,7 +198,7 @@ impl<'n> Sessions<'n> {
 
     // The number of positions of the id, 0 if it has no session.
     fn points(&self, id: u32) -> u32
-        ensures { result ≡ points_of (session_in self.now id) }
+        ensures { result ≡ fed_position_count (session_in self.now id) }
     {
         match self.sessions.get(id) {
             Some(session) => session.count(),
@@ -239,7 +239,7 @@ impl<'n> Sessions<'n> {
     /// Rows become known as by [`Online::finish`] on the positions of this id.
     pub fn close<R: Rows>(&mut self, id: u32, rows: &mut R) -> Result<List<Item>, SessionFault>
         requires rows { AreRowsOf (R.state rows.old) self.old.network self.old.params.bound }
-        ensures closed { IfOk result (Closes self.old id self.new) }
+        ensures closed { IfOk result (ClosesSession self.old id self.new) }
         ensures fault { IfErr result (IsCloseFault self.old id) }
         ensures err { OnErr result (self.new ≡ self.old) }
         ensures asks { AsksClosed self.old id (R.state rows.old) (R.state rows.new) }

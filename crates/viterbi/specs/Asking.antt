@@ -11,15 +11,15 @@ use Rattle.matching.specs.Sequences.{Trellis}
 use Rattle.matching.specs.Value.{best_of, piece_length, solution}
 
 -- the piece that begins at position `first`
-abbrev pub piece_from : {L : Type 0} → Trellis L → List L → ℕ → Piece
-piece_from t layers first =
+abbrev pub best_piece_from : {L : Type 0} → Trellis L → List L → ℕ → Piece
+best_piece_from t layers first =
     let rest = drop first layers in
     let n = piece_length t rest in
     record { first = first; last = first + (n - 1); cost = (best_of t (take n rest)).cost }
 
 -- the nodes that this piece asks for
 abbrev pub AsksFrom : Net → Params → List Layer → ℕ → ℕ → Type 0
-AsksFrom n p layers first v = AsksPiece n p layers (piece_from (trellis n p) layers first) v
+AsksFrom n p layers first v = AsksPiece n p layers (best_piece_from (trellis n p) layers first) v
 
 -- the nodes that the trace of these layers asks for
 abbrev pub AsksLayers : Net → Params → List Layer → ℕ → Type 0

@@ -25,7 +25,7 @@ pub record IsCheckable (c : Case) : Type 0 where
   pub rows : first_bad_row c.net c.params.bound c.rows ≡ None
 
 -- a position to which transitions are looked at, with the tables, the ranks and the rows that they rest on
-pub record IsReady (c : Case) (i : ℕ) : Type 0 where
+pub record IsPositionReady (c : Case) (i : ℕ) : Type 0 where
   pub checkable : IsCheckable c
   pub below : i < length c.layers
   pub looked : is_looked_at c i ≡ true

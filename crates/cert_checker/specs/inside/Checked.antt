@@ -27,7 +27,7 @@ pub record IsMet (c : Case) (i : ℕ) : Type 0 where
   pub rows : has_rows c i ≡ true
 
 -- the positions before i have met them, and these pieces end at i or later
-pub record IsNext (c : Case) (i : ℕ) (left : List Routed) : Type 0 where
+pub record IsNextPosition (c : Case) (i : ℕ) (left : List Routed) : Type 0 where
   pub checkable : IsCheckable c
   pub below : i < length c.layers
   pub pieces : AreLeft c.proof.pieces left i

@@ -5,11 +5,11 @@ use Rattle.road_network.specs.Net.{Net, edge_name, target}
 use Rattle.road_network.specs.declared.Candidate.{Candidate}
 use Rattle.matching.specs.RouteBetween.{route_between}
 use Rattle.match_text.specs.declared.matched.Routed.{Routed}
-use Rattle.route_rebuild.specs.Chosen.{IsChosenRun}
+use Rattle.route_rebuild.specs.inside.ChosenRuns.{IsChosenRun}
 use Rattle.route_rebuild.specs.Routes.{chosen_at, edges_to}
 use Rattle.cert_checker.specs.Case.{Case, has_row}
 use Rattle.cert_checker.specs.inside.CaseSeen.{IsCheckable}
-use Rattle.cert_checker.specs.Verdicts.{piece_of}
+use Rattle.cert_checker.specs.Verdicts.{piece_without_route}
 
 -- these are the ids of the edges
 abbrev pub are_names : Net → List ℕ → List ℕ → Bool
@@ -25,22 +25,22 @@ abbrev pub IsLeftAfter : Net → List ℕ → List ℕ → Option (List ℕ) →
 IsLeftAfter n names es left = (rest : List ℕ) → are_names n names (es ++ rest) ≡ are_left_names n left rest
 
 -- the chosen candidate of position i
-abbrev pub chosen_in : Case → ℕ → Candidate
-chosen_in c i = chosen_at c.layers c.proof.ranks i
+abbrev pub chosen_in_case : Case → ℕ → Candidate
+chosen_in_case c i = chosen_at c.layers c.proof.ranks i
 
 -- the edges by which the route goes on from position i to the next
 abbrev pub leg : Case → ℕ → List ℕ
 leg c i =
-    edges_to (chosen_in c (i + 1))
-    (route_between c.net c.params.bound c.params.back (chosen_in c i) (chosen_in c (i + 1)))
+    edges_to (chosen_in_case c (i + 1))
+    (route_between c.net c.params.bound c.params.back (chosen_in_case c i) (chosen_in_case c (i + 1)))
 
 -- what the route of a piece rests on: chosen candidates with routes between them, and the rows of the
 -- nodes at their ends
 pub record IsRoutable (c : Case) (q : Routed) : Type 0 where
   pub checkable : IsCheckable c
-  pub run : IsChosenRun c.net c.params c.layers c.proof.ranks (piece_of q)
+  pub run : IsChosenRun c.net c.params c.layers c.proof.ranks (piece_without_route q)
   pub rows : (k : ℕ) → q.first ≤ k → k < q.last
-      → has_row c.rows (target c.net (chosen_in c k).edge.0) ≡ true
+      → has_row c.rows (target c.net (chosen_in_case c k).edge.0) ≡ true
 
 -- the leg from position i to the next is one of such a piece
 pub record IsLeg (c : Case) (i : ℕ) : Type 0 where

@@ -13,5 +13,5 @@ told_place zero = None
 told_place (suc place) = Some place
 
 -- the places of rows by node number
-pub record ArePlaced (a : Inside) : Type 0 where
+pub record AreRowsPlaced (a : Inside) : Type 0 where
   pub each : (v : ℕ) → FindsRow a.rows.now v (told_place (slice_index a.places.items v))

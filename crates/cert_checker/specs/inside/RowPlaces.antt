@@ -6,7 +6,7 @@ use Rattle.cert_checker.specs.Case.{has_row}
 use Rattle.cert_checker.specs.Rows.{first_bad_row}
 
 -- none of these rows is bad, within some bound
-pub record AreRightRows (n : Net) (rows : List TableRow) : Type 0 where
+pub record HaveNoBadRow (n : Net) (rows : List TableRow) : Type 0 where
   pub bound : ℕ
   pub are : first_bad_row n bound rows ≡ None
 

@@ -1,9 +1,9 @@
 -- What a job of `follow` has done.
 use Rattle.std.specs.Prelude.{◌≡◌, ◌↔◌, ℕ, List, true, Contains}
 use Rattle.bounded_table.specs.Rows.{AreRowsOf, RowsState}
-use Rattle.program_frame.specs.Counts.{Counts}
+use Rattle.program_frame.specs.inside.Tallies.{Counts}
 use Rattle.trace_match.specs.Setting.{Setting}
-use Rattle.trace_match.specs.Totals.{is_asked_by, pieces_of}
+use Rattle.trace_match.specs.Totals.{is_asked_by, piece_count}
 use Rattle.program_frame.specs.declared.total.Tally.{Tally}
 use Rattle.trace_reader.specs.declared.trace.Trace.{Trace}
 
@@ -16,4 +16,4 @@ pub record HasFollowed (on : Setting) (rows : RowsState) (tally : Tally) (traces
     : Type 0 where
   pub rows_are : AreRowsOf rows on.network on.params.bound
   pub asked : KnowsAsked on traces rows.known
-  pub counts : Counts (pieces_of on) traces tally
+  pub counts : Counts (piece_count on) traces tally

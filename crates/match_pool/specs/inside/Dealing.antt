@@ -7,8 +7,8 @@ use Rattle.match_pool.specs.declared.turn.Turn.{Turn}
 abbrev pub ticket_of : Turn → Drawn
 ticket_of turn = turn.ticket
 
-abbrev pub numbers_of : Partition → List ℕ
-numbers_of partition = partition.numbers
+abbrev pub partition_numbers : Partition → List ℕ
+partition_numbers partition = partition.numbers
 
 -- a turn at each partition, in which nothing was drawn
 pub record AreFreshTurns (partitions : List Partition) (turns : List Turn) : Type 0 where
@@ -23,7 +23,7 @@ pub record HasClaims (tickets : ℕ) (partition : Partition) : Type 0 where
 
 -- partitions of these numbers, and for each worker fresh turns at them
 pub record AreDealt (cuts : List (List ℕ)) (workers : ℕ) (partitions : List Partition) (by_worker : List (List Turn)) : Type 0 where
-  pub cuts_are : map numbers_of partitions ≡ cuts
+  pub cuts_are : map partition_numbers partitions ≡ cuts
   pub claims : All (HasClaims workers) partitions
   pub count : length by_worker ≡ workers
   pub fresh : All (AreFreshTurns partitions) by_worker

@@ -14,8 +14,8 @@ pub record AreTurnsOver (j : Job) (partition : Partition) (turns : List Turn) : 
   pub over : All (IsOver j partition) turns
 
 -- the slots of these numbers have their matches, and the others what they had
-abbrev pub Fills : (ℕ → MatchedTrace) → List ℕ → List (Option MatchedTrace) → List (Option MatchedTrace) → Type 0
-Fills matched numbers old new =
+abbrev pub FillsSlots : (ℕ → MatchedTrace) → List ℕ → List (Option MatchedTrace) → List (Option MatchedTrace) → Type 0
+FillsSlots matched numbers old new =
     (k : ℕ) → k < length old
     → (Contains numbers k × (slice_get new k ≡ Some (Some (matched k))))
     ⊎ ((Contains numbers k → ⊥) × (slice_get new k ≡ slice_get old k))
@@ -25,7 +25,7 @@ abbrev pub PlacesAnswers : ℕ → List Done → (old new : List (Option Matched
 PlacesAnswers first done old new =
     (matched : ℕ → MatchedTrace) (numbers : List ℕ)
     → done ≡ map (done_by first matched) numbers
-    → Fills matched numbers old new
+    → FillsSlots matched numbers old new
 
 -- each rank of the partition was drawn in one of the turns
 abbrev pub AllDrawn : Partition → List Turn → Type 0

@@ -3,7 +3,7 @@ use Rattle.std.specs.Prelude.{◌≡◌, ◌<◌, ℕ, List, [], ◌∷◌, ◌+
 use Rattle.match_pool.specs.declared.turn.Turn.{Turn}
 
 -- each column has its turn of the row as well
-pub record AddsRow (row : List Turn) (before after : List (List Turn)) : Type 0 where
+pub record AddsTurns (row : List Turn) (before after : List (List Turn)) : Type 0 where
   pub count : length after ≡ length before
   pub each : (place : ℕ) (d : Turn) → place < length before
       → slice_index_or after place [] ≡ slice_index_or before place [] ++ slice_index_or row place d ∷ []

@@ -5,7 +5,7 @@ use Rattle.tickets.specs.Tickets.{HasEnded}
 use Rattle.match_pool.specs.declared.turn.Partition.{Partition}
 use Rattle.match_pool.specs.declared.turn.Turn.{Turn}
 use Rattle.match_pool.specs.declared.worker.Done.{Done}
-use Rattle.match_pool.specs.Drawing.{number_at}
+use Rattle.match_pool.specs.Drawing.{number_of_rank}
 use Rattle.match_pool.specs.Working.{Job, asks_at, done_by, matched_at}
 
 -- a partition of some of the job's traces, with claims on all of them
@@ -18,7 +18,7 @@ pub record AnswersFor (j : Job) (partition drawn : List ℕ) (done : List Done) 
   pub numbers : List ℕ
   pub are : done ≡ map (done_by j.first (matched_at j)) numbers
   pub inside : All (Contains partition) numbers
-  pub all : (rank : ℕ) → rank < length partition → Contains drawn rank → Contains numbers (number_at partition rank)
+  pub all : (rank : ℕ) → rank < length partition → Contains drawn rank → Contains numbers (number_of_rank partition rank)
 
 -- the turn is over: its ticket is of the partition's claims and has ended, and what it drew is answered
 pub record IsOver (j : Job) (partition : Partition) (turn : Turn) : Type 0 where
@@ -30,9 +30,9 @@ pub record IsOver (j : Job) (partition : Partition) (turn : Turn) : Type 0 where
 abbrev pub Learns : Job → Partition → Turn → Reading → Type 0
 Learns j partition turn reader =
     (rank v : ℕ) → rank < length partition.numbers → Contains turn.ticket.numbers rank
-    → asks_at j v (number_at partition.numbers rank) ≡ true → knows reader v ≡ true
+    → asks_at j v (number_of_rank partition.numbers rank) ≡ true → knows reader v ≡ true
 
 -- the turn is over, and its reader has learned what the traces ask for that were matched in it
-pub record IsTaken (j : Job) (partition : Partition) (turn : Turn) (reader : Reading) : Type 0 where
+pub record IsTurnTaken (j : Job) (partition : Partition) (turn : Turn) (reader : Reading) : Type 0 where
   pub over : IsOver j partition turn
   pub learns : Learns j partition turn reader

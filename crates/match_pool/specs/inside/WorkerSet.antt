@@ -6,7 +6,7 @@ use Rattle.match_pool.specs.declared.worker_set.WorkerSet.{WorkerSet}
 use Rattle.match_pool.specs.declared.worker_set.Worker.{Worker}
 use Rattle.match_pool.specs.declared.turn.Partition.{Partition}
 use Rattle.match_pool.specs.declared.turn.Turn.{Turn}
-use Rattle.match_pool.specs.inside.Turns.{IsPartitionOf, IsTaken}
+use Rattle.match_pool.specs.inside.Turns.{IsPartitionOf, IsTurnTaken}
 use Rattle.match_pool.specs.Working.{IsReaderFor, Job, ReadsWithin}
 
 abbrev pub reader_of : Worker → Reading
@@ -27,7 +27,7 @@ pub record CanDrawFrom (j : Job) (partitions : List Partition) (from past : ℕ)
 pub record DrewFrom (j : Job) (partitions : List Partition) (from past : ℕ) (before after : Worker) : Type 0 where
   pub count : length after.turns.items ≡ length before.turns.items
   pub each : (place : ℕ) (d : Partition) (e : Turn) → from ≤ place → place < past
-      → IsTaken j (slice_index_or partitions place d) (slice_index_or after.turns.items place e) after.reader
+      → IsTurnTaken j (slice_index_or partitions place d) (slice_index_or after.turns.items place e) after.reader
   pub early : (place : ℕ) (e : Turn) → place < from → slice_index_or after.turns.items place e ≡ slice_index_or before.turns.items place e
   pub late : (place : ℕ) (e : Turn) → past ≤ place → slice_index_or after.turns.items place e ≡ slice_index_or before.turns.items place e
 
@@ -35,7 +35,7 @@ pub record DrewFrom (j : Job) (partitions : List Partition) (from past : ℕ) (b
 pub record DrewAll (j : Job) (partitions : List Partition) (after : Worker) : Type 0 where
   pub count : length after.turns.items ≡ length partitions
   pub each : (place : ℕ) (d : Partition) (e : Turn) → place < length partitions
-      → IsTaken j (slice_index_or partitions place d) (slice_index_or after.turns.items place e) after.reader
+      → IsTurnTaken j (slice_index_or partitions place d) (slice_index_or after.turns.items place e) after.reader
 
 -- the worker did its work
 pub record Ran (j : Job) (partitions : List Partition) (before after : Worker) : Type 0 where
@@ -43,7 +43,7 @@ pub record Ran (j : Job) (partitions : List Partition) (before after : Worker) :
   pub drew_all : OnOk after.outcome (DrewAll j partitions after)
 
 -- there is room for the readers and the turns of all workers
-pub record HasRoom (worker_set : WorkerSet) : Type 0 where
+pub record HasRoomForWorkers (worker_set : WorkerSet) : Type 0 where
   pub no_readers : worker_set.readers.items ≡ []
   pub no_turns : worker_set.turns.items ≡ []
   pub readers : length worker_set.workers.items ≤ vec_capacity worker_set.readers
@@ -53,7 +53,7 @@ pub record HasRoom (worker_set : WorkerSet) : Type 0 where
 pub record IsWorkerSet (readers : List Reading) (by_worker : List (List Turn)) (worker_set : WorkerSet) : Type 0 where
   pub readers_are : map reader_of worker_set.workers.items ≡ readers
   pub turns_are : All (λ w. Contains by_worker w.turns.items) worker_set.workers.items
-  pub room : HasRoom worker_set
+  pub room : HasRoomForWorkers worker_set
 
 -- the room is as before
 pub record KeepsRoom (before after : WorkerSet) : Type 0 where

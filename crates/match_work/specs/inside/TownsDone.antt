@@ -7,12 +7,12 @@ use Rattle.match_work.specs.Towns.{cost_of}
 use Rattle.match_work.specs.declared.towns.Costs.{Costs}
 
 -- the cost of a match: each piece costs less than 2^64
-pub record IsCost (matched : MatchedTrace) (cost : ℕ) : Type 0 where
+pub record IsMatchCost (matched : MatchedTrace) (cost : ℕ) : Type 0 where
   pub is : cost ≡ cost_of matched
   pub small : cost ≤ length matched.pieces * 2 ^ 64
 
 -- the pieces of these matches, and the sum of their costs
-pub record AreCosts (matches : List MatchedTrace) (costs : Costs) : Type 0 where
+pub record AreMatchCosts (matches : List MatchedTrace) (costs : Costs) : Type 0 where
   pub pieces_are : costs.pieces ≡ pieces_in matches
   pub is : costs.cost ≡ sum_by cost_of matches
   pub small : costs.cost ≤ costs.pieces * 2 ^ 64

@@ -13,13 +13,13 @@ abbrev pub IsLiveMask : List Cell → ℕ → Type 0
 IsLiveMask cells mask = (r : ℕ) → HasBit mask r ↔ IsLive cells r
 
 -- the ranks at the position before that the cells of these ranks point to
-abbrev pub IsBehind : List Cell → ℕ → ℕ → Type 0
-IsBehind cells mask behind =
+abbrev pub ArePreviousRanks : List Cell → ℕ → ℕ → Type 0
+ArePreviousRanks cells mask behind =
     (a : ℕ) → HasBit behind a ↔ ((r : ℕ) × HasBit mask r × ((cell_at cells r).«from» ≡ Some a))
 
 -- r alone is in the set
-abbrev pub IsOnly : ℕ → ℕ → Type 0
-IsOnly mask r = HasBit mask r × ((a : ℕ) → HasBit mask a → a ≡ r)
+abbrev pub IsOnlyRank : ℕ → ℕ → Type 0
+IsOnlyRank mask r = HasBit mask r × ((a : ℕ) → HasBit mask a → a ≡ r)
 
 -- none is, or two are
 abbrev pub IsNotOne : ℕ → Type 0
@@ -35,7 +35,7 @@ pub record HasFewRanks (cells : List Cell) : Type 0 where
 -- position have there
 pub record AreMasks (tables : List (List Cell)) (mask : ℕ → ℕ) (n : ℕ) : Type 0 where
   pub live : IsLiveMask (slice_index_or tables (n - 1) []) (mask (n - 1))
-  pub back : (i : ℕ) → i + 1 < n → IsBehind (slice_index_or tables (i + 1) []) (mask (i + 1)) (mask i)
+  pub back : (i : ℕ) → i + 1 < n → ArePreviousRanks (slice_index_or tables (i + 1) []) (mask (i + 1)) (mask i)
 
 -- the mask of a position, where the masks of the last positions changed, from the last of all back
 abbrev pub mask_after : List ℕ → List ℕ → ℕ → ℕ

@@ -13,7 +13,7 @@ use Rattle.online_commit.specs.declared.feeding.Tail.{Tail}
 use Rattle.online_commit.specs.declared.items.Item.{Item}
 use Rattle.online_commit.specs.declared.items.Item.TheVariants.{Missing}
 use Rattle.online_commit.specs.declared.open_piece.OpenPiece.{OpenPiece}
-use Rattle.online_commit.specs.inside.Masks.{AreMasks, HasFewRanks, IsOnly, mask_after, mask_at}
+use Rattle.online_commit.specs.inside.Masks.{AreMasks, HasFewRanks, IsOnlyRank, mask_after, mask_at}
 use Rattle.online_commit.specs.inside.Steps.{AreSettled, KeptSession}
 
 -- what is seen of the kept positions of an open piece: not how much room they have
@@ -24,8 +24,8 @@ pub record Piece : Type 0 where
   pub tables : List (List Cell)
   pub masks : List ℕ
 
-abbrev pub piece_of : Tail → Piece
-piece_of a = record {
+abbrev pub shown_piece : Tail → Piece
+shown_piece a = record {
   first = a.first;
   told = a.told;
   layers = a.layers.items;
@@ -49,7 +49,7 @@ whole_of a = record {
   layers = a.layers.items;
   tables = a.tables.items;
   settled = a.settled.items;
-  tail = piece_of a.tail;
+  tail = shown_piece a.tail;
 }
 
 -- an open piece of which all positions are kept
@@ -76,7 +76,7 @@ session_with n p a = record {
 abbrev pub session_of : Net → Params → OpenPiece → KeptSession
 session_of n p a = session_with n p (whole_of a)
 
-pub record HasRoom (a : Tail) : Type 0 where
+pub record HasRoomForLayer (a : Tail) : Type 0 where
   pub layers : vec_len a.layers < vec_capacity a.layers
   pub tables : vec_len a.tables < vec_capacity a.tables
   pub masks : vec_len a.masks < vec_capacity a.masks
@@ -138,7 +138,7 @@ pub record AreFirstSettled (a : Piece) (old : List Candidate) (count : ℕ) (new
   pub more : List Candidate
   pub appended : new ≡ old ++ more
   pub count_is : length more ≡ count
-  pub each : (i : ℕ) → i < count → (r : ℕ) × IsOnly (mask_at a.masks i) r
+  pub each : (i : ℕ) → i < count → (r : ℕ) × IsOnlyRank (mask_at a.masks i) r
       × (slice_index_or more i no_candidate ≡ candidate_of_rank (slice_index_or a.layers i no_layer) r)
 
 -- the same piece without its first `count` positions

@@ -20,8 +20,8 @@ use Rattle.route_rebuild.specs.Routes.{no_layer, route_of}
 use Rattle.online_commit.specs.declared.items.Item.{Item}
 use Rattle.online_commit.specs.declared.items.Item.TheVariants.{At, Closed}
 use Rattle.online_commit.specs.Items.{edge_ids}
-use Rattle.online_commit.specs.inside.Masks.{AreMasks, HasFewRanks, IsNotOne, IsOnly, mask_at}
-use Rattle.online_commit.specs.Session.{IsFed, IsFedLayer, Session, points_of}
+use Rattle.online_commit.specs.inside.Masks.{AreMasks, HasFewRanks, IsNotOne, IsOnlyRank, mask_at}
+use Rattle.online_commit.specs.Session.{FeedsLayer, IsFedLayer, Session, fed_position_count}
 
 -- a session with the layers and the cells of all positions of its open piece, and what it keeps of them: of its first
 -- positions the chosen candidates, and of those from `kept_first` on the layer, the cells and the ranks that are still
@@ -41,8 +41,8 @@ pub record KeptSession : Type 0 where
   pub masks : List ℕ
 
 -- what contracts see of it
-abbrev pub seen : KeptSession → Session
-seen s = record { network = s.network; params = s.params; first = s.first; told = s.told; layers = s.layers }
+abbrev pub seen_session : KeptSession → Session
+seen_session s = record { network = s.network; params = s.params; first = s.first; told = s.told; layers = s.layers }
 
 -- of each sequence that pointers lead to from a live rank of the last position, these are the candidates of the first
 -- positions
@@ -66,7 +66,7 @@ pub record IsKeptOf (s : KeptSession) : Type 0 where
 -- what a session always keeps
 pub record IsSession (s : KeptSession) : Type 0 where
   pub options : IsAccepted s.params
-  pub few : points_of (seen s) ≤ 100_000
+  pub few : fed_position_count (seen_session s) ≤ 100_000
   pub layers : All (IsFedLayer s.network s.params) s.layers
   pub ranks : All HasFewRanks s.tables
   pub tables_count : length s.tables ≡ length s.layers
@@ -92,13 +92,13 @@ TellsCells s l next =
 pub record EndsBefore (s : KeptSession) (l : Layer) : Type 0 where
   pub session : IsSession s
   pub layer : IsFedLayer s.network s.params l
-  pub room : points_of (seen s) < 100_000
+  pub room : fed_position_count (seen_session s) < 100_000
   pub ends : TellsCells s l None
 
 -- it took this position, and these are the items that were handed out
 pub record TakesAnew (old : KeptSession) (l : Layer) (new : KeptSession) (items : List Item) : Type 0 where
   pub session : IsSession new
-  pub fed : IsFed (seen old) l (seen new) items
+  pub fed : FeedsLayer (seen_session old) l (seen_session new) items
 
 -- a step to this position asks for the row of node v
 abbrev pub AsksStep : KeptSession → Layer → ℕ → Type 0
@@ -116,9 +116,9 @@ ranked_items first layers rank j k = map (ranked_item first layers rank) (range_
 -- of the positions of a piece from `from` on, those before the first whose mask has not one rank alone
 pub record AreSettled (first : ℕ) (layers : List Layer) (mask : ℕ → ℕ) («from» : ℕ) (items : List Item) : Type 0 where
   pub within : «from» + length items ≤ length layers
-  pub single : (j : ℕ) → «from» ≤ j → j < «from» + length items → (r : ℕ) × IsOnly (mask j) r
+  pub single : (j : ℕ) → «from» ≤ j → j < «from» + length items → (r : ℕ) × IsOnlyRank (mask j) r
   pub ends : «from» + length items < length layers → IsNotOne (mask («from» + length items))
-  pub are : (rank : ℕ → ℕ) → ((j : ℕ) → «from» ≤ j → j < «from» + length items → IsOnly (mask j) (rank j))
+  pub are : (rank : ℕ → ℕ) → ((j : ℕ) → «from» ≤ j → j < «from» + length items → IsOnlyRank (mask j) (rank j))
       → items ≡ ranked_items first layers rank «from» (length items)
 
 abbrev pub rank_in : List ℕ → ℕ → ℕ
@@ -138,8 +138,8 @@ abbrev pub as_ranks : List ℕ → List (Option ℕ)
 as_ranks ranks = map (λ r. Some r) ranks
 
 -- the piece of `count` positions from position `first` on, and the same on its own
-abbrev pub piece_from : ℕ → ℕ → ℕ → Piece
-piece_from first count c = record { first = first; last = first + (count - 1); cost = c }
+abbrev pub counted_piece : ℕ → ℕ → ℕ → Piece
+counted_piece first count c = record { first = first; last = first + (count - 1); cost = c }
 
 abbrev pub whole_piece : ℕ → ℕ → Piece
 whole_piece count c = record { first = 0; last = count - 1; cost = c }
@@ -149,7 +149,7 @@ whole_piece count c = record { first = 0; last = count - 1; cost = c }
 abbrev pub closing_of : Net → Params → ℕ → List Layer → ℕ → List ℕ → ℕ → List Item
 closing_of n p first layers c ranks told =
     ranked_items first layers (rank_in ranks) told (length layers - told)
-    ++ Closed (piece_from first (length layers) c)
+    ++ Closed (counted_piece first (length layers) c)
     (edge_ids (route_of n p layers (as_ranks ranks) (whole_piece (length layers) c))) ∷ []
 
 -- these are left of the open piece

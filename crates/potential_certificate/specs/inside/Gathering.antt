@@ -5,7 +5,7 @@ use Rattle.std.specs.List.{AllByRecursion, AllZip, flat_map}
 use Rattle.bounded_table.specs.Table.{TableRow}
 use Rattle.row_text.specs.RowLine.{row_line}
 use Rattle.potential_certificate.specs.CertificateText.{proof_text}
-use Rattle.potential_certificate.specs.HasText.{AreRowsFrom, IsProof}
+use Rattle.potential_certificate.specs.HasText.{AreRowValuesFrom, IsProof}
 use Rattle.potential_certificate.specs.declared.drawing.PlacedRead.{PlacedRead}
 use Rattle.potential_certificate.specs.declared.gathered.Gathered.{Gathered}
 use Rattle.potential_certificate.specs.declared.parts.PartRead.{PartRead}
@@ -18,7 +18,7 @@ lines_text proofs rows behind = flat_map proof_text proofs ++ (flat_map row_line
 -- proofs and rows that have lines
 pub record AreLines (proofs : List TraceProof) (rows : List TableRow) : Type 0 where
   pub each : AllByRecursion IsProof proofs
-  pub rising : AreRowsFrom 0 rows
+  pub rising : AreRowValuesFrom 0 rows
 
 -- ---- a part of the text
 
@@ -52,9 +52,9 @@ pub record AreReadsOf (text : List ℕ) (reads : List PartRead) : Type 0 where
 -- ---- the text so far
 
 -- the first origin of these rows is not below `least`
-abbrev pub rises_from : ℕ → List TableRow → Bool
-rises_from least [] = true
-rises_from least (row ∷ rows) = nat_le least row.origin
+abbrev pub first_rises_from : ℕ → List TableRow → Bool
+first_rises_from least [] = true
+first_rises_from least (row ∷ rows) = nat_le least row.origin
 
 -- the least origin of a row after these
 abbrev pub least_after : ℕ → List TableRow → ℕ
@@ -68,7 +68,7 @@ abbrev pub IsGathered : Gathered → Type 0
 IsGathered g = AreLines g.proofs.items g.rows.items
 
 -- more of the text has come
-pub record Grows (old : Gathered) (more : List ℕ) (new : Gathered) : Type 0 where
+pub record GathersMore (old : Gathered) (more : List ℕ) (new : Gathered) : Type 0 where
   pub text_is : gathered_text new ≡ gathered_text old ++ more
   pub are : IsGathered new
 
@@ -76,4 +76,4 @@ pub record Grows (old : Gathered) (more : List ℕ) (new : Gathered) : Type 0 wh
 pub record GoesOn (g : Gathered) (read : PartRead) : Type 0 where
   pub nothing : g.behind.items ≡ []
   pub apart : (g.rows.items ≡ []) ⊎ (read.proofs ≡ [])
-  pub rises : rises_from (least_after 0 g.rows.items) read.rows ≡ true
+  pub rises : first_rises_from (least_after 0 g.rows.items) read.rows ≡ true

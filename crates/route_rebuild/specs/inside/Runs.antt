@@ -14,8 +14,8 @@ abbrev pub AreRowsForRun : RowsState → Run → Type 0
 AreRowsForRun state run = AreRowsOf state run.net.now run.params.now.bound
 
 -- the chosen candidate of position i
-abbrev pub chosen_in : Run → ℕ → Candidate
-chosen_in run i = candidate_in run.chosen.now i
+abbrev pub chosen_in_run : Run → ℕ → Candidate
+chosen_in_run run i = candidate_in run.chosen.now i
 
 -- its last position
 abbrev pub last_in : Run → ℕ
@@ -27,11 +27,11 @@ IsRouteOfRun run es = IsRouteOver run.net.now run.params.now run.chosen.now es
 
 -- there is a direct route from position i to the next
 abbrev pub IsDirectLeg : Run → ℕ → Type 0
-IsDirectLeg run i = IsDirect run.params.now.back (chosen_in run i) (chosen_in run (i + 1))
+IsDirectLeg run i = IsDirect run.params.now.back (chosen_in_run run i) (chosen_in_run run (i + 1))
 
 -- there is none, and v is the node where the walk to the next position starts
 abbrev pub IsWalkStartAt : Run → ℕ → ℕ → Type 0
-IsWalkStartAt run i v = (IsDirectLeg run i → ⊥) × (v ≡ target run.net.now (chosen_in run i).edge.0)
+IsWalkStartAt run i v = (IsDirectLeg run i → ⊥) × (v ≡ target run.net.now (chosen_in_run run i).edge.0)
 
 -- v is such a node of the run
 abbrev pub IsWalkStartOf : Run → ℕ → Type 0
@@ -40,9 +40,9 @@ IsWalkStartOf run v = IsWalkStartOver run.net.now run.params.now run.chosen.now 
 -- the edges of the route from position i to the next were appended
 pub record IsLegAdded (run : Run) (i : ℕ) (old new : List ℕ) : Type 0 where
   pub route : Route
-  pub is : IsTheRoute run.net.now run.params.now.bound run.params.now.back (chosen_in run i)
-      (chosen_in run (i + 1)) route
-  pub added : new ≡ old ++ edges_of (chosen_in run (i + 1)) route
+  pub is : IsTheRoute run.net.now run.params.now.bound run.params.now.back (chosen_in_run run i)
+      (chosen_in_run run (i + 1)) route
+  pub added : new ≡ old ++ edges_of (chosen_in_run run (i + 1)) route
 
 -- a walk of at most this length joins node u to node v
 abbrev pub AreJoined : Net → ℕ → ℕ → ℕ → Type 0

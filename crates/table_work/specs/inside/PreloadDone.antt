@@ -6,10 +6,10 @@ use Rattle.table_work.specs.declared.preloading.TableFileFault.{TableFileFault}
 use Rattle.table_work.specs.declared.preloading.TableFileFault.TheVariants.{Text, WrongRow}
 
 -- want of memory has no line
-abbrev pub has_fault_line : TableFileFault → Type 0
-has_fault_line (Text fault) = fault ≢ Memory
-has_fault_line (WrongRow id) = Unit {0}
+abbrev pub has_table_file_fault_line : TableFileFault → Type 0
+has_table_file_fault_line (Text fault) = fault ≢ Memory
+has_table_file_fault_line (WrongRow id) = Unit {0}
 
-abbrev pub fault_line : TableFileFault → List ℕ
-fault_line (Text fault) = table_fault_line fault
-fault_line (WrongRow id) = wrong_row_line id
+abbrev pub table_file_fault_line : TableFileFault → List ℕ
+table_file_fault_line (Text fault) = table_fault_line fault
+table_file_fault_line (WrongRow id) = wrong_row_line id

@@ -1,5 +1,5 @@
 -- The lines of one position and of the end of a trace, from their items.
-use Rattle.std.specs.Prelude.{ℕ, zero, suc, List, [], ◌∷◌, ◌++◌, Option, None}
+use Rattle.std.specs.Prelude.{ℕ, zero, suc, List, [], ◌∷◌, ◌++◌, Option, None, ◌≡◌, length, take}
 use Rattle.road_network.specs.Net.{Net}
 use Rattle.match_text.specs.MatchText.{end_line, trace_line}
 use Rattle.online_commit.specs.declared.items.Item.{Item}
@@ -22,3 +22,7 @@ step_lines n lead point items = (lead_of lead ++ fix_line point) ∷ item_lines 
 abbrev pub rest_lines : Net → (lead : Option ℕ) → (id : ℕ) → List Item → List (List ℕ)
 rest_lines n lead id items =
     (lead_of lead ++ finish_line) ∷ item_lines n lead items ++ (lead_of lead ++ end_line id) ∷ []
+
+-- what was in a text is still at its front
+abbrev pub KeepsFront : (text text' : List ℕ) → Type 0
+KeepsFront text text' = take (length text) text' ≡ text

@@ -8,9 +8,10 @@ ghost use Rattle.online_commit.specs.Session.{AsksFinished};
 ghost use Rattle.trace_reader.specs.Trace.{IsLawfulTrace, point_of_fix};
 ghost use Rattle.trace_sessions.specs.Calls.{IsEmpty};
 ghost use Rattle.trace_sessions.specs.ItemText.{AddsPrefix, AreItemsOf};
-ghost use Rattle.trace_sessions.specs.Sessions.{AsksClosed, IsSessionOf, Keeps, Pair};
+ghost use Rattle.trace_sessions.specs.Sessions.{AsksClosed, IsSessionOf, RepresentsPairs, Pair};
 ghost use Rattle.trace_sessions.specs.StreamText.{fragment_points, led_by};
-ghost use Rattle.trace_sessions.specs.Streaming.{AsksSome, AsksStream, CanEnd, CanStream, Ends, EndsId, EndsOne, Streams};
+ghost use Rattle.trace_sessions.specs.Streaming.{AsksSome, AsksStream, CanStream, EndsSessions, EndsId, EndsOne, Streams};
+ghost use Rattle.trace_sessions.specs.inside.SessionsInside.{CanEnd};
 ghost use Rattle.trace_sessions.specs.inside.StreamingInside.{heading, lines_of_items};
 
 use super::{SessionFault, Sessions};
@@ -60,7 +61,7 @@ impl<'n> Sessions<'n> {
         requires rows { AreRowsOf (R.state rows.old) self.old.network self.old.params.bound }
         requires place { InRange (point_of_fix fix) }
         requires can { CanStream self.old 1 }
-        ensures streams { (pairs : ListOf Pair) → Keeps self.old pairs
+        ensures streams { (pairs : ListOf Pair) → RepresentsPairs self.old pairs
             → Streams self.old pairs ((id, fix) ∷ []) self.new into.old into.new result }
         ensures asks { AsksStream self.old ((id, fix) ∷ [])
             (R.state rows.old) result (R.state rows.new) }
@@ -85,7 +86,7 @@ impl<'n> Sessions<'n> {
         requires rows { AreRowsOf (R.state rows.old) self.old.network self.old.params.bound }
         requires trace { IsLawfulTrace trace.now }
         requires can { CanStream self.old (length trace.now.fixes) }
-        ensures streams { (pairs : ListOf Pair) → Keeps self.old pairs
+        ensures streams { (pairs : ListOf Pair) → RepresentsPairs self.old pairs
             → Streams self.old pairs (fragment_points trace.now) self.new into.old into.new result }
         ensures asks { AsksStream self.old (fragment_points trace.now)
             (R.state rows.old) result (R.state rows.new) }
@@ -112,7 +113,7 @@ impl<'n> Sessions<'n> {
     ) -> Result<u64, SessionFault>
         requires rows { AreRowsOf (R.state rows.old) self.old.network self.old.params.bound }
         requires can { CanStream self.old 0 }
-        ensures ends { (pairs : ListOf Pair) → Keeps self.old pairs
+        ensures ends { (pairs : ListOf Pair) → RepresentsPairs self.old pairs
             → EndsId self.old pairs id self.new into.old into.new result }
         ensures asks { AsksClosed self.old id (R.state rows.old) (R.state rows.new) }
     {
@@ -138,10 +139,10 @@ impl<'n> Sessions<'n> {
     ) -> Result<u64, AllocError>
         requires rows { AreRowsOf (R.state rows.old) self.old.network self.old.params.bound }
         requires can { CanStream self.old 0 }
-        ensures ends { (pairs : ListOf Pair) → Keeps self.old pairs
-            → Ends self.old pairs into.old into.new result }
+        ensures ends { (pairs : ListOf Pair) → RepresentsPairs self.old pairs
+            → EndsSessions self.old pairs into.old into.new result }
         ensures none { IsEmpty self.old.network self.old.params self.new }
-        ensures asks { (pairs : ListOf Pair) → Keeps self.old pairs
+        ensures asks { (pairs : ListOf Pair) → RepresentsPairs self.old pairs
             → AsksOnly (R.state rows.old) (R.state rows.new) (AsksSome self.old pairs) }
     {
         self.invariants();

@@ -9,7 +9,7 @@ use Rattle.bounded_table.specs.Table.{IsRow, TableRow, entry_in}
 use Rattle.matching.specs.Routes.{Direct, IsRoute}
 use Rattle.route_rebuild.specs.Numbers.{numbers}
 use Rattle.cert_checker.specs.inside.CaseSeen.{case_seen}
-use Rattle.cert_checker.specs.inside.Legs.{IsLeftAfter, chosen_in}
+use Rattle.cert_checker.specs.inside.Legs.{IsLeftAfter, chosen_in_case}
 use Rattle.cert_checker.proofs.Legs.{is_listed, walk_edges}
 use Rattle.cert_checker.proofs.LegRows.{IsDirectLeg, differs_walk, follows_walk, leg_found, leg_row, stays_direct}
 use Rattle.cert_checker.proofs.routes.after_leg.Goals as goal
@@ -30,8 +30,8 @@ walk-requires-clause-row c =
     let i = c.args.i in
     let lawful = c.invariants.ensures in
     let d : TableRow = c.at.result.now in
-    let end : c.to.result.0 ≡ target k.net (chosen_in k i).edge.0 = c.to.ensures ∙ ap (λ (x : Candidate). target k.net x.edge.0) c.chosen-a.ensures in
-    let row = subst (λ (r : TableRow). IsRow k.net k.params.bound (target k.net (chosen_in k i).edge.0) r) (c.at.ensures d) (leg_row k i c.in-Some.place c.to.result.0 d lawful c.requires end c.in-Some.ensures.at) in
+    let end : c.to.result.0 ≡ target k.net (chosen_in_case k i).edge.0 = c.to.ensures ∙ ap (λ (x : Candidate). target k.net x.edge.0) c.chosen-a.ensures in
+    let row = subst (λ (r : TableRow). IsRow k.net k.params.bound (target k.net (chosen_in_case k i).edge.0) r) (c.at.ensures d) (leg_row k i c.in-Some.place c.to.result.0 d lawful c.requires end c.in-Some.ensures.at) in
     (k.params.bound, subst (λ s. IsRow k.net k.params.bound s d) (sym row.origin) row)
 
 pub walk-requires-clause-listed : goal.walk-requires-clause-listed
@@ -43,11 +43,11 @@ walk-requires-clause-listed c =
     let is : IsRoute k.net k.params.bound k.params.back c.chosen-a.result c.chosen-b.result Direct = rw (c.chosen-a.ensures, c.chosen-b.ensures) direct in
     elim c.else-eq.branch [ else-eq-via-then-eq+else-a-b w ↦ omega (arith, is.1) | else-eq-via-else-eq w ↦ let same = is.0 in grind (arith, nat_tests) ] in
     let d : TableRow = c.at.result.now in
-    let end : c.to.result.0 ≡ target k.net (chosen_in k i).edge.0 = c.to.ensures ∙ ap (λ (x : Candidate). target k.net x.edge.0) c.chosen-a.ensures in
-    let row = subst (λ (r : TableRow). IsRow k.net k.params.bound (target k.net (chosen_in k i).edge.0) r) (c.at.ensures d) (leg_row k i c.in-Some.place c.to.result.0 d lawful c.requires end c.in-Some.ensures.at) in
-    let start : c.from.result.0 ≡ source k.net (chosen_in k (i + 1)).edge.0 = c.from.ensures ∙ ap (λ (x : Candidate). source k.net x.edge.0) c.chosen-b.ensures in
+    let end : c.to.result.0 ≡ target k.net (chosen_in_case k i).edge.0 = c.to.ensures ∙ ap (λ (x : Candidate). target k.net x.edge.0) c.chosen-a.ensures in
+    let row = subst (λ (r : TableRow). IsRow k.net k.params.bound (target k.net (chosen_in_case k i).edge.0) r) (c.at.ensures d) (leg_row k i c.in-Some.place c.to.result.0 d lawful c.requires end c.in-Some.ensures.at) in
+    let start : c.from.result.0 ≡ source k.net (chosen_in_case k (i + 1)).edge.0 = c.from.ensures ∙ ap (λ (x : Candidate). source k.net x.edge.0) c.chosen-b.ensures in
     subst (λ v. IsSome (entry_in d.entries v)) (sym start)
-    (is_listed k.net k.params.bound (target k.net (chosen_in k i).edge.0) (source k.net (chosen_in k (i + 1)).edge.0) d row (leg_found k i lawful c.requires none))
+    (is_listed k.net k.params.bound (target k.net (chosen_in_case k i).edge.0) (source k.net (chosen_in_case k (i + 1)).edge.0) d row (leg_found k i lawful c.requires none))
 
 pub after_edges-requires : goal.after_edges-requires
 after_edges-requires c =
@@ -55,14 +55,14 @@ after_edges-requires c =
     let i = c.args.i in
     let lawful = c.invariants.ensures in
     let d : TableRow = c.at.result.now in
-    let end : c.to.result.0 ≡ target k.net (chosen_in k i).edge.0 = c.to.ensures ∙ ap (λ (x : Candidate). target k.net x.edge.0) c.chosen-a.ensures in
-    let row = subst (λ (r : TableRow). IsRow k.net k.params.bound (target k.net (chosen_in k i).edge.0) r) (c.at.ensures d) (leg_row k i c.in-Some.place c.to.result.0 d lawful c.requires end c.in-Some.ensures.at) in
-    let start : c.from.result.0 ≡ source k.net (chosen_in k (i + 1)).edge.0 = c.from.ensures ∙ ap (λ (x : Candidate). source k.net x.edge.0) c.chosen-b.ensures in
-    let least : IsLeastWalk k.net (target k.net (chosen_in k i).edge.0) (reverse (numbers c.in_ok-edges.edges)) (source k.net (chosen_in k (i + 1)).edge.0) =
-    subst (λ v. IsLeastWalk k.net (target k.net (chosen_in k i).edge.0) (reverse (numbers c.in_ok-edges.edges)) v) start
+    let end : c.to.result.0 ≡ target k.net (chosen_in_case k i).edge.0 = c.to.ensures ∙ ap (λ (x : Candidate). target k.net x.edge.0) c.chosen-a.ensures in
+    let row = subst (λ (r : TableRow). IsRow k.net k.params.bound (target k.net (chosen_in_case k i).edge.0) r) (c.at.ensures d) (leg_row k i c.in-Some.place c.to.result.0 d lawful c.requires end c.in-Some.ensures.at) in
+    let start : c.from.result.0 ≡ source k.net (chosen_in_case k (i + 1)).edge.0 = c.from.ensures ∙ ap (λ (x : Candidate). source k.net x.edge.0) c.chosen-b.ensures in
+    let least : IsLeastWalk k.net (target k.net (chosen_in_case k i).edge.0) (reverse (numbers c.in_ok-edges.edges)) (source k.net (chosen_in_case k (i + 1)).edge.0) =
+    subst (λ v. IsLeastWalk k.net (target k.net (chosen_in_case k i).edge.0) (reverse (numbers c.in_ok-edges.edges)) v) start
     (subst (λ s. IsLeastWalk k.net s (reverse (numbers c.in_ok-edges.edges)) c.from.result.0) row.origin c.in_ok-edges.ensures) in
     subst (λ (es : List EdgeId). All (λ (e : EdgeId). HasEdge k.net e.0) es) (sym c.as_slice.ensures)
-    (walk_edges k.net (target k.net (chosen_in k i).edge.0) (source k.net (chosen_in k (i + 1)).edge.0) c.in_ok-edges.edges least)
+    (walk_edges k.net (target k.net (chosen_in_case k i).edge.0) (source k.net (chosen_in_case k (i + 1)).edge.0) c.in_ok-edges.edges least)
 
 pub returns-in_default-after_edges : goal.returns-in_default-after_edges
 returns-in_default-after_edges c =
@@ -73,11 +73,11 @@ returns-in_default-after_edges c =
     let is : IsRoute k.net k.params.bound k.params.back c.chosen-a.result c.chosen-b.result Direct = rw (c.chosen-a.ensures, c.chosen-b.ensures) direct in
     elim c.else-eq.branch [ else-eq-via-then-eq+else-a-b w ↦ omega (arith, is.1) | else-eq-via-else-eq w ↦ let same = is.0 in grind (arith, nat_tests) ] in
     let d : TableRow = c.at.result.now in
-    let end : c.to.result.0 ≡ target k.net (chosen_in k i).edge.0 = c.to.ensures ∙ ap (λ (x : Candidate). target k.net x.edge.0) c.chosen-a.ensures in
-    let row = subst (λ (r : TableRow). IsRow k.net k.params.bound (target k.net (chosen_in k i).edge.0) r) (c.at.ensures d) (leg_row k i c.in-Some.place c.to.result.0 d lawful c.requires end c.in-Some.ensures.at) in
-    let start : c.from.result.0 ≡ source k.net (chosen_in k (i + 1)).edge.0 = c.from.ensures ∙ ap (λ (x : Candidate). source k.net x.edge.0) c.chosen-b.ensures in
-    let least : IsLeastWalk k.net (target k.net (chosen_in k i).edge.0) (reverse (numbers c.in_ok-edges.edges)) (source k.net (chosen_in k (i + 1)).edge.0) =
-    subst (λ v. IsLeastWalk k.net (target k.net (chosen_in k i).edge.0) (reverse (numbers c.in_ok-edges.edges)) v) start
+    let end : c.to.result.0 ≡ target k.net (chosen_in_case k i).edge.0 = c.to.ensures ∙ ap (λ (x : Candidate). target k.net x.edge.0) c.chosen-a.ensures in
+    let row = subst (λ (r : TableRow). IsRow k.net k.params.bound (target k.net (chosen_in_case k i).edge.0) r) (c.at.ensures d) (leg_row k i c.in-Some.place c.to.result.0 d lawful c.requires end c.in-Some.ensures.at) in
+    let start : c.from.result.0 ≡ source k.net (chosen_in_case k (i + 1)).edge.0 = c.from.ensures ∙ ap (λ (x : Candidate). source k.net x.edge.0) c.chosen-b.ensures in
+    let least : IsLeastWalk k.net (target k.net (chosen_in_case k i).edge.0) (reverse (numbers c.in_ok-edges.edges)) (source k.net (chosen_in_case k (i + 1)).edge.0) =
+    subst (λ v. IsLeastWalk k.net (target k.net (chosen_in_case k i).edge.0) (reverse (numbers c.in_ok-edges.edges)) v) start
     (subst (λ s. IsLeastWalk k.net s (reverse (numbers c.in_ok-edges.edges)) c.from.result.0) row.origin c.in_ok-edges.ensures) in
     differs_walk k i c.args.names.now c.in_ok-edges.edges lawful c.requires none least
     (subst (λ (es : List EdgeId). IsLeftAfter k.net c.args.names.now (numbers es) None) c.as_slice.ensures c.in_default-after_edges.ensures)
@@ -91,11 +91,11 @@ returns c =
     let is : IsRoute k.net k.params.bound k.params.back c.chosen-a.result c.chosen-b.result Direct = rw (c.chosen-a.ensures, c.chosen-b.ensures) direct in
     elim c.else-eq.branch [ else-eq-via-then-eq+else-a-b w ↦ omega (arith, is.1) | else-eq-via-else-eq w ↦ let same = is.0 in grind (arith, nat_tests) ] in
     let d : TableRow = c.at.result.now in
-    let end : c.to.result.0 ≡ target k.net (chosen_in k i).edge.0 = c.to.ensures ∙ ap (λ (x : Candidate). target k.net x.edge.0) c.chosen-a.ensures in
-    let row = subst (λ (r : TableRow). IsRow k.net k.params.bound (target k.net (chosen_in k i).edge.0) r) (c.at.ensures d) (leg_row k i c.in-Some.place c.to.result.0 d lawful c.requires end c.in-Some.ensures.at) in
-    let start : c.from.result.0 ≡ source k.net (chosen_in k (i + 1)).edge.0 = c.from.ensures ∙ ap (λ (x : Candidate). source k.net x.edge.0) c.chosen-b.ensures in
-    let least : IsLeastWalk k.net (target k.net (chosen_in k i).edge.0) (reverse (numbers c.in_ok-edges.edges)) (source k.net (chosen_in k (i + 1)).edge.0) =
-    subst (λ v. IsLeastWalk k.net (target k.net (chosen_in k i).edge.0) (reverse (numbers c.in_ok-edges.edges)) v) start
+    let end : c.to.result.0 ≡ target k.net (chosen_in_case k i).edge.0 = c.to.ensures ∙ ap (λ (x : Candidate). target k.net x.edge.0) c.chosen-a.ensures in
+    let row = subst (λ (r : TableRow). IsRow k.net k.params.bound (target k.net (chosen_in_case k i).edge.0) r) (c.at.ensures d) (leg_row k i c.in-Some.place c.to.result.0 d lawful c.requires end c.in-Some.ensures.at) in
+    let start : c.from.result.0 ≡ source k.net (chosen_in_case k (i + 1)).edge.0 = c.from.ensures ∙ ap (λ (x : Candidate). source k.net x.edge.0) c.chosen-b.ensures in
+    let least : IsLeastWalk k.net (target k.net (chosen_in_case k i).edge.0) (reverse (numbers c.in_ok-edges.edges)) (source k.net (chosen_in_case k (i + 1)).edge.0) =
+    subst (λ v. IsLeastWalk k.net (target k.net (chosen_in_case k i).edge.0) (reverse (numbers c.in_ok-edges.edges)) v) start
     (subst (λ s. IsLeastWalk k.net s (reverse (numbers c.in_ok-edges.edges)) c.from.result.0) row.origin c.in_ok-edges.ensures) in
     follows_walk k i c.args.names.now c.in-Some-after_edges.left.now c.in_ok-edges.edges (option_copied c.after_edge.result) lawful c.requires none least
     (subst (λ (es : List EdgeId). IsLeftAfter k.net c.args.names.now (numbers es) (Some c.in-Some-after_edges.left.now)) c.as_slice.ensures c.in-Some-after_edges.ensures)

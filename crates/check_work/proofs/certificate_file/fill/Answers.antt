@@ -2,7 +2,7 @@ use Rattle.std.proofs.Common.{◌≡◌, ◌+◌, ◌≤◌, ◌<◌, ℕ, true,
 use Rattle.std.proofs.lemmas.Bool.Decides.{nat_tests}
 use Rattle.edge_io.specs.Shelf.{Reads}
 use Rattle.edge_io.specs.declared.shelf.Taken.TheVariants.{End, Got}
-use Rattle.potential_certificate.specs.CertificateText.{text_limit}
+use Rattle.potential_certificate.specs.CertificateText.{certificate_text_limit}
 use Rattle.check_work.proofs.CertificateFiles.{block_ends, block_full, front_on, last_block}
 use Rattle.check_work.proofs.certificate_file.fill.Goals as goal
 
@@ -47,7 +47,7 @@ returns-clause-ok g c =
       place = i.place;
       some = λ e. omega (arith, some, full);
       within = λ e. grind (arith, nat_tests, e, full);
-      read = block_full (g.S.Shelf.state c.args.shelf.now) c.args.name.now block.from c.min-end.result block.bytes.items (nat_le c.min-end.result text_limit) refl (omega (arith, c.min-end.ensures)) full i.front;
+      read = block_full (g.S.Shelf.state c.args.shelf.now) c.args.name.now block.from c.min-end.result block.bytes.items (nat_le c.min-end.result certificate_text_limit) refl (omega (arith, c.min-end.ensures)) full i.front;
     }
 
 pub returns-in-End-clause-size : goal.returns-in-End-clause-size
@@ -68,6 +68,6 @@ returns-clause-size g c =
     record {
       few = omega (arith, full, i.place, c.min-end.ensures);
       full = λ e.
-          let low : c.min-end.result ≤ text_limit = grind (arith, nat_tests, e) in
+          let low : c.min-end.result ≤ certificate_text_limit = grind (arith, nat_tests, e) in
           omega (arith, low, full, i.place, c.min-end.ensures);
     }

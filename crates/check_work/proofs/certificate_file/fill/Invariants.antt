@@ -1,5 +1,5 @@
 use Rattle.std.proofs.Common.{◌≡◌, ◌+◌, ◌≤◌, ◌-◌, length}
-use Rattle.potential_certificate.specs.CertificateText.{text_limit}
+use Rattle.potential_certificate.specs.CertificateText.{certificate_text_limit}
 use Rattle.check_work.proofs.CertificateFiles.{Front}
 use Rattle.check_work.proofs.certificate_file.fill.Given as goal
 
@@ -12,4 +12,4 @@ invariant-loop-block g l = record {
 }
 
 abbrev pub decreases-loop-block : goal.decreases-loop-block
-decreases-loop-block g l = text_limit + 1 - (l.block.from + length l.block.bytes.items)
+decreases-loop-block g l = certificate_text_limit + 1 - (l.block.from + length l.block.bytes.items)

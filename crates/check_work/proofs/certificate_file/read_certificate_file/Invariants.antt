@@ -1,5 +1,5 @@
 use Rattle.std.proofs.Common.{◌≡◌, ◌+◌, ◌-◌, length}
-use Rattle.potential_certificate.specs.CertificateText.{text_limit}
+use Rattle.potential_certificate.specs.CertificateText.{certificate_text_limit}
 use Rattle.program_frame.specs.Read.{IsReadSoFar}
 use Rattle.check_work.specs.inside.CertificateFiles.{ReadsBlock}
 use Rattle.check_work.proofs.certificate_file.read_certificate_file.Given as goal
@@ -13,4 +13,4 @@ invariant-loop-goes_on g l = record {
 }
 
 abbrev pub decreases-loop-goes_on : goal.decreases-loop-goes_on
-decreases-loop-goes_on g l = text_limit + 1 - l.block.from
+decreases-loop-goes_on g l = certificate_text_limit + 1 - l.block.from

@@ -1,7 +1,7 @@
 use Rattle.std.proofs.Common.{subst, ap, ◌∙◌}
 use Rattle.check_work.specs.inside.CheckDone.{finding_said}
 use Rattle.check_work.proofs.CheckedProofs.{finding_says}
-use Rattle.program_frame.specs.Loads.{Accepts}
+use Rattle.program_frame.specs.inside.Refusing.{Accepts}
 use Rattle.program_frame.specs.declared.stop.Refusal.TheVariants.{Certificate}
 use Rattle.check_work.proofs.check.check_proofs.Goals as goal
 

@@ -1,6 +1,6 @@
 use Rattle.std.proofs.Common.{All, subst, sym}
 use Rattle.std.proofs.lemmas.Result.{err_from_is_err_and}
-use Rattle.potential_certificate.specs.CertificateText.{text_limit}
+use Rattle.potential_certificate.specs.CertificateText.{certificate_text_limit}
 use Rattle.program_frame.specs.Loads.{FailsToLoad, Loaded}
 use Rattle.program_frame.specs.declared.stop.File.TheVariants.{Certificate}
 use Rattle.program_frame.specs.declared.stop.Refusal.TheVariants as refusals
@@ -29,13 +29,13 @@ pub returns-in_err-line : goal.returns-in_err-line
 returns-in_err-line g c =
     let p = err_from_is_err_and c.from_residual-in_err-line.result c.from_residual-in_err-line.ensures.1 in
     let on : Setting = record { network = c.in_ok-roads.roads; params = c.args.request.now.options } in
-    let fails = subst (λ taken. FailsToLoad refusals.Certificate Certificate c.args.request.now.files.certificate.now text_limit (check_said on taken)
+    let fails = subst (λ taken. FailsToLoad refusals.Certificate Certificate c.args.request.now.files.certificate.now certificate_text_limit (check_said on taken)
     (g.S.Shelf.state c.load_traces.new.shelf) (g.S.Shelf.state c.load_certificate.new.shelf) c.in_err-line.field-0.0) c.as_slice.ensures c.in_err-line.ensures in
     loads_performs _ _ c.in_ok-roads.ensures (loads_performs _ _ c.in_ok-taken.ensures (rw (p.1, p.2) (loads_fails _ (λ e. cc) fails)))
 
 pub returns : goal.returns
 returns g c =
     let on : Setting = record { network = c.in_ok-roads.roads; params = c.args.request.now.options } in
-    let loaded = subst (λ taken. Loaded c.args.request.now.files.certificate.now text_limit (check_said on taken)
+    let loaded = subst (λ taken. Loaded c.args.request.now.files.certificate.now certificate_text_limit (check_said on taken)
     (g.S.Shelf.state c.load_traces.new.shelf) (g.S.Shelf.state c.load_certificate.new.shelf) c.in_ok-line.line) c.as_slice.ensures c.in_ok-line.ensures in
     loads_performs _ _ c.in_ok-roads.ensures (loads_performs _ _ c.in_ok-taken.ensures (loads_performs _ _ loaded (ends_performs c.as_slice-2.ensures c.put_text.ensures)))

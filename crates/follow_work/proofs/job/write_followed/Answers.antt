@@ -3,11 +3,11 @@ use Rattle.std.proofs.lemmas.List.{take_all}
 use Rattle.bounded_table.proofs.Asking.{asks_ok}
 use Rattle.follow_work.specs.Follow.{followed_of}
 use Rattle.trace_match.specs.inside.Asked.{AsksTraces}
-use Rattle.program_frame.specs.Counts.{ArePieces}
+use Rattle.program_frame.specs.inside.Tallies.{IsCountOfPieces}
 use Rattle.trace_match.proofs.AskedRows.{asks_next, asks_none}
 use Rattle.follow_work.proofs.Follows.{followed_next, pieces_followed}
 use Rattle.follow_work.proofs.job.write_followed.Goals as goal
-use Rattle.trace_match.specs.Totals.{pieces_of}
+use Rattle.trace_match.specs.Totals.{piece_count}
 
 pub loop-trace-init : goal.loop-trace-init
 loop-trace-init c = record {
@@ -31,7 +31,7 @@ returns-clause-text c =
 
 pub returns-clause-pieces : goal.returns-clause-pieces
 returns-clause-pieces c =
-    subst (λ t. ArePieces (pieces_of c.args.matcher.now) t c.loop-trace.pieces) (take_all c.loop-trace.trace-index c.args.traces.now c.loop-trace-test.false) c.loop-trace.invariant.pieces
+    subst (λ t. IsCountOfPieces (piece_count c.args.matcher.now) t c.loop-trace.pieces) (take_all c.loop-trace.trace-index c.args.traces.now c.loop-trace-test.false) c.loop-trace.invariant.pieces
 
 pub returns-clause-asks : goal.returns-clause-asks
 returns-clause-asks c =

@@ -2,14 +2,14 @@ use Rattle.std.proofs.Common.{◌≡◌, ◌⊎◌, ◌∙◌, ap, subst, map, s
 use Rattle.command_line.specs.Words.{command_of}
 use Rattle.command_line.specs.Work.{plain}
 use Rattle.command_line.specs.declared.fault.WordsFault.TheVariants.{Memory}
-use Rattle.live_pipeline.specs.Words.{asked_by}
+use Rattle.live_pipeline.specs.Words.{asked_of_live_words}
 use Rattle.program_frame.proofs.Stages.{memory_performs}
 use Rattle.live_pipeline.proofs.Asked.{asked_follow, other_refuse, words_refuse}
 use Rattle.live_pipeline.proofs.top.perform.Goals as goal
 
 pub returns-in_default : goal.returns-in_default
 returns-in_default g c =
-    inl (memory_performs (asked_by (map string_bytes c.args.words.now)) (g.S.Shelf.state c.args.shelf) (g.K.Sink.state c.args.out.now))
+    inl (memory_performs (asked_of_live_words (map string_bytes c.args.words.now)) (g.S.Shelf.state c.args.shelf) (g.K.Sink.state c.args.out.now))
 
 pub returns-in-Err : goal.returns-in-Err
 returns-in-Err g c =

@@ -6,7 +6,7 @@ use Rattle.std.proofs.lemmas.List.Sums.{get_or-le-sum_by}
 use Rattle.std.proofs.lemmas.Slice.Zip.{AllZip-long}
 use Rattle.row_store.specs.Store.{Reading}
 use Rattle.match_pool.specs.inside.WorkerSet.{CanDrawFrom, Ran, reader_of}
-use Rattle.match_pool.specs.inside.Dealing.{numbers_of}
+use Rattle.match_pool.specs.inside.Dealing.{partition_numbers}
 use Rattle.match_pool.specs.Learning.{LearnAsked}
 use Rattle.match_pool.specs.inside.Tables.{AreColumnsOf}
 use Rattle.match_pool.specs.Working.{Job, ReadsWithin, job}
@@ -46,7 +46,7 @@ run-outcome-requires-clause-count g c lifetimes within =
     let before = c.in_ok-worker_set.worker_set.workers.items in
     let partitions = c.in_ok-partitions.partitions.items in
     let readers = sym (length-map before reader_of) ∙ ap (λ (l : List Reading). length l) c.in_ok-worker_set.ensures.worker_set.readers_are in
-    let cuts = sym (length-map partitions numbers_of) ∙ ap (λ (l : List (List ℕ)). length l) c.in_ok-partitions.ensures.cuts_are ∙ c.in_ok-cuts.ensures.count in
+    let cuts = sym (length-map partitions partition_numbers) ∙ ap (λ (l : List (List ℕ)). length l) c.in_ok-partitions.ensures.cuts_are ∙ c.in_ok-cuts.ensures.count in
     let same = ap (λ (l : List Partition). length l) c.as_slice.ensures.value in
     let many = c.len-workers.ensures in
     omega (arith, readers, cuts, same, many)

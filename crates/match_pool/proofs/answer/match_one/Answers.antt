@@ -5,7 +5,8 @@ use Rattle.matching.specs.Layers.{IsMatchable, trellis}
 use Rattle.matching.specs.Match.{IsMatch}
 use Rattle.matching.specs.PieceSteps.{AsksTrace}
 use Rattle.route_rebuild.specs.Chosen.{IsSolved}
-use Rattle.trace_match.specs.Match.{as_solution, asks, layer_of, matched_of}
+use Rattle.trace_match.specs.Match.{asks, layer_of, matched_of}
+use Rattle.trace_match.specs.inside.Solved.{as_solution}
 use Rattle.trace_match.proofs.TraceLayers.{matchable}
 use Rattle.viterbi.specs.Asking.{AsksLayers}
 use Rattle.match_pool.proofs.Found.{all_both, answered, asked_both, asked_matched, asked_routes}

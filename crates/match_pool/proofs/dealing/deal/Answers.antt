@@ -3,7 +3,7 @@ use Rattle.std.specs.List.{AllZip}
 use Rattle.std.specs.Vec.Iter.{into_iter_items}
 use Rattle.std.proofs.lemmas.List.{map-append}
 use Rattle.std.proofs.lemmas.List.Elements.{All-head, All-nil, All-push, All-tail}
-use Rattle.match_pool.specs.inside.Dealing.{HasClaims, numbers_of}
+use Rattle.match_pool.specs.inside.Dealing.{HasClaims, partition_numbers}
 use Rattle.match_pool.specs.declared.turn.Partition.{Partition}
 use Rattle.match_pool.proofs.Started.{AreFreshAt, all_wide, fresh_at, by_worker_fresh}
 use Rattle.match_pool.proofs.Lists.{zip_push}
@@ -29,7 +29,7 @@ loop-numbers-preserved c =
       whole = goes_on at.yielded _ _ _ numbers i.whole steps.0;
       left = (let was = i.left in let gone = steps.1 in let short = ap (λ (l : List (List ℕ)). length l) steps.0 in omega arith);
       few = All-tail few numbers rest (subst (All few) steps.0 i.few);
-      cuts = ap (map numbers_of) partitions_then ∙ map-append numbers_of at.partitions.items (partition ∷ []) ∙ ap (λ (l : List (List ℕ)). l ++ numbers ∷ []) i.cuts;
+      cuts = ap (map partition_numbers) partitions_then ∙ map-append partition_numbers at.partitions.items (partition ∷ []) ∙ ap (λ (l : List (List ℕ)). l ++ numbers ∷ []) i.cuts;
       claims = subst (All (HasClaims workers)) (sym partitions_then) (All-push (HasClaims workers) at.partitions.items partition i.claims (record { all = opened.claims.0 ∙ c.len-in-loop-numbers.ensures; tickets_are = opened.claims.1 }));
       turns = subst (λ (l : List Partition). AllZip (AreFreshAt workers) l c.push.new.self.items) (sym partitions_then)
           (subst (AllZip (AreFreshAt workers) (at.partitions.items ++ partition ∷ [])) (sym turns_then)
@@ -60,7 +60,7 @@ loop-numbers-init c =
       whole = refl;
       left = search rules;
       few = subst (All few) (sym c.into_iter-numbers-iterator.ensures.into_iter_gives.0) c.requires.cuts;
-      cuts = ap (map numbers_of) no_partitions;
+      cuts = ap (map partition_numbers) no_partitions;
       claims = subst (All (HasClaims c.args.workers)) (sym no_partitions) (All-nil (HasClaims c.args.workers));
       turns = rw (no_partitions, no_turns) tt;
     }

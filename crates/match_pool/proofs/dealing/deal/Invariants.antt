@@ -1,7 +1,7 @@
 use Rattle.std.proofs.Common.{◌≡◌, ◌≤◌, ◌^◌, ◌++◌, ℕ, List, All, length, map}
 use Rattle.std.specs.List.{AllZip}
 use Rattle.std.specs.Vec.Iter.{into_iter_items, into_iter_len}
-use Rattle.match_pool.specs.inside.Dealing.{HasClaims, numbers_of}
+use Rattle.match_pool.specs.inside.Dealing.{HasClaims, partition_numbers}
 use Rattle.match_pool.proofs.Started.{AreFreshAt}
 use Rattle.match_pool.proofs.dealing.deal.Given as goal
 
@@ -10,7 +10,7 @@ invariant-loop-numbers l = record {
   whole : l.yielded ++ into_iter_items l.numbers-iterator ≡ into_iter_items l.initial.numbers-iterator;
   left : into_iter_len l.numbers-iterator ≡ length (into_iter_items l.numbers-iterator);
   few : All (λ (l : List ℕ). length l ≤ 2 ^ 32) (into_iter_items l.numbers-iterator);
-  cuts : map numbers_of l.partitions.items ≡ l.yielded;
+  cuts : map partition_numbers l.partitions.items ≡ l.yielded;
   claims : All (HasClaims l.workers) l.partitions.items;
   turns : AllZip (AreFreshAt l.workers) l.partitions.items l.turns.items;
 }

@@ -2,7 +2,7 @@ use Rattle.std.proofs.Common.{◌<◌, ◌∙◌, ◌++◌, ◌∷◌, [], ℕ, 
 use Rattle.std.proofs.lemmas.List.{get_or_default}
 use Rattle.bounded_table.proofs.Asking.{asks_ok}
 use Rattle.tickets.specs.Tickets.{Drawn}
-use Rattle.match_pool.specs.Drawing.{job_of, number_at}
+use Rattle.match_pool.specs.Drawing.{job_of, number_of_rank}
 use Rattle.match_pool.specs.Working.{no_trace}
 use Rattle.match_pool.proofs.Draws.{reads_none, reads_on}
 use Rattle.match_pool.proofs.Turns.{drawn_below, goes_on, starts, stays_more}
@@ -26,7 +26,7 @@ loop-rank-preserved g c =
     let below = drawn_below c.requires.ticket.all x.3 in
     let drew = ap (λ (t : Drawn). t.numbers) x.2 ∙ ap (λ (y : ℕ). c.loop-rank.ticket.numbers ++ y ∷ []) (sym x.3.0) in
     let asked = asks_ok c.find_match.ensures.asks c.in_ok-matched.was in
-    let number = number_at numbers k in
+    let number = number_of_rank numbers k in
     let inside : number < length traces = c.requires.numbers k 0 below in
     let item = sym (get_or_default traces number no_trace c.index-batch-number.result inside) in
     record {
@@ -68,14 +68,14 @@ returns-in_err-with_capacity-clause-stays g c = record { reader = reads_none (jo
 
 pub returns-in_err-matched-clause-stays : goal.returns-in_err-matched-clause-stays
 returns-in_err-matched-clause-stays g c =
-    let number = number_at c.args.numbers.now c.in-Some.rank in
+    let number = number_of_rank c.args.numbers.now c.in-Some.rank in
     let inside = c.requires.numbers c.in-Some.rank 0 (drawn_below c.requires.ticket.all c.in-Some.ensures.number.3) in
     let item = sym (get_or_default c.args.batch.now.traces.now number no_trace c.index-batch-number.result inside) in
     stays_more number inside c.loop-rank.invariant.stays (rw item at c.find_match.ensures.asks.only) c.in-Some.ensures.claims
 
 pub returns-in_err-push-clause-stays : goal.returns-in_err-push-clause-stays
 returns-in_err-push-clause-stays g c =
-    let number = number_at c.args.numbers.now c.in-Some.rank in
+    let number = number_of_rank c.args.numbers.now c.in-Some.rank in
     let inside = c.requires.numbers c.in-Some.rank 0 (drawn_below c.requires.ticket.all c.in-Some.ensures.number.3) in
     let item = sym (get_or_default c.args.batch.now.traces.now number no_trace c.index-batch-number.result inside) in
     stays_more number inside c.loop-rank.invariant.stays (rw item at c.find_match.ensures.asks.only) c.in-Some.ensures.claims

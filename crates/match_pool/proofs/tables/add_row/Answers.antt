@@ -2,7 +2,7 @@ use Rattle.std.proofs.Common.{◌≡◌, ◌<◌, ◌≤◌, ◌+◌, ◌∷◌,
 use Rattle.std.specs.Vec.Iter.{into_iter_items}
 use Rattle.std.proofs.lemmas.List.{get_or_read}
 use Rattle.match_pool.specs.declared.turn.Turn.{Turn}
-use Rattle.match_pool.specs.inside.Tables.{AddsRow}
+use Rattle.match_pool.specs.inside.Tables.{AddsTurns}
 use Rattle.match_pool.proofs.Columns.{Adding, adding_all, adding_more}
 use Rattle.match_pool.proofs.Yields.{ends, goes_on, next_at}
 use Rattle.match_pool.proofs.tables.add_row.Goals as goal
@@ -49,4 +49,4 @@ returns c =
     let all = ends at.yielded _ _ i.whole (sym i.left ∙ c.in-None.ensures.steps.0) in
     let gives = c.into_iter-turn-iterator.ensures.into_iter_gives.0 ∙ c.into_vec-turn-items.ensures in
     let wide : length before ≤ at.place = (let is = i.at in let row = c.requires in let long = ap (λ (l : List Turn). length l) (all ∙ gives) in omega (arith, is, row, long)) in
-    subst (λ (l : List Turn). AddsRow l before at.columns.items) gives (adding_all _ before at.columns.items at.place wide i.adding)
+    subst (λ (l : List Turn). AddsTurns l before at.columns.items) gives (adding_all _ before at.columns.items at.place wide i.adding)

@@ -1,6 +1,7 @@
 use Rattle.std.proofs.Common.{◌≡◌, ◌++◌, refl, sym, subst, append-nil}
 use Rattle.std.proofs.lemmas.List.{take_all}
-use Rattle.match_work.specs.Matched.{pieces_in, text_of_matches}
+use Rattle.match_work.specs.Matched.{pieces_in}
+use Rattle.match_work.specs.inside.Calls.{text_of_matches}
 use Rattle.match_work.proofs.TraceMatches.{pieces_next, texts_next}
 use Rattle.match_work.proofs.texts.write_matches.Goals as goal
 

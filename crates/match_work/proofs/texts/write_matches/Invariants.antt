@@ -1,5 +1,6 @@
 use Rattle.std.proofs.Common.{◌≡◌, ◌++◌, take}
-use Rattle.match_work.specs.Matched.{pieces_in, text_of_matches}
+use Rattle.match_work.specs.Matched.{pieces_in}
+use Rattle.match_work.specs.inside.Calls.{text_of_matches}
 use Rattle.match_work.proofs.texts.write_matches.Given as goal
 
 abbrev pub invariant-loop-matched : goal.invariant-loop-matched

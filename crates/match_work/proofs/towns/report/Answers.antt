@@ -1,7 +1,7 @@
 use Rattle.std.proofs.Common.{ap, refl, subst, arith, ◌∙◌}
 use Rattle.row_store.specs.Store.{count_known}
 use Rattle.match_work.specs.Matched.{pieces_in}
-use Rattle.match_work.specs.inside.TownsDone.{AreCosts}
+use Rattle.match_work.specs.inside.TownsDone.{AreMatchCosts}
 use Rattle.match_work.proofs.TownTexts.{report_is, tally_fits}
 use Rattle.match_work.proofs.Sharing.{share_on}
 use Rattle.match_work.proofs.towns.report.Goals as goal
@@ -24,7 +24,7 @@ add_up-costs-requires g c =
 pub add-requires : goal.add-requires
 add-requires g c =
     tally_fits c.args.shared.now.matcher.now c.args.traces.now c.in_ok-matches.matches _ c.add_up-costs.result c.requires.traces.0 c.in_ok-matches.ensures.matched
-    (subst (λ m. AreCosts m c.add_up-costs.result) c.as_slice.ensures c.add_up-costs.ensures) refl refl refl
+    (subst (λ m. AreMatchCosts m c.add_up-costs.result) c.as_slice.ensures c.add_up-costs.ensures) refl refl refl
 
 pub known_count-requires : goal.known_count-requires
 known_count-requires g c =
@@ -35,5 +35,5 @@ pub returns : goal.returns
 returns g c =
     let batch = c.in_ok-matches.ensures in
     report_is c.args.shared.now.matcher.now c.args.traces.now c.args.shared.now.store.now c.in_ok-readers.readers c.match_batch.new.readers c.in_ok-matches.matches _ c.add.new.self c.add_up-costs.result c.from.result c.new-text.result c.append_line.new.into c.append_cost.new.into
-    c.in_ok-readers.ensures.fresh c.in_ok-readers.ensures.shared batch.stay batch.learn batch.matched (subst (λ m. AreCosts m c.add_up-costs.result) c.as_slice.ensures c.add_up-costs.ensures)
+    c.in_ok-readers.ensures.fresh c.in_ok-readers.ensures.shared batch.stay batch.learn batch.matched (subst (λ m. AreMatchCosts m c.add_up-costs.result) c.as_slice.ensures c.add_up-costs.ensures)
     c.add.ensures refl refl refl (c.from.ensures ∙ c.in_ok-rows.ensures ∙ ap count_known c.as_slice-2.ensures) c.new-text.ensures c.in_ok-append_line.ensures c.in_ok-append_cost.ensures

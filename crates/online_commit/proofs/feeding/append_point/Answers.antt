@@ -1,6 +1,6 @@
 use Rattle.std.proofs.Common.{ℕ, List, sym, ap, ◌∙◌, subst, arith, length}
 use Rattle.std.proofs.lemmas.List.{with_items_is}
-use Rattle.online_commit.specs.inside.Pieces.{IsAppended, Piece, piece_of}
+use Rattle.online_commit.specs.inside.Pieces.{IsAppended, Piece, shown_piece}
 use Rattle.online_commit.proofs.Writing.{appended-made}
 use Rattle.online_commit.proofs.feeding.append_point.Goals as goal
 
@@ -34,7 +34,7 @@ returns-in_err-push-3-clause-appended c = let full = c.in_err-push-3.ensures.ful
 
 pub returns-clause-appended : goal.returns-clause-appended
 returns-clause-appended c =
-    let old = piece_of c.args.piece.now in
+    let old = shown_piece c.args.piece.now in
     let masks = c.write_masks.new.masks in
     let new : List ℕ → Piece = λ ms. record { first = old.first; told = old.told; layers = c.push.new.self.items; tables = c.push-2.new.self.items; masks = ms } in
     subst (λ ms. IsAppended old c.args.layer c.args.cells c.args.changed.now (new ms)) (sym (with_items_is c.push-3.new.self masks (c.write_masks.auto.masks ∙ ap length c.deref_mut.ensures.value ∙ sym c.push-3.new.self.ok.0)))

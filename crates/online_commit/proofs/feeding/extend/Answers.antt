@@ -1,13 +1,13 @@
 use Rattle.std.proofs.Common.{◌≡◌, ◌+◌, ap, ◌∙◌, subst}
-use Rattle.online_commit.specs.inside.Pieces.{IsAppended, Piece, Settles, piece_of}
+use Rattle.online_commit.specs.inside.Pieces.{IsAppended, Piece, Settles, shown_piece}
 use Rattle.online_commit.proofs.Extended.{extended-made}
 use Rattle.online_commit.proofs.feeding.extend.Goals as goal
 
 -- `append_point` speaks of the piece with room
 pub returns-clause-ok : goal.returns-clause-ok
 returns-clause-ok c =
-    let old = piece_of c.args.piece.now in
-    let mid = piece_of c.make_room.new.piece in
+    let old = shown_piece c.args.piece.now in
+    let mid = shown_piece c.make_room.new.piece in
     let made = c.append_point.new.piece in
     let changed = c.in_ok-changed.changed.items in
     let items = c.in_ok-changed.items in

@@ -1,13 +1,13 @@
 use Rattle.std.proofs.Common.{◌+◌, ◌≤◌, ◌∷◌, [], ◌++◌, length, subst}
 use Rattle.online_commit.specs.inside.Masks.{AreMasks, mask_after}
-use Rattle.online_commit.specs.inside.Pieces.{piece_of}
+use Rattle.online_commit.specs.inside.Pieces.{shown_piece}
 use Rattle.online_commit.specs.inside.Steps.{AreSettled}
 use Rattle.online_commit.proofs.feeding.settle.Goals as goal
 
 -- the calls speak of what is lent to them
 pub returns : goal.returns
 returns c =
-    let old = piece_of c.args.piece.now in
+    let old = shown_piece c.args.piece.now in
     let cells = c.args.cells.now in
     let layer = c.args.layer.now in
     let changed = c.in_ok-changed.changed.items in

@@ -1,5 +1,5 @@
 use Rattle.std.proofs.Common.{◌≡◌, ◌+◌, ◌-◌, ◌<◌, ◌∷◌, [], ◌++◌, length, get_or, ap, sym, ◌∙◌, subst, arith}
-use Rattle.online_commit.specs.inside.Masks.{IsBehind}
+use Rattle.online_commit.specs.inside.Masks.{ArePreviousRanks}
 use Rattle.online_commit.proofs.Changing.{IsChanging, changing-all, changing-begin, changing-more, changing-same}
 use Rattle.online_commit.proofs.NextCells.{read-at}
 use Rattle.online_commit.proofs.masks.changed_masks.Goals as goal
@@ -20,8 +20,8 @@ loop-back-preserved c =
     let place : length c.args.masks.now - 1 - k ≡ length tables - 1 - k = ap (λ n. n - 1 - k) same in
     let table : c.index-tables-point.result ≡ get_or tables (length tables - 1 - k) [] =
     read-at tables (length c.args.masks.now - 1 - k) c.index-tables-point.result [] (omega (arith, less, same)) c.index-tables-point.is ∙ ap (λ i. get_or tables i []) place in
-    let next : IsBehind c.index-tables-point.result c.loop-back.behind c.ranks_behind-behind-in-loop-back.result =
-    subst (λ cells. IsBehind cells c.loop-back.behind c.ranks_behind-behind-in-loop-back.result) c.as_slice.ensures c.ranks_behind-behind-in-loop-back.ensures in
+    let next : ArePreviousRanks c.index-tables-point.result c.loop-back.behind c.ranks_behind-behind-in-loop-back.result =
+    subst (λ cells. ArePreviousRanks cells c.loop-back.behind c.ranks_behind-behind-in-loop-back.result) c.as_slice.ensures c.ranks_behind-behind-in-loop-back.ensures in
     subst (λ ys. IsChanging tables c.args.cells.now ys (k + 1) c.ranks_behind-behind-in-loop-back.result) (sym c.in_ok-push-2.ensures.items)
     (changing-more tables c.args.cells.now c.index-tables-point.result c.loop-back.changed.items k c.loop-back.behind c.ranks_behind-behind-in-loop-back.result less c.loop-back.invariant table next)
 

@@ -1,7 +1,7 @@
 use Rattle.std.proofs.Common.{◌+◌, ◌≤◌, ◌∷◌, [], ◌++◌, length, ap, sym, subst, arith}
 use Rattle.std.proofs.lemmas.List.{length_push}
 use Rattle.online_commit.specs.declared.items.Item.TheVariants.{At}
-use Rattle.online_commit.specs.inside.Masks.{IsNotOne, IsOnly, mask_after}
+use Rattle.online_commit.specs.inside.Masks.{IsNotOne, IsOnlyRank, mask_after}
 use Rattle.online_commit.proofs.Settling.{IsSettledSoFar, settled-begin, settled-ends, settled-more}
 use Rattle.online_commit.proofs.settled.settled_items.Goals as goal
 
@@ -17,7 +17,7 @@ loop-point-preserved c =
     let layers = piece.layers.now ++ piece.layer.now ∷ [] in
     let mask = mask_after piece.masks.now piece.changed.now in
     let point = c.loop-point.point in
-    let only : IsOnly (mask point) c.in-Some.rank = subst (λ m. IsOnly m c.in-Some.rank) c.mask_after.ensures c.in-Some.ensures in
+    let only : IsOnlyRank (mask point) c.in-Some.rank = subst (λ m. IsOnlyRank m c.in-Some.rank) c.mask_after.ensures c.in-Some.ensures in
     subst (IsSettledSoFar piece.first layers mask c.args.start (point + 1)) (sym c.in_ok-push.ensures.ok)
     (settled-more piece.first layers mask c.args.start point c.in-Some.rank c.loop-point.items (At (piece.first + point) c.candidate_at.result) c.loop-point.auto.point c.loop-point.invariant only
     (ap (At (piece.first + point)) c.candidate_at.ensures))

@@ -1,5 +1,5 @@
 use Rattle.std.proofs.Common.{◌≡◌, ◌⊎◌, Err, Result, ap, sym, subst, ◌∙◌, rules}
-use Rattle.potential_certificate.specs.Reading.{certificate_of, rows_and_end}
+use Rattle.potential_certificate.specs.Reading.{certificate_of_text, rows_and_end}
 use Rattle.potential_certificate.specs.declared.fault.CertFault.{CertFault}
 use Rattle.potential_certificate.specs.declared.fault.CertFault.TheVariants.{Memory}
 use Rattle.potential_certificate.specs.declared.proof.Certificate.{Certificate}
@@ -9,7 +9,7 @@ pub returns-in_err-check_end-clause-err : goal.returns-in_err-check_end-clause-e
 returns-in_err-check_end-clause-err c =
     let fault = c.in_err-check_end.field-0.0 in
     let end = c.in_ok-proofs.ensures.ok ∙ ap (rows_and_end c.args.text.now c.in_ok-proofs.proofs) c.in_ok-rows.ensures in
-    let is : (fault ≡ Memory) ⊎ (certificate_of c.args.p.now c.args.text.now ≡ Err fault) =
+    let is : (fault ≡ Memory) ⊎ (certificate_of_text c.args.p.now c.args.text.now ≡ Err fault) =
     subst (λ (t : Result Certificate CertFault). (fault ≡ Memory) ⊎ (t ≡ Err fault)) (sym end) c.in_err-check_end.ensures.err in
     search (rules, is)
 

@@ -1,9 +1,8 @@
 use Rattle.std.proofs.Common.{◌++◌, [], refl, sym, ◌∙◌, ap, subst, arith}
 use Rattle.std.proofs.lemmas.Result.{err_from_is_err_and}
-use Rattle.program_frame.specs.Batches.{IsBetween}
+use Rattle.program_frame.specs.inside.BatchSteps.{IsBetweenChunks, IsReading}
 use Rattle.program_frame.specs.Jobs.{bytes_give}
-use Rattle.program_frame.specs.Stream.{IsReading}
-use Rattle.program_frame.specs.Streams.{EndsWith, StopsAt}
+use Rattle.program_frame.specs.inside.StreamSteps.{EndsWithOutcome, StopsAt}
 use Rattle.program_frame.proofs.ChunkEnds.{begun}
 use Rattle.program_frame.proofs.ChunkReads.{next_read, next_whole}
 use Rattle.program_frame.proofs.Reading.{are_read, may_read_on, nothing_read, reading_fails, reading_more, reading_stop, work_ends}
@@ -34,7 +33,7 @@ returns-in_err-next g c =
 pub take_chunk-requires-clause-ready : goal.take_chunk-requires-clause-ready
 take_chunk-requires-clause-ready g c =
     let inv = c.loop-chunks.invariant in
-    (g.K.Sink.state c.args.out.now, inv.reading.fed, subst (λ j. IsBetween j (g.J.Job.has c.loop-chunks.batches.job) (g.K.Sink.state c.args.out.now) (g.K.Sink.state c.loop-chunks.out) inv.reading.fed c.loop-chunks.batches.reader c.loop-chunks.batches.waiting) (sym inv.text) inv.reading.between)
+    (g.K.Sink.state c.args.out.now, inv.reading.fed, subst (λ j. IsBetweenChunks j (g.J.Job.has c.loop-chunks.batches.job) (g.K.Sink.state c.args.out.now) (g.K.Sink.state c.loop-chunks.out) inv.reading.fed c.loop-chunks.batches.reader c.loop-chunks.batches.waiting) (sym inv.text) inv.reading.between)
 
 pub loop-chunks-smaller : goal.loop-chunks-smaller
 loop-chunks-smaller g c =
@@ -45,8 +44,8 @@ pub loop-chunks-preserved : goal.loop-chunks-preserved
 loop-chunks-preserved g c =
     let inv = c.loop-chunks.invariant in
     let next = next_read c.args.name.now (g.S.Shelf.state c.args.shelf.now) (g.S.Shelf.state c.loop-chunks.shelf) (g.S.Shelf.state c.next.new.shelf) c.loop-chunks.chunks.at c.next.new.self.at c.next.new.self.bytes.items c.deref.result.now c.in_ok-next.field-0 c.loop-chunks.invariant.same c.deref.ensures.value c.if-branch.true c.in_ok-next.ensures in
-    let takes = subst (λ j. IsBetween j (g.J.Job.has c.take_chunk.new.self.job) (g.K.Sink.state c.args.out.now) (g.K.Sink.state c.take_chunk.new.out) (inv.reading.fed ++ c.deref.result.now) c.take_chunk.new.self.reader c.take_chunk.new.self.waiting) inv.text
-    (c.in_ok-take_chunk.ensures.takes (g.K.Sink.state c.args.out.now) inv.reading.fed (subst (λ j. IsBetween j (g.J.Job.has c.loop-chunks.batches.job) (g.K.Sink.state c.args.out.now) (g.K.Sink.state c.loop-chunks.out) inv.reading.fed c.loop-chunks.batches.reader c.loop-chunks.batches.waiting) (sym inv.text) inv.reading.between)) in
+    let takes = subst (λ j. IsBetweenChunks j (g.J.Job.has c.take_chunk.new.self.job) (g.K.Sink.state c.args.out.now) (g.K.Sink.state c.take_chunk.new.out) (inv.reading.fed ++ c.deref.result.now) c.take_chunk.new.self.reader c.take_chunk.new.self.waiting) inv.text
+    (c.in_ok-take_chunk.ensures.takes (g.K.Sink.state c.args.out.now) inv.reading.fed (subst (λ j. IsBetweenChunks j (g.J.Job.has c.loop-chunks.batches.job) (g.K.Sink.state c.args.out.now) (g.K.Sink.state c.loop-chunks.out) inv.reading.fed c.loop-chunks.batches.reader c.loop-chunks.batches.waiting) (sym inv.text) inv.reading.between)) in
     record {
       text = c.take_chunk.ensures.text ∙ inv.text;
       reading = reading_more (g.J.Job.has c.take_chunk.new.self.job) (g.K.Sink.state c.take_chunk.new.out) c.next.new.self.at c.deref.result.now c.take_chunk.new.self.reader c.take_chunk.new.self.waiting inv.reading (next.2 inv.reading.fed (are_read inv.reading inv.within)) takes;
@@ -60,13 +59,13 @@ returns-in_err-take_chunk g c =
     let next = next_read c.args.name.now (g.S.Shelf.state c.args.shelf.now) (g.S.Shelf.state c.loop-chunks.shelf) (g.S.Shelf.state c.next.new.shelf) c.loop-chunks.chunks.at c.next.new.self.at c.next.new.self.bytes.items c.deref.result.now c.in_ok-next.field-0 c.loop-chunks.invariant.same c.deref.ensures.value c.if-branch.true c.in_ok-next.ensures in
     let p = err_from_is_err_and c.from_residual-in_err-take_chunk.result c.from_residual-in_err-take_chunk.ensures.1 in
     let stops = subst (λ j. StopsAt (bytes_give j) (g.K.Sink.state c.args.out.now) (g.K.Sink.state c.take_chunk.new.out) (inv.reading.fed ++ c.deref.result.now) c.in_err-take_chunk.field-0.0) inv.text
-    (c.in_err-take_chunk.ensures.takes (g.K.Sink.state c.args.out.now) inv.reading.fed (subst (λ j. IsBetween j (g.J.Job.has c.loop-chunks.batches.job) (g.K.Sink.state c.args.out.now) (g.K.Sink.state c.loop-chunks.out) inv.reading.fed c.loop-chunks.batches.reader c.loop-chunks.batches.waiting) (sym inv.text) inv.reading.between)) in
+    (c.in_err-take_chunk.ensures.takes (g.K.Sink.state c.args.out.now) inv.reading.fed (subst (λ j. IsBetweenChunks j (g.J.Job.has c.loop-chunks.batches.job) (g.K.Sink.state c.args.out.now) (g.K.Sink.state c.loop-chunks.out) inv.reading.fed c.loop-chunks.batches.reader c.loop-chunks.batches.waiting) (sym inv.text) inv.reading.between)) in
     rw (p.1, p.2) (reading_stop (g.S.Shelf.state c.next.new.shelf) (g.K.Sink.state c.take_chunk.new.out) c.next.new.self.at c.deref.result.now c.in_err-take_chunk.field-0.0 inv.reading next.1 next.0 (next.2 inv.reading.fed (are_read inv.reading inv.within)) stops)
 
 pub finish-requires : goal.finish-requires
 finish-requires g c =
     let inv = c.loop-chunks.invariant in
-    (g.K.Sink.state c.args.out.now, inv.reading.fed, subst (λ j. IsBetween j (g.J.Job.has c.loop-chunks.batches.job) (g.K.Sink.state c.args.out.now) (g.K.Sink.state c.loop-chunks.out) inv.reading.fed c.loop-chunks.batches.reader c.loop-chunks.batches.waiting) (sym inv.text) inv.reading.between)
+    (g.K.Sink.state c.args.out.now, inv.reading.fed, subst (λ j. IsBetweenChunks j (g.J.Job.has c.loop-chunks.batches.job) (g.K.Sink.state c.args.out.now) (g.K.Sink.state c.loop-chunks.out) inv.reading.fed c.loop-chunks.batches.reader c.loop-chunks.batches.waiting) (sym inv.text) inv.reading.between)
 
 pub returns : goal.returns
 returns g c =
@@ -74,6 +73,6 @@ returns g c =
     let base = g.K.Sink.state c.args.out.now in
     let fed = inv.reading.fed in
     let whole = next_whole c.args.name.now (g.S.Shelf.state c.args.shelf.now) (g.S.Shelf.state c.loop-chunks.shelf) (g.S.Shelf.state c.next.new.shelf) c.loop-chunks.chunks.at c.next.new.self.at c.next.new.self.bytes.items c.in_ok-next.field-0 c.loop-chunks.invariant.same c.if-branch.false c.in_ok-next.ensures in
-    let between = subst (λ j. IsBetween j (g.J.Job.has c.loop-chunks.batches.job) base (g.K.Sink.state c.loop-chunks.out) fed c.loop-chunks.batches.reader c.loop-chunks.batches.waiting) (sym inv.text) inv.reading.between in
+    let between = subst (λ j. IsBetweenChunks j (g.J.Job.has c.loop-chunks.batches.job) base (g.K.Sink.state c.loop-chunks.out) fed c.loop-chunks.batches.reader c.loop-chunks.batches.waiting) (sym inv.text) inv.reading.between in
     work_ends (g.S.Shelf.state c.next.new.shelf) (g.K.Sink.state c.finish.new.out) c.finish.result inv.reading (whole fed (are_read inv.reading inv.within))
-    (subst (λ j. EndsWith (bytes_give j fed) base (g.K.Sink.state c.finish.new.out) c.finish.result) inv.text (c.finish.ensures base fed between))
+    (subst (λ j. EndsWithOutcome (bytes_give j fed) base (g.K.Sink.state c.finish.new.out) c.finish.result) inv.text (c.finish.ensures base fed between))

@@ -1,5 +1,5 @@
 use Rattle.std.proofs.Common.{◌≡◌, ◌≤◌, ◌-◌}
-use Rattle.program_frame.specs.Stream.{IsReading}
+use Rattle.program_frame.specs.inside.BatchSteps.{IsReading}
 use Rattle.program_frame.proofs.stream.work_traces.Given as goal
 
 abbrev pub invariant-loop-chunks : goal.invariant-loop-chunks

@@ -1,7 +1,7 @@
 use Rattle.std.proofs.Common.{refl, sym, subst, arith}
 use Rattle.std.proofs.lemmas.Result.{err_from_is_err_and}
 use Rattle.program_frame.specs.Read.{FailsToRead}
-use Rattle.program_frame.specs.WholeTraces.{IsHolding}
+use Rattle.program_frame.specs.inside.HeldTraces.{IsHolding}
 use Rattle.program_frame.specs.declared.stop.File.TheVariants.{Traces}
 use Rattle.program_frame.proofs.ChunkReads.{next_read, next_whole}
 use Rattle.program_frame.proofs.Stages.{load_unread}

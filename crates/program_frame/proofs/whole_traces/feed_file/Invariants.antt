@@ -1,5 +1,5 @@
 use Rattle.std.proofs.Common.{◌≡◌, ◌≤◌, ◌-◌}
-use Rattle.program_frame.specs.WholeTraces.{IsHolding}
+use Rattle.program_frame.specs.inside.HeldTraces.{IsHolding}
 use Rattle.program_frame.proofs.whole_traces.feed_file.Given as goal
 
 abbrev pub invariant-loop-chunks : goal.invariant-loop-chunks

@@ -1,6 +1,6 @@
 use Rattle.std.proofs.Common.{◌≤◌, ℕ, List, ◌++◌, length, ◌∙◌, ap, sym, subst}
 use Rattle.std.proofs.lemmas.Result.{err_from_is_err_and}
-use Rattle.potential_certificate.specs.CertificateText.{certificate_text, text_limit}
+use Rattle.potential_certificate.specs.CertificateText.{certificate_text, certificate_text_limit}
 use Rattle.prove_work.proofs.WrittenProofs.{IsMadeBy, text_is, writing_fails}
 use Rattle.prove_work.proofs.proving.write_proofs.Goals as goal
 
@@ -19,5 +19,5 @@ returns c =
     let text = certificate_text c.params.result.now c.in_ok-certificate.certificate in
     let written = c.in_ok-write_certificate.ensures.ok ∙ ap (λ (t : List ℕ). t ++ text) c.new-text.ensures in (
       written ∙ is,
-      subst (λ (t : List ℕ). length t ≤ text_limit) (sym written) c.in_ok-write_certificate.ensures.within,
+      subst (λ (t : List ℕ). length t ≤ certificate_text_limit) (sym written) c.in_ok-write_certificate.ensures.within,
     )

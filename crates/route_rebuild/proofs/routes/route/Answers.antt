@@ -1,7 +1,8 @@
 use Rattle.std.proofs.Common.{◌+◌, ◌-◌, subst, sym}
 use Rattle.std.proofs.lemmas.Result.{IfOk-weaker}
 use Rattle.bounded_table.proofs.Asking.{asks_by, asks_err, asks_nothing}
-use Rattle.route_rebuild.specs.Chosen.{AreChosenFrom, IsCandidateRun}
+use Rattle.route_rebuild.specs.Chosen.{IsCandidateRun}
+use Rattle.route_rebuild.specs.inside.ChosenRuns.{AreChosenFrom}
 use Rattle.route_rebuild.specs.Numbers.{numbers}
 use Rattle.route_rebuild.specs.Routes.{IsRouteOver, IsWalkStartOver, piece_at}
 use Rattle.route_rebuild.proofs.ChosenOver.{over-route, over-run, over-start, start-over}

@@ -2,7 +2,7 @@ use Rattle.std.proofs.Common.{◌≡◌, ℕ, None, get_or, unwrap_or, ap, ◌�
 use Rattle.std.proofs.lemmas.List.{get_or_default}
 use Rattle.matching.specs.declared.parts.Layer.{Layer}
 use Rattle.matching.specs.Layers.{candidate_of_rank, no_candidate}
-use Rattle.route_rebuild.specs.Chosen.{AreChosenFrom}
+use Rattle.route_rebuild.specs.inside.ChosenRuns.{AreChosenFrom}
 use Rattle.route_rebuild.specs.Routes.{no_layer}
 use Rattle.route_rebuild.proofs.ChosenOver.{chosen-more, chosen-none}
 use Rattle.route_rebuild.proofs.run.chosen_of.Goals as goal

@@ -1,5 +1,5 @@
 use Rattle.std.proofs.Common.{◌-◌}
-use Rattle.route_rebuild.specs.Chosen.{AreChosenFrom}
+use Rattle.route_rebuild.specs.inside.ChosenRuns.{AreChosenFrom}
 use Rattle.route_rebuild.proofs.run.chosen_of.Given as goal
 
 abbrev pub invariant-loop-i : goal.invariant-loop-i

@@ -3,7 +3,7 @@ use Rattle.std.proofs.lemmas.List.Elements.{All-rest}
 use Rattle.std.proofs.lemmas.Result.{err_from_is_err_and}
 use Rattle.std.specs.Vec.Iter.{into_iter_items}
 use Rattle.bounded_table.specs.Table.{BoundedTable, TableRow}
-use Rattle.program_frame.specs.Loads.{Refuses}
+use Rattle.program_frame.specs.Loads.{RefusesLoad}
 use Rattle.program_frame.specs.declared.stop.Refusal.TheVariants.{Table}
 use Rattle.road_network.specs.Net.{HasNode}
 use Rattle.table_work.specs.Preload.{row_said, rows_said}
@@ -34,7 +34,7 @@ returns-in_err-offer_row c =
     let row = c.in-Some.row in
     let stop = c.in_err-offer_row.field-0.0 in
     let whole = c.into_iter-row-iterator.ensures.into_iter_gives.0 ∙ c.into_vec-row-items.ensures in
-    let refuses = subst (λ (t : BoundedTable). Refuses Table (row_said c.args.roads.now t.bound row) stop) i.checker c.in_err-offer_row.ensures.said in
+    let refuses = subst (λ (t : BoundedTable). RefusesLoad Table (row_said c.args.roads.now t.bound row) stop) i.checker c.in_err-offer_row.ensures.said in
     let p = err_from_is_err_and c.from_residual.result c.from_residual.ensures.1 in
     rw (p.1, p.2) (rows_refused c.args.roads.now c.args.checker.now.bound row c.args.rows (into_iter_items at.row-iterator) (into_iter_items c.next.new.self) stop c.in-Some.ensures.steps.0
     (i.said ∙ ap (rows_said c.args.roads.now c.args.checker.now.bound) whole) refuses)

@@ -1,7 +1,7 @@
 use Rattle.std.proofs.Common.{◌++◌, ◌∷◌, [], None, sym, ap, ◌∙◌, arith, take, get_or}
 use Rattle.match_text.specs.declared.matched.Label.{Label}
 use Rattle.matching.specs.Layers.{no_candidate}
-use Rattle.trace_match.specs.Match.{label_of, label_on, labels_of}
+use Rattle.trace_match.specs.Match.{label_of_rank, label_on, labels_of}
 use Rattle.trace_match.proofs.LabelLists.{labels_more}
 use Rattle.trace_match.proofs.ranked.labels.Goals as goal
 use Rattle.trace_match.proofs.ranked.labels.Goals.{in-Some+in_ok-push-in-Some, in-None+in_ok-push-in-None}
@@ -20,12 +20,12 @@ loop-i-preserved c =
           ap (λ v. v.items) w.labels-is
           ∙ w.in_ok-push-in-Some.ensures.items
           ∙ ap (λ ls. ls ++ w.label_on.result ∷ []) was
-          ∙ ap (λ (x : Label). labels_of n (take i layers) (take i ranks) ++ x ∷ []) (w.label_on.ensures ∙ ap (λ cs. label_on n (get_or cs w.in-Some.rank no_candidate)) w.as_slice.ensures ∙ ap (label_of n layer) (sym w.in-Some.is))
+          ∙ ap (λ (x : Label). labels_of n (take i layers) (take i ranks) ++ x ∷ []) (w.label_on.ensures ∙ ap (λ cs. label_on n (get_or cs w.in-Some.rank no_candidate)) w.as_slice.ensures ∙ ap (label_of_rank n layer) (sym w.in-Some.is))
           ∙ sym more
       | in-None+in_ok-push-in-None w ↦
           ap (λ v. v.items) w.labels-is
           ∙ w.in_ok-push-in-None.ensures.items
-          ∙ ap (λ ls. ls ++ label_of n layer None ∷ []) was
-          ∙ ap (λ (x : Label). labels_of n (take i layers) (take i ranks) ++ x ∷ []) (ap (label_of n layer) (sym w.in-None.is))
+          ∙ ap (λ ls. ls ++ label_of_rank n layer None ∷ []) was
+          ∙ ap (λ (x : Label). labels_of n (take i layers) (take i ranks) ++ x ∷ []) (ap (label_of_rank n layer) (sym w.in-None.is))
           ∙ sym more
     ]

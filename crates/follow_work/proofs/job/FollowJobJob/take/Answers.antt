@@ -4,7 +4,7 @@ use Rattle.program_frame.proofs.Bounds.{bounded_back}
 use Rattle.follow_work.proofs.Follows.{followed_grows}
 use Rattle.follow_work.proofs.FollowJobs.{followed_more}
 use Rattle.follow_work.proofs.job.FollowJobJob.take.Goals as goal
-use Rattle.trace_match.specs.Totals.{pieces_of}
+use Rattle.trace_match.specs.Totals.{piece_count}
 
 pub write_followed-requires-clause-rows : goal.write_followed-requires-clause-rows
 write_followed-requires-clause-rows c = c.requires.1.rows_are
@@ -14,7 +14,7 @@ write_followed-requires-clause-traces c = bounded_back c.requires.0 c.args.trace
 
 pub add-requires : goal.add-requires
 add-requires c =
-    fits_more (pieces_of c.args.self.now.matcher) c.requires.0 c.args.traces.now c.args.self.now.tally c.in_ok-pieces.pieces c.requires.2 c.requires.1.counts c.in_ok-pieces.ensures.pieces
+    fits_more (piece_count c.args.self.now.matcher) c.requires.0 c.args.traces.now c.args.self.now.tally c.in_ok-pieces.pieces c.requires.2 c.requires.1.counts c.in_ok-pieces.ensures.pieces
 
 pub returns-clause-takes : goal.returns-clause-takes
 returns-clause-takes c before has bounded = (

@@ -1,11 +1,12 @@
 use Rattle.std.proofs.Common.{◌++◌, ap, refl, ◌∙◌, arith}
 use Rattle.program_frame.proofs.PointCounts.{points-append}
-use Rattle.match_work.specs.Matched.{pieces_in, text_of_matches}
+use Rattle.match_work.specs.Matched.{pieces_in}
+use Rattle.match_work.specs.inside.Calls.{text_of_matches}
 use Rattle.program_frame.proofs.Counting.{fits_more}
 use Rattle.match_work.proofs.Jobs.{can_match, matched_more, text_grows}
 use Rattle.match_work.proofs.TraceMatches.{pieces_found, texts_written}
 use Rattle.match_work.proofs.matches.MatchJobJob.take.Goals as goal
-use Rattle.trace_match.specs.Totals.{pieces_of}
+use Rattle.trace_match.specs.Totals.{piece_count}
 
 pub match_by-requires : goal.match_by-requires
 match_by-requires g c lifetimes = (
@@ -32,7 +33,7 @@ write_by-requires-clause-few g c =
 pub add-requires : goal.add-requires
 add-requires g c =
     let on = c.args.self.now.matcher.now in
-    fits_more (pieces_of on) c.requires.0 c.args.traces.now c.args.self.now.tally c.in_ok-pieces.pieces c.requires.2 c.requires.1.0.counts
+    fits_more (piece_count on) c.requires.0 c.args.traces.now c.args.self.now.tally c.in_ok-pieces.pieces c.requires.2 c.requires.1.0.counts
     (pieces_found on c.args.traces.now c.in_ok-matches.matches c.in_ok-pieces.pieces c.in_ok-matches.ensures.matched (c.in_ok-pieces.ensures.pieces ∙ ap pieces_in c.as_slice.ensures))
 
 pub returns-clause-takes : goal.returns-clause-takes

@@ -2,8 +2,8 @@ use Rattle.std.proofs.Common.{Some, IfOk, subst}
 use Rattle.bounded_table.proofs.Asking.{asks_nothing, asks_ok}
 use Rattle.matching.specs.PieceSteps.{AsksIn}
 use Rattle.online_commit.specs.inside.Pieces.{session_of, whole_of}
-use Rattle.online_commit.specs.Session.{AsksFed, IsFed}
-use Rattle.online_commit.specs.inside.Steps.{TellsCells, seen}
+use Rattle.online_commit.specs.Session.{AsksFed, FeedsLayer}
+use Rattle.online_commit.specs.inside.Steps.{TellsCells, seen_session}
 use Rattle.online_commit.proofs.Extended.{goes-on}
 use Rattle.online_commit.proofs.Extending.{may-grow}
 use Rattle.online_commit.proofs.LettingGo.{went-fed, went-session}
@@ -35,7 +35,7 @@ returns-in-Some-clause-fed g c =
     let s = session_of c.self.inside.net.now c.self.inside.params c.self.inside.piece in
     let tells : TellsCells s c.args.layer (Some c.in-Some.cells) = subst (λ o. TellsCells s c.args.layer o) c.in-Some.is c.in_ok-next.ensures.next in
     let on = goes-on s c.args.self.now c.args.layer c.in-Some.cells c.self.view_is c.invariants.ensures c.self.invariant c.requires.layer.1 c.requires.layer.0 tells in
-    subst (λ x. IfOk c.go_on.result (IsFed x c.args.layer (seen (session_of c.self.inside.net.now c.self.inside.params c.go_on.new.piece)))) c.self.view_is
+    subst (λ x. IfOk c.go_on.result (FeedsLayer x c.args.layer (seen_session (session_of c.self.inside.net.now c.self.inside.params c.go_on.new.piece)))) c.self.view_is
     (went-fed c.self.inside.net.now c.self.inside.params (whole_of c.self.inside.piece) (whole_of c.go_on.new.piece) c.args.layer c.in-Some.cells c.go_on.result on c.go_on.ensures.ok)
 
 pub returns-in-Some-clause-asks : goal.returns-in-Some-clause-asks

@@ -1,8 +1,8 @@
 use Rattle.std.proofs.Common.{◌++◌, ◌∙◌, ℕ, List, length, length-append, length-drop, sym, subst, ap, take, refl, arith}
 use Rattle.std.proofs.lemmas.Result.{err_from_is_err_and}
-use Rattle.program_frame.specs.Batches.{IsBetween, TakesChunk}
+use Rattle.program_frame.specs.inside.BatchSteps.{IsBetweenChunks, TakesChunk}
 use Rattle.program_frame.specs.Jobs.{bytes_give}
-use Rattle.program_frame.specs.Streams.{StopsAt}
+use Rattle.program_frame.specs.inside.StreamSteps.{StopsAt}
 use Rattle.program_frame.proofs.ChunkEnds.{all_in, none_left, not_begun, some_left, some_more, stops_chunk}
 use Rattle.program_frame.proofs.batches.Batches.take_chunk.Goals as goal
 
@@ -10,13 +10,13 @@ pub take_some-requires-clause-ready : goal.take_some-requires-clause-ready
 take_some-requires-clause-ready g c =
     let inv = c.loop-rest.invariant in
     let ready = c.requires.ready in
-    (ready.0, ready.1 ++ inv.underway.front, subst (λ j. IsBetween j (g.J.Job.has c.loop-rest.self.job) ready.0 (g.K.Sink.state c.loop-rest.out) (ready.1 ++ inv.underway.front) c.loop-rest.self.reader c.loop-rest.self.waiting) (sym inv.text) (inv.underway.goes ready.0 ready.1 ready.2))
+    (ready.0, ready.1 ++ inv.underway.front, subst (λ j. IsBetweenChunks j (g.J.Job.has c.loop-rest.self.job) ready.0 (g.K.Sink.state c.loop-rest.out) (ready.1 ++ inv.underway.front) c.loop-rest.self.reader c.loop-rest.self.waiting) (sym inv.text) (inv.underway.goes ready.0 ready.1 ready.2))
 
 pub returns-in_err-taken-clause-takes : goal.returns-in_err-taken-clause-takes
 returns-in_err-taken-clause-takes g c base fed between =
     let inv = c.loop-rest.invariant in
     let p = err_from_is_err_and c.from_residual.result c.from_residual.ensures.1 in
-    let here = subst (λ j. IsBetween j (g.J.Job.has c.loop-rest.self.job) base (g.K.Sink.state c.loop-rest.out) (fed ++ inv.underway.front) c.loop-rest.self.reader c.loop-rest.self.waiting) (sym inv.text) (inv.underway.goes base fed between) in
+    let here = subst (λ j. IsBetweenChunks j (g.J.Job.has c.loop-rest.self.job) base (g.K.Sink.state c.loop-rest.out) (fed ++ inv.underway.front) c.loop-rest.self.reader c.loop-rest.self.waiting) (sym inv.text) (inv.underway.goes base fed between) in
     let stops = subst (λ j. StopsAt (bytes_give j) base (g.K.Sink.state c.take_some.new.out) ((fed ++ inv.underway.front) ++ c.loop-rest.rest.now) c.in_err-taken.field-0.0) inv.text (c.in_err-taken.ensures.takes base (fed ++ inv.underway.front) here) in
     rw (p.1, p.2) (stops_chunk base (g.K.Sink.state c.take_some.new.out) fed c.in_err-taken.field-0.0 inv.underway stops)
 
@@ -26,7 +26,7 @@ loop-rest-preserved g c =
     record {
       text = c.take_some.ensures.text ∙ inv.text;
       underway = some_more (g.J.Job.has c.take_some.new.self.job) (g.K.Sink.state c.take_some.new.out) c.take_some.new.self.reader c.take_some.new.self.waiting _ c.in_ok-taken.taken inv.underway c.behind-rest.ensures (λ base fed between.
-          subst (λ j. IsBetween j (g.J.Job.has c.take_some.new.self.job) base (g.K.Sink.state c.take_some.new.out) (fed ++ take c.in_ok-taken.taken c.loop-rest.rest.now) c.take_some.new.self.reader c.take_some.new.self.waiting) inv.text (c.in_ok-taken.ensures.takes base fed (subst (λ j. IsBetween j (g.J.Job.has c.loop-rest.self.job) base (g.K.Sink.state c.loop-rest.out) fed c.loop-rest.self.reader c.loop-rest.self.waiting) (sym inv.text) between)));
+          subst (λ j. IsBetweenChunks j (g.J.Job.has c.take_some.new.self.job) base (g.K.Sink.state c.take_some.new.out) (fed ++ take c.in_ok-taken.taken c.loop-rest.rest.now) c.take_some.new.self.reader c.take_some.new.self.waiting) inv.text (c.in_ok-taken.ensures.takes base fed (subst (λ j. IsBetweenChunks j (g.J.Job.has c.loop-rest.self.job) base (g.K.Sink.state c.loop-rest.out) fed c.loop-rest.self.reader c.loop-rest.self.waiting) (sym inv.text) between)));
     }
 
 pub write_read-requires : goal.write_read-requires
@@ -34,14 +34,14 @@ write_read-requires g c =
     let inv = c.loop-rest.invariant in
     let ready = c.requires.ready in
     let all = all_in inv.underway (none_left c.loop-rest.rest.now c.is_empty.result c.loop-rest-test.false c.is_empty.ensures) ready.0 ready.1 ready.2 in
-    (ready.0, ready.1 ++ c.args.chunk.now, subst (λ j. IsBetween j (g.J.Job.has c.loop-rest.self.job) ready.0 (g.K.Sink.state c.loop-rest.out) (ready.1 ++ c.args.chunk.now) c.loop-rest.self.reader c.loop-rest.self.waiting) (sym inv.text) all)
+    (ready.0, ready.1 ++ c.args.chunk.now, subst (λ j. IsBetweenChunks j (g.J.Job.has c.loop-rest.self.job) ready.0 (g.K.Sink.state c.loop-rest.out) (ready.1 ++ c.args.chunk.now) c.loop-rest.self.reader c.loop-rest.self.waiting) (sym inv.text) all)
 
 pub returns-clause-takes : goal.returns-clause-takes
 returns-clause-takes g c base fed between =
     let inv = c.loop-rest.invariant in
     let all = all_in inv.underway (none_left c.loop-rest.rest.now c.is_empty.result c.loop-rest-test.false c.is_empty.ensures) base fed between in
     subst (λ j. TakesChunk j (g.J.Job.has c.write_read.new.self.job) base (g.K.Sink.state c.write_read.new.out) (fed ++ c.args.chunk.now) c.write_read.new.self.reader c.write_read.new.self.waiting c.write_read.result) inv.text
-    (c.write_read.ensures.writes base (fed ++ c.args.chunk.now) (subst (λ j. IsBetween j (g.J.Job.has c.loop-rest.self.job) base (g.K.Sink.state c.loop-rest.out) (fed ++ c.args.chunk.now) c.loop-rest.self.reader c.loop-rest.self.waiting) (sym inv.text) all))
+    (c.write_read.ensures.writes base (fed ++ c.args.chunk.now) (subst (λ j. IsBetweenChunks j (g.J.Job.has c.loop-rest.self.job) base (g.K.Sink.state c.loop-rest.out) (fed ++ c.args.chunk.now) c.loop-rest.self.reader c.loop-rest.self.waiting) (sym inv.text) all))
 
 pub loop-rest-init : goal.loop-rest-init
 loop-rest-init g c = record { text = refl; underway = not_begun }

@@ -1,6 +1,6 @@
 use Rattle.std.proofs.Common.{IfErr, IfOk, sym, subst}
 use Rattle.bounded_table.specs.Rows.{AreRowsOf}
-use Rattle.trace_sessions.specs.Sessions.{AsksClosed, Closes, IsCloseFault}
+use Rattle.trace_sessions.specs.Sessions.{AsksClosed, ClosesSession, IsCloseFault}
 use Rattle.trace_sessions.proofs.SessionPairs.{are-finished, rows-at}
 use Rattle.trace_sessions.proofs.SessionFixes.{close-asks, close-fault, closes, state}
 use Rattle.trace_sessions.proofs.sessions.Sessions.close.Goals as goal
@@ -28,7 +28,7 @@ returns-clause-closed g c =
     let a = c.self.inside in
     let e = c.finish_session.ensures in
     let new = c.finish_session.new.sessions in
-    subst (λ x. IfOk c.finish_session.result (Closes x c.args.id (state a.net.now a.params new))) c.self.view_is
+    subst (λ x. IfOk c.finish_session.result (ClosesSession x c.args.id (state a.net.now a.params new))) c.self.view_is
     (closes a.net.now a.params c.args.id a.sessions new c.finish_session.result e.finished)
 
 pub returns-clause-fault : goal.returns-clause-fault

@@ -3,7 +3,7 @@ use Rattle.std.specs.Map.{lookup}
 use Rattle.std.proofs.lemmas.Result.{err_from_is_err_and}
 use Rattle.trace_sessions.specs.declared.sessions.SessionFault.{SessionFault}
 use Rattle.trace_sessions.specs.declared.sessions.SessionFault.TheVariants.{Memory}
-use Rattle.trace_sessions.specs.Sessions.{AsksClosed, Keeps}
+use Rattle.trace_sessions.specs.Sessions.{AsksClosed, RepresentsPairs}
 use Rattle.trace_sessions.specs.Streaming.{EndsId, EndsNone}
 use Rattle.trace_sessions.specs.inside.SessionsInside.{AreOf}
 use Rattle.trace_sessions.proofs.SessionPairs.{remove-none}
@@ -29,7 +29,7 @@ returns-in_err-pieces-clause-ends g c pairs keeps =
     rw (e.1, e.2)
     (subst (λ x. EndsId x pairs c.args.id (state a.net.now a.params new) c.args.into.now c.end_session.new.into (Err Memory)) c.self.view_is
     (trace-ended {E = SessionFault} a.net.now a.params c.args.id a.sessions new c.in-Some.session pairs c.args.into.now c.end_session.new.into (Err Memory)
-    (sym c.in-Some.ensures.value) c.remove.ensures.entries (subst (λ x. Keeps x pairs) (sym c.self.view_is) keeps) c.in_err-pieces.ensures.ends))
+    (sym c.in-Some.ensures.value) c.remove.ensures.entries (subst (λ x. RepresentsPairs x pairs) (sym c.self.view_is) keeps) c.in_err-pieces.ensures.ends))
 
 pub returns-in_err-pieces-clause-asks : goal.returns-in_err-pieces-clause-asks
 returns-in_err-pieces-clause-asks g c =
@@ -43,7 +43,7 @@ returns-clause-ends g c pairs keeps =
     let new = c.remove.new.self in
     subst (λ x. EndsId x pairs c.args.id (state a.net.now a.params new) c.args.into.now c.end_session.new.into (Ok c.in_ok-pieces.pieces)) c.self.view_is
     (trace-ended {E = SessionFault} a.net.now a.params c.args.id a.sessions new c.in-Some.session pairs c.args.into.now c.end_session.new.into (Ok c.in_ok-pieces.pieces)
-    (sym c.in-Some.ensures.value) c.remove.ensures.entries (subst (λ x. Keeps x pairs) (sym c.self.view_is) keeps) c.in_ok-pieces.ensures.ends)
+    (sym c.in-Some.ensures.value) c.remove.ensures.entries (subst (λ x. RepresentsPairs x pairs) (sym c.self.view_is) keeps) c.in_ok-pieces.ensures.ends)
 
 pub returns-clause-asks : goal.returns-clause-asks
 returns-clause-asks g c =
@@ -58,7 +58,7 @@ returns-in_default-clause-ends g c pairs keeps =
       refl,
       subst (λ x. EndsNone x pairs c.args.id (state a.net.now a.params new) c.args.into.now c.args.into.now) c.self.view_is
           (none-ended-here a.net.now a.params c.args.id a.sessions new pairs c.args.into.now (sym c.remove.ensures.value ∙ c.in_default.is)
-          (c.remove.ensures.entries ∙ remove-none (nat_eq c.args.id) a.sessions (sym c.remove.ensures.value ∙ c.in_default.is)) (subst (λ x. Keeps x pairs) (sym c.self.view_is) keeps)),
+          (c.remove.ensures.entries ∙ remove-none (nat_eq c.args.id) a.sessions (sym c.remove.ensures.value ∙ c.in_default.is)) (subst (λ x. RepresentsPairs x pairs) (sym c.self.view_is) keeps)),
     )
 
 pub invariant_of-self-in_err-pieces : goal.invariant_of-self-in_err-pieces

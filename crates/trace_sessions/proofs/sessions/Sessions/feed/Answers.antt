@@ -1,6 +1,6 @@
 use Rattle.std.proofs.Common.{◌≡◌, ◌<◌, ◌≤◌, Ok, OnOk, refl, sym, subst, arith}
 use Rattle.bounded_table.specs.Rows.{AreRowsOf}
-use Rattle.online_commit.specs.Session.{points_of}
+use Rattle.online_commit.specs.Session.{fed_position_count}
 use Rattle.trace_sessions.specs.declared.sessions.SessionFault.{SessionFault}
 use Rattle.trace_sessions.specs.declared.sessions.SessionFault.TheVariants.{TooLong}
 use Rattle.trace_sessions.specs.Sessions.{AsksFedTo, IsFeedFault, TakesFix}
@@ -12,9 +12,9 @@ pub returns-then-points-ge100000-clause-refused : goal.returns-then-points-ge100
 returns-then-points-ge100000-clause-refused g c =
     let a = c.self.inside in
     let now = state a.net.now a.params a.sessions in
-    let count : c.points.result ≡ points_of (session_in now c.args.id) =
-    subst (λ x. c.points.result ≡ points_of (session_in x c.args.id)) (sym c.self.view_is) c.points.ensures in
-    let many : 100_000 ≤ points_of (session_in now c.args.id) = omega (arith, count, c.if-points-ge100000.true) in
+    let count : c.points.result ≡ fed_position_count (session_in now c.args.id) =
+    subst (λ x. c.points.result ≡ fed_position_count (session_in x c.args.id)) (sym c.self.view_is) c.points.ensures in
+    let many : 100_000 ≤ fed_position_count (session_in now c.args.id) = omega (arith, count, c.if-points-ge100000.true) in
     record {
       why = subst (λ x. IsFeedFault x c.args.id (TooLong c.args.id)) c.self.view_is (too-long a.net.now a.params c.args.id a.sessions many);
       unchanged = refl;
@@ -31,9 +31,9 @@ pub feed_session-requires-clause-layer : goal.feed_session-requires-clause-layer
 feed_session-requires-clause-layer g c =
     let a = c.self.inside in
     let now = state a.net.now a.params a.sessions in
-    let count : c.points.result ≡ points_of (session_in now c.args.id) =
-    subst (λ x. c.points.result ≡ points_of (session_in x c.args.id)) (sym c.self.view_is) c.points.ensures in
-    let few : points_of (session_in now c.args.id) < 100_000 = omega (arith, count, c.if-points-ge100000.false) in (
+    let count : c.points.result ≡ fed_position_count (session_in now c.args.id) =
+    subst (λ x. c.points.result ≡ fed_position_count (session_in x c.args.id)) (sym c.self.view_is) c.points.ensures in
+    let few : fed_position_count (session_in now c.args.id) < 100_000 = omega (arith, count, c.if-points-ge100000.false) in (
       layer-fed a.net.now a.params c.args.id a.sessions c.open-opened.result c.args.fix c.in_ok-layer.layer c.self.invariant.are c.open-opened.ensures.opened
           c.self.invariant.ground.options c.requires.place c.in_ok-layer.ensures,
       few-fed a.net.now a.params c.args.id a.sessions c.open-opened.result c.open-opened.ensures.opened few,
@@ -63,9 +63,9 @@ pub returns-clause-fed : goal.returns-clause-fed
 returns-clause-fed g c =
     let a = c.self.inside in
     let now = state a.net.now a.params a.sessions in
-    let count : c.points.result ≡ points_of (session_in now c.args.id) =
-    subst (λ x. c.points.result ≡ points_of (session_in x c.args.id)) (sym c.self.view_is) c.points.ensures in
-    let few : points_of (session_in now c.args.id) < 100_000 = omega (arith, count, c.if-points-ge100000.false) in
+    let count : c.points.result ≡ fed_position_count (session_in now c.args.id) =
+    subst (λ x. c.points.result ≡ fed_position_count (session_in x c.args.id)) (sym c.self.view_is) c.points.ensures in
+    let few : fed_position_count (session_in now c.args.id) < 100_000 = omega (arith, count, c.if-points-ge100000.false) in
     let new = c.feed_session.new.sessions in
     subst (λ x. TakesFix x c.args.id c.args.fix (state a.net.now a.params new) c.in_ok-items.items) c.self.view_is
     (takes a.net.now a.params c.args.id c.args.fix a.sessions new c.open-opened.result c.in_ok-layer.layer c.in_ok-items.items

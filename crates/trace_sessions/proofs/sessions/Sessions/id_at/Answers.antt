@@ -1,5 +1,5 @@
 use Rattle.std.proofs.Common.{sym, ap, subst, ◌∙◌, slice_get}
-use Rattle.trace_sessions.specs.Sessions.{Keeps}
+use Rattle.trace_sessions.specs.Sessions.{RepresentsPairs}
 use Rattle.trace_sessions.proofs.SessionPairs.{kept-keys}
 use Rattle.trace_sessions.proofs.sessions.Sessions.id_at.Goals as goal
 
@@ -7,4 +7,4 @@ pub returns : goal.returns
 returns c pairs keeps =
     let a = c.self.inside in
     c.id_at.ensures
-    ∙ ap (λ ks. slice_get ks c.args.place) (kept-keys a.net.now a.params a.sessions pairs (subst (λ x. Keeps x pairs) (sym c.self.view_is) keeps).each)
+    ∙ ap (λ ks. slice_get ks c.args.place) (kept-keys a.net.now a.params a.sessions pairs (subst (λ x. RepresentsPairs x pairs) (sym c.self.view_is) keeps).each)
