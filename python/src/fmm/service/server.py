@@ -13,7 +13,7 @@ import numpy as np
 from ..commands import SIGNALS, Stopped
 from ..errors import FmmError, MismatchError
 from ..network import Network
-from .forks import Forks
+from .forks import Forks, Work
 from .metrics import Metrics
 from .pool import Pool
 from .settings import Settings
@@ -42,16 +42,15 @@ def serve(network: Network, settings: Settings, host: str, port: int) -> None:
     if network.projection.crs is None:
         raise MismatchError("its projection is not known, so degrees cannot be placed on it: give --crs", network.name)
     listening = listen(host, port)
-    worker = Worker(network, settings)
 
-    def work(connection: socket.socket) -> None:
+    def prepare() -> Work:
         listening.close()  # only the main process accepts
-        worker.serve(connection)
+        return Worker(network, settings).serve
 
     if settings.live:
         from .live import PATIENCE, give_up_after
         give_up_after(listening, PATIENCE)
-    forks = Forks(work)
+    forks = Forks(prepare)
     faster_loop()
     try:
         asyncio.run(run(forks, listening, settings, about(network, settings)))
