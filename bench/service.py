@@ -216,15 +216,8 @@ class Service:
         return np.array([sum(map(processor, pids)) for pids in self.parts()])
 
     def memory(self):
-        """Megabytes of all processes; what they share counts once."""
-        total = 0
-        for pid in itertools.chain(*self.parts()):
-            try:
-                rollup = Path(f"/proc/{pid}/smaps_rollup").read_text()
-            except OSError:
-                continue
-            total += sum(int(line.split()[1]) for line in rollup.splitlines() if line.startswith("Pss:"))
-        return total / 1024
+        """Megabytes of the processes of each part; what processes share counts once."""
+        return np.array([sum(map(memory, pids)) for pids in self.parts()])
 
     def kill_one(self, draw):
         """Kills a worker or a program, but neither the service nor the process that forks workers."""
@@ -243,6 +236,14 @@ def processor(pid):
     except OSError:
         return 0.0
     return (int(words[11]) + int(words[12])) / TICK
+
+
+def memory(pid):
+    try:
+        rollup = Path(f"/proc/{pid}/smaps_rollup").read_text()
+    except OSError:
+        return 0.0
+    return sum(int(line.split()[1]) for line in rollup.splitlines() if line.startswith("Pss:")) / 1024
 
 
 def own():
@@ -296,7 +297,9 @@ def soak(args, drives, service):
     load, draw = Load(service.port, drives), random.Random(3)
 
     def say():
-        print(f"{load.summary()}, memory {service.memory():.0f} MB", flush=True)
+        parts = service.memory()
+        shares = ", ".join(f"{name} {share:.0f}" for name, share in zip(PARTS, parts))
+        print(f"{load.summary()}, memory {parts.sum():.0f} MB ({shares})", flush=True)
 
     asyncio.run(load.at_rate(args.rate, args.soak, 0.01, ((60, lambda: service.kill_one(draw)), (10, say))))
     say()

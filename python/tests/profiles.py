@@ -7,7 +7,6 @@ from hypothesis import settings
 
 # The examples of a property, and of one whose examples take longest, such as whole matches.
 EXAMPLES = {"quick": (10, 2), "thorough": (300, 15)}
-REQUESTS = {"quick": 100, "thorough": 1000}  # of many clients to one service
 PROFILE = os.environ.get("FMM_PROFILE", "thorough")
 
 for name, (count, _) in EXAMPLES.items():

@@ -160,10 +160,9 @@ def coordinates(places: np.ndarray) -> str:
 
 def matched(network: Network, places: Sequence[np.ndarray], folder: Path, *words: str) -> MatchText:
     """What `fmm match` says of drives in degrees, traces 1, 2, .."""
-    lines = ["trace,x,y\n"]
-    for trace, place in enumerate(places, 1):
-        x, y = network.projection.to_centimetres(place[:, 0], place[:, 1], 4326)
-        lines += [f"{trace},{a},{b}\n" for a, b in zip(x.tolist(), y.tolist())]
+    traces = np.arange(1, len(places) + 1).repeat([len(place) for place in places])
+    x, y = network.projection.to_centimetres(*np.concatenate(places).T, 4326)
+    lines = ["trace,x,y\n", *(f"{trace},{a},{b}\n" for trace, a, b in zip(traces.tolist(), x.tolist(), y.tolist()))]
     (folder / "traces.csv").write_text("".join(lines))
     with (folder / "match.txt").open("wb") as out:
         subprocess.run([str(TOP / "fmm"), "match", str(network.path), str(folder / "traces.csv"), *words], stdout=out, check=True)

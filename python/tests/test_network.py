@@ -2,17 +2,20 @@
 from __future__ import annotations
 
 import json
+import os
 import subprocess
+import sys
 from pathlib import Path
 
 import numpy as np
 import pytest
-from hypothesis import given
+from hypothesis import HealthCheck, example, given, settings
 from hypothesis import strategies as some
 from osm_maps import grid, osm_text, street, write
 
 from fmm import Network
 from fmm._lines import EdgeLines, whole_root
+from fmm._network_file import network_of_records, plain_network
 from fmm.errors import InputError, MismatchError, OptionError
 
 HEADER = "edge,from,to,line\n"
@@ -109,6 +112,54 @@ def test_what_the_program_allows_is_read(tmp_path: Path) -> None:
     assert lines.xy.tolist() == [[0, 0], [-3, 4], [-3, 10]] and lines.so_far.tolist() == [0, 5, 11] and lines.ids.tolist() == [7]
     assert lines.from_node.view(np.uint64).tolist() == [2**64 - 1]
     assert "\n7,18446744073709551615,2,0 0;-3 4;-3 10\n" in Network.open(path).save(tmp_path / "m.csv").read_text()
+
+
+def lists(lines: EdgeLines) -> list:
+    """The edges as plain lists."""
+    return [part.tolist() for part in (lines.ids, lines.first, lines.xy, lines.from_node, lines.to_node)]
+
+
+@given(some.text("07,;- \n", max_size=24))
+@example("7,0,0,0 -0;-7 0\n")
+@example("7,0,-0,-7 0;0 0\n")
+@example("7,-0,0,-0 0;7 0\n")
+@example("-0,0,0,-0 0;7 0\n")
+@example("7,7,7,7-7 ;7 7\n")
+@example("7,,7,7 7-7;0 0\n")
+@example("7,0,0,- 0;0 0\n")
+@settings(suppress_health_check=[HealthCheck.too_slow])
+def test_plain_networks_are_read_as_all_others(tmp_path_factory: pytest.TempPathFactory, text: str) -> None:
+    path = tmp_path_factory.getbasetemp() / "plain.csv"
+    path.write_text(HEADER + text)
+    found = plain_network(path.read_bytes())
+    if found is not None:
+        assert lists(found) == lists(network_of_records(path))
+
+
+LINE = some.lists(some.tuples(COORDINATE, COORDINATE), min_size=2, max_size=4)
+
+
+@given(some.lists(some.tuples(some.integers(0, 2**63 - 2), LINE), min_size=1, max_size=5))
+def test_networks_of_numbers_are_plain(tmp_path_factory: pytest.TempPathFactory, edges: list) -> None:
+    path = tmp_path_factory.getbasetemp() / "plain.csv"
+    path.write_text(HEADER + "".join(
+        f"{edge},{node},{node // 2},{';'.join(f'{x} {y}' for x, y in points)}\n" for edge, (node, points) in enumerate(edges)))
+    try:
+        wanted = lists(network_of_records(path))
+    except InputError:
+        assert plain_network(path.read_bytes()) is None
+        return
+    found = plain_network(path.read_bytes())
+    assert found is not None and lists(found) == wanted
+
+
+def test_a_network_is_read_without_pandas(network: Network, tmp_path: Path, top: Path) -> None:
+    path = network.save(tmp_path / "n.csv")
+    text = f"""import sys; from fmm.network import Network
+network = Network.open({str(path)!r})
+assert network.names == {network.names!r} and not {{"pandas", "geopandas", "shapely"}} & set(sys.modules)
+assert network.table["name"].tolist() == network.names"""
+    subprocess.run([sys.executable, "-c", text], env={**os.environ, "PYTHONPATH": str(top / "python" / "src")}, check=True)
 
 
 @given(some.lists(some.integers(0, 2**62), min_size=1))

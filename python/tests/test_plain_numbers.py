@@ -1,13 +1,10 @@
 """Whole numbers that are read at once, and what is left to the strict readers."""
 from __future__ import annotations
 
-import re
 from pathlib import Path
 
 import pytest
-from hypothesis import HealthCheck, example, given, settings, strategies as some
 
-from fmm._network_file import are_plain
 from fmm._plain_numbers import plain_numbers
 
 
@@ -30,12 +27,3 @@ def test_everything_else_is_left_to_the_strict_reader(tmp_path: Path, text: str)
     path.write_bytes(text.encode())
     assert plain_numbers(path) is None
     assert plain_numbers(tmp_path / "none.csv") is None
-
-
-@given(some.text("07 ;-", max_size=24))
-@example("0 -40000;5000 42000")
-@example("1 2;-3 -4;5 6")
-@settings(suppress_health_check=[HealthCheck.too_slow])
-def test_plain_points(text: str) -> None:
-    wanted = bool(re.fullmatch("-?[0-9]+ -?[0-9]+(;-?[0-9]+ -?[0-9]+)*", text))
-    assert are_plain(text.encode(), text.count(";") + 1) == wanted

@@ -2,8 +2,10 @@
 from __future__ import annotations
 
 import asyncio
+import json
 import os
 import random
+import re
 import shutil
 import signal
 import socket
@@ -16,7 +18,6 @@ from pathlib import Path
 import httpx
 import numpy as np
 import pytest
-from profiles import PROFILE, REQUESTS
 from services import PLAIN, TOP, Service, alive, answered, coordinates, degrees, drives, grid, matched, pieces_of, running
 
 from fmm import Network
@@ -188,26 +189,33 @@ def test_bodies_are_bounded(service: Service) -> None:
 
 
 def test_sixteen_clients_get_the_answers_of_match(service: Service, network: Network, tmp_path: Path) -> None:
-    places = [degrees(network, drive) for drive in drives(REQUESTS[PROFILE], far=0.01)]
+    """A thousand drives in random order. The clients are plain sockets, since httpx takes longer than the service."""
+    made = [drive[:14] for drive in drives(1000, far=0.01)]
+    places = np.split(degrees(network, np.concatenate(made)), np.cumsum([len(drive) for drive in made])[:-1])
     text = matched(network, places, tmp_path)
     order = list(range(len(places)))
     random.Random(5).shuffle(order)
-    found: dict[int, list[tuple[list[int], int]]] = {}
+    found: dict[int, bytes] = {}
 
-    async def client(http: httpx.AsyncClient) -> None:
+    async def client(host: str, port: str) -> None:
+        reader, writer = await asyncio.open_connection(host, int(port))
         while order:
             number = order.pop()
-            answer = await http.get(f"/match/v1/car/{coordinates(places[number])}?overview=false")
-            found[number] = answered(answer.json())
+            path = f"/match/v1/car/{coordinates(places[number])}?overview=false&skip_waypoints=true"
+            writer.write(f"GET {path} HTTP/1.1\r\nhost: {host}\r\n\r\n".encode())
+            size = re.search(rb"content-length: (\d+)", await reader.readuntil(b"\r\n\r\n"))
+            assert size
+            found[number] = await reader.readexactly(int(size[1]))
+        writer.close()
 
     async def clients() -> None:
-        async with httpx.AsyncClient(base_url=service.url, **PLAIN) as http:
-            await asyncio.gather(*(client(http) for _ in range(16)))
+        host, _, port = service.url.removeprefix("http://").partition(":")
+        await asyncio.gather(*(client(host, port) for _ in range(16)))
 
     asyncio.run(clients())
     assert len(found) == len(places)
-    for number, pieces in found.items():
-        assert pieces == pieces_of(text, number), number
+    for number, body in found.items():
+        assert answered(json.loads(body)) == pieces_of(text, number), number
 
 
 def wait_for(answers: list[object], count: int) -> None:

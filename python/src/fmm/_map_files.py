@@ -4,15 +4,14 @@ from __future__ import annotations
 import os
 import re
 from pathlib import Path
-from typing import Any, Optional
-
-import geopandas
-from shapely import wkt
+from typing import TYPE_CHECKING, Any, Optional
 
 from ._evidence import checksum_of, refuse_pipe
-from ._layer_files import layer_names
-from ._tables import read_table
+from ._records import read_records
 from .errors import FmmError, InputError, MissingLibraryError, OptionError, PathText, shown
+
+if TYPE_CHECKING:
+    import geopandas
 
 ROOT = re.compile(rb"<([A-Za-z][\w:.-]*)")
 NUMBERED = re.compile(r"[0-9]{1,18}")
@@ -43,10 +42,13 @@ def read_layer(path: PathText, layer: Optional[str] = None) -> geopandas.GeoData
     """A layer of any file that GDAL reads: GeoPackage, Shapefile (zipped too), GeoJSON, FlatGeobuf, CSV with a column WKT ..
 
     Without `layer` the file may have only one. Refused with InputError: a file that GDAL does not read, an unknown layer, and
-    CSV that `read_table` refuses.
+    CSV that `read_records` refuses.
     """
+    import geopandas
+
+    from ._layer_files import layer_names
     name = os.fspath(path)
-    records = {str(file): len(read_table(file)) for file in tables_of(path)}
+    records = {str(file): len(read_records(file)) for file in tables_of(path)}
     source = f"zip://{name}" if name.lower().endswith(".zip") else name
     try:
         names = layer_names(source)
@@ -105,6 +107,7 @@ def is_number(value: object) -> bool:
 
 
 def line_of(text: str, path: PathText) -> Any:
+    from shapely import wkt
     try:
         return wkt.loads(text)
     except Exception:

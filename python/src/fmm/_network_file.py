@@ -1,22 +1,26 @@
 """Reads and writes the network file of the proved programs."""
 from __future__ import annotations
 
+import os
 import re
 from operator import methodcaller
-from typing import IO
+from typing import IO, Optional
 
 import numpy as np
-import pandas as pd
 
 from ._lines import EdgeLines, Parts
-from ._ragged import offsets_of
-from ._tables import read_table
+from ._ragged import offsets_of, rows_of
+from ._records import Column, read_records
+from ._text_files import read_bytes
 from .errors import InputError, PathText, shown
 from .projection import FARTHEST
 
 HEADER = ["edge", "from", "to", "line"]
 LINE = re.compile(r"[ \t]*-?[0-9]+[ \t]+-?[0-9]+[ \t]*(?:;[ \t]*-?[0-9]+[ \t]+-?[0-9]+[ \t]*)+", re.ASCII)
+DIGITS, BLANKS = b"-0123456789", bytes.maketrans(b",;\n", b"   ")
 GREATEST_EDGE, GREATEST_NODE = 4_294_967_295, 18_446_744_073_709_551_615
+GREATEST = int(np.iinfo(np.int64).max)
+LONGEST = 100_000_000  # centimetres of an edge
 LIMITS = {"edges": 150_000, "nodes": 60_000, "points": 1_000_000}
 MOST_BYTES = 134_217_728
 BATCH = 1 << 16
@@ -37,27 +41,73 @@ def write_network(file: IO[str], lines: EdgeLines, parts: Parts) -> None:
 
 
 def read_network(path: PathText) -> EdgeLines:
-    """The edges of a network file. Refused with InputError: what the proved programs refuse, and what read_table refuses."""
-    frame = read_table(path)
-    if [str(name).strip() for name in frame.columns] != HEADER:
-        raise InputError(f"is no network file: its header is {shown(','.join(frame.columns))}, not {','.join(HEADER)}", path)
-    frame.columns = HEADER
-    if not len(frame):
-        raise InputError("has no edges", path)
-    ids = whole(frame, "edge", GREATEST_EDGE).astype(np.int64)
-    nodes = [whole(frame, name, GREATEST_NODE).view(np.int64) for name in ("from", "to")]
-    doubled = pd.Series(ids).duplicated().to_numpy()
-    if doubled.any():
-        refuse(frame, doubled, "edge", "comes a second time")
-    xy, first = points_of(frame)
+    """The edges of a network file. Refused with InputError: what the proved programs refuse, and what read_records refuses."""
+    return plain_network(read_bytes(path, os.fspath(path))) or network_of_records(path)
+
+
+def plain_network(data: bytes) -> Optional[EdgeLines]:
+    """The edges of a network file that has nothing but numbers and the separators between them, some ten times as fast as by
+    records. None for every other file: network_of_records reads it, or says what is wrong."""
+    header, _, rows = data.partition(b"\n")
+    forms = rows.translate(None, DIGITS).split(b"\n")
+    counts = {form: point_count(form) for form in set(forms[:-1])}
+    signs = sum(rows.count(sign) for sign in (b",-", b" -", b";-"))
+    if header != ",".join(HEADER).encode() or forms[-1] or min(counts.values(), default=0) < 2 or rows.count(b"-") != signs:
+        return None
+    count = np.fromiter(map(counts.__getitem__, forms[:-1]), np.int64, len(forms) - 1)
+    begin = offsets_of(2 * count + 3)
+    try:
+        values = np.fromstring(rows.translate(BLANKS), np.int64, sep=" ")
+    except (ValueError, DeprecationWarning):  # a sign alone; depends on the version of numpy and on the filter of warnings
+        return None
+    if len(values) != begin[-1]:
+        return None
+    is_point = np.ones(len(values), bool)
+    for place in range(3):
+        is_point[begin[:-1] + place] = False
+    ids, *nodes, x = (values[begin[:-1] + place] for place in range(4))
+    is_wrong = any(node.min() < 0 or node.max() == GREATEST for node in nodes) or ids.max() > GREATEST_EDGE
+    # Each sign after a comma is that of the first x of a line, and none is that of a zero.
+    if is_wrong or (x < 0).sum() != rows.count(b",-") or len(np.unique(ids)) < len(ids):
+        return None
+    xy, first = values[is_point].reshape(-1, 2), offsets_of(count)
+    if far_points(xy).any() or same_points(xy, first).any():
+        return None
     lines = EdgeLines(ids, first, xy, *nodes)
-    if (lines.lengths > 100_000_000).any():
-        refuse(frame, lines.lengths > 100_000_000, "line", "is longer than 1,000 km")
+    return None if (lines.lengths > LONGEST).any() else lines
+
+
+def point_count(form: bytes) -> int:
+    """How many points an edge has whose row is this without its numbers; 0 for a row of another form."""
+    count = form.count(b" ")
+    return count if form == b",,, " + b"; " * (count - 1) else 0
+
+
+def network_of_records(path: PathText) -> EdgeLines:
+    """The edges of a network file, with blanks and quotes where tables may have them."""
+    table = read_records(path)
+    if [name.strip() for name in table.header] != HEADER:
+        raise InputError(f"is no network file: its header is {shown(','.join(table.header))}, not {','.join(HEADER)}", path)
+    table.header = HEADER
+    if not len(table):
+        raise InputError("has no edges", path)
+    edge, line = table.column("edge"), table.column("line")
+    ids = whole(edge, GREATEST_EDGE).astype(np.int64)
+    nodes = [whole(table.column(name), GREATEST_NODE).view(np.int64) for name in ("from", "to")]
+    _, begins = np.unique(ids, return_index=True)
+    if len(begins) < len(ids):
+        doubled = np.ones(len(ids), bool)
+        doubled[begins] = False
+        refuse(edge, doubled, "comes a second time")
+    xy, first = points_of(line)
+    lines = EdgeLines(ids, first, xy, *nodes)
+    if (lines.lengths > LONGEST).any():
+        refuse(line, lines.lengths > LONGEST, "is longer than 1,000 km")
     return lines
 
 
-def whole(frame: pd.DataFrame, column: str, greatest: int) -> np.ndarray:
-    texts = frame[column].tolist()
+def whole(column: Column, greatest: int) -> np.ndarray:
+    texts = column.texts
     joined = "".join(texts)
     if joined.isascii() and joined.isdigit() and "" not in texts and max(map(len, texts)) <= 19:
         values = np.fromstring(" ".join(texts), np.uint64, sep=" ")
@@ -66,45 +116,40 @@ def whole(frame: pd.DataFrame, column: str, greatest: int) -> np.ndarray:
     texts = [text.strip(" \t") for text in texts]
     wrong = np.array([not (text.isascii() and text.isdigit() and len(text) <= 20 and int(text) <= greatest) for text in texts])
     if wrong.any():
-        refuse(frame, wrong, column, f"is not a whole number from 0 to {greatest}")
+        refuse(column, wrong, f"is not a whole number from 0 to {greatest}")
     return np.fromiter(map(int, texts), np.uint64, len(texts))
 
 
-def points_of(frame: pd.DataFrame) -> tuple[np.ndarray, np.ndarray]:
+def points_of(column: Column) -> tuple[np.ndarray, np.ndarray]:
     """The points of all lines, and where each line begins."""
-    texts = frame["line"].tolist()
+    texts = column.texts
     count = np.fromiter(map(methodcaller("count", ";"), texts), np.int64, len(texts)) + 1
-    joined = ";".join(texts)
-    values: np.ndarray
-    if are_plain(joined.encode(), int(count.sum())) and count.min() > 1:
-        values = np.fromstring(joined.replace(";", " "), np.int64, sep=" ")
-    else:
-        wrong = np.array([not LINE.fullmatch(text) for text in texts])
-        if wrong.any():
-            refuse(frame, wrong, "line", "is not a line of two or more points in whole centimetres, such as 0 40000;5000 42000")
-        values = np.array(joined.replace(";", " ").split(), dtype=np.float64)
+    wrong = np.array([not LINE.fullmatch(text) for text in texts])
+    if wrong.any():
+        refuse(column, wrong, "is not a line of two or more points in whole centimetres, such as 0 40000;5000 42000")
+    values: np.ndarray = np.array(";".join(texts).replace(";", " ").split(), dtype=np.float64)
     first = offsets_of(count)
     xy = values.reshape(-1, 2).astype(np.int64)
-    line = np.repeat(np.arange(len(texts)), count)
-    far = ((values > FARTHEST) | (values < -FARTHEST)).reshape(-1, 2).any(axis=1)
-    same = np.zeros(len(xy), bool)
-    same[1:] = (xy[1:, 0] == xy[:-1, 0]) & (xy[1:, 1] == xy[:-1, 1]) & (line[1:] == line[:-1])
+    far, same = far_points(values.reshape(-1, 2)), same_points(xy, first)
     for bad, text in ((far, "has a coordinate beyond 1,000,000,000 cm"), (same, "has a point that equals the one before it")):
         if bad.any():
-            refuse(frame, np.isin(np.arange(len(texts)), line[bad]), "line", text)
+            refuse(column, np.isin(np.arange(len(texts)), rows_of(count)[bad]), text)
     return xy, first
 
 
-def are_plain(text: bytes, count: int) -> bool:
-    """Whether a text is so many points such as `0 -40000`, with a semicolon between two of them, and nothing else."""
-    if text.translate(None, b"-0123456789") != b" ;" * (count - 1) + b" ":
-        return False
-    padded = b";%b;" % text
-    signs = padded.count(b" -") + padded.count(b";-")
-    return signs == text.count(b"-") and not any(gap in padded for gap in (b" ;", b"; ", b"- ", b"-;"))
+def far_points(xy: np.ndarray) -> np.ndarray:
+    """Which points are farther away than the programs take."""
+    return ((xy > FARTHEST) | (xy < -FARTHEST)).any(axis=1)
 
 
-def refuse(frame: pd.DataFrame, wrong: np.ndarray, column: str, text: str) -> None:
+def same_points(xy: np.ndarray, first: np.ndarray) -> np.ndarray:
+    """Which points equal the one before in their line."""
+    same = np.zeros(len(xy), bool)
+    same[1:] = (xy[1:] == xy[:-1]).all(axis=1)
+    same[first[:-1]] = False
+    return same
+
+
+def refuse(column: Column, wrong: np.ndarray, text: str) -> None:
     at = int(wrong.argmax())
-    value = frame[column].iloc[at]
-    raise InputError(f"{shown(value, 40) or 'an empty field'} {text}", frame.attrs["path"], frame.attrs["lines"][at], column)
+    column.refuse(at, f"{shown(column.texts[at], 40) or 'an empty field'} {text}")

@@ -2,20 +2,23 @@
 from __future__ import annotations
 
 import os
+from dataclasses import dataclass
 from pathlib import Path
-from typing import Any
+from typing import TYPE_CHECKING, Any, Dict, List
 
 import numpy as np
-import pandas as pd
 
 from . import _network_file
 from ._evidence import part
 from ._lines import EdgeLines, Parts
-from ._streets import COLUMNS
-from ._tables import numbers, read_table, whole_numbers
+from ._records import Records, read_records
 from .errors import InputError, PathText
 from .projection import FARTHEST
 
+if TYPE_CHECKING:
+    import pandas as pd
+
+COLUMNS = ("direction", "way", "class", "name", "ref", "maxspeed", "oneway")
 SIDE = ("edge", "direction", "street", "part_from", "part_to", "way", "class", "name", "ref", "maxspeed", "oneway")
 
 
@@ -37,13 +40,6 @@ def side_table(table: pd.DataFrame, lines: EdgeLines, parts: Parts) -> pd.DataFr
     return written[[*SIDE, *(name for name in written if name not in SIDE)]]
 
 
-def empty_table(count: int) -> pd.DataFrame:
-    """What is known of the edges of a network file without side files."""
-    table = pd.DataFrame({name: np.full(count, "", dtype=object) for name in ("direction", "way", "class", "name", "ref")})
-    table["maxspeed"], table["oneway"] = np.nan, False
-    return table[list(COLUMNS)]
-
-
 def links_away(side: dict[str, Any], path: Path) -> tuple[int, int]:
     away = part(side, path, "links_away", kind=list)
     if len(away) != 2 or not all(type(v) is int and abs(v) <= 2 * FARTHEST for v in away):
@@ -51,14 +47,55 @@ def links_away(side: dict[str, Any], path: Path) -> tuple[int, int]:
     return away[0], away[1]
 
 
-def read_edges(path: Path, lines: EdgeLines, away: tuple[int, int]) -> tuple[pd.DataFrame, Parts]:
+@dataclass
+class EdgeRecords:
+    """The table of the edges as it was read. Its data frame is made when it is asked for, since not all need one."""
+
+    records: Records
+    maxspeed: np.ndarray
+    oneway: np.ndarray
+
+    @property
+    def names(self) -> List[str]:
+        """The name of each edge."""
+        return self.records.column("name").texts
+
+    def frame(self) -> pd.DataFrame:
+        """The table: COLUMNS, and then the further columns."""
+        import pandas as pd
+        texts: Dict[str, Any] = dict(zip(self.records.header, self.records.columns))
+        table = pd.DataFrame(texts, columns=self.records.header, dtype=object)
+        table["maxspeed"], table["oneway"] = self.maxspeed, self.oneway
+        return table[[*COLUMNS, *(name for name in table if name not in (*SIDE, *COLUMNS))]]
+
+
+@dataclass
+class NoRecords:
+    """The table of so many edges of a network file without side files."""
+
+    count: int
+
+    @property
+    def names(self) -> List[str]:
+        """The name of each edge."""
+        return [""] * self.count
+
+    def frame(self) -> pd.DataFrame:
+        """The table: COLUMNS."""
+        import pandas as pd
+        texts = [name for name in COLUMNS if name not in ("maxspeed", "oneway")]
+        table = pd.DataFrame({name: np.full(self.count, "", dtype=object) for name in texts})
+        table["maxspeed"], table["oneway"] = np.nan, False
+        return table[list(COLUMNS)]
+
+
+def read_edges(path: Path, lines: EdgeLines, away: tuple[int, int]) -> tuple[EdgeRecords, Parts]:
     """The table of the edges and their parts. Refused with InputError: a table that is not of these edges."""
-    frame = read_table(path, required=SIDE, unique=["edge"])
-    edges, street = (whole_numbers(frame, name, 0, _network_file.GREATEST_EDGE) for name in ("edge", "street"))
+    table = read_records(path, required=SIDE, unique=["edge"])
+    edges, street = (table.column(name).whole_numbers(0, _network_file.GREATEST_EDGE) for name in ("edge", "street"))
     if len(edges) != len(lines) or (edges != lines.ids).any():
         raise InputError("has other edges than the network file", path)
-    begin, end = (np.rint(100 * numbers(frame, name, 0)).astype(np.int64) for name in ("part_from", "part_to"))
-    table = pd.DataFrame(frame.drop(columns=["edge", "street", "part_from", "part_to"]))
-    table["maxspeed"] = numbers(frame, "maxspeed", 0, empty=np.nan)
-    table["oneway"] = whole_numbers(frame, "oneway", 0, 1).astype(bool)
-    return table[[*COLUMNS, *(name for name in table if name not in COLUMNS)]], Parts(street, begin, end, away)
+    begin, end = (np.rint(100 * table.column(name).numbers(0)).astype(np.int64) for name in ("part_from", "part_to"))
+    maxspeed = table.column("maxspeed").numbers(0, empty=np.nan)
+    oneway = table.column("oneway").whole_numbers(0, 1).astype(bool)
+    return EdgeRecords(table, maxspeed, oneway), Parts(street, begin, end, away)

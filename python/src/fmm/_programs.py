@@ -9,8 +9,6 @@ import subprocess
 from pathlib import Path
 from typing import Any, List, Optional, Sequence
 
-
-from ._progress import bar
 from .errors import InputError, ProgramError, one_line
 
 CRATES = {"fmm": "match_program", "fmm_large": "large_program"}
@@ -81,6 +79,7 @@ def run(path: Path, words: Sequence[str], out: Path, total: int = 0, names: Opti
 
 def watch(child: subprocess.Popen[bytes], out: Path, total: int) -> str:
     """Waits for the program, shows its progress, and returns its message."""
+    from ._progress import bar
     shown = bar(total=total, desc="match", unit=" positions", unit_scale=True)
     with open(out, "rb") as file, shown:
         while True:

@@ -7,12 +7,12 @@ import numpy as np
 import pandas as pd
 
 from ._lines import EdgeLines, gathered
+from ._network_sides import COLUMNS
 from ._ragged import offsets_of
 from .errors import InputError
 from .projection import FARTHEST
 
 LONGEST = 100_000_000  # centimetres of an edge
-COLUMNS = ("direction", "way", "class", "name", "ref", "maxspeed", "oneway")
 
 
 @dataclass

@@ -4,30 +4,30 @@ from __future__ import annotations
 import os
 import tempfile
 from pathlib import Path
-from typing import Any, Optional
+from typing import TYPE_CHECKING, Any, Optional, Union
 
-import geopandas
 import numpy as np
-import pandas as pd
 
-from . import _geometry, _network_file
+from . import _network_file
 from ._evidence import checksum_of, compare, part, read_side_file, refuse_pipe, state, unchanged, write_side_file
 from ._lines import EdgeLines, Parts
 from ._network_report import NetworkReport
-from ._network_sides import empty_table, links_away, read_edges, side_paths, side_table
+from ._network_sides import COLUMNS, EdgeRecords, NoRecords, links_away, read_edges, side_paths, side_table
 from ._output import Outputs
-from ._streets import COLUMNS
-from ._tables import write_rows
 from .errors import InputError, MismatchError, PathText
 from .projection import DEGREES, Extent, Projection
+
+if TYPE_CHECKING:  # pandas and geopandas take longer to import than most networks to read, and not all uses need them
+    import geopandas
+    import pandas as pd
 
 
 class Network:
     """A network of directed edges. Make one by from_osm, from_geodataframe, from_graph or open."""
 
-    def __init__(self, lines: EdgeLines, table: pd.DataFrame, projection: Projection, report: NetworkReport,
-                 parts: Optional[Parts] = None) -> None:
-        self.lines, self.table, self.projection, self.report = lines, table, projection, report
+    def __init__(self, lines: EdgeLines, table: Union[pd.DataFrame, EdgeRecords, NoRecords], projection: Projection,
+                 report: NetworkReport, parts: Optional[Parts] = None) -> None:
+        self.lines, self._table, self.projection, self.report = lines, table, projection, report
         self.parts = Parts.whole(lines) if parts is None else parts
         self._path: Optional[Path] = None
         self._is_saved = False
@@ -100,7 +100,7 @@ class Network:
             if not side_path.exists():
                 if table_path.exists():
                     raise MismatchError(f"lies beside {table_path.name} without {side_path.name}, which ties the two", path)
-                network = cls(lines, empty_table(len(lines)), given or Projection(None), NetworkReport({"path": os.fspath(path)}))
+                network = cls(lines, NoRecords(len(lines)), given or Projection(None), NetworkReport({"path": os.fspath(path)}))
             else:
                 network = cls._with_side_files(path, lines, table_path, side_path)
             network._keep_file(path, checksum)
@@ -123,6 +123,7 @@ class Network:
     def save(self, path: PathText) -> Path:
         """Writes NETWORK.csv for the proved programs, NETWORK.edges.csv with a row for each edge, and NETWORK.json, which ties
         the two together. All three appear when they are complete. Lengths in the table are metres, speeds km/h."""
+        from ._tables import write_rows
         table_path, side_path = side_paths(path)
         inputs = [self.report.source["path"]] if self.report.source.get("path") else []
         with Outputs(inputs) as outputs:
@@ -190,6 +191,22 @@ class Network:
         return self._checksum
 
     @property
+    def table(self) -> pd.DataFrame:
+        """What is known of each edge, in the order of the network file."""
+        if isinstance(self._table, (EdgeRecords, NoRecords)):
+            self._table = self._table.frame()
+        return self._table
+
+    @table.setter
+    def table(self, table: pd.DataFrame) -> None:
+        self._table = table
+
+    @property
+    def names(self) -> list[str]:
+        """The name of each edge, "" for none, in the order of the network file."""
+        return self._table.names if isinstance(self._table, (EdgeRecords, NoRecords)) else self._table["name"].tolist()
+
+    @property
     def edge_count(self) -> int:
         """How many directed edges the network has."""
         return len(self.lines)
@@ -247,6 +264,10 @@ class Network:
         is made at the first call: some 3 s for a million edges.
         """
         if self._edges is None:
+            import geopandas
+            import pandas as pd
+
+            from . import _geometry
             geometry = _geometry.lines(self.lines.first, self.lines.xy / 100, self.projection.crs)
             known = pd.DataFrame({"from_node": self.lines.from_node, "to_node": self.lines.to_node})
             lengths = pd.DataFrame({"length": self.lines.lengths / 100, "street": self.parts.street,

@@ -4,10 +4,9 @@ from __future__ import annotations
 import json
 import math
 from dataclasses import dataclass
-from typing import Tuple
+from typing import Dict, Tuple
 
 import numpy as np
-import pandas as pd
 
 from .._along import Along, along_routes
 from .._match_text import MatchText
@@ -25,10 +24,11 @@ class Roads:
         self.network, self.places = network, Places(network.lines)
         crs = network.projection.crs
         self._forth, self._back = transformer(DEGREES, crs), transformer(crs, DEGREES)
-        self.names: np.ndarray = network.table["name"].to_numpy(object)
-        numbers, names = pd.factorize(self.names, use_na_sentinel=False)
-        self.json_names = words_of([json.dumps(name, ensure_ascii=False).encode("utf-8", "replace") for name in names])
-        self.name: np.ndarray = numbers  # of each edge: the number of its name
+        self.names = network.names
+        numbers: Dict[str, int] = {}
+        # of each edge: the number of its name
+        self.name = np.array([numbers.setdefault(name, len(numbers)) for name in self.names], np.int64)
+        self.json_names = words_of([json.dumps(name, ensure_ascii=False).encode("utf-8", "replace") for name in numbers])
         self.points = self.degrees(network.lines.xy)  # those of the network
         self.profile = str(network.report.source.get("profile", ""))
 

@@ -1,7 +1,8 @@
 """The process that forks workers.
 
-It is forked from the main process before that has an event loop or threads, and after the network was loaded. So a new worker
-starts in milliseconds, and all of them share the memory of the network.
+It is forked from the main process before that has an event loop or threads, and after the network was loaded. It prepares what
+workers share while the main process loads the libraries of the server. So a new worker starts in milliseconds, and all of them
+share the memory of the network.
 """
 from __future__ import annotations
 
@@ -21,15 +22,15 @@ Work = Callable[[socket.socket], None]
 class Forks:
     """The main process's side: `worker()` gives the connection to a new worker."""
 
-    def __init__(self, work: Work) -> None:
-        """`work` runs in each worker with its connection, and returns when the worker is to end."""
+    def __init__(self, prepare: Callable[[], Work]) -> None:
+        """`prepare` returns what runs in each worker with its connection; that returns when the worker is to end."""
         gc.freeze()
         self.control, theirs = socket.socketpair()
         sys.stdout.flush()
         self.process = os.fork()
         if self.process == 0:
             self.control.close()
-            _run(lambda: _fork_workers(theirs, work))
+            _run(lambda: _fork_workers(theirs, prepare()))
         theirs.close()
 
     def worker(self) -> socket.socket:
@@ -54,6 +55,7 @@ class Forks:
 
 
 def _fork_workers(control: socket.socket, work: Work) -> None:
+    gc.freeze()
     signal.signal(signal.SIGCHLD, signal.SIG_IGN)  # ended workers leave nothing behind
     while True:
         data, files, _, _ = socket.recv_fds(control, 1, 1)

@@ -38,7 +38,15 @@ class Matcher:
         self.other: Optional[Program] = None
         self.other_options = options
         self.replaced = 0
-        _first_answer(self.program, time.monotonic() + START)
+
+    def wait(self) -> None:
+        """Waits until the program has loaded its network. Refused: it does not take the network."""
+        self.program.ask(NO_ROWS)
+        try:
+            self.program.answer(time.monotonic() + START)
+        except (Late, Lost) as fault:
+            self.program.close()
+            raise Refused("InternalError", f"the program does not start: {fault}", 500) from None
 
     def match(self, rows: np.ndarray, counts: np.ndarray, sigma: Optional[float], until: float) -> MatchText:
         """The match of drives of so many rows each, int64[n, 3] of x and y in centimetres and of seconds. Refused: it takes too
@@ -144,13 +152,3 @@ def read(lines: bytes, traces: int, positions: int) -> MatchText:
     """The match in the follow texts of some traces."""
     pieces = lines.count(b"\npiece ")
     return read_match(lines + f"total traces {traces} points {positions} pieces {pieces}\n".encode(), "the match")
-
-
-def _first_answer(program: Program, until: float) -> None:
-    """Waits until a program has loaded its network. Refused: it does not take the network."""
-    program.ask(NO_ROWS)
-    try:
-        program.answer(until)
-    except (Late, Lost) as fault:
-        program.close()
-        raise Refused("InternalError", f"the program does not start: {fault}", 500) from None

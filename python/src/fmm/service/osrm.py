@@ -19,7 +19,6 @@ from .nearest import Nearest
 from .polylines import encode_all
 from .refusals import Refused
 from .requests import MatchOptions, MatchRequest, NearestRequest
-from .simplified import simplified
 from .texts import Column, decimal, text_of, whole
 
 TIDY = 1000  # centimetres: with tidy=true a position is matched only if it moved so far
@@ -117,6 +116,7 @@ def shown(drives: Drives, roads: Roads, options: MatchOptions) -> Lines:
         return lines
     places, first = lines.all(lines.ends, roads.places.lines.xy)
     extent = np.maximum.reduceat(places, first[:-1]) - np.minimum.reduceat(places, first[:-1])
+    from .simplified import simplified  # a worker has it already
     pixel = np.maximum(extent.max(axis=1), 1) / PIXELS
     return lines.thinned(simplified(places / pixel.repeat(np.diff(first))[:, None], first)[lines.inner])
 

@@ -6,19 +6,16 @@ import signal
 import socket
 from contextlib import ExitStack
 from dataclasses import asdict
-from typing import Any, Coroutine, Dict, List, Optional
+from typing import Any, Awaitable, Dict, List
 
 import numpy as np
-import uvicorn
 
-from ..commands import SIGNALS, Stopped, say
+from ..commands import SIGNALS, Stopped
 from ..errors import FmmError, MismatchError
 from ..network import Network
-from .app import Service
-from .forks import Forks
-from .live import PATIENCE, Live, StandardInput, give_up_after
+from .forks import Forks, Work
 from .metrics import Metrics
-from .pool import TOGETHER, Pool
+from .pool import Pool
 from .settings import Settings
 from .worker import Worker
 
@@ -45,15 +42,15 @@ def serve(network: Network, settings: Settings, host: str, port: int) -> None:
     if network.projection.crs is None:
         raise MismatchError("its projection is not known, so degrees cannot be placed on it: give --crs", network.name)
     listening = listen(host, port)
-    worker = Worker(network, settings)
 
-    def work(connection: socket.socket) -> None:
+    def prepare() -> Work:
         listening.close()  # only the main process accepts
-        worker.serve(connection)
+        return Worker(network, settings).serve
 
     if settings.live:
+        from .live import PATIENCE, give_up_after
         give_up_after(listening, PATIENCE)
-    forks = Forks(work)
+    forks = Forks(prepare)
     faster_loop()
     try:
         asyncio.run(run(forks, listening, settings, about(network, settings)))
@@ -71,41 +68,21 @@ def faster_loop() -> None:
     uvloop.install()
 
 
-class Server(uvicorn.Server):
-    """A server that ends the answers of /live when it is to end, since they have no end of their own."""
-
-    live: Optional[Live] = None
-
-    def handle_exit(self, sig: int, frame: Any) -> None:
-        if self.live:
-            self.live.close()
-        super().handle_exit(sig, frame)
-
-
 async def run(forks: Forks, listening: socket.socket, settings: Settings, facts: Dict[str, Any]) -> None:
     """Starts the workers, then the server."""
     metrics = Metrics()
     pool = Pool(forks, settings.processes, settings.limits, metrics)
     try:
-        await unless_stopped(pool.start())
-        host, port = listening.getsockname()[:2]
-        address = f"http://{f'[{host}]' if ':' in host else host}:{port}/"
-        live = Live() if settings.live else None
-        begin = f"fmm serve: {address} ({settings.processes} workers)"
-        service = Service(pool, settings, metrics, facts, lambda: say(begin), live)
-        most = settings.limits.waiting + TOGETHER * settings.processes + 256
-        config = uvicorn.Config(service, log_level="warning", access_log=False, lifespan="on", timeout_keep_alive=30,
-                                limit_concurrency=most, server_header=False, proxy_headers=False)
-        server = Server(config)
-        server.live = live
-        if live:
-            StandardInput(live)
-        await server.serve(sockets=[listening])
+        starting = asyncio.ensure_future(pool.start())
+        await asyncio.sleep(0)  # the workers begin
+        from .accepting import accept  # with the libraries of the server, which load while the programs do
+        await unless_stopped(starting)
+        await accept(pool, settings, metrics, facts, listening)
     finally:
         await pool.close()
 
 
-async def unless_stopped(work: Coroutine[Any, Any, None]) -> None:
+async def unless_stopped(work: Awaitable[None]) -> None:
     """Does some work, until a signal comes. A handler that raises would not do: the loop logs what it raises, and goes on.
     Stopped, KeyboardInterrupt: a signal came."""
     loop, task = asyncio.get_running_loop(), asyncio.ensure_future(work)
@@ -140,5 +117,5 @@ def about(network: Network, settings: Settings) -> Dict[str, Any]:
     x, y = network.projection.to_crs(corners[:, 0], corners[:, 1], 4326)
     bounds = [float(x.min()), float(y.min()), float(x.max()), float(y.max())]
     options = {name: value for name, value in asdict(settings.options).items() if name != "workers"}
-    return {"edges": network.edge_count, "nodes": network.node_count, "projection": network.projection.name,
+    return {"edges": network.edge_count, "nodes": network.report.size["nodes"], "projection": network.projection.name,
             "sha256": network.checksum, "bounds": bounds, "live": settings.live, "options": options}

@@ -13,7 +13,7 @@ from typing import Any, Callable, DefaultDict, Dict, List, TypeVar, Union
 from ..commands import say
 from ..errors import FmmError, one_line
 from ..network import Network
-from . import osrm, posted, requests
+from . import osrm, requests
 from .drives import Roads
 from .frames import Frame, Frames, packed
 from .matcher import Matcher
@@ -61,6 +61,8 @@ class Worker:
         """Answers requests until the connection ends."""
         try:
             self.matcher = Matcher(self.network, self.settings.options, self.settings.limits)
+            from . import simplified  # noqa: F401  needed at the first request; its libraries load while the program does
+            self.matcher.wait()
         except (Refused, FmmError) as fault:
             connection.sendall(packed({"pid": os.getpid(), "failed": str(fault)}))
             return
@@ -118,11 +120,13 @@ class Worker:
         return json_reply(osrm.nearest(self.nearest, self.roads, request), positions=1)
 
     def _posted(self, head: Dict[str, Any], body: bytes) -> Reply:
+        from . import posted  # with the libraries of the tables, which other requests do not need
         request = posted.Posted(head["type"], head["query"], body)
         content, count = posted.geojson(self.matcher, self.network, self.settings, request, self.until)
         return json_reply(content, positions=count, kind="application/geo+json")
 
     def _map(self, head: Dict[str, Any], body: bytes) -> Reply:
+        from . import posted
         request = posted.Posted(head["type"], head["query"], body)
         text, count = posted.page(self.matcher, self.network, self.settings, request, self.until)
         return Reply(200, text.encode("utf-8", "replace"), "text/html", count)
