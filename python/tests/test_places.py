@@ -9,7 +9,6 @@ import numpy as np
 import pytest
 from hypothesis import HealthCheck, given, settings, strategies as st
 
-from fmm._along import in_any, in_simple
 from fmm._lines import EdgeLines
 from fmm._match_text import read_match
 from fmm._places import Places, rising
@@ -125,8 +124,3 @@ def test_the_match_of_the_example_snaps() -> None:
     assert not places.snaps(edge, text.offset[on], text.d2[on], xy[on, 0], xy[on, 1] + 40).any()
     distance = np.hypot(*(places.at(edge, text.offset[on]) - xy[on]).T)
     assert distance == pytest.approx(np.sqrt(text.d2[on]), abs=1)
-
-
-@given(st.lists(st.integers(0, 5), unique=True, min_size=1), st.lists(st.integers(0, 5), max_size=5))
-def test_routes_without_repeats_are_followed_as_all_others(route: List[int], following: List[int]) -> None:
-    assert in_simple(following, route) == in_any(following, route)

@@ -2,7 +2,6 @@
 from __future__ import annotations
 
 from dataclasses import dataclass
-from operator import lt
 from typing import List, Optional
 
 import numpy as np
@@ -142,31 +141,16 @@ def _follow(edge: np.ndarray, offset: np.ndarray, route: List[int], back: Option
 def _follow_with(edge: np.ndarray, offset: np.ndarray, route: List[int], back: int) -> Optional[np.ndarray]:
     """The places if moves back of up to `back` are standing; None if they do not lead to the end of the route."""
     begins = np.flatnonzero((edge[1:] != edge[:-1]) | (offset[:-1] > offset[1:] + back)) + 1
-    following = edge[begins].tolist()
-    found = in_simple(following, route) if len(set(route)) == len(route) else in_any(following, route)
-    if found is None or found[-1] != len(route) - 1:
-        return None
-    return np.array(found).repeat(np.diff(begins, prepend=0, append=len(edge)))
-
-
-def in_simple(following: List[int], route: List[int]) -> Optional[List[int]]:
-    """The places in a route that repeats no edge: of its first edge, and of edges that the route leads to one after the other;
-    None if it does not."""
-    place = {edge: at for at, edge in enumerate(route)}
-    found = [0, *(place.get(edge, -1) for edge in following)]
-    return found if all(map(lt, found, found[1:])) else None
-
-
-def in_any(following: List[int], route: List[int]) -> Optional[List[int]]:
-    """The same in any route."""
     at, found = 0, [0]
-    for edge in following:
+    for following in edge[begins].tolist():
         try:  # a shortest walk repeats no edge, so the next place of the edge is the one that the walk leads to
-            now = route.index(edge, at + 1)
+            now = route.index(following, at + 1)
         except ValueError:
             return None
         if now > at + 1 and route[at] in route[at + 1:now]:
             return None
         at = now
         found.append(at)
-    return found
+    if at != len(route) - 1:
+        return None
+    return np.array(found).repeat(np.diff(begins, prepend=0, append=len(edge)))
