@@ -9,10 +9,17 @@ from __future__ import annotations
 import calendar
 import collections
 import functools
+import hashlib
 import itertools
 import math
+import os
 import random
+import sys
+import tempfile
+import zipfile
+from contextlib import suppress
 from dataclasses import dataclass, field
+from pathlib import Path
 from typing import Any, Dict, List, NamedTuple, Tuple
 
 import numpy as np
@@ -24,6 +31,8 @@ VEHICLES = ("HH-AB 12", "van, blue", "tram 4", "bike 7", "HH-XY 9", "42", "007",
 STEP = 0.1  # seconds
 PARKED = (180, 420, 900, 2400, 2400)  # seconds
 LASTS = 5400  # seconds
+CACHE = Path(os.environ.get("XDG_CACHE_HOME") or Path.home() / ".cache", "fmm-tests", "drives")
+KEPT = 6  # files of 22 MB, of a seed each
 
 Place = Tuple[float, float]
 
@@ -150,8 +159,34 @@ def driven(seed: int) -> Tuple[Town, List[Tuple[str, float, Drive]]]:
     """The town, and the drives of all vehicles, each with its vehicle and its begin. They are the same for each interval."""
     rng = random.Random(seed)
     town = Town(rng)
-    return town, [(vehicle, begin + 97 * number, drive(rng, town, 1 + 0.2 * (number % 3)))
-                  for begin in DAYS for number, vehicle in enumerate(VEHICLES)]
+    starts = [(vehicle, begin + 97 * number, 1 + 0.2 * (number % 3)) for begin in DAYS for number, vehicle in enumerate(VEHICLES)]
+    key = hashlib.sha256(Path(__file__).read_bytes() + f"{sys.version} {seed}".encode()).hexdigest()
+    path = CACHE / f"{key[:32]}.npz"
+    drives = kept(path)
+    if len(drives) != len(starts):
+        drives = [drive(rng, town, slow) for _, _, slow in starts]
+        keep(path, drives)
+    return town, [(vehicle, begin, one) for (vehicle, begin, _), one in zip(starts, drives)]
+
+
+def kept(path: Path) -> List[Drive]:
+    """The drives that a file keeps, or none. To simulate them takes a second."""
+    with suppress(OSError, ValueError, KeyError, EOFError, zipfile.BadZipFile), np.load(path) as found:
+        return [Drive(*values) for values in zip(*(found[name] for name in Drive.__annotations__))]
+    return []
+
+
+def keep(path: Path, drives: List[Drive]) -> None:
+    """Keeps drives for the next run of the tests, if there is place for them. Files of earlier sources go."""
+    with suppress(OSError):
+        CACHE.mkdir(parents=True, exist_ok=True)
+        with tempfile.NamedTemporaryFile(dir=CACHE, suffix=".part") as part:
+            np.savez(part, **{name: np.stack([getattr(one, name) for one in drives]) for name in Drive.__annotations__})
+            part.flush()
+            path.unlink(missing_ok=True)
+            os.link(part.name, path)
+        for old in sorted(CACHE.glob("*.npz"), key=lambda one: one.stat().st_mtime, reverse=True)[KEPT:]:
+            old.unlink(missing_ok=True)
 
 
 @functools.lru_cache(maxsize=1)

@@ -28,6 +28,13 @@ def small_fleet(tmp_path_factory: pytest.TempPathFactory) -> Any:
     return network_of(town, tmp_path_factory.mktemp("groups")), positions
 
 
+@pytest.fixture(scope="module")
+def once(small_fleet: Any) -> Any:
+    """The match of one run."""
+    network, positions = small_fleet
+    return match(network, positions, options=OPTIONS)
+
+
 def same(first: Any, second: Any) -> None:
     """Two matches have the same tables, and the same text except for the rows of the total line."""
     for name in ("points", "routes", "edges"):
@@ -36,19 +43,19 @@ def same(first: Any, second: Any) -> None:
 
 
 @pytest.mark.parametrize("means", [{"engine": "local"}, {"engine": "local", "jobs": 2, "memory": 100, "folder": "."}])
-def test_groups_give_the_match_of_one_run(small_fleet: Any, means: Any, tmp_path: Path, monkeypatch: pytest.MonkeyPatch) -> None:
+def test_groups_give_the_match_of_one_run(small_fleet: Any, once: Any, means: Any, tmp_path: Path,
+                                          monkeypatch: pytest.MonkeyPatch) -> None:
     monkeypatch.chdir(tmp_path)
     network, positions = small_fleet
-    once, groups = match(network, positions, options=OPTIONS), match(network, positions, options=OPTIONS, **means)
+    groups = match(network, positions, options=OPTIONS, **means)
     same(once, groups)
     assert groups.evidence["engine"] == "local" and "engine" not in once.evidence
     assert groups.evidence["text"]["rows"] is None
     assert not list(tmp_path.iterdir())
 
 
-def test_what_does_not_fit_is_matched_in_groups(small_fleet: Any, monkeypatch: pytest.MonkeyPatch) -> None:
+def test_what_does_not_fit_is_matched_in_groups(small_fleet: Any, once: Any, monkeypatch: pytest.MonkeyPatch) -> None:
     network, positions = small_fleet
-    once = match(network, positions, options=OPTIONS)
     monkeypatch.setattr(_runs, "needed_memory", lambda *given: 1 << 50)
     groups = match(network, positions, options=OPTIONS)
     same(once, groups)

@@ -1,10 +1,12 @@
 """The map: margins of a match, what is in doubt, what the page has, and the command."""
 from __future__ import annotations
 
+import os
 import re
 import subprocess
 from pathlib import Path
 
+import forks
 import numpy as np
 import pandas as pd
 import pytest
@@ -185,5 +187,7 @@ def test_the_programs_of_the_page_are_sound(top: Path) -> None:
 
 def test_the_picture_of_the_readme_is_current(top: Path) -> None:
     """tools/map_picture makes it again."""
-    done = subprocess.run([top / "tools" / "map_picture", "--check"], capture_output=True, text=True, check=False)
+    with forks.python() as program:
+        done = subprocess.run([top / "tools" / "map_picture", "--check"], capture_output=True, text=True, check=False,
+                              env={**os.environ, "FMM_PYTHON": program})
     assert done.returncode == 0, done.stderr
