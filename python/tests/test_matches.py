@@ -6,12 +6,12 @@ import statistics
 from pathlib import Path
 from typing import Any, Dict, List, Tuple
 
-import geopandas
 import numpy as np
 import pandas as pd
 import pytest
 import simulated
 
+from fmm._geometry import coordinates
 from fmm._summaries import travel_times
 from fmm.errors import MismatchError, OptionError
 from fmm.matches import Matches
@@ -47,8 +47,8 @@ def test_each_row_comes_back_once_in_its_order(fleet: Tuple[Matches, simulated.T
     assert matches.points.index.tolist() == list(range(len(positions)))
     assert (matches.points["reason"] == "").all() and matches.points["edge"].notna().all()
     assert matches.points["distance"].median() < 3
-    measured = geopandas.GeoSeries.from_xy(positions["x"], positions["y"], crs=matches.crs)
-    assert np.allclose(matches.points.geometry.distance(measured), matches.points["distance"], atol=0.02)
+    away = coordinates(matches.points.geometry.array)[1] - positions[["x", "y"]].to_numpy()
+    assert np.allclose(np.hypot(*away.T), matches.points["distance"], atol=0.02)
 
 
 def test_edges_have_the_times_of_the_truth(fleet: Tuple[Matches, simulated.Truth, pd.DataFrame]) -> None:
