@@ -38,7 +38,9 @@ def once(small_fleet: Any) -> Any:
 def same(first: Any, second: Any) -> None:
     """Two matches have the same tables, and the same text except for the rows of the total line."""
     for name in ("points", "routes", "edges"):
-        pd.testing.assert_frame_equal(pd.DataFrame(getattr(first, name)), pd.DataFrame(getattr(second, name)))
+        one, other = getattr(first, name), getattr(second, name)
+        assert one.crs == other.crs
+        pd.testing.assert_frame_equal(one.to_wkb(), other.to_wkb())  # pandas takes long to compare geometries
     assert first.text().rpartition(b" rows ")[0] == second.text().removesuffix(b"\n")
 
 
