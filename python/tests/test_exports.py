@@ -2,6 +2,7 @@
 from __future__ import annotations
 
 import json
+import shutil
 import subprocess
 from pathlib import Path
 
@@ -32,6 +33,15 @@ def matches(tmp_path_factory: pytest.TempPathFactory) -> Matches:
     return match(network, read_positions(positions, id="vehicle"), options=Options.of(back=20, gap=300), crs=4326)
 
 
+@pytest.fixture(scope="module")
+def files(matches: Matches, tmp_path_factory: pytest.TempPathFactory) -> Path:
+    """A folder with the match as result.gpkg, and as the folder tables. Tests only read it."""
+    folder = tmp_path_factory.mktemp("files")
+    for name in ("result.gpkg", "tables"):
+        matches.to_file(folder / name)
+    return folder
+
+
 def same(first: geopandas.GeoDataFrame, second: geopandas.GeoDataFrame) -> None:
     """Whether the columns of a match are the same, with as many decimals as files have."""
     for name in first.columns:
@@ -52,9 +62,8 @@ def ogrinfo(*words: object) -> str:
 
 
 @pytest.mark.parametrize("name", ["result.gpkg", "tables"])
-def test_tables_in_files_are_the_same_tables(matches: Matches, tmp_path: Path, name: str) -> None:
-    matches.to_file(tmp_path / name)
-    opened = open_matches(tmp_path / name)
+def test_tables_in_files_are_the_same_tables(matches: Matches, files: Path, name: str) -> None:
+    opened = open_matches(files / name)
     for table in ("points", "routes", "edges"):
         same(getattr(matches, table), getattr(opened, table))
     assert opened.text() == matches.text()
@@ -65,20 +74,18 @@ def test_tables_in_files_are_the_same_tables(matches: Matches, tmp_path: Path, n
     assert np.allclose(opened.travel_times("hour")["seconds"], matches.travel_times("hour")["seconds"], atol=0.002)
 
 
-def test_the_layers_of_a_geopackage_have_types(matches: Matches, tmp_path: Path) -> None:
-    matches.to_file(tmp_path / "result.gpkg")
-    shown = ogrinfo("-so", "-al", tmp_path / "result.gpkg")
+def test_the_layers_of_a_geopackage_have_types(matches: Matches, files: Path) -> None:
+    shown = ogrinfo("-so", "-al", files / "result.gpkg")
     for line in ("Layer name: points", "Layer name: routes", "Layer name: edges", "Layer name: network", "Geometry: Line String",
                  "Geometry: Point", "Feature Count: 1200", "id: String (0.0)", "entry: DateTime (0.0)", "seconds: Real (0.0)",
                  "whole: Integer(Boolean) (0.0)", "edge: Integer64 (0.0)", "maxspeed: Real (0.0)", "FID_input: String (0.0)"):
         assert line in shown, line
-    longest = ogrinfo("-q", "-sql", "SELECT count(*) AS n FROM edges WHERE seconds > 60", tmp_path / "result.gpkg")
+    longest = ogrinfo("-q", "-sql", "SELECT count(*) AS n FROM edges WHERE seconds > 60", files / "result.gpkg")
     assert f"= {int((matches.edges['seconds'] > 60).sum())}\n" in longest
 
 
-def test_csv_is_text_that_people_read(matches: Matches, tmp_path: Path) -> None:
-    matches.to_file(tmp_path / "out")
-    points = pd.read_csv(tmp_path / "out/points.csv", dtype=str, keep_default_na=False)
+def test_csv_is_text_that_people_read(matches: Matches, files: Path) -> None:
+    points = pd.read_csv(files / "tables/points.csv", dtype=str, keep_default_na=False)
     assert len(points) == 1200 and points["id"][0] == "42"
     assert points["FID_input"][0] == "x\\x1b\\n1"
     assert points["time"][0].endswith("Z") and points["WKT"][0].startswith("POINT (9.4")
@@ -86,15 +93,14 @@ def test_csv_is_text_that_people_read(matches: Matches, tmp_path: Path) -> None:
     assert points["edge"].tolist()[5:7] == ["", ""] and points["WKT"][5] == ""
 
 
-def test_gdal_takes_the_ids_of_csv_as_texts(matches: Matches, tmp_path: Path) -> None:
+def test_gdal_takes_the_ids_of_csv_as_texts(files: Path, tmp_path: Path) -> None:
     """Also where it is asked to guess types: 007 stays 007."""
-    matches.to_file(tmp_path / "out")
     for table, lines in {
             "points": ("id: String", "time: DateTime", "edge: Integer64", "offset: Real", "Geometry: "),
             "edges": ("id: String", "way: String", "entry: DateTime", "whole: Integer(Boolean)", "seconds: Real"),
             "network_edges": ("edge: Integer64", "way: String", "maxspeed: Real", "oneway: Integer(Boolean)")}.items():
         made = tmp_path / f"{table}.gpkg"
-        subprocess.run(["ogr2ogr", "-oo", "AUTODETECT_TYPE=YES", str(made), str(tmp_path / "out" / f"{table}.csv")], check=True)
+        subprocess.run(["ogr2ogr", "-oo", "AUTODETECT_TYPE=YES", str(made), str(files / "tables" / f"{table}.csv")], check=True)
         shown = ogrinfo("-so", "-al", made)
         for line in lines:
             assert line in shown, line
@@ -122,19 +128,18 @@ def test_geojson_of_one_layer(matches: Matches, tmp_path: Path) -> None:
         matches.to_file(tmp_path / "a.geojson", layer="point")
 
 
-def test_the_folder_has_the_network_too(matches: Matches, tmp_path: Path) -> None:
-    matches.to_file(tmp_path / "out")
-    assert sorted(path.name for path in (tmp_path / "out").iterdir()) == [
+def test_the_folder_has_the_network_too(matches: Matches, files: Path) -> None:
+    assert sorted(path.name for path in (files / "tables").iterdir()) == [
         "edges.csv", "edges.csvt", "matches.json", "network_edges.csv", "network_edges.csvt", "points.csv", "points.csvt",
         "routes.csv", "routes.csvt"]
-    table = pd.read_csv(tmp_path / "out" / "network_edges.csv")
+    table = pd.read_csv(files / "tables" / "network_edges.csv")
     network = matches.network.edges  # type: ignore[union-attr]
     assert table["edge"].tolist() == network.index.tolist() and table["name"].tolist() == network["name"].tolist()
     assert np.allclose(table["length"], network["length"]) and table["WKT"][0].startswith("LINESTRING (9.4")
 
 
-def test_files_that_were_exchanged_are_noticed(matches: Matches, tmp_path: Path) -> None:
-    matches.to_file(tmp_path / "out")
+def test_files_that_were_exchanged_are_noticed(matches: Matches, files: Path, tmp_path: Path) -> None:
+    shutil.copytree(files / "tables", tmp_path / "out")
     text = (tmp_path / "out/edges.csv").read_text()
     (tmp_path / "out/edges.csv").write_text(text.replace("residential", "motorway", 1))
     with pytest.raises(MismatchError, match="edges.csv: does not belong to .*matches.json: the checksum"):

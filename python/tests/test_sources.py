@@ -83,11 +83,13 @@ def tables(matches: Matches) -> Dict[str, pd.DataFrame]:
 def test_the_match_of_a_table_is_that_of_its_files(frame: pd.DataFrame) -> None:
     network = Network.from_osm(TOP / "recipes" / "small" / "village.osm")
     wanted = match(network, frame, options=OPTIONS)
+    expected = tables(wanted)
     assert len(wanted.points) == len(frame)
     with tempfile.TemporaryDirectory() as folder:
         sources = [as_csv(frame, Path(folder)), as_gpx(frame, Path(folder)), as_layer(frame), as_geopackage(frame, Path(folder))]
         for source in sources:
             found = match(network, source, options=OPTIONS)
             assert found.text() == wanted.text()
-            for name, table in tables(wanted).items():
-                pd.testing.assert_frame_equal(tables(found)[name], table, check_like=True)
+            mine = tables(found)
+            for name, table in expected.items():
+                pd.testing.assert_frame_equal(mine[name], table, check_like=True)
